@@ -2,7 +2,7 @@
 # launch.sh PROGRAM WORDS..: runs the proved program with these words, in the caller's folder. Where the program isn't built yet, or
 # a source that it is made of has changed since, it is proved and built first, as many crates side by side as the machine has room for.
 name=${1:?the name of a program} && shift
-here=$(CDPATH='' cd -- "$(dirname -- "$0")" && pwd) || exit 1
+here=$(dirname -- "$(readlink -f -- "$0")") || exit 1
 program=$here/crates/$name/out/$name
 log=$here/crates/$name/out/build.log
 

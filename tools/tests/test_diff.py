@@ -84,13 +84,25 @@ class Differences(InFolder):
     def test_where_they_part(self) -> None:
         for old, new, said in (("kept > 3", "kept > 4", "output z: in A operation 4, CONST 3 at 6:13; in B operation 4, CONST 4 at 6:13\n"
                                 "    A: z := kept > 3;\n    B: z := kept > 4;"),
-                               ("a + b", "a - b", "output y: in A operation 2, ADD at 5:8; in B operation 2, SUB at 5:8"),
+                               ("a + b", "a - b", "output y: in A operation 2, ADD at 5:8 for y; in B operation 2, SUB at 5:8 for y"),
                                ("kept + 1", "kept + 2", "kept value kept: in A"),
                                ("kept : INT;", "kept : INT := 5;", "kept begins with 0 as an INT in A, and with 5"),
                                ("a, b : INT", "b, a : INT", "the inputs stand in another order"),
                                ("z : BOOL", "zz, z : BOOL", "only B has the output zz : BOOL"),
                                ("y := a + b", "IF a <> 0 THEN y := a + b; END_IF", "only B keeps y : INT")):
             self.assertIn(said, self.compare(old, new, 1))
+
+    @needs_program
+    def test_a_constant_is_named_and_not_what_rests_on_it(self) -> None:
+        printed = self.compare("kept + 1", "kept + 2", 1)
+        self.assertIn("CONST 1 at 7:16; in B operation", printed)
+        self.assertNotIn("only A may stop", printed)
+        self.assertRegex(printed, "ranges, whatever the rows: A .*, B |vcp_study ranges")
+
+    @needs_program
+    def test_exchanged_operands_are_told_at_their_operator(self) -> None:
+        printed = self.compare("y := a + b;", "y := b + a;", 1)
+        self.assertIn("output y: in A operation 2, ADD at 5:8 for y; in B operation 2, ADD at 5:8 for y, the same operands in another order", printed)
 
     @needs_program
     def test_an_operation_that_may_stop_and_gives_nothing(self) -> None:

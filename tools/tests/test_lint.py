@@ -27,6 +27,7 @@ class Findings(InFolder):
         for body, wanted in (
             (USES + "t := MIN(t + 1, 9);\n", []),
             (USES + "t := t + 1;\n", [("3", "counter-only-grows")]),
+            ("q := a OR b;\nr := i + C;\nt := MIN(t + 1, 9);\n", [("-1", "feeds-itself-alone")]),
             (USES + "IF a THEN t := t - 2; END_IF;\n", [("3", "counter-only-grows")]),
             (USES + "IF t < 9 THEN t := t + 1; END_IF;\n", []),
             (USES + "t := t + 1;\nIF a THEN t := 0; END_IF;\n", []),

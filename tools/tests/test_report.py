@@ -2,6 +2,7 @@
 from __future__ import annotations
 
 import hashlib
+import os
 import re
 import shutil
 from html.parser import HTMLParser
@@ -53,7 +54,7 @@ class Reports(InFolder):
     def report(self) -> str:
         """The report of the crossing, made once for all tests."""
         if Reports.made is None:
-            self.tool("report", *self.words, "-o", "r.html")
+            self.tool("report", *self.words, "-o", "r.html", status=9)
             Reports.made = (self.folder / "r.html").read_text(encoding="utf-8")
         return Reports.made
 
@@ -98,15 +99,27 @@ class Reports(InFolder):
         self.assertIn("this is no report", self.tool("report", *self.words, "--check", "no.html", status=2))
 
     @needs_program
+    def test_the_summary_tells_what_was_found(self) -> None:
+        summary = sections_of(self.report())["summary"][1]
+        self.assertIn('<span class="bad">faults 14 same 3 wrong 3 ran-on 0 refused 6 stopped 2</span>', summary)
+        self.assertIn("whether it is proved isn&#x27;t known here" if "VCP" in os.environ else "which prove it first", summary)
+        for told in ("blind operations", "likely mistakes", "may stop with any rows", "end of the run"):
+            self.assertIn(f"<td>{told}</td>", summary)
+        self.tool("report", "crossing.st", "crossing.csv", "-o", "r.html")
+        self.write("n.st", "PROGRAM n VAR_OUTPUT y : INT; END_VAR\ny := y + 1;\nEND_PROGRAM\n")
+        self.tool("report", "n.st", "--cycles", "3", "-o", "r.html", status=9)
+        self.assertIn("counter-only-grows", (self.folder / "r.html").read_text(encoding="utf-8"))
+
+    @needs_program
     def test_blind_and_unreached_operations_have_names_and_lines(self) -> None:
-        self.tool("report", "difference.st", "in.csv", "--horizon", "1", "-o", "r.html")
+        self.tool("report", "difference.st", "in.csv", "--horizon", "1", "-o", "r.html", status=9)
         audit = sections_of((self.folder / "r.html").read_text(encoding="utf-8"))["audit"][1]
         self.assertRegex(audit, r"(?s)Blind: .*<code>INPUT</code></td><td><code>x</code>")
         self.assertIn("y across 0", audit)
 
     @needs_program
     def test_a_run_that_stops_is_told(self) -> None:
-        self.tool("report", "shares.st", "--cycles", "5", "-o", "r.html")
+        self.tool("report", "shares.st", "--cycles", "5", "-o", "r.html", status=9)
         self.assertIn('<span class="bad">stop 3 DIVZERO 8:14</span>', (self.folder / "r.html").read_text(encoding="utf-8"))
 
     @needs_program

@@ -24,7 +24,8 @@ class Stimuli(InFolder):
                            ("1 go=2\n", "in.stim:1: `2` isn't a value of `go` : BOOL"),
                            ("1 speed=40000\n", "-32768 to 32767"), ("go\n1 go=1\n", "missing: speed"),
                            ("go=1\n", "stands where the number of cycles is wanted"),
-                           ("1 go = 1\n", "`go` isn't `NAME=VALUE`"), ("0 go=1\n", "1 to 1000000"), ("# nothing\n", "no line has a number of cycles")):
+                           ("1 go = 1\n", "`go` isn't `NAME=VALUE`"), ("2 go=1 GO=0\n", "in.stim:1: `GO` stands twice"),
+                           ("0 go=1\n", "1 to 1000000"), ("# nothing\n", "no line has a number of cycles")):
             self.write("in.stim", text)
             self.assertIn(said, self.tool("rows", "make", "in.stim", "p.st", status=2), text)
         self.assertIn("the names of the inputs are missing", self.tool("rows", "make", "in.stim", status=2))

@@ -7,6 +7,7 @@ import os
 import sys
 from types import ModuleType
 
+from vcp_tools import VERSION
 from vcp_tools.refusal import UNUSABLE, Refusal
 
 TOOLS: dict[str, str] = {
@@ -18,16 +19,19 @@ TOOLS: dict[str, str] = {
     "diff": "whether two programs or images have the same operations, and where they part",
     "lint": "what is lawful and likely a mistake",
     "report": "one HTML file that tells a program and its run, to be filed",
+    "help": "where to read on",
 }
 """The tools, with what their help says."""
 MODULES = {
     "explain": "explain.command", "rows": "rows.command", "table": "pictures.table", "vcd": "pictures.vcd", "expect": "compare.expect",
     "diff": "compare.diff", "lint": "lint.command", "report": "pictures.report",
+    "help": "guide",
 }
 """The module of each tool."""
-VALUED = frozenset(("--cycles", "--cycle-time", "--faults", "--horizon", "--check", "-o", "--allow"))
+VALUED = frozenset(("--changes-of", "--cycles", "--cycle-time", "--faults", "--horizon", "--check", "-o", "--allow"))
 """The options that a word follows."""
-USAGE = "statuses: 0 nothing was found, 1 a fault, a difference or a likely mistake was found, 2 the words or a file can't be used; explain gives vcp's own"
+USAGE = ("statuses: 0 nothing was found, 1 a fault, a difference or a likely mistake was found, 2 the words or a file can't be used; "
+         "explain gives vcp's own; report 9 where it tells something")
 
 
 def _module(tool: str) -> ModuleType:
@@ -38,6 +42,7 @@ def _module(tool: str) -> ModuleType:
 def parser() -> argparse.ArgumentParser:
     """What reads the words."""
     top = argparse.ArgumentParser(prog="vcp_tools", description="Tools around the program vcp: tested, and not proved. docs/TOOLS.md shows each.", epilog=USAGE)
+    top.add_argument("--version", action="version", version=f"vcp_tools {VERSION}")
     below = top.add_subparsers(dest="tool", required=True, metavar="TOOL")
     for name, about in TOOLS.items():
         tool = _module(name)
@@ -75,7 +80,10 @@ def main(words: list[str]) -> int:
         sys.stdout.flush()
         print(f"vcp_tools: {refusal}", file=sys.stderr)
         return UNUSABLE
-    except BrokenPipeError:
+    except OSError as error:
+        if not isinstance(error, BrokenPipeError):
+            print(f"vcp_tools: {error.filename or 'standard output'}: {error.strerror}", file=sys.stderr)
+            return UNUSABLE
         os.dup2(os.open(os.devnull, os.O_WRONLY), sys.stdout.fileno())
         return UNUSABLE
 

@@ -84,11 +84,15 @@ class Program:
             raise Refusal(f"{self.file}: the program can't be run: {error.strerror}") from None
         return Outcome(done.returncode, done.stdout, done.stderr.decode("utf-8", "replace"))
 
-    def must(self, *words: str | Path, statuses: Sequence[int] = (0,)) -> Outcome:
-        """Runs the program, and refuses with its own line where it ends with another status than these."""
+    def must(self, *words: str | Path, statuses: Sequence[int] = (0,), shown: Sequence[str] | None = None) -> Outcome:
+        """Runs the program, and refuses with its own line where it ends with another status than these. `shown` has the words as a reader may
+        repeat them, where some are of files that are gone then."""
         outcome = self.call(*words)
         if outcome.status not in statuses:
             told = outcome.fault or f"status {outcome.status}"
-            more = f" (`vcp_tools explain {' '.join(map(str, words))}` says more)" if self.name == "vcp" else ""
+            again = list(map(str, words)) if shown is None else list(shown)
+            for word, name in zip(map(str, words), again):
+                told = told.replace(word, name) if word != name else told
+            more = f" (`vcp_tools explain {' '.join(again)}` says more)" if self.name == "vcp" else ""
             raise Refusal(f"{self.name} {words[0]}: {told}{more}")
         return outcome

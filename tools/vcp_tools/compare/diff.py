@@ -11,7 +11,8 @@ from typing import Hashable, Iterator
 
 from vcp_tools.wording import article
 from vcp_tools.read.image import Cell, Image, Operation, Slot
-from vcp_tools.program import Program
+from vcp_tools.read.range_lines import ranges_of
+from vcp_tools.program import Program, find_program
 from vcp_tools.read.given import Given, load
 from vcp_tools.refusal import FINE, FOUND
 
@@ -42,6 +43,8 @@ def run(given: argparse.Namespace) -> int:
         print(difference)
     if len(differences) > MOST:
         print(f"and {len(differences) - MOST} more differences")
+    if ranges_told(comparison):
+        print(ranges_told(comparison))
     return FOUND
 
 
@@ -82,6 +85,7 @@ class Comparison:
         trees = Trees()
         names_a = {cell.name: cell.name.upper() for cell in a.image.cells}
         names_b = {cell.name: cell.name.upper() for cell in b.image.cells} | {pair.b.name: pair.a.name.upper() for pair in self.pairs}
+        self.parted: tuple[set[int], set[int]] = (set(), set())
         self.trees_a = trees.of(a.image, names_a)
         self.trees_b = trees.of(b.image, names_b)
 
@@ -131,7 +135,10 @@ class Comparison:
                 parts.setdefault(place, []).append(what)
         for (a, b), names in parts.items():
             one, other = self.a.image.operations[a], self.b.image.operations[b]
-            lines = [f"{', '.join(names)}: in A {self.a.told(one)}; in B {self.b.told(other)}"]
+            self.parted[0].add(a)
+            self.parted[1].add(b)
+            exchanged = ", the same operands in another order" if self._is_exchanged(one, other) else ""
+            lines = [f"{', '.join(names)}: in A {self.a.told(one)}; in B {self.b.told(other)}{exchanged}"]
             lines += [f"    {side}: {text}" for side, text in (("A", self.a.line_of(one)), ("B", self.b.line_of(other))) if text]
             yield "\n".join(lines)
 
@@ -141,9 +148,16 @@ class Comparison:
         if self.trees_a[a] == self.trees_b[b]:
             return None
         while self._same_head(self.a.image.operations[a], self.b.image.operations[b]):
+            if self._is_exchanged(self.a.image.operations[a], self.b.image.operations[b]):
+                break
             operands = zip(self.a.image.operations[a].operands, self.b.image.operations[b].operands)
             a, b = next((x, y) for x, y in operands if self.trees_a[x] != self.trees_b[y])
         return a, b
+
+    def _is_exchanged(self, one: Operation, other: Operation) -> bool:
+        """Whether two operations of one kind have the same operands in another order."""
+        first, second = [self.trees_a[it] for it in one.operands], [self.trees_b[it] for it in other.operands]
+        return one.kind == other.kind and first != second and sorted(first) == sorted(second)
 
     def _same_head(self, one: Operation, other: Operation) -> bool:
         """Whether two different operations have the same kind and types, and operands, of which then one differs."""
@@ -151,15 +165,41 @@ class Comparison:
             return False
         return any(self.trees_a[x] != self.trees_b[y] for x, y in zip(one.operands, other.operands))
 
-    def _stops(self) -> Iterator[str]:
-        """Operations of one side alone that may stop a run."""
-        for side, given, trees, others in (("A", self.a, self.trees_a, self.trees_b), ("B", self.b, self.trees_b, self.trees_a)):
+    def stops_alone(self) -> tuple[list[Operation], list[Operation]]:
+        """The operations of each side that may stop by their kind, and that the other side doesn't have."""
+        found: list[list[Operation]] = []
+        for given, trees, others in ((self.a, self.trees_a, self.trees_b), (self.b, self.trees_b, self.trees_a)):
             known = set(others)
-            alone = [it for it in given.image.operations if it.kind in MAY_STOP and trees[it.number] not in known]
-            first = [it for it in alone if not any(given.image.operations[x] in alone for x in it.operands)]
+            found.append([it for it in given.image.operations if it.kind in MAY_STOP and trees[it.number] not in known])
+        return found[0], found[1]
+
+    def _stops(self) -> Iterator[str]:
+        """Operations of one side that may stop, and that rest on no place at which both sides part: those are told there."""
+        for side, given, alone, parted in zip("AB", (self.a, self.b), self.stops_alone(), self.parted):
+            told = _resting_on(given.image, parted)
+            first = [it for it in alone if it.number not in told and not any(given.image.operations[x] in alone for x in it.operands)]
             if first:
                 more = f", and {len(first) - 1} more" if len(first) > 1 else ""
                 yield f"only {side} may stop at {given.told(first[0])}{more}"
+
+
+def _resting_on(image: Image, operations: set[int]) -> set[int]:
+    """These operations and all that rest on them within one cycle."""
+    found = set(operations)
+    for it in image.operations:
+        if found & set(it.operands):
+            found.add(it.number)
+    return found
+
+
+def ranges_told(comparison: Comparison) -> str:
+    """What `vcp_study ranges` says of both sides, where one has an operation that may stop by its kind and that the other hasn't; else empty."""
+    if not any(comparison.stops_alone()):
+        return ""
+    if find_program("vcp_study") is None:
+        return "whether these can stop with any rows `vcp_study ranges` says, which isn't built"
+    said = [ranges_of(it.image_bytes).ending for it in (comparison.a, comparison.b)]
+    return f"ranges, whatever the rows: A {said[0]}, B {said[1]}"
 
 
 def _slots(what: str, first: list[Slot], second: list[Slot]) -> Iterator[str]:

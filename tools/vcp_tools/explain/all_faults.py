@@ -6,6 +6,7 @@ from dataclasses import dataclass, field, replace
 from pathlib import Path
 
 from vcp_tools.read.fault_line import FaultLine, read_fault
+from vcp_tools.explain.foreign import foreign, told
 from vcp_tools.explain.hint import Hint, Repair
 from vcp_tools.explain.hints_source import source_hint
 from vcp_tools.explain.hints_types import Typed, step_over
@@ -20,11 +21,12 @@ MOST_ROUNDS = 200
 
 
 class Patched:
-    """A text under changes, which knows for each byte where it stands in the first text."""
+    """A text under changes, which knows for each byte where it stands in the first text, and whether a change has made it."""
 
     def __init__(self, data: bytes) -> None:
         self.data = data
         self.origins = list(range(len(data) + 1))
+        self.made = bytearray(len(data) + 1)
 
     def change(self, repair: Repair) -> None:
         """Puts a text in the place of some bytes."""
@@ -32,20 +34,25 @@ class Patched:
         origin = self.origins[repair.start]
         self.data = self.data[: repair.start] + put + self.data[repair.end :]
         self.origins[repair.start : repair.end] = [origin] * len(put)
+        self.made[repair.start : repair.end] = b"\1" * len(put)
 
     def origin(self, at: int) -> int:
         """Where a byte of the present text stands in the first one."""
         return self.origins[min(at, len(self.origins) - 1)]
 
+    def is_made(self, start: int, end: int) -> bool:
+        """Whether a change has made one of these bytes."""
+        return any(self.made[start : max(end, start + 1)])
+
 
 @dataclass
 class AllHints:
     """The faults that are told, each with the program's line, the first text and the hint on it; how many more may follow from
-    these; and whether the whole text was looked at."""
+    these; and what wasn't looked at, in words, empty where all was."""
 
     hints: list[tuple[str, Source, Hint]] = field(default_factory=list)
     suspected: int = 0
-    whole: bool = False
+    left_out: str = "more than so many faults were stepped over, and what is left wasn't looked at"
 
 
 def all_hints(program: Program, file: str) -> AllHints:
@@ -53,23 +60,39 @@ def all_hints(program: Program, file: str) -> AllHints:
     first = Source(read_bytes(file))
     patched = Patched(first.data)
     found = AllHints()
-    doubtful: set[str] = set()
+    lacking = foreign(first)
+    doubtful = set(lacking.doubtful)
     seen: set[tuple[str, int]] = set()
+    for hint in told(lacking.hints):
+        found.hints.append((f"{file}:{first.told(hint.start)} S4 Syntax", first, hint))
+    for hint in sorted(lacking.hints, key=lambda it: -it.repair.start if it.repair else 0):
+        if hint.repair is not None:
+            patched.change(hint.repair)
     for _ in range(MOST_ROUNDS):
         fault = _next_fault(program, patched.data)
         if fault is None:
-            found.whole = True
+            found.left_out = ""
             return found
         source = Source(patched.data)
         at = source.offset(fault.first or 1, fault.second or 1)
         hint = source_hint(source, fault.code, at)
         if not _tell(found, fault, file, first, patched, hint, doubtful, seen) and fault.code[0] == "T":
             hint = replace(hint, repair=step_over(Typed(source, parse(source)), at) or hint.repair)
-        _doubt(doubtful, source, fault, hint)
+        _doubt(doubtful, source, fault, hint, first)
         if hint.repair is None or (hint.repair.text.encode("latin-1") == patched.data[hint.repair.start : hint.repair.end]):
+            found.left_out = _left_out(fault, first.told(patched.origin(at)))
             return found
         patched.change(hint.repair)
     return found
+
+
+def _left_out(fault: FaultLine, place: str) -> str:
+    """What the program doesn't look at behind a fault that can't be stepped over: the whole text's tokens come first, then its grammar, then its types."""
+    if fault.code[0] == "T":
+        return f"no way round the fault at {place} is known, and types behind it weren't looked at"
+    if fault.code in ("S1", "S2", "S3"):
+        return f"no way round the fault at {place} is known: tokens behind it, the grammar and types weren't looked at"
+    return f"no way round the fault at {place} is known: the grammar behind it and all types weren't looked at"
 
 
 def _next_fault(program: Program, data: bytes) -> FaultLine | None:
@@ -86,8 +109,10 @@ def _tell(found: AllHints, fault: FaultLine, file: str, first: Source, patched: 
     """Adds a fault to those that are told, unless it may follow from one before; whether it was added."""
     start = patched.origin(hint.start)
     end = max(start, patched.origin(max(hint.start, hint.end - 1)) + (hint.end > hint.start))
-    names = {token.upper for token in Source(patched.data[hint.start : _line_end(patched.data, hint.end)]).tokens if token.kind == "name"}
-    if (fault.code[0] == "T" and names & doubtful) or (fault.code, start) in seen:
+    statement_end = _statement_end(patched.data, hint.end)
+    names = {token.upper for token in Source(patched.data[hint.start : statement_end]).tokens if token.kind == "name"}
+    follows = fault.code[0] == "T" and (names & doubtful or patched.is_made(hint.start, statement_end))
+    if follows or patched.is_made(hint.start, hint.end) or (fault.code, start) in seen:
         found.suspected += 1
         return False
     seen.add((fault.code, start))
@@ -97,15 +122,16 @@ def _tell(found: AllHints, fault: FaultLine, file: str, first: Source, patched: 
     return True
 
 
-def _line_end(data: bytes, at: int) -> int:
-    found = data.find(b"\n", at)
-    return len(data) if found < 0 else found
+def _statement_end(data: bytes, at: int) -> int:
+    """The byte of the next `;` or end of a line."""
+    ends = [it for it in (data.find(b"\n", at), data.find(b";", at)) if it >= 0]
+    return min(ends, default=len(data))
 
 
-def _doubt(doubtful: set[str], source: Source, fault: FaultLine, hint: Hint) -> None:
-    """Notes names of which nothing sure can be said any more: those of a changed declaration, those that a change makes, and those that
-    are declared nowhere."""
-    if fault.code == "T2":
+def _doubt(doubtful: set[str], source: Source, fault: FaultLine, hint: Hint, first: Source) -> None:
+    """Notes names of which nothing sure can be said any more: those of a changed declaration, those that are declared twice or nowhere, and those
+    that a change makes and that the text hasn't."""
+    if fault.code in ("T1", "T2"):
         doubtful.add(source.text[hint.start : hint.end].upper())
     if hint.repair is None or fault.code not in ("S1", "S3", "S4"):
         return
@@ -119,5 +145,5 @@ def _doubt(doubtful: set[str], source: Source, fault: FaultLine, hint: Hint) -> 
     changed = source.data[: hint.repair.start] + hint.repair.text.encode("latin-1") + source.data[hint.repair.end :]
     made = Source(changed)
     token = made.tokens[made.index_at(hint.repair.start)]
-    if token.kind == "name" and token.start <= hint.repair.start:
+    if token.kind == "name" and token.start <= hint.repair.start and all(it.upper != token.upper for it in first.tokens):
         doubtful.add(token.upper)

@@ -12,14 +12,15 @@ from typing import Sequence
 from vcp_tools.explain.all_faults import all_hints
 from vcp_tools.read.fault_line import Disagreement, FaultLine, RefusedOutput, StopLine, meanings, read_ending, read_fault
 from vcp_tools.explain.hint import Hint
-from vcp_tools.explain.hints_files import group_hint, image_hint, reading_hint, script_hint, wire_hint, words_hint
+from vcp_tools.explain.hints_files import FORMS, group_hint, image_hint, reading_hint, script_hint, wire_hint, words_hint
 from vcp_tools.explain.hints_il import il_hint
 from vcp_tools.read.declarations import inputs_of
 from vcp_tools.read.instruction_list import declarations_of, head_of
 from vcp_tools.explain.hints_rows import RowsHint, cell_hint, encoding_of, form_hint, header_hint, silent_faults, width_hint
 from vcp_tools.explain.hints_source import source_hint
-from vcp_tools.read.image import Image, read_image
+from vcp_tools.read.image import MAGIC, Image, read_image
 from vcp_tools.program import Program
+from vcp_tools.read.verdict_lines import faults_of_group, never_reached, read_verdicts
 from vcp_tools.refusal import FINE, FOUND, Refusal
 from vcp_tools.read.rows_file import read_rows
 from vcp_tools.read.source import Source
@@ -103,6 +104,9 @@ class Explainer:
             return Explanation(fault.file, reading_hint(fault.file))
         if fault.code in STATUS_LINES:
             return Explanation(fault.file or "vcp", STATUS_LINES[fault.code])
+        exchanged = self._exchanged(fault)
+        if exchanged:
+            return Explanation(fault.file, exchanged)
         if not Path(fault.file).is_file() and fault.file not in ("--cycles", "demo"):
             return Explanation(fault.text.rpartition(f" {fault.code}")[0], "the file isn't here, so that its line can't be shown")
         if fault.code[0] in "STQ" or fault.code in ("L2", "L3"):
@@ -117,6 +121,16 @@ class Explainer:
             place = fault.file if fault.first is None else f"{fault.file}:{fault.first}"
             return Explanation(place, image_hint(fault, _bytes(fault.file)))
         return Explanation(fault.file, _limit(fault))
+
+    def _exchanged(self, fault: FaultLine) -> str:
+        """Said where the first file of the words is refused, and the one behind it is what is wanted there; else empty."""
+        if len(self.words) < 3 or fault.file != self.words[1] or self.words[0] not in FORMS or FORMS[self.words[0]][1:2] != ("ROWS",):
+            return ""
+        first, second = _bytes(self.words[1]), _bytes(self.words[2])
+        wants_image = FORMS[self.words[0]][0] == "M"
+        what = "an image" if wants_image else "a program"
+        is_it = second.startswith(MAGIC) if wants_image else _begins_program(second) and not _begins_program(first)
+        return f"the rows stand in the place of {what}, and {what} in theirs: write `vcp {self.words[0]} {self.words[2]} {self.words[1]} ..`" if is_it else ""
 
     def _source(self, fault: FaultLine) -> Explanation:
         """S1 to S5, T1 to T8, L2 and L3, of a program or of the head of an instruction list; Q1 to Q6."""
@@ -153,6 +167,9 @@ class Explainer:
             return Explanation(fault.file, "there are more than 1,000,000 records: run them in parts")
         data = _bytes(fault.file)
         if fault.code == "R1" or encoding_of(data):
+            script = re.match(rb"(#.*\n)*(operand|result|operator|skip|begin)\b", data)
+            if script and self.words[0] in ("inject", "pairs"):
+                return Explanation(fault.file, "a script of faults stands in the place of the rows: they stand before it, as in `vcp inject M ROWS F`")
             return _of_rows(fault.file, data, header_hint(data, inputs))
         rows = read_rows(data)
         record = fault.first or 1
@@ -169,6 +186,22 @@ class Explainer:
         if not 0 < len(data) <= MOST_BYTES_LOOKED_AT:
             return []
         return [_of_rows(self.words[2], data, hint) for hint in silent_faults(data, None)[:3]]
+
+    def unreached(self, printed: str) -> list[Explanation]:
+        """The groups of an accepted campaign whose verdict is `same` since no cycle of the run comes to them."""
+        if self.words[:1] != ["inject"] or len(self.words) < 4:
+            return []
+        script = _bytes(self.words[-1]).decode("utf-8", "replace").split("\n")
+        run = Program.found().call("exec", *self.words[1:-1])
+        lines = run.text.rstrip("\n").split("\n")
+        begun = len(lines) - 2 + (not lines[-1].startswith("end "))
+        found = []
+        for verdict in read_verdicts(printed)[0]:
+            if verdict.verdict == "same" and never_reached(faults_of_group(script, verdict.line), begun):
+                line = script[verdict.line - 1].encode()
+                message = f"this fault is never reached: the run has the cycles 0 to {begun - 1}, and so its verdict is `same`"
+                found.append(Explanation(f"{self.words[-1]}:{verdict.line}:1", message, verdict.line, line, 0, len(line)))
+        return found
 
     def _script(self, fault: FaultLine) -> Explanation:
         """F1 to F6 and L5."""
@@ -225,6 +258,11 @@ class Explainer:
         return of_source(file, source, Hint(message, token.start, token.end, (guard,) if guard else ()))
 
 
+def _begins_program(data: bytes) -> bool:
+    """Whether a text begins with PROGRAM, behind blanks and comments."""
+    return Source(data[:4000]).tokens[0].is_word("PROGRAM")
+
+
 def _limit(fault: FaultLine) -> str:
     return {
         "L1": "the file is longer than its limit",
@@ -265,7 +303,8 @@ def explain_call(words: Sequence[str]) -> int:
     elif ending is not None and outcome.status in (2, 3):
         _print(explainer.ending(ending).lines() + [f"vcp:  {ending.text}"])
     else:
-        for warning in explainer.silent_rows():
+        accepted = explainer.unreached(outcome.text) if outcome.status == 0 else []
+        for warning in [*explainer.silent_rows(), *accepted]:
             _print(warning.lines())
         sys.stdout.flush()
         sys.stdout.buffer.write(outcome.output)
@@ -310,7 +349,7 @@ def explain_all(words: Sequence[str]) -> int:
         told.add(kind)
     if not found.hints:
         return explain_call(words)
-    tail = "" if found.whole else "; what stands behind the last one wasn't looked at"
+    tail = f"; {found.left_out}" if found.left_out else ""
     left = f"; {found.suspected} more may follow from these" if found.suspected else ""
     print(f"{file}: {len(found.hints)} to mend{left}{tail}")
     return FOUND

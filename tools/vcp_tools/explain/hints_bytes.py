@@ -8,7 +8,7 @@ from vcp_tools.explain.hint import Hint, Repair
 from vcp_tools.read.source import GREATEST_NUMBER, Source, Token
 
 NO_REAL = "there is no REAL: count in a fixed point, as thousandths in a DINT (1.5 becomes 1500)"
-NO_TIME = "there is no TIME: count cycles in an INT, as 10 for 5 s where a cycle takes 500 ms"
+NO_TIME = "there is no TIME: count cycles in an INT, as 10 for 5 s where a cycle takes 500 ms, and 11 for a TON (docs/PORTING.md, 'Time, counted in cycles')"
 NO_BLOCKS = "there are no function blocks: keep a timer or an edge in variables of your own, counted by cycles"
 _SPACES = ("\u00a0", "\u2007", "\u202f", "\u2009", "\u3000", "\u200b", "\ufeff")
 _QUOTES = "\u201c\u201d\u201e\u2018\u2019\u201a\u00ab\u00bb"

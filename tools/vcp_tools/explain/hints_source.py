@@ -1,6 +1,7 @@
 """What is said of a fault of a source, by its code and place."""
 from __future__ import annotations
 
+from vcp_tools.explain.foreign import hint_at
 from vcp_tools.explain.hint import Hint, Repair
 from vcp_tools.explain.hints_bytes import byte_hint, comment_hint, number_hint
 from vcp_tools.explain.hints_syntax import depth_hint, syntax_hint
@@ -14,6 +15,10 @@ def source_hint(source: Source, code: str, at: int) -> Hint:
     """What is said of the fault `code` at the byte `at` of a source, with a way to step over it where there is one."""
     if code in ("L2", "L3"):
         return size_hint(code)
+    if code in ("S1", "S4"):
+        whole = hint_at(source, at)
+        if whole is not None:
+            return whole
     if code == "S1":
         return byte_hint(source, at)
     if code == "S2":

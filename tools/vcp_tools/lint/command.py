@@ -14,7 +14,7 @@ from vcp_tools.read.source import Source
 from vcp_tools.read.structured_text import parse
 
 KINDS = ("same-on-both-sides", "input-never-read", "output-never-set", "never-read", "never-set", "labels-overlap", "branch-never-taken",
-         "condition-always-true", "value-lost", "counter-only-grows")
+         "condition-always-true", "value-lost", "counter-only-grows", "feeds-itself-alone")
 """The kinds of findings."""
 _ALWAYS = {
     "EQ": "the comparison is always the same", "LT": "the comparison is always FALSE, or always TRUE behind NOT", "SUB": "the difference is always 0",

@@ -60,8 +60,11 @@ def _uses(tree: Tree) -> Iterator[Finding]:
     read: set[str] = set().union(*(reads(statement) for statement in tree.body)) if tree.body else set()
     read |= {part.text.upper() for it in tree.declarations if it.initial for part in it.initial.inside() if part.form == "name"}
     written: set[str] = set().union(*(sets(statement) for statement in tree.body)) if tree.body else set()
+    elsewhere = _read_elsewhere(tree)
     for it in tree.declarations:
         name = it.name.upper()
+        if it.section in ("VAR", "VAR RETAIN") and name in read and name in written and name not in elsewhere:
+            yield Finding("feeds-itself-alone", it.at, f"the variable `{it.name}` is read for its own next value alone: its value goes nowhere")
         if it.section == "VAR_INPUT" and name not in read:
             yield Finding("input-never-read", it.at, f"the input `{it.name}` is never read: its column changes nothing")
         elif it.section == "VAR_OUTPUT" and name not in written:
@@ -70,6 +73,21 @@ def _uses(tree: Tree) -> Iterator[Finding]:
             yield Finding("never-read", it.at, f"the constant `{it.name}` is never read")
         elif it.section in ("VAR", "VAR RETAIN"):
             yield from _variable_uses(it, name in read, name in written)
+
+
+def _read_elsewhere(tree: Tree) -> set[str]:
+    """The names in capitals that something reads which sets another name: a variable that sets its own next value alone isn't among them."""
+    found: set[str] = set()
+    for statement in tree.statements():
+        names = {part.text.upper() for expr in expressions(statement) for part in expr.inside() if part.form == "name"}
+        found |= names - {statement.name.upper()} if isinstance(statement, Assign) else names - _only_set(statement)
+    return found
+
+
+def _only_set(statement: Statement) -> set[str]:
+    """The one name that all branches of a choice set, where they set one alone."""
+    found = sets(statement)
+    return found if len(found) == 1 else set()
 
 
 def _variable_uses(it: Declaration, is_read: bool, is_set: bool) -> Iterator[Finding]:

@@ -4,13 +4,23 @@ from __future__ import annotations
 import shlex
 import tempfile
 from dataclasses import dataclass, field
+from functools import cached_property
 from pathlib import Path
 from typing import Sequence
 
-from vcp_tools.read.image import Image
+from vcp_tools.files import write_bytes
+from vcp_tools.lint.command import findings
+from vcp_tools.lint.tree_findings import Finding
+from vcp_tools.needs import find_module
 from vcp_tools.pictures.observe import Observation
-from vcp_tools.program import Outcome, Program
+from vcp_tools.program import Outcome, Program, find_program
+from vcp_tools.read.audit_lines import Audited, read_audit
+from vcp_tools.read.given import Given
+from vcp_tools.read.image import Image
+from vcp_tools.read.range_lines import Ranges, ranges_of
 from vcp_tools.read.source import Source
+from vcp_tools.read.verdict_lines import Verdict, read_verdicts
+from vcp_tools.refusal import Refusal
 
 
 @dataclass
@@ -26,6 +36,7 @@ class Case:
     image_bytes: bytes
     image: Image
     run: Observation
+    found_something: bool = False
     commands: list[str] = field(default_factory=list)
 
     @property
@@ -34,13 +45,40 @@ class Case:
         return Path(self.file).stem + ".img"
 
     def call(self, *words: str, statuses: Sequence[int] = (0,)) -> Outcome:
-        """Runs the program, with the image in the place of its name, and notes the command."""
+        """Runs the program, with the image in the place of its name, and notes the command. A refusal says how the image is made, since it is gone then."""
         with tempfile.TemporaryDirectory() as folder:
             at = Path(folder) / "image"
-            at.write_bytes(self.image_bytes)
+            write_bytes(at, self.image_bytes)
             given = [str(at) if word == self.image_name else word for word in words]
             self.note(*words)
-            return self.program.must(*given, statuses=statuses)
+            try:
+                return self.program.must(*given, statuses=statuses, shown=words)
+            except Refusal as refusal:
+                made = f"; `vcp compile {self.file} >{self.image_name}` makes that image" if self.image_name in words else ""
+                raise Refusal(f"{refusal}{made}") from None
+
+    @cached_property
+    def audit(self) -> list[Audited]:
+        """The audit across at most `horizon` cycle borders."""
+        return read_audit(self.call("audit", self.image_name, str(self.horizon)).text)
+
+    @cached_property
+    def verdicts(self) -> tuple[list[Verdict], str]:
+        """The verdicts on the script, and the line of their totals; none where there is no script."""
+        return read_verdicts(self.call("inject", self.image_name, *self.rows, self.faults).text) if self.faults else ([], "")
+
+    @cached_property
+    def findings(self) -> list[Finding]:
+        """What is likely a mistake; of the operations alone where no grammar can be read."""
+        return findings(Given(self.file, self.image, self.image_bytes, self.source), self.source, find_module("lark") is None)
+
+    @cached_property
+    def ranges(self) -> Ranges | None:
+        """The operations that may stop, whatever the rows; None where the program that tells them isn't built."""
+        if find_program("vcp_study") is None:
+            return None
+        self.commands.append(f"vcp_study ranges {shlex.quote(self.image_name)}")
+        return ranges_of(self.image_bytes)
 
     def note(self, *words: str, into: str = "") -> None:
         """Notes a command that was carried out."""

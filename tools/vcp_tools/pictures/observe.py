@@ -91,12 +91,20 @@ def _opened_run(program: Program, source: Source, rows: Sequence[str], run: Prin
     with tempfile.TemporaryDirectory() as folder:
         at = Path(folder) / "opened.st"
         at.write_bytes(opened(source))
-        found = read_run(program.must("run", at, *rows, statuses=(0, 2, 3)).text)
+        outcome = program.call("run", at, *rows)
+        if outcome.status not in (0, 2, 3):
+            raise Refusal(f"the run with each VAR as a VAR_OUTPUT, by which variables are seen, isn't made: {_without_file(outcome.fault, at)}")
+        found = read_run(outcome.text)
     places = [found.names.index(name) for name in run.names]
     same_rows = [[row[at] for at in places] for row in found.rows] == run.rows
     if not same_rows or found.ending.split(" ")[:2] != run.ending.split(" ")[:2]:
         raise Refusal(f"the run with all variables as outputs isn't the same run: `{found.ending}`, and not `{run.ending}`")
     return found
+
+
+def _without_file(fault: str, file: Path) -> str:
+    """A line of error without the name of a file that is gone."""
+    return fault.replace(f"{file}:", "").replace(str(file), "").strip()
 
 
 def _inputs(declarations: Sequence[Declaration], rows: Sequence[str], cycles: int) -> dict[str, list[int]]:

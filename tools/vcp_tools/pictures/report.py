@@ -4,19 +4,20 @@ from __future__ import annotations
 import argparse
 import re
 import sys
-from pathlib import Path
 
 from vcp_tools.pictures.case import Case
 from vcp_tools.read.image import read_image
 from vcp_tools.pictures.markup import page
 from vcp_tools.pictures.observe import observe, rows_words
-from vcp_tools.files import read_bytes
+from vcp_tools.files import read_bytes, write_bytes
 from vcp_tools.program import Program
 from vcp_tools.refusal import FINE, FOUND, Refusal
 from vcp_tools.pictures.report_parts import SECTIONS
 from vcp_tools.read.source import Source
 from vcp_tools.pictures.table import add_run_words
 
+REPORTED = 9
+"""The status of a report that tells something: an early end, runs that differ, an unseen fault, a blind operation, a likely mistake, what may stop."""
 HORIZON = 2
 """The cycle borders of the audit, where none are given."""
 
@@ -35,19 +36,19 @@ def run(given: argparse.Namespace) -> int:
     rows, rest = rows_words(given.rest, given.cycles)
     if rest:
         raise Refusal(f"`{rest[0]}` is left over behind ROWS")
-    made = make(given.program, rows, given.horizon, given.faults, given.trace)
+    made, found_something = make(given.program, rows, given.horizon, given.faults, given.trace)
     if given.check:
         return check(given.check, read_bytes(given.check).decode("utf-8", "replace"), made)
     if given.output:
-        Path(given.output).write_text(made, encoding="utf-8", newline="\n")
+        write_bytes(given.output, made.encode("utf-8"))
         print(f"{given.output}: {len(made.encode())} bytes, {len(sections_of(made))} sections")
     else:
         sys.stdout.write(made)
-    return FINE
+    return REPORTED if found_something else FINE
 
 
-def make(file: str, rows: list[str], horizon: int, faults: str | None, traced: bool = False) -> str:
-    """The report, as one document."""
+def make(file: str, rows: list[str], horizon: int, faults: str | None, traced: bool = False) -> tuple[str, bool]:
+    """The report, as one document, and whether it found something."""
     program = Program.found()
     found = observe(program, file, rows, traced)
     source = Source(read_bytes(file))
@@ -56,7 +57,7 @@ def make(file: str, rows: list[str], horizon: int, faults: str | None, traced: b
     case.note("check", file)
     case.note("compile", file, into=case.image_name)
     parts = [part(case) for part in SECTIONS]
-    return page(f"{found.name}: program, run and audit", [part for part in parts if part])
+    return page(f"{found.name}: program, run and audit", [part for part in parts if part]), case.found_something
 
 
 def sections_of(document: str) -> dict[str, tuple[str, str]]:

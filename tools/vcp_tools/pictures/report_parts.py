@@ -6,16 +6,15 @@ import re
 from pathlib import Path
 from typing import Callable
 
-from vcp_tools.read.audit_lines import Audited, reached_from, read_audit
+from vcp_tools.read.audit_lines import Audited, reached_from
 from vcp_tools.pictures.case import Case
 from vcp_tools.read.image import Operation
-from vcp_tools.lint.command import findings
 from vcp_tools.pictures.markup import code, element, section, table, text
 from vcp_tools.files import read_bytes
 from vcp_tools.needs import find_module
-from vcp_tools.program import TOP
-from vcp_tools.read.given import Given
-from vcp_tools.read.verdict_lines import read_verdicts
+from vcp_tools.program import TOP, is_built_here
+from vcp_tools.read.given import assigned_at
+from vcp_tools.read.verdict_lines import faults_of_group, never_reached
 from vcp_tools.pictures.waves import waves
 
 MOST_ROWS = 500
@@ -60,8 +59,41 @@ def _verdict_on(case: Case) -> str:
         ("cycles", text(case.run.cycles)),
         ("end of the run", element("span", text(case.run.ending), class_="good" if case.run.is_whole else "bad")),
         ("plain, run and exec", same),
+        *_found(case),
+        ("program", text(program_told(case.program.file))),
     ]
+    case.found_something = case.found_something or not agree or not case.run.is_whole
     return section("summary", "Summary", table(("what", "found"), rows))
+
+
+def program_told(file: Path) -> str:
+    """Which program made a report: proved where `./vcp` or `rt ci` left it in this repository, by its digest else."""
+    kind = "built by ./vcp or rt ci, which prove it first" if is_built_here(file) else "given by VCP=FILE or the PATH: whether it is proved isn't known here"
+    return f"{digest(read_bytes(file))}, {kind}"
+
+
+def _found(case: Case) -> list[tuple[str, str]]:
+    """What the parts below found: verdicts, blind places, likely mistakes, and what may stop."""
+    blind = sorted({operation for it in case.audit for operation in it.blind})
+    told = [("blind operations", _counted(case, len(blind), "none"))]
+    if case.faults:
+        verdicts, totals = case.verdicts
+        unseen = sum(it.verdict in ("wrong", "ran-on") for it in verdicts)
+        case.found_something = case.found_something or unseen > 0
+        told.append(("verdicts on the faults", element("span", text(totals), class_="bad" if unseen else "good")))
+    told.append(("likely mistakes", _counted(case, len(case.findings), "none is told")))
+    ranges = case.ranges
+    if ranges is None:
+        told.append(("may stop with any rows", text("not looked at: vcp_study isn't built")))
+    else:
+        told.append(("may stop with any rows", _counted(case, ranges.named, f"none of {ranges.all} operations")))
+    return told
+
+
+def _counted(case: Case, number: int, none: str) -> str:
+    """A number in red, which is something that was found, or in green that there is none."""
+    case.found_something = case.found_something or number > 0
+    return element("span", text(number), class_="bad") if number else element("span", text(none), class_="good")
 
 
 def _files(case: Case) -> str:
@@ -137,21 +169,20 @@ def _listing(case: Case) -> str:
         reads = ", ".join(_reference(case, case.image.operations[it]) for it in operation.operands)
         number = element("span", str(operation.number), id=f"O{operation.number}")
         types = operation.type if operation.type == operation.operand_type else f"{operation.operand_type} to {operation.type}"
-        rows.append((number, code(operation.kind), types, element("span", reads, class_="m"), code(case.image.name_of(operation)), _place(operation),
+        rows.append((number, code(operation.kind), types, element("span", reads, class_="m"), code(_name_of(case, operation)), _place(operation),
                      code(signature[1] if signature else ""), code(operation.correction)))
     return section("listing", "Operations", table(("no.", "kind", "type", "reads", "name or value", "place", "signature", "correction"), rows, (0, 6, 7)))
 
 
 def _audit(case: Case) -> str:
     """The counts, the blind operations, and those from which no output is reached."""
-    audit = read_audit(case.call("audit", case.image_name, str(case.horizon)).text)
     by_output: dict[str, list[str]] = {}
-    for it in audit:
+    for it in case.audit:
         blind = element("span", f" {len(it.blind)} blind", class_="bad") if it.blind else ""
         by_output.setdefault(it.output, []).append(f"{it.reached}{blind}")
     head = ["output", *(f"reached across {borders}" for borders in range(case.horizon + 1))]
     counts = table(head, [(code(output), *cells) for output, cells in by_output.items()], range(1, case.horizon + 2))
-    return section("audit", f"Audit, across at most {case.horizon} cycle borders", counts + _blind(case, audit) + _unreached(case))
+    return section("audit", f"Audit, across at most {case.horizon} cycle borders", counts + _blind(case, case.audit) + _unreached(case))
 
 
 def _blind(case: Case, audit: list[Audited]) -> str:
@@ -177,35 +208,37 @@ def _unreached(case: Case) -> str:
     return "<h3>Unreached: no path leads to an output</h3>" + table(("no.", "kind", "name", "place", "line"), rows, (0,))
 
 
+def _name_of(case: Case, operation: Operation) -> str:
+    """An operation's name or value, or the variable that its statement assigns."""
+    assigned = assigned_at(case.source, operation)
+    return case.image.name_of(operation) or (f"for {assigned}" if assigned else "")
+
+
 def _operation_cells(case: Case, operation: Operation) -> tuple[str, str, str, str, str]:
     link = element("a", str(operation.number), href=f"#O{operation.number}")
-    return link, code(operation.kind), code(case.image.name_of(operation)), _place(operation), _line(case, operation)
+    return link, code(operation.kind), code(_name_of(case, operation)), _place(operation), _line(case, operation)
 
 
 def _campaign(case: Case) -> str:
     """The verdicts on the groups of faults of a script."""
     if not case.faults:
         return ""
-    verdicts, totals = read_verdicts(case.call("inject", case.image_name, *case.rows, case.faults).text)
+    verdicts, totals = case.verdicts
     script = read_bytes(case.faults).decode("utf-8", "replace").split("\n")
     rows = []
     for it in verdicts:
         mark = "good" if it.verdict in ("refused", "stopped", "same") else "bad"
-        faults = code("; ".join(_faults(script, it.line)))
-        rows.append((str(it.line), faults, element("span", it.verdict, class_=mark), code(it.rest), text(_remark(script, it.line))))
+        faults = code("; ".join(faults_of_group(script, it.line)))
+        details = code(it.rest or _unreached_note(case, script, it.line))
+        rows.append((str(it.line), faults, element("span", it.verdict, class_=mark), details, text(_remark(script, it.line))))
     meanings = "; ".join(f"<b>{name}</b>: {said}" for name, said in _MEANINGS.items())
     told = table(("line", "fault", "verdict", "details", "remark above it"), rows, (0,))
     return section("campaign", "Faults and their verdicts", told + element("p", code(totals)) + element("p", meanings + ".", class_="dim"))
 
 
-def _faults(script: list[str], line: int) -> list[str]:
-    """The faults of the group of a script whose first stands in this line."""
-    lines = [it.strip() for it in script]
-    marks = [it for it in lines[: line - 1] if it in ("begin", "end")]
-    if not marks or marks[-1] == "end":
-        return [lines[line - 1]]
-    rest = lines[line - 1 :]
-    return [it for it in rest[: rest.index("end")] if it and not it.startswith("#")]
+def _unreached_note(case: Case, script: list[str], line: int) -> str:
+    """Said of a group that no cycle of the run comes to; else empty."""
+    return "never reached: the run ends before" if never_reached(faults_of_group(script, line), case.run.cycles + (not case.run.is_whole)) else ""
 
 
 def _remark(script: list[str], line: int) -> str:
@@ -222,7 +255,7 @@ def _remark(script: list[str], line: int) -> str:
 
 def _lint(case: Case) -> str:
     without = find_module("lark") is None
-    found = findings(Given(case.file, case.image, case.source), case.source, without)
+    found = case.findings
     note = element("p", "`lark` isn't installed: only what the operations tell was looked for.", class_="dim") if without else ""
     if not found:
         return section("lint", "Likely mistakes", note + element("p", "None is told.", class_="good"))

@@ -24,6 +24,7 @@ def add_words(parser: argparse.ArgumentParser) -> None:
     parser.add_argument("--all", action="store_true", help="show the variables, too")
     parser.add_argument("--csv", action="store_true", help="commas in the place of columns")
     parser.add_argument("--changes", action="store_true", help="leave out a cycle in which nothing changes that is shown")
+    parser.add_argument("--changes-of", metavar="NAMES", help="leave out a cycle in which none of these names changes, with commas between them")
 
 
 def run(given: argparse.Namespace) -> int:
@@ -33,19 +34,20 @@ def run(given: argparse.Namespace) -> int:
     for line in warnings(rows):
         print(line, file=sys.stderr)
     columns = found.columns if given.all and not names else chosen(found, names)
-    print("\n".join(_lines(found, columns, given.csv, given.changes)))
+    watched = chosen(found, given.changes_of.split(",")) if given.changes_of else columns if given.changes else None
+    print("\n".join(_lines(found, columns, given.csv, watched)))
     return FINE if found.is_whole else FOUND
 
 
-def _lines(found: Observation, columns: Sequence[Column], with_commas: bool, changes: bool) -> list[str]:
-    """The head, a line a cycle, and the last line of the run."""
+def _lines(found: Observation, columns: Sequence[Column], with_commas: bool, watched: Sequence[Column] | None) -> list[str]:
+    """The head, a line a cycle, or one for each cycle in which a watched column changes, and the last line of the run."""
     cells = [["cycle", *(column.name for column in columns)]]
-    before: list[str] = []
+    before: list[int] | None = None
     for cycle in range(found.cycles):
-        row = [str(column.values[cycle]) for column in columns]
-        if not changes or row != before:
-            cells.append([str(cycle), *row])
-        before = row
+        seen = [column.values[cycle] for column in watched or ()]
+        if watched is None or seen != before:
+            cells.append([str(cycle), *(str(column.values[cycle]) for column in columns)])
+        before = seen
     if with_commas:
         return [",".join(row) for row in cells] + [found.ending]
     widths = [max(len(row[at]) for row in cells) for at in range(len(cells[0]))]

@@ -2,6 +2,7 @@
 from __future__ import annotations
 
 from dataclasses import dataclass
+from typing import Sequence
 
 from vcp_tools.refusal import Refusal
 
@@ -15,6 +16,22 @@ class Verdict:
     line: int
     verdict: str
     rest: str
+
+
+def faults_of_group(script: Sequence[str], line: int) -> list[str]:
+    """The faults of the group of a script whose first stands in this line."""
+    lines = [it.strip() for it in script]
+    marks = [it for it in lines[: line - 1] if it in ("begin", "end")]
+    if not marks or marks[-1] == "end":
+        return [lines[line - 1]]
+    rest = lines[line - 1 :]
+    return [it for it in rest[: rest.index("end")] if it and not it.startswith("#")]
+
+
+def never_reached(faults: Sequence[str], cycles: int) -> bool:
+    """Whether each fault of a group, as a line of a script, is of a cycle behind the first `cycles` ones, which are begun."""
+    found = [line.split() for line in faults]
+    return bool(found) and all(len(words) > 1 and words[1].isdigit() and int(words[1]) >= cycles for words in found)
 
 
 def read_verdicts(text: str) -> tuple[list[Verdict], str]:

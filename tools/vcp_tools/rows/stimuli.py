@@ -57,11 +57,13 @@ def _step(words: Sequence[str], number: int, file: str) -> Step:
     where = f"{file}:{number}"
     if not re.fullmatch(r"[0-9]{1,7}", words[0]) or not 1 <= int(words[0]) <= MOST_CYCLES:
         raise Refusal(f"{where}: `{words[0]}` stands where the number of cycles is wanted, 1 to {MOST_CYCLES}: a line is `6 approach=1`")
-    changes = []
+    changes: list[tuple[str, str]] = []
     for word in words[1:]:
         name, equals, value = word.partition("=")
         if not equals or not _NAME.match(name) or value == "":
             raise Refusal(f"{where}: `{word}` isn't `NAME=VALUE`, without blanks round the `=`")
+        if any(name.upper() == before.upper() for before, _ in changes):
+            raise Refusal(f"{where}: `{name}` stands twice in the line: which value is meant?")
         changes.append((name, value))
     return Step(number, int(words[0]), tuple(changes))
 
