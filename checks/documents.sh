@@ -3,6 +3,7 @@
 #
 # Names: all that docs/PROMISES.md and docs/ARCHITECTURE.md name is there (promised_names.py); docs/CLAUSES.md is what the sources say (clauses.py); and
 # docs/GLOSSARY.md says of names that two crates have what they are (double_names.py).
+# Proofs: none takes anything from the proofs of another crate, beyond what is listed (foreign_proofs.py).
 # Sections: those that a document refers to are there (sections.py).
 # Lines: none of a document is longer than 160 columns (long_lines.py).
 # Commands: what documents show is what the program prints (transcripts.sh); the runs of examples/ are those shown there, and the examples of the manual pages
@@ -26,6 +27,7 @@ if command -v python3 >/dev/null 2>&1; then
     python3 "$here/promised_names.py" || status=1
     python3 "$here/clauses.py" || status=1
     python3 "$here/double_names.py" || status=1
+    python3 "$here/foreign_proofs.py" || status=1
     python3 "$here/sections.py" || status=1
     python3 "$here/long_lines.py" --documents || status=1
 else
