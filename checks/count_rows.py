@@ -3,7 +3,7 @@
 
     checks/count_rows.py [--write]
 
-Of a session: its calls of the program, `$ plain,run ..` as two, and the lines that say what they have to give. Of a crate's tests: their
+Of a session: its calls, `$ plain,run ..` as two, and the lines that say what they have to give. Of a crate's tests: their
 number, the rows of their tables, which are the lines of constants of several lines and the entries of constants that are arrays, the calls
 in session texts among these, and the assertions. A crate is counted where it has a test.
 
@@ -19,9 +19,15 @@ CRATES = TOP / "crates"
 MARKS = ("#", "<", "+", "@", "%", "!", "$")
 
 
+def commands_of(line):
+    """The commands of a line of calls, which stand behind the name of another program than `vcp`."""
+    words = line.split(" ")
+    return words[2 if words[1] in ("vcp_study", "call") else 1].split(",")
+
+
 def calls_in(lines):
     """How many calls these lines make."""
-    return sum(len(line.split(" ")[1].split(",")) for line in lines if line.startswith("$ "))
+    return sum(len(commands_of(line)) for line in lines if line.startswith("$ "))
 
 
 def counts_of_session(lines):
