@@ -35,13 +35,10 @@ operand_spot call (suc zero) w = refl
 operand_spot call (suc (suc j)) w = refl
 
 passed_spot : (a : Option Act) (w : ℤ) (call : Call) → spot (passed_by a w call) ≡ spot call
-passed_spot None w call = refl
 passed_spot (Some (act.OperandAdd j e)) w call = operand_spot call j _
 passed_spot (Some (act.OperandFrom j r)) w call = operand_spot call j w
 passed_spot (Some (act.OperandStale j)) w call = operand_spot call j w
-passed_spot (Some (act.ResultAdd e)) w call = refl
-passed_spot (Some (act.Operator kind)) w call = refl
-passed_spot (Some act.Skip) w call = refl
+passed_spot _ w call = refl
 
 -- ---- one cycle
 

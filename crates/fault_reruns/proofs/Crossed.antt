@@ -10,10 +10,10 @@ use Rattle.fault_runs.specs.RunLaw.{Words, no_words}
 use Rattle.fault_injector.specs.declared.verdict.Verdict.{Verdict}
 use Rattle.fault_reruns.specs.Crossing.{CycleRan, past_of}
 use Rattle.fault_reruns.specs.References.{KeptRun}
-use Rattle.fault_reruns.specs.Through.{RanThrough}
+use Rattle.fault_reruns.specs.Reruns.{Reran}
 use Rattle.fault_reruns.specs.Touched.{cycle_marks, held_marks}
 use Rattle.fault_reruns.specs.declared.rerun.Work.{Work}
-use Rattle.fault_reruns.proofs.RerunRuns.{Between, starts, goes_on, judges}
+use Rattle.fault_reruns.proofs.RerunRuns.{Between, seen, starts, goes_on, judges}
 
 abbrev words_of : List ℤ → List Answer → Words
 words_of held answers = record { held = held; answers = answers }
@@ -45,6 +45,6 @@ crossed r faults n row other w u x y z i j k there answered b ran =
 pub judged_there : (r : KeptRun) (faults : List Fault) (n : ℕ) (row : List ℤ) (other : List Answer) (w u : Work) (v : Verdict)
     (x y z : Option (List Entry)) (i j k : ℕ) → slice_get r.rows n ≡ Some row → slice_get r.answers n ≡ Some other
     → Between r faults n (past_of w) w.held.items w.cell_marks.items x y i j → CycleRan r faults n row other w u (Some v) y z j k
-    → RanThrough r faults v x z i k
+    → Reran r.table r.graph faults r.rows r.answers (seen x i) (seen z k) v
 judged_there r faults n row other w u v x y z i j k there answered b ran =
     judges r faults n (past_of w) w.held.items w.cell_marks.items row other u.past.items v x y z i j k there answered b ran.ran ran.verdict

@@ -35,16 +35,12 @@ whole_few (op ∷ ops) (answer.Operand ∷ answers) w = let none : answers ≡ [
 pub words_split : (answers : List Answer) → AllWords answers → answers ≡ words_answered (front_words answers)
 words_split [] w = refl
 words_split (answer.Word x ∷ answers) w = ap (λ (us : List Answer). answer.Word x ∷ us) (words_split answers w.1)
-words_split (answer.Range ∷ answers) w = let e : false ≡ true = w.0 in absurd cc
-words_split (answer.DivZero ∷ answers) w = let e : false ≡ true = w.0 in absurd cc
-words_split (answer.Operand ∷ answers) w = let e : false ≡ true = w.0 in absurd cc
+words_split _ w = let e : false ≡ true = w.0 in absurd cc
 
 pub words_counted : (answers : List Answer) → AllWords answers → length (front_words answers) ≡ length answers
 words_counted [] w = refl
 words_counted (answer.Word x ∷ answers) w = ap suc (words_counted answers w.1)
-words_counted (answer.Range ∷ answers) w = let e : false ≡ true = w.0 in absurd cc
-words_counted (answer.DivZero ∷ answers) w = let e : false ≡ true = w.0 in absurd cc
-words_counted (answer.Operand ∷ answers) w = let e : false ≡ true = w.0 in absurd cc
+words_counted _ w = let e : false ≡ true = w.0 in absurd cc
 
 -- where each operation answered a word, the answers are words alone
 pub whole_words : (ops : List Op) (answers : List Answer) → Whole ops answers → length (front_words answers) ≡ length ops → AllWords answers
@@ -52,9 +48,7 @@ whole_words [] [] w e = tt
 whole_words [] (a ∷ answers) w e = absurd w
 whole_words (op ∷ ops) [] w e = absurd w
 whole_words (op ∷ ops) (answer.Word x ∷ answers) w e = (refl, whole_words ops answers w (omega (arith, e)))
-whole_words (op ∷ ops) (answer.Range ∷ answers) w e = absurd (omega (arith, e))
-whole_words (op ∷ ops) (answer.DivZero ∷ answers) w e = absurd (omega (arith, e))
-whole_words (op ∷ ops) (answer.Operand ∷ answers) w e = absurd (omega (arith, e))
+whole_words (op ∷ ops) _ w e = absurd (omega (arith, e))
 
 -- and where one didn't, the stop is the cycle's end
 pub stop_split : (ops : List Op) (answers : List Answer) (k : ℕ) (later : CycleEnd) → Whole ops answers → length (front_words answers) < length ops
@@ -96,12 +90,6 @@ front_ends (answer.Range ∷ answers) zero is = refl
 front_ends (answer.DivZero ∷ answers) zero is = refl
 front_ends (answer.Operand ∷ answers) zero is = refl
 front_ends (a ∷ answers) (suc k) is = front_ends answers k is
-
-pub front_past : (answers : List Answer) (k : ℕ) → length answers ≤ k → front_words (drop k answers) ≡ []
-front_past [] zero few = refl
-front_past [] (suc k) few = refl
-front_past (a ∷ answers) zero few = absurd (omega (arith, few))
-front_past (a ∷ answers) (suc k) few = front_past answers k (omega (arith, few))
 
 -- ---- the cycles that are kept
 
@@ -179,19 +167,6 @@ pub kept_count : (n whole : ℕ) (words : List ℤ) (s : Option StopKind) → le
 kept_count n zero words None = refl
 kept_count n zero words (Some why) = refl
 kept_count n (suc whole) words s = let e = kept_count n whole (drop n words) s in omega (arith, e)
-
--- the word of an operation among a cycle's words and its stop
-pub word_there : (words : List ℤ) (s : Option StopKind) (k : ℕ) → word_in (slice_get (words_answered words ++ stop_answer s) k) ≡ slice_get words k
-word_there [] None zero = refl
-word_there [] None (suc k) = refl
-word_there [] (Some stop.Range) zero = refl
-word_there [] (Some stop.Range) (suc k) = refl
-word_there [] (Some stop.DivZero) zero = refl
-word_there [] (Some stop.DivZero) (suc k) = refl
-word_there [] (Some stop.Operand) zero = refl
-word_there [] (Some stop.Operand) (suc k) = refl
-word_there (w ∷ words) s zero = refl
-word_there (w ∷ words) s (suc k) = word_there words s k
 
 -- ---- runs over rows, of which some are left
 

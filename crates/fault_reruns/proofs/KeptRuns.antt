@@ -15,7 +15,7 @@ use Rattle.coded_machine.specs.CycleEnds.{end_of, end_or, first_outside, first_r
 use Rattle.coded_machine.specs.Honest.{stop_answer}
 use Rattle.coded_machine.specs.Laws.{RunLaws}
 use Rattle.coded_machine.specs.Runs.{AllCycles, Outcome, RunSoFar, Turn, calls_over}
-use Rattle.coded_machine.specs.State.{State, fresh}
+use Rattle.coded_machine.specs.State.{State}
 use Rattle.fault_reruns.specs.Kept.{front_words, stop_kind}
 use Rattle.fault_reruns.specs.References.{RanOver, words_answered, kept_cycles}
 use Rattle.fault_reruns.proofs.KeptAnswers.{words_split, words_counted, whole_words, stop_split, stop_there, kept_more, kept_whole, kept_stop, calls_front, all_ended}
@@ -153,15 +153,3 @@ pub width_there : (rows : List (List ℤ)) (n i : ℕ) (row : List ℤ) → All 
 width_there rows n i row all there =
     subst (λ (r : List ℤ). length r ≡ n) (get_or_from_slice_get rows i row row there)
     (All-get_or (λ (r : List ℤ). length r ≡ n) rows i row (slice_get_within rows i row there) all)
-
--- a machine that is fresh is so by its own graph and table
-pub fresh_by_itself : (m : State) (g : Lists) (t : Numbers) → m ≡ fresh g t → m ≡ fresh m.graph m.table
-fresh_by_itself m g t e = let P : State → Type 0 = λ s. s ≡ fresh s.graph s.table in subst P (sym e) refl
-
--- what was carried by a machine of a graph and a table
-pub ran_by : (m : State) (g : Lists) (t : Numbers) (rows : List (List ℤ)) (whole : ℕ) (words : List ℤ) (s : Option StopKind) (e : CycleEnd)
-    (x y : Option (List Entry)) (a b : ℕ) → m ≡ fresh g t
-    → RanOver m.graph m.table rows (kept_cycles (length m.graph.operations) whole words s) e x y a b
-    → RanOver g t rows (kept_cycles (length g.operations) whole words s) e x y a b
-ran_by m g t rows whole words s e x y a b is ran =
-    subst (λ (n : State). RanOver n.graph n.table rows (kept_cycles (length n.graph.operations) whole words s) e x y a b) is ran

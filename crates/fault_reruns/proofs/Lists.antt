@@ -1,5 +1,5 @@
 -- Lists: what stands at a place of a list, and behind it.
-use Rattle.std.proofs.Common.{◌≡◌, ℕ, zero, suc, ◌+◌, ◌<◌, ◌≤◌, List, [], ◌∷◌, ◌++◌, length, get_or, take, drop, slice_get, Some, refl, sym, ap, ◌∙◌, arith}
+use Rattle.std.proofs.Common.{◌≡◌, ℕ, zero, suc, ◌+◌, ◌<◌, ◌≤◌, List, [], ◌∷◌, length, get_or, drop, slice_get, Some, refl, sym, ap, ◌∙◌, arith}
 
 pub there_is : {X : Type 0} (xs : List X) (k : ℕ) → k < length xs → (x : X) × (slice_get xs k ≡ Some x)
 there_is [] k within = absurd (omega (arith, within))
@@ -13,24 +13,11 @@ drop_there (y ∷ xs) (suc k) x there =
     let on : suc k + 1 ≡ suc (k + 1) = omega arith in
     drop_there xs k x there ∙ ap (λ (n : ℕ). x ∷ drop n (y ∷ xs)) (sym on)
 
-pub take_there : {X : Type 0} (xs : List X) (k : ℕ) (x : X) → slice_get xs k ≡ Some x → take (k + 1) xs ≡ take k xs ++ x ∷ []
-take_there [] k x there = absurd cc
-take_there (y ∷ xs) zero x there = let same : y ≡ x = cc in ap (λ z. z ∷ []) same
-take_there (y ∷ xs) (suc k) x there =
-    let on : suc k + 1 ≡ suc (k + 1) = omega arith in
-    ap (λ (n : ℕ). take n (y ∷ xs)) on ∙ ap (λ ys. y ∷ ys) (take_there xs k x there)
-
 pub drop_behind : {X : Type 0} (xs : List X) (k : ℕ) → length xs ≤ k → drop k xs ≡ []
 drop_behind [] zero few = refl
 drop_behind [] (suc k) few = refl
 drop_behind (x ∷ xs) zero few = absurd (omega (arith, few))
 drop_behind (x ∷ xs) (suc k) few = drop_behind xs k (omega (arith, few))
-
-pub take_whole : {X : Type 0} (xs : List X) (k : ℕ) → length xs ≤ k → take k xs ≡ xs
-take_whole [] zero few = refl
-take_whole [] (suc k) few = refl
-take_whole (x ∷ xs) zero few = absurd (omega (arith, few))
-take_whole (x ∷ xs) (suc k) few = ap (λ ys. x ∷ ys) (take_whole xs k (omega (arith, few)))
 
 pub drop_read : (xs : List ℕ) (k : ℕ) → k < length xs → drop k xs ≡ get_or xs k 0 ∷ drop (k + 1) xs
 drop_read [] k within = absurd (omega (arith, within))

@@ -66,9 +66,7 @@ EndNames outputs operations (end.Refused output found wanted) = output < outputs
 stop_within : (outputs all k : ℕ) (answers : List Answer) → k + length answers ≤ all → IfSome (first_stop k answers) (EndNames outputs all)
 stop_within outputs all k [] count = tt
 stop_within outputs all k (answer.Word w ∷ answers) count = stop_within outputs all (suc k) answers (omega (arith, count))
-stop_within outputs all k (answer.Range ∷ answers) count = omega (arith, count)
-stop_within outputs all k (answer.DivZero ∷ answers) count = omega (arith, count)
-stop_within outputs all k (answer.Operand ∷ answers) count = omega (arith, count)
+stop_within outputs all k _ count = omega (arith, count)
 
 -- where one of two ends names what is there, so does the one that a test takes
 one_of : (outputs all : ℕ) (b : Bool) (later : Option CycleEnd) (e : CycleEnd) → IfSome later (EndNames outputs all) → EndNames outputs all e →

@@ -37,9 +37,7 @@ values_count g answers = map_count (λ (o : Outlet). value_part g.profile (word_
 past_stop : (k : ℕ) (answers : List Answer) (later : CycleEnd) → stop_in (end_or (first_stop k answers) later) ≡ None → stop_in later ≡ None
 past_stop k [] later none = none
 past_stop k (answer.Word w ∷ answers) later none = past_stop (suc k) answers later none
-past_stop k (answer.Range ∷ answers) later none = absurd cc
-past_stop k (answer.DivZero ∷ answers) later none = absurd cc
-past_stop k (answer.Operand ∷ answers) later none = absurd cc
+past_stop k _ later none = absurd cc
 
 inside_first : (b : Bool) (more : Option CycleEnd) (k : ℕ) (why : StopKind) (later : CycleEnd) → (stop_in (end_or more later) ≡ None → more ≡ None)
     → stop_in (end_or (cond b more (Some (end.Stopped k why))) later) ≡ None → cond b more (Some (end.Stopped k why)) ≡ None

@@ -21,15 +21,14 @@ use Rattle.fault_reruns.specs.Begun.{RanAgain}
 use Rattle.fault_reruns.specs.Crossing.{past_of}
 use Rattle.fault_reruns.specs.Laws.{NoneRefused, AsksNoMore, NothingTouched}
 use Rattle.fault_reruns.specs.References.{KeptRun}
-use Rattle.fault_reruns.specs.Reruns.{Again, cycle_again, read_cycle, refusal_in, rerun, runs_again, stop_in}
+use Rattle.fault_reruns.specs.Reruns.{Again, Reran, cycle_again, read_cycle, refusal_in, rerun, runs_again, stop_in}
 use Rattle.fault_reruns.specs.PassedOver.{Advanced, LastStands, held_at, last_answers, passes, past_at, stays}
-use Rattle.fault_reruns.specs.Through.{RanThrough}
 use Rattle.fault_reruns.specs.Touched.{cycle_marks, held_marks, mark}
 use Rattle.fault_reruns.specs.declared.rerun.Work.{Work}
 use Rattle.fault_reruns.proofs.KeptAnswers.{not_released}
 use Rattle.fault_reruns.proofs.KeptParts.{ended_early}
 use Rattle.fault_reruns.proofs.Lists.{drop_behind, there_is}
-use Rattle.fault_reruns.proofs.RerunRuns.{Between, after_cycles, drop_at, goes_on}
+use Rattle.fault_reruns.proofs.RerunRuns.{Between, seen, after_cycles, drop_at, goes_on}
 use Rattle.fault_reruns.proofs.Untouched.{cycle_same, none_touched, row_same, asks_no_more}
 
 abbrev pub NoMark : List Bool → Type 0
@@ -183,7 +182,7 @@ none_refused r all stands (suc (suc d)) n is =
 pub ends_same : (r : KeptRun) (faults : List Fault) (n : ℕ) (past : Words) (held : List ℤ) (cell_marks : List Bool) (x y : Option (List Entry)) (i j : ℕ)
     → n ≤ length r.answers → AllCycles r.graph r.table 0 r.rows r.answers → LastStands r → NoMark cell_marks
     → ((m k : ℕ) → n ≤ m → m < length r.answers → acts_of faults m k ≡ None) → Between r faults n past held cell_marks x y i j
-    → RanThrough r faults verdict.Same x y i j
+    → Reran r.table r.graph faults r.rows r.answers (seen x i) (seen y j) verdict.Same
 ends_same r faults n past held cell_marks x y i j within all stands cells none b =
     let t = r.table in
     let g = r.graph in

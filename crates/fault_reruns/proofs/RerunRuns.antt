@@ -3,6 +3,7 @@ use Rattle.std.proofs.Common.{◌≡◌, ℕ, zero, suc, ◌+◌, ◌≤◌, Boo
 use Rattle.std.proofs.lemmas.List.{append_assoc, append-nil}
 use Rattle.coded_unit.specs.declared.call.Answer.{Answer}
 use Rattle.coded_unit.specs.Log.{Entry}
+use Rattle.coded_unit.specs.Seen.{UnitSeen}
 use Rattle.op_graph.specs.Lists.{Lists}
 use Rattle.signature_table.specs.Signatures.{Numbers}
 use Rattle.coded_machine.specs.Calls.{Carried}
@@ -14,10 +15,12 @@ use Rattle.fault_injector.specs.declared.verdict.Verdict.{Verdict}
 use Rattle.fault_injector.specs.declared.verdict.Verdict.TheVariants as verdict
 use Rattle.fault_reruns.specs.Begun.{RanAgain}
 use Rattle.fault_reruns.specs.References.{KeptRun}
-use Rattle.fault_reruns.specs.Reruns.{Again, Part, and_later, cycle_again, read_cycle, rerun, runs_again, same_then, unless_judged}
-use Rattle.fault_reruns.specs.Through.{RanThrough}
+use Rattle.fault_reruns.specs.Reruns.{Again, Part, Reran, and_later, cycle_again, read_cycle, rerun, runs_again, same_then, unless_judged}
 use Rattle.fault_reruns.specs.Touched.{cycle_marks, held_marks}
 use Rattle.fault_reruns.proofs.AgainRuns.{carried_on}
+
+abbrev pub seen : Option (List Entry) → ℕ → UnitSeen
+seen log wrong = record { log = log; wrong = wrong }
 
 -- these cycles, with these calls, were rerun before
 abbrev pub after_cycles : List (List Answer) → List Entry → Again → Again
@@ -108,7 +111,7 @@ goes_on r faults n past held cell_marks row other own x y z i j k there answered
 pub judges : (r : KeptRun) (faults : List Fault) (n : ℕ) (past : Words) (held : List ℤ) (cell_marks : List Bool) (row : List ℤ) (other : List Answer)
     (own : List Answer) (v : Verdict) (x y z : Option (List Entry)) (i j k : ℕ) → slice_get r.rows n ≡ Some row → slice_get r.answers n ≡ Some other
     → Between r faults n past held cell_marks x y i j → RanAgain (cycle_again r.table r.graph (acts_of faults) n past held cell_marks row other) own y z j k
-    → Some v ≡ read_cycle r.graph r.table n own other → RanThrough r faults v x z i k
+    → Some v ≡ read_cycle r.graph r.table n own other → Reran r.table r.graph faults r.rows r.answers (seen x i) (seen z k) v
 judges r faults n past held cell_marks row other own v x y z i j k there answered b c some =
     let t = r.table in
     let g = r.graph in
@@ -144,7 +147,7 @@ drop_past (x ∷ xs) zero few = absurd (omega (arith, few))
 drop_past (x ∷ xs) (suc k) few = drop_past xs k (omega (arith, few))
 
 pub ends : (r : KeptRun) (faults : List Fault) (n : ℕ) (past : Words) (held : List ℤ) (cell_marks : List Bool) (x y : Option (List Entry)) (i j : ℕ)
-    → length r.answers ≤ n → Between r faults n past held cell_marks x y i j → RanThrough r faults verdict.Same x y i j
+    → length r.answers ≤ n → Between r faults n past held cell_marks x y i j → Reran r.table r.graph faults r.rows r.answers (seen x i) (seen y j) verdict.Same
 ends r faults n past held cell_marks x y i j all b =
     let t = r.table in
     let g = r.graph in

@@ -37,9 +37,7 @@ right_back (x ∷ xs) ys h = right_back xs ys h.1
 
 no_stop : (a : Answer) → stop_of a ≡ None → AllWords (a ∷ [])
 no_stop (answer.Word w) h = (refl, tt)
-no_stop answer.Range h = absurd cc
-no_stop answer.DivZero h = absurd cc
-no_stop answer.Operand h = absurd cc
+no_stop _ h = absurd cc
 
 none_first : (k : ℕ) (s : Option StopKind) (later : Option CycleEnd) → stop_or k s later ≡ None → (s ≡ None) × (later ≡ None)
 none_first k None later h = (refl, h)

@@ -12,23 +12,41 @@ use Rattle.coded_unit.specs.Right.{Right}
 use Rattle.coded_unit.specs.Words.{modulo, value_part, coded}
 use Rattle.op_graph.specs.declared.op.Op.{Op}
 use Rattle.op_graph.specs.GraphRun.{initial}
-use Rattle.op_graph.specs.Lists.{Lists}
-use Rattle.signature_table.specs.Signatures.{signature}
+use Rattle.op_graph.specs.Lists.{Lists, nothing}
+use Rattle.signature_table.specs.Signatures.{Numbers, signature}
 use Rattle.fault_script.specs.declared.act.Act.{Act}
 use Rattle.fault_script.specs.declared.act.Act.TheVariants as act
 use Rattle.fault_script.specs.declared.act.Fault.{Fault}
 use Rattle.fault_injector.specs.declared.verdict.Verdict.TheVariants as verdict
 use Rattle.fault_injector.specs.Verdicts.{plain_cycles}
-use Rattle.fault_injector.proofs.WorkedVerdicts.{counts, narrow, of_operations, of_seed, operation}
 use Rattle.fault_reruns.specs.Laws.{answers_of}
 use Rattle.fault_reruns.specs.Reruns.{Again, rerun}
+
+abbrev on_dint : Kind → ℕ → ℕ → ℤ → Op
+on_dint k a b imm = record { kind = k; from = ty.Dint; ty = ty.Dint; a = a; b = b; c = 0; imm = imm; spot = record { line = 0; col = 0 }; turn = 0 }
+
+abbrev of_operations : ℕ → List Op → Lists
+of_operations out ops = record (nothing profile.Narrow) { outputs = record { name = 0; ty = ty.Dint; op = out } ∷ []; operations = ops }
+
+-- y := x + 1
+abbrev narrow : Lists
+narrow = of_operations 3 (on_dint kind.Input 0 0 (pos 0) ∷ on_dint kind.Const 0 0 (pos 1) ∷ on_dint kind.Add 0 1 (pos 0) ∷ on_dint kind.Out 2 0 (pos 0) ∷ [])
+
+-- n := n + 1; y := n
+abbrev counts : Lists
+counts = record (of_operations 3 (on_dint kind.Load 0 0 (pos 0) ∷ on_dint kind.Const 0 0 (pos 1) ∷ on_dint kind.Add 0 1 (pos 0) ∷ on_dint kind.Out 2 0 (pos 0)
+    ∷ on_dint kind.Store 2 0 (pos 0) ∷ [])) { loads = record { name = 0; ty = ty.Dint; init = pos 0; load = 0 } ∷ []; stores = 4 ∷ [] }
+
+-- of the seed 0; no correction is read
+abbrev numbers : Numbers
+numbers = record { profile = profile.Narrow; seed = 0; step = 1; corrections = [] }
 
 abbrev at : ℕ → ℕ → Act → Fault
 at n k a = record { line = 1; cycle = n; op = k; act = a }
 
 -- the rerun with the seed 0 beside a run of right answers
 abbrev rerun_of : Lists → List Fault → List (List ℤ) → List Answer → Again
-rerun_of g faults rows given = rerun (of_seed g.profile 0) g faults rows (answers_of (of_seed g.profile 0) g 0 (plain_cycles g (initial g) rows)) given
+rerun_of g faults rows given = rerun numbers g faults rows (answers_of numbers g 0 (plain_cycles g (initial g) rows)) given
 
 abbrev word : ℤ → ℕ → Answer
 word v r = answer.Word (coded profile.Narrow v r)
@@ -132,12 +150,9 @@ apart_verdict = refl
 
 -- ---- a touched divisor where the run without the fault divides by zero: from its stop on all operations are asked again
 
-abbrev on_dint : Kind → ℕ → ℕ → ℤ → Op
-on_dint k a b imm = operation k ty.Dint a b imm
-
 -- y := a / b; z := a + b
 abbrev divides : Lists
-divides = record (of_operations profile.Narrow ty.Dint 4 (on_dint kind.Input 0 0 (pos 0) ∷ on_dint kind.Input 0 0 (pos 1) ∷ on_dint kind.Div 0 1 (pos 0)
+divides = record (of_operations 4 (on_dint kind.Input 0 0 (pos 0) ∷ on_dint kind.Input 0 0 (pos 1) ∷ on_dint kind.Div 0 1 (pos 0)
     ∷ on_dint kind.Add 0 1 (pos 0)
     ∷ on_dint kind.Out 2 0 (pos 0)
     ∷ on_dint kind.Out 3 0 (pos 1)

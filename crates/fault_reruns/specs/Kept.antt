@@ -8,11 +8,8 @@ use Rattle.coded_machine.specs.declared.cycle_end.CycleEnd.TheVariants as end
 
 -- the words up to the first answer that is none
 abbrev pub front_words : List Answer → List ℤ
-front_words [] = []
 front_words (answer.Word w ∷ answers) = w ∷ front_words answers
-front_words (answer.Range ∷ answers) = []
-front_words (answer.DivZero ∷ answers) = []
-front_words (answer.Operand ∷ answers) = []
+front_words _ = []
 
 -- why a cycle stopped that ended so
 abbrev pub stop_kind : CycleEnd → Option StopKind

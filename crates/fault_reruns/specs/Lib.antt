@@ -7,5 +7,4 @@ pub mod PassedOver
 pub mod References
 pub mod Reruns
 pub mod Standing
-pub mod Through
 pub mod Touched

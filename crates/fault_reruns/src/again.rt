@@ -3,12 +3,10 @@
 ghost use Rattle.std.specs.Prelude.{◌≡◌, ◌<◌, ◌≤◌, ◌==◌, ◌&&◌, ◌++◌, ◌∷◌, [], false, true, Some, length, slice_get, vec_capacity};
 ghost use Rattle.vcp_base.specs.Limits.{most_cycles, most_operations};
 ghost use Rattle.coded_unit.specs.Asked.{Asked};
-ghost use Rattle.op_graph.specs.Reads.{named as named_of};
 ghost use Rattle.op_graph.specs.declared.op.Op.{Op as Operation};
 ghost use Rattle.signature_table.specs.Signatures.{IsTableOf};
-ghost use Rattle.coded_machine.specs.Calls.{AllWords, call_of, read_word};
+ghost use Rattle.coded_machine.specs.Calls.{AllWords, call_of};
 ghost use Rattle.coded_machine.specs.Honest.{stop_answer};
-ghost use Rattle.fault_runs.specs.RunLaw.{taken as taken_of};
 ghost use Rattle.fault_reruns.specs.Begun.{Comes, RanAgain, answers_in, begun};
 ghost use Rattle.fault_reruns.specs.Reruns.{source, source_touched};
 ghost use Rattle.fault_reruns.specs.Standing.{IsStanding};
@@ -16,13 +14,13 @@ ghost use Rattle.fault_reruns.specs.Touched.{mark as mark_of};
 
 use crate::reference::CycleAnswers;
 use crate::standing::{Standing, act_at};
-use coded_machine::{Setting, call_after, cell_at, cycles_by_hand_are_whole, is_word, word_at};
+use coded_machine::{Setting, call_after, cycles_by_hand_are_whole, is_word};
 use coded_unit::{Answer, Call, Unit, Word};
-use fault_runs::{answered, changed, is_skip};
+use fault_runs::{Past, answered, changed, is_skip, taken};
 use fault_script::Act;
 use op_graph::{Graph, Op};
 use signature_table::Table;
-use vcp_base::{Kind, Row, StopKind};
+use vcp_base::{Row, StopKind};
 
 /// What the rerun of a cycle begins with.
 #[derive(Clone, Copy)]
@@ -55,44 +53,6 @@ pub(crate) fn mark(marks: &[bool], k: u64) -> bool
     match marks.get(k as usize) {
         Some(marked) => *marked,
         None => false,
-    }
-}
-
-/// The operation that operand `j` of an operation reads.
-#[inline(always)]
-pub(crate) fn named(op: &Op, j: u32) -> u32
-    ensures { result ≡ named_of op.now j }
-{
-    match j {
-        0 => op.a,
-        1 => op.b,
-        _ => op.c,
-    }
-}
-
-/// The word that operand `j` of an operation read in the cycle before.
-fn read_before(b: &Begun<'_>, op: &Op, j: u32) -> Word
-    ensures { result ≡ read_word b.now.past_held.now b.now.past.now op.now.kind op.now.imm (named_of op.now j) }
-{
-    match op.kind {
-        Kind::Load => cell_at(b.past_held, op.imm.unsigned_abs()),
-        _ => word_at(b.past, named(op, j)),
-    }
-}
-
-/// The word that an act takes at the operation behind these answers.
-fn taken(b: &Begun<'_>, own: &[Answer], op: &Op, act: &Option<Act>) -> Word
-    requires { length own.now ≤ most_operations }
-    ensures { result ≡ taken_of (begun b.now).past own.now op.now act.now }
-{
-    match act {
-        Some(Act::OperandFrom { j: _, r }) => word_at(own, *r),
-        Some(Act::OperandStale { j }) => read_before(b, op, *j),
-        Some(Act::Skip) => word_at(b.past, own.len() as u32),
-        Some(Act::OperandAdd { j: _, e: _ })
-        | Some(Act::ResultAdd { e: _ })
-        | Some(Act::Operator { kind: _ })
-        | None => Word::ZERO,
     }
 }
 
@@ -182,7 +142,11 @@ fn answer_again<U: Unit>(b: &Begun<'_>, unit: &mut U, own: &[Answer]) -> Option<
     }
     let op = b.graph.operation(k);
     let act = act_at(&b.standing, k);
-    let word = taken(b, own, &op, &act);
+    let past = Past {
+        held: b.past_held,
+        answers: b.past,
+    };
+    let word = taken(&past, own, &op, &act);
     let call = call_again(b, &op, own);
     Some(perform_under(unit, &act, &word, &call))
 }

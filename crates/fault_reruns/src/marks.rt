@@ -6,9 +6,10 @@ ghost use Rattle.fault_reruns.specs.Begun.{answers_in};
 ghost use Rattle.fault_reruns.specs.Standing.{IsStanding};
 ghost use Rattle.fault_reruns.specs.Touched.{cycle_marks, held_marks, operand_touched as operand_touched_of, past_touched_stop as past_touched_stop_of, touched_at};
 
-use crate::again::{mark, named};
+use crate::again::mark;
 use crate::reference::CycleAnswers;
 use crate::standing::{Standing, act_at};
+use fault_runs::named;
 use op_graph::{Graph, Op};
 use vcp_base::{Kind, operands};
 

@@ -16,7 +16,6 @@ ghost use Rattle.fault_reruns.specs.Crossing.{CycleRan, Room};
 ghost use Rattle.fault_reruns.specs.Groups.{JudgedAlone};
 ghost use Rattle.fault_reruns.specs.Laws.{AsksAtTouched, RerunsAreRight, TouchedLaws};
 ghost use Rattle.fault_reruns.specs.Reruns.{InCycles, IsReference, Reran};
-ghost use Rattle.fault_reruns.specs.Through.{RanThrough};
 ghost use Rattle.fault_reruns.specs.Touched.{held_marks};
 
 use crate::again::{Begun, rerun_cycle};
@@ -191,8 +190,7 @@ fn rerun<U: Unit>(
     requires past { work.old.past.items ≡ [] }
     requires past_held { work.old.past_held.items ≡ [] }
     requires cell_marks { work.old.cell_marks.items ≡ [] }
-    ensures { RanThrough reference.now group.now result
-        (U.seen unit.old).log (U.seen unit.new).log (U.seen unit.old).wrong (U.seen unit.new).wrong }
+    ensures { Reran reference.now.table reference.now.graph group.now reference.now.rows reference.now.answers (U.seen unit.old) (U.seen unit.new) result }
 {
     // No call is carried at first.
     cycles_by_hand_are_whole();
