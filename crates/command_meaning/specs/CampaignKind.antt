@@ -1,8 +1,9 @@
 -- CampaignKind: groups of faults that are judged: what stands after all of them, and what stands where they were cut off.
-use Rattle.std.specs.Prelude.{ℕ, ◌≡◌, ◌≤◌, ◌+◌, ◌⊎◌, List, [], ◌++◌, length, Option, All}
+use Rattle.std.specs.Prelude.{◌≡◌, ◌≤◌, ◌+◌, ◌⊎◌, List, [], ◌++◌, length, All}
 use Rattle.fault_injector.specs.declared.verdict.Verdict.{Verdict}
 use Rattle.fault_injector.specs.Names.{Names}
-use Rattle.fault_campaign.specs.Campaign.{campaign_text, verdicts_of, EarlierTold, JudgedOnce}
+use Rattle.fault_campaign.specs.Campaign.{campaign_text, verdict_lines, verdicts_of, JudgedOnce}
+use Rattle.fault_campaign.specs.Written.{EarlierWritten}
 use Rattle.command_meaning.specs.Answer.{Answer, Campaign, printed}
 use Rattle.coded_unit.specs.Seen.{UnitSeen, StaysHonest}
 use Rattle.machine_run.specs.Moments.{Moment}
@@ -43,5 +44,5 @@ pub record CampaignLeft (c : Campaign) (Writes : Appending) (before after : Mome
       ⊎ ((verdicts ≡ []) × (after.unit ≡ before.unit) × Writes before.out.written after.out.written [])
   pub text : (later : List Verdict) → length verdicts + length later ≡ length c.groups
       → Writes before.out.written after.out.written (verdicts_answer c (verdicts ++ later)).out
-  pub earlier : EarlierTold c.graph c.groups verdicts before.out.written after.out.written
+  pub earlier : EarlierWritten (verdict_lines c.graph c.groups) verdicts before.out.written after.out.written
   pub honest : StaysHonest before.unit after.unit → Writes before.out.written after.out.written (verdicts_answer c (verdicts_meant c)).out

@@ -1,9 +1,10 @@
 -- PairsKind: groups of faults that a pair of channels may hold: what stands after all of them, and what stands where they were cut off.
-use Rattle.std.specs.Prelude.{ℕ, ◌≡◌, ◌≤◌, ◌+◌, List, ◌++◌, length, Option}
+use Rattle.std.specs.Prelude.{◌≡◌, ◌≤◌, ◌+◌, List, ◌++◌, length}
 use Rattle.coded_unit.specs.Seen.{UnitSeen, StaysHonest}
 use Rattle.machine_run.specs.Moments.{Moment}
 use Rattle.fault_campaign.specs.declared.pairs.verdict.PairVerdict.{PairVerdict}
-use Rattle.fault_campaign.specs.PairCampaigns.{EarlierTold, GroupsRan, pairs_text}
+use Rattle.fault_campaign.specs.PairCampaigns.{GroupsRan, group_lines, pairs_text}
+use Rattle.fault_campaign.specs.Written.{EarlierWritten}
 use Rattle.fault_campaign.specs.PairVerdicts.{told_verdicts}
 use Rattle.command_meaning.specs.Answer.{Answer, Campaign, printed}
 use Rattle.command_meaning.specs.Seen.{Appending}
@@ -34,5 +35,5 @@ pub record PairsLeft (c : Campaign) (Writes : Appending) (before after : Moment)
   pub ran : GroupsRan c.table c.graph c.rows c.groups verdicts before.unit after.unit
   pub text : (later : List PairVerdict) → length verdicts + length later ≡ length c.groups
       → Writes before.out.written after.out.written (pairs_answer c (verdicts ++ later)).out
-  pub earlier : EarlierTold c.groups verdicts before.out.written after.out.written
+  pub earlier : EarlierWritten (group_lines c.groups) verdicts before.out.written after.out.written
   pub honest : StaysHonest before.unit after.unit → Writes before.out.written after.out.written (pairs_answer c (pairs_meant c)).out

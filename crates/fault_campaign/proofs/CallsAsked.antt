@@ -10,7 +10,7 @@ use Rattle.op_graph.specs.declared.op.Op.{Op}
 use Rattle.coded_machine.specs.Calls.{Carried, Setting, CallsOf, CallsNextOperation, Next, call_of}
 use Rattle.coded_machine.specs.Laws.{ByHandLaws}
 use Rattle.coded_machine.specs.State.{Finished, State, given, setting, with_answer}
-use Rattle.coded_machine.proofs.Growth.{grows_on, grows_by_none}
+use Rattle.fault_campaign.proofs.Growing.{grows_on, grows_by_none}
 use Rattle.fault_script.specs.declared.act.Act.{Act}
 use Rattle.fault_script.specs.declared.act.Act.TheVariants as act
 use Rattle.fault_script.specs.declared.act.Fault.{Fault}
@@ -28,13 +28,8 @@ abbrev pub entries_of : List Fault → List (Option ℤ) → Call → Answer →
 entries_of f kept call inner = cond (skips f kept call) [] ((passed f kept call, inner) ∷ [])
 
 skip_word : (x : Option Act) (word : ℤ) (inner : Answer) → skips_by x ≡ true → handed_by x word inner ≡ answer.Word word
-skip_word None word inner h = absurd cc
-skip_word (Some (act.OperandAdd j e)) word inner h = absurd cc
-skip_word (Some (act.OperandFrom j r)) word inner h = absurd cc
-skip_word (Some (act.OperandStale j)) word inner h = absurd cc
-skip_word (Some (act.ResultAdd e)) word inner h = absurd cc
-skip_word (Some (act.Operator kind)) word inner h = absurd cc
 skip_word (Some act.Skip) word inner h = refl
+skip_word _ word inner h = absurd cc
 
 asked_one : (f : List Fault) (kept : List (Option ℤ)) (call : Call) (a inner : Answer) (b : Bool) (later : List Entry) (Later : List Entry → Type 0) →
     skips f kept call ≡ b → a ≡ handed f kept call inner → Later later →

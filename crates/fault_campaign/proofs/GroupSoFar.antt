@@ -14,7 +14,7 @@ use Rattle.coded_machine.specs.CycleEnds.{initial_words, outputs_of, stored_word
 use Rattle.coded_machine.specs.declared.cycle_end.CycleEnd.TheVariants as end
 use Rattle.coded_machine.specs.Runs.{calls_over, setting_at}
 use Rattle.coded_machine.specs.State.{State, after_end, setting, with_answers}
-use Rattle.coded_machine.proofs.Growth.{grows_on, grows_by_none}
+use Rattle.fault_campaign.proofs.Growing.{grows_on, grows_by_none}
 use Rattle.fault_script.specs.declared.act.Fault.{Fault}
 use Rattle.fault_script.specs.Changes.{acts_of, none_kept}
 use Rattle.fault_script.specs.Differences.{no_frame}
@@ -129,9 +129,7 @@ joined_more calls entries =
 
 no_row_if : (e : PairEnd) (row : List ℤ) → e ≢ pair.Released → pair_row_if e row ≡ []
 no_row_if pair.Released row other = absurd (other refl)
-no_row_if (pair.Stopped op why) row other = refl
-no_row_if (pair.Parted x y) row other = refl
-no_row_if (pair.Differ i x y) row other = refl
+no_row_if _ row other = refl
 
 module _ (t u : Numbers) (g : Lists) (faults : List Fault) (rows rest : List (List ℤ)) (p q : PairState) (keeps next : List (Option ℤ))
     (row out_before out_now : List ℤ) (e : PairEnd) (i j k : ℕ) (before now after : UnitSeen)

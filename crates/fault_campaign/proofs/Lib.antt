@@ -3,6 +3,7 @@ pub mod SoFar
 pub mod CallsAsked
 pub mod CarriedByHand
 pub mod GroupSoFar
+pub mod Growing
 pub mod HonestVerdicts
 pub mod Lists
 pub mod PairRows

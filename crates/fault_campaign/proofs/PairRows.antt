@@ -7,12 +7,11 @@ use Rattle.vcp_base.specs.declared.kind.Kind.TheVariants as kind
 use Rattle.vcp_base.specs.declared.ty.Ty.TheVariants as ty
 use Rattle.coded_unit.specs.Words.{modulo, value_part}
 use Rattle.op_graph.specs.declared.op.Op.{Op}
-use Rattle.op_graph.specs.Lists.{Lists}
-use Rattle.signature_table.specs.Signatures.{signature}
+use Rattle.op_graph.specs.Lists.{Lists, nothing}
+use Rattle.signature_table.specs.Signatures.{Numbers, signature}
 use Rattle.fault_script.specs.declared.act.Act.{Act}
 use Rattle.fault_script.specs.declared.act.Act.TheVariants as act
 use Rattle.fault_script.specs.declared.act.Fault.{Fault}
-use Rattle.fault_injector.proofs.WorkedVerdicts.{counts, narrow, of_operations, of_seed, operation}
 use Rattle.fault_campaign.specs.declared.pairs.verdict.PairVerdict.{PairVerdict}
 use Rattle.fault_campaign.specs.declared.pairs.verdict.PairVerdict.TheVariants as held
 use Rattle.fault_campaign.specs.GroupLines.{group_text, pair_totals_text, totals_of}
@@ -22,11 +21,27 @@ abbrev at : ℕ → ℕ → Act → Fault
 at n k a = record { line = 1; cycle = n; op = k; act = a }
 
 abbrev on_dint : Kind → ℕ → ℕ → ℤ → Op
-on_dint k a b imm = operation k ty.Dint a b imm
+on_dint k a b imm = record { kind = k; from = ty.Dint; ty = ty.Dint; a = a; b = b; c = 0; imm = imm; spot = record { line = 0; col = 0 }; turn = 0 }
+
+abbrev of_operations : ℕ → List Op → Lists
+of_operations out ops = record (nothing profile.Narrow) { outputs = record { name = 0; ty = ty.Dint; op = out } ∷ []; operations = ops }
+
+-- y := x + 1
+abbrev narrow : Lists
+narrow = of_operations 3 (on_dint kind.Input 0 0 (pos 0) ∷ on_dint kind.Const 0 0 (pos 1) ∷ on_dint kind.Add 0 1 (pos 0) ∷ on_dint kind.Out 2 0 (pos 0) ∷ [])
+
+-- n := n + 1; y := n
+abbrev counts : Lists
+counts = record (of_operations 3 (on_dint kind.Load 0 0 (pos 0) ∷ on_dint kind.Const 0 0 (pos 1) ∷ on_dint kind.Add 0 1 (pos 0) ∷ on_dint kind.Out 2 0 (pos 0)
+    ∷ on_dint kind.Store 2 0 (pos 0) ∷ [])) { loads = record { name = 0; ty = ty.Dint; init = pos 0; load = 0 } ∷ []; stores = 4 ∷ [] }
+
+-- of the seed 0; no correction is read
+abbrev numbers : Numbers
+numbers = record { profile = profile.Narrow; seed = 0; step = 1; corrections = [] }
 
 -- y := a / b; z := a + b
 abbrev divides : Lists
-divides = record (of_operations profile.Narrow ty.Dint 4 (on_dint kind.Input 0 0 (pos 0) ∷ on_dint kind.Input 0 0 (pos 1) ∷ on_dint kind.Div 0 1 (pos 0)
+divides = record (of_operations 4 (on_dint kind.Input 0 0 (pos 0) ∷ on_dint kind.Input 0 0 (pos 1) ∷ on_dint kind.Div 0 1 (pos 0)
     ∷ on_dint kind.Add 0 1 (pos 0)
     ∷ on_dint kind.Out 2 0 (pos 0)
     ∷ on_dint kind.Out 3 0 (pos 1)
@@ -45,7 +60,7 @@ pairs = (pos 7 ∷ pos 2 ∷ []) ∷ (pos 9 ∷ pos 0 ∷ []) ∷ (pos 3 ∷ pos
 
 -- the verdicts with the seed 0 on these inputs
 abbrev told_under : Lists → List (List Fault) → List (List ℤ) → List PairVerdict
-told_under g groups rows = told_verdicts (of_seed g.profile 0) g groups rows
+told_under g groups rows = told_verdicts numbers g groups rows
 
 -- a wrong value that the residue agrees with, a word in another one's place, another function
 each_held : told_under narrow ((at 0 2 (act.OperandAdd 0 (pos 2147483647)) ∷ []) ∷ (at 0 2 (act.OperandFrom 1 0) ∷ []) ∷ (at 0 2 (act.Operator kind.Sub) ∷ [])

@@ -102,7 +102,7 @@ so_far_none t g fs rows others before now old judged = record {
   judged = judged;
   found = record { names = All-nil (Names (length g.outputs) (length g.operations)); few = omega arith; right = λ h. refl };
   totals_are = refl;
-  told = subst (Appends old old) (sym (no_lines g fs)) (Appends-nil old);
+  told = subst (Appends old old) (sym (no_lines (verdict_text g) fs)) (Appends-nil old);
 }
 
 -- memory was wanted for the run without faults
@@ -114,7 +114,7 @@ none_told t g fs rows before now old still = record {
   few = omega arith;
   asked = inr (refl, still);
   right = λ h. refl;
-  written = subst (Appends old old) (sym (no_lines g fs)) (Appends-nil old);
+  written = subst (Appends old old) (sym (no_lines (verdict_text g) fs)) (Appends-nil old);
 }
 
 -- memory was wanted for the next rerun
@@ -176,7 +176,7 @@ module _ (t : Numbers) (g : Lists) (fs : List (List Fault)) (rows : List (List �
           judged = judged_on f v next;
           found = found_next others a b c vs f v so_far.judged.carried.never_falls so_far.found (here next);
           totals_are = ap (λ (x : Totals). counted x v) so_far.totals_are ∙ sym (totals_next no_verdicts vs v);
-          told = subst (Appends old new) (sym (lines_next g fs vs f v there))
+          told = subst (Appends old new) (sym (lines_next (verdict_text g) fs vs f v there))
               (Appends-trans old mid new (verdict_lines g fs vs) (verdict_text g (line_of f) v) so_far.told line);
         }
 
@@ -192,7 +192,7 @@ module _ (t : Numbers) (g : Lists) (fs : List (List Fault)) (rows : List (List �
           few = found.few;
           asked = (others, judged_on f v next);
           right = found.right;
-          written = line_failed g fs so_far.verdicts f v old mid new (here next).there so_far.told part;
+          written = line_failed (verdict_text g) (λ vs. totals_text (totals_of vs)) fs so_far.verdicts f v old mid new (here next).there so_far.told part;
         }
 
   module _ (others : List (List Answer)) (a b : UnitSeen) (old mid new : Option (List ℕ)) (totals : Totals)
@@ -205,7 +205,7 @@ module _ (t : Numbers) (g : Lists) (fs : List (List Fault)) (rows : List (List �
       few = so_far.found.few;
       asked = (others, so_far.judged);
       right = so_far.found.right;
-      written = totals_failed g fs so_far.verdicts old mid new so_far.count so_far.told
+      written = totals_failed (verdict_text g) (λ vs. totals_text (totals_of vs)) fs so_far.verdicts old mid new so_far.count so_far.told
           (subst (λ (x : Totals). AppendsPart mid new (totals_text x)) so_far.totals_are part);
     }
 

@@ -1,51 +1,50 @@
--- Telling: the lines of some verdicts, with one more and with all later ones.
+-- Telling: the lines of some verdicts, with one more and with all later ones, and the totals.
 use Rattle.std.proofs.Common.{◌≡◌, ◌+◌, ℕ, suc, List, [], ◌∷◌, ◌++◌, length, drop, slice_get, Option, Some, refl, ap, sym, subst, ◌∙◌, append_assoc, append-nil, length-append, arith}
 use Rattle.std.proofs.lemmas.List.{same_from_push}
 use Rattle.std.specs.Io.KnownBytes.{Appends}
 use Rattle.std.proofs.KnownBytes.{Appends-trans}
 use Rattle.vcp_outside.specs.Written.{AppendsPart}
-use Rattle.op_graph.specs.Lists.{Lists}
 use Rattle.fault_script.specs.declared.act.Fault.{Fault}
 use Rattle.fault_script.specs.Groups.{line_of}
 use Rattle.fault_injector.specs.declared.verdict.Verdict.{Verdict}
 use Rattle.fault_injector.specs.declared.verdict.Verdict.TheVariants as verdict
 use Rattle.fault_injector.specs.declared.lines.Totals.{Totals}
-use Rattle.fault_injector.specs.FaultLines.{verdict_text, faults, counted, no_verdicts, totals_after, totals_of, totals_text}
-use Rattle.fault_campaign.specs.Campaign.{verdict_lines, campaign_text, PartTold, EarlierTold}
+use Rattle.fault_injector.specs.FaultLines.{lines_by, faults, counted, totals_after}
+use Rattle.fault_campaign.specs.Written.{PartWritten, EarlierWritten}
 
 -- ---- lines
 
 -- the line of the next verdict comes behind those of the verdicts before it, and the later ones behind it
-pub lines_there : (g : Lists) (fs : List (List Fault)) (vs : List Verdict) (f : List Fault) (v : Verdict) (more : List Verdict) → slice_get fs (length vs) ≡ Some f →
-    verdict_lines g fs (vs ++ v ∷ more)
-    ≡ verdict_lines g fs vs ++ (verdict_text g (line_of f) v ++ verdict_lines g (drop (suc (length vs)) fs) more)
-lines_there g [] vs f v more there = absurd cc
-lines_there g (e ∷ fs) [] f v more there =
-    let same : e ≡ f = cc in ap (λ (x : List Fault). verdict_text g (line_of x) v ++ verdict_lines g fs more) same
-lines_there g (e ∷ fs) (w ∷ vs) f v more there =
-    ap (λ l. verdict_text g (line_of e) w ++ l) (lines_there g fs vs f v more there)
-    ∙ sym (append_assoc (verdict_text g (line_of e) w) (verdict_lines g fs vs) (verdict_text g (line_of f) v ++ verdict_lines g (drop (suc (length vs)) fs) more))
+lines_there : {V : Type 0} (text : ℕ → V → List ℕ) (fs : List (List Fault)) (vs : List V) (f : List Fault) (v : V) (more : List V)
+    → slice_get fs (length vs) ≡ Some f
+    → lines_by text fs (vs ++ v ∷ more) ≡ lines_by text fs vs ++ (text (line_of f) v ++ lines_by text (drop (suc (length vs)) fs) more)
+lines_there text [] vs f v more there = absurd cc
+lines_there text (e ∷ fs) [] f v more there =
+    let same : e ≡ f = cc in ap (λ (x : List Fault). text (line_of x) v ++ lines_by text fs more) same
+lines_there text (e ∷ fs) (w ∷ vs) f v more there =
+    ap (λ l. text (line_of e) w ++ l) (lines_there text fs vs f v more there)
+    ∙ sym (append_assoc (text (line_of e) w) (lines_by text fs vs) (text (line_of f) v ++ lines_by text (drop (suc (length vs)) fs) more))
 
-pub no_lines : (g : Lists) (fs : List (List Fault)) → verdict_lines g fs [] ≡ []
-no_lines g [] = refl
-no_lines g (f ∷ fs) = refl
+pub no_lines : {V : Type 0} (text : ℕ → V → List ℕ) (fs : List (List Fault)) → lines_by text fs [] ≡ []
+no_lines text [] = refl
+no_lines text (f ∷ fs) = refl
 
 -- the lines with one more
-pub lines_next : (g : Lists) (fs : List (List Fault)) (vs : List Verdict) (f : List Fault) (v : Verdict) → slice_get fs (length vs) ≡ Some f →
-    verdict_lines g fs (vs ++ v ∷ []) ≡ verdict_lines g fs vs ++ verdict_text g (line_of f) v
-lines_next g fs vs f v there =
-    lines_there g fs vs f v [] there
-    ∙ ap (λ l. verdict_lines g fs vs ++ (verdict_text g (line_of f) v ++ l)) (no_lines g (drop (suc (length vs)) fs))
-    ∙ ap (λ l. verdict_lines g fs vs ++ l) (append-nil (verdict_text g (line_of f) v))
+pub lines_next : {V : Type 0} (text : ℕ → V → List ℕ) (fs : List (List Fault)) (vs : List V) (f : List Fault) (v : V) → slice_get fs (length vs) ≡ Some f
+    → lines_by text fs (vs ++ v ∷ []) ≡ lines_by text fs vs ++ text (line_of f) v
+lines_next text fs vs f v there =
+    lines_there text fs vs f v [] there
+    ∙ ap (λ l. lines_by text fs vs ++ (text (line_of f) v ++ l)) (no_lines text (drop (suc (length vs)) fs))
+    ∙ ap (λ l. lines_by text fs vs ++ l) (append-nil (text (line_of f) v))
 
 -- the lines of the first verdicts are a front of those of all
-lines_front : (g : Lists) (fs : List (List Fault)) (first rest : List Verdict) →
-    (more : List ℕ) × (verdict_lines g fs (first ++ rest) ≡ verdict_lines g fs first ++ more)
-lines_front g [] first rest = ([], refl)
-lines_front g (f ∷ fs) [] rest = (verdict_lines g (f ∷ fs) rest, refl)
-lines_front g (f ∷ fs) (v ∷ first) rest =
-    let later = lines_front g fs first rest in
-    (later.0, ap (λ l. verdict_text g (line_of f) v ++ l) later.1 ∙ sym (append_assoc (verdict_text g (line_of f) v) (verdict_lines g fs first) later.0))
+lines_front : {V : Type 0} (text : ℕ → V → List ℕ) (fs : List (List Fault)) (first rest : List V)
+    → (more : List ℕ) × (lines_by text fs (first ++ rest) ≡ lines_by text fs first ++ more)
+lines_front text [] first rest = ([], refl)
+lines_front text (f ∷ fs) [] rest = (lines_by text (f ∷ fs) rest, refl)
+lines_front text (f ∷ fs) (v ∷ first) rest =
+    let later = lines_front text fs first rest in
+    (later.0, ap (λ l. text (line_of f) v ++ l) later.1 ∙ sym (append_assoc (text (line_of f) v) (lines_by text fs first) later.0))
 
 -- ---- totals
 
@@ -59,14 +58,6 @@ one_counted t (verdict.Wrong cycle output got want) = omega arith
 one_counted t (verdict.RanOn cycle) = omega arith
 one_counted t (verdict.Refused cycle output found wanted) = omega arith
 one_counted t (verdict.Stopped cycle op kind) = omega arith
-
--- as many faults are counted as there are verdicts
-all_counted : (t : Totals) (vs : List Verdict) → faults (totals_after t vs) ≡ faults t + length vs
-all_counted t [] = omega arith
-all_counted t (v ∷ vs) = omega (arith, all_counted (counted t v) vs, one_counted t v)
-
-pub many_counted : (vs : List Verdict) → faults (totals_of vs) ≡ length vs
-many_counted vs = omega (arith, all_counted no_verdicts vs)
 
 -- ---- what is written
 
@@ -82,48 +73,53 @@ part_behind old mid new text piece more whole part = (
 )
 
 -- the lines of the verdicts before the last one are there where those of all are
-earlier_there : (g : Lists) (fs : List (List Fault)) (vs : List Verdict) (old new : Option (List ℕ)) (more : List ℕ) →
-    Appends old new (verdict_lines g fs vs ++ more) → EarlierTold g fs vs old new
-earlier_there g fs vs old new more told earlier last is =
-    let front = lines_front g fs earlier (last ∷ []) in
-    let same : verdict_lines g fs vs ++ more ≡ verdict_lines g fs earlier ++ (front.0 ++ more) =
-    ap (λ l. l ++ more) (ap (verdict_lines g fs) is ∙ front.1) ∙ append_assoc (verdict_lines g fs earlier) front.0 more in
+earlier_there : {V : Type 0} (text : ℕ → V → List ℕ) (fs : List (List Fault)) (vs : List V) (old new : Option (List ℕ)) (more : List ℕ)
+    → Appends old new (lines_by text fs vs ++ more) → EarlierWritten (lines_by text fs) vs old new
+earlier_there text fs vs old new more told earlier last is =
+    let front = lines_front text fs earlier (last ∷ []) in
+    let same : lines_by text fs vs ++ more ≡ lines_by text fs earlier ++ (front.0 ++ more) =
+    ap (λ l. l ++ more) (ap (lines_by text fs) is ∙ front.1) ∙ append_assoc (lines_by text fs earlier) front.0 more in
     (front.0 ++ more, subst (Appends old new) same told)
 
+-- all lines, and then the totals
+abbrev pub whole : {V : Type 0} → (ℕ → V → List ℕ) → (List V → List ℕ) → List (List Fault) → List V → List ℕ
+whole text totals fs vs = lines_by text fs vs ++ totals vs
+
 -- a part of the line of a verdict was written behind the lines of those before it
-pub line_failed : (g : Lists) (fs : List (List Fault)) (vs : List Verdict) (f : List Fault) (v : Verdict) (old mid new : Option (List ℕ)) →
-    slice_get fs (length vs) ≡ Some f → Appends old mid (verdict_lines g fs vs) → AppendsPart mid new (verdict_text g (line_of f) v) →
-    PartTold g fs (vs ++ v ∷ []) old new × EarlierTold g fs (vs ++ v ∷ []) old new
-line_failed g fs vs f v old mid new there before part = (
+pub line_failed : {V : Type 0} (text : ℕ → V → List ℕ) (totals : List V → List ℕ) (fs : List (List Fault)) (vs : List V) (f : List Fault) (v : V)
+    (old mid new : Option (List ℕ)) → slice_get fs (length vs) ≡ Some f → Appends old mid (lines_by text fs vs) → AppendsPart mid new (text (line_of f) v)
+    → PartWritten (whole text totals fs) (length fs) (vs ++ v ∷ []) old new × EarlierWritten (lines_by text fs) (vs ++ v ∷ []) old new
+line_failed text totals fs vs f v old mid new there before part = (
   (λ later few.
-      let text = verdict_lines g (drop (suc (length vs)) fs) later in
-      let totals = totals_text (totals_of ((vs ++ v ∷ []) ++ later)) in
-      let lines : verdict_lines g fs ((vs ++ v ∷ []) ++ later) ≡ verdict_lines g fs vs ++ (verdict_text g (line_of f) v ++ text) =
-      ap (verdict_lines g fs) (append_assoc vs (v ∷ []) later) ∙ lines_there g fs vs f v later there in
-      let all : verdict_lines g fs vs ++ (verdict_text g (line_of f) v ++ (text ++ totals)) ≡ campaign_text g fs ((vs ++ v ∷ []) ++ later) =
-      ap (λ l. verdict_lines g fs vs ++ l) (sym (append_assoc (verdict_text g (line_of f) v) text totals))
-      ∙ sym (append_assoc (verdict_lines g fs vs) (verdict_text g (line_of f) v ++ text) totals) ∙ ap (λ l. l ++ totals) (sym lines) in
-      subst (AppendsPart old new) all (part_behind old mid new (verdict_lines g fs vs) (verdict_text g (line_of f) v) (text ++ totals) before part)),
+      let last = totals ((vs ++ v ∷ []) ++ later) in
+      let behind = lines_by text (drop (suc (length vs)) fs) later in
+      let lines : lines_by text fs ((vs ++ v ∷ []) ++ later) ≡ lines_by text fs vs ++ (text (line_of f) v ++ behind) =
+      ap (lines_by text fs) (append_assoc vs (v ∷ []) later) ∙ lines_there text fs vs f v later there in
+      let all : lines_by text fs vs ++ (text (line_of f) v ++ (behind ++ last)) ≡ whole text totals fs ((vs ++ v ∷ []) ++ later) =
+      ap (λ l. lines_by text fs vs ++ l) (sym (append_assoc (text (line_of f) v) behind last))
+      ∙ sym (append_assoc (lines_by text fs vs) (text (line_of f) v ++ behind) last) ∙ ap (λ l. l ++ last) (sym lines) in
+      subst (AppendsPart old new) all (part_behind old mid new (lines_by text fs vs) (text (line_of f) v) (behind ++ last) before part)),
   (λ earlier last is.
       let same = same_from_push vs earlier v last is in (
         part.0,
-        subst (λ l. Appends old new (verdict_lines g fs l ++ part.0)) same.0
-            (Appends-trans old mid new (verdict_lines g fs vs) part.0 before part.4),
+        subst (λ l. Appends old new (lines_by text fs l ++ part.0)) same.0
+            (Appends-trans old mid new (lines_by text fs vs) part.0 before part.4),
       )),
 )
 
-none_later : (a b : ℕ) (later : List Verdict) → a ≡ b → a + length later ≡ b → later ≡ []
+none_later : {V : Type 0} (a b : ℕ) (later : List V) → a ≡ b → a + length later ≡ b → later ≡ []
 none_later a b [] all is = refl
 none_later a b (v ∷ later) all is = absurd (omega (arith, all, is))
 
--- a part of the line of the totals was written behind all others
-pub totals_failed : (g : Lists) (fs : List (List Fault)) (vs : List Verdict) (old mid new : Option (List ℕ)) → length vs ≡ length fs →
-    Appends old mid (verdict_lines g fs vs) → AppendsPart mid new (totals_text (totals_of vs)) → PartTold g fs vs old new × EarlierTold g fs vs old new
-totals_failed g fs vs old mid new all before part = (
+-- a part of the totals was written behind all lines
+pub totals_failed : {V : Type 0} (text : ℕ → V → List ℕ) (totals : List V → List ℕ) (fs : List (List Fault)) (vs : List V) (old mid new : Option (List ℕ))
+    → length vs ≡ length fs → Appends old mid (lines_by text fs vs) → AppendsPart mid new (totals vs)
+    → PartWritten (whole text totals fs) (length fs) vs old new × EarlierWritten (lines_by text fs) vs old new
+totals_failed text totals fs vs old mid new all before part = (
   (λ later few.
       let none : vs ≡ vs ++ later = sym (append-nil vs) ∙ ap (λ l. vs ++ l) (sym (none_later (length vs) (length fs) later all few)) in
-      let whole : verdict_lines g fs vs ++ (totals_text (totals_of vs) ++ []) ≡ campaign_text g fs (vs ++ later) =
-      ap (λ l. verdict_lines g fs vs ++ l) (append-nil (totals_text (totals_of vs))) ∙ ap (campaign_text g fs) none in
-      subst (AppendsPart old new) whole (part_behind old mid new (verdict_lines g fs vs) (totals_text (totals_of vs)) [] before part)),
-  earlier_there g fs vs old new part.0 (Appends-trans old mid new (verdict_lines g fs vs) part.0 before part.4),
+      let is : lines_by text fs vs ++ (totals vs ++ []) ≡ whole text totals fs (vs ++ later) =
+      ap (λ l. lines_by text fs vs ++ l) (append-nil (totals vs)) ∙ ap (whole text totals fs) none in
+      subst (AppendsPart old new) is (part_behind old mid new (lines_by text fs vs) (totals vs) [] before part)),
+  earlier_there text fs vs old new part.0 (Appends-trans old mid new (lines_by text fs vs) part.0 before part.4),
 )

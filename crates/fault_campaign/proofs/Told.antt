@@ -19,7 +19,8 @@ use Rattle.fault_campaign.specs.GroupLines.{group_text, counted, no_groups, tota
 use Rattle.fault_campaign.specs.GroupRuns.{GroupRan}
 use Rattle.fault_campaign.specs.PairCampaigns.{GroupsRan, PairsTold, group_lines}
 use Rattle.fault_campaign.specs.PairVerdicts.{told_verdict, told_verdicts}
-use Rattle.fault_campaign.proofs.PairsTelling.{no_lines, lines_next, totals_next, line_failed, totals_failed}
+use Rattle.fault_campaign.proofs.PairsTelling.{totals_next}
+use Rattle.fault_campaign.proofs.Telling.{no_lines, lines_next, line_failed, totals_failed}
 
 take_one_more : {X : Type 0} (xs : List X) (i : ℕ) (x : X) → slice_get xs i ≡ Some x → take (suc i) xs ≡ take i xs ++ x ∷ []
 take_one_more [] i x e = absurd cc
@@ -62,7 +63,7 @@ so_far_none t g fs rows before old = record {
   ran = refl;
   right = λ h. refl;
   totals_are = refl;
-  told = subst (Appends old old) (sym (no_lines fs)) (Appends-nil old);
+  told = subst (Appends old old) (sym (no_lines group_text fs)) (Appends-nil old);
 }
 
 module _ (t : Numbers) (g : Lists) (fs : List (List Fault)) (rows : List (List ℤ)) where
@@ -112,7 +113,7 @@ module _ (t : Numbers) (g : Lists) (fs : List (List Fault)) (rows : List (List �
           ran = ran_more t g rows fs h.verdicts f v before now after here h.ran one;
           right = right_more;
           totals_are = ap (λ (x : PairTotals). counted x v) h.totals_are ∙ sym (totals_next no_groups h.verdicts v);
-          told = subst (Appends old new) (sym (lines_next fs h.verdicts f v here))
+          told = subst (Appends old new) (sym (lines_next group_text fs h.verdicts f v here))
               (Appends-trans old mid new (group_lines fs h.verdicts) (group_text (line_of f) v) h.told line);
         }
 
@@ -126,7 +127,7 @@ module _ (t : Numbers) (g : Lists) (fs : List (List Fault)) (rows : List (List �
           few = few_more;
           ran = ran_more t g rows fs h.verdicts f v before now after here h.ran one;
           right = right_more;
-          written = line_failed fs h.verdicts f v old mid new here h.told part;
+          written = line_failed group_text (λ vs. pair_totals_text (totals_of vs)) fs h.verdicts f v old mid new here h.told part;
         }
 
   -- memory was wanted for the next group
@@ -142,7 +143,8 @@ module _ (t : Numbers) (g : Lists) (fs : List (List Fault)) (rows : List (List �
       few = h.few;
       ran = h.ran;
       right = h.right;
-      written = totals_failed fs h.verdicts old mid new h.count h.told (subst (λ (x : PairTotals). AppendsPart mid new (pair_totals_text x)) h.totals_are part);
+      written = totals_failed group_text (λ vs. pair_totals_text (totals_of vs)) fs h.verdicts old mid new h.count h.told
+          (subst (λ (x : PairTotals). AppendsPart mid new (pair_totals_text x)) h.totals_are part);
     }
 
     pub all_told : Appends mid new (pair_totals_text totals) → PairsTold t g fs rows before now old new (Ok tt)

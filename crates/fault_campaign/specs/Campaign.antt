@@ -1,7 +1,5 @@
 -- Campaign: the verdicts of the groups of a script, line by line, and their totals.
-use Rattle.std.specs.Prelude.{◌≡◌, ◌≤◌, ◌+◌, ◌⊎◌, ℕ, ℤ, List, [], ◌∷◌, ◌++◌, length, map, take, All, Option, Result, Ok, Err}
-use Rattle.std.specs.Io.KnownBytes.{Appends}
-use Rattle.vcp_outside.specs.Written.{AppendsPart}
+use Rattle.std.specs.Prelude.{◌≡◌, ◌≤◌, ◌⊎◌, ℕ, ℤ, List, [], length, map, take, All, Option, Result, Ok, Err}
 use Rattle.op_graph.specs.Lists.{Lists}
 use Rattle.signature_table.specs.Signatures.{Numbers}
 use Rattle.fault_script.specs.declared.act.Fault.{Fault}
@@ -16,30 +14,13 @@ use Rattle.fault_reruns.specs.Reruns.{IsReference}
 pub use Rattle.fault_injector.specs.FaultLines.{verdict_lines, campaign_text}
 use Rattle.fault_campaign.specs.declared.fault.CampaignFault.{CampaignFault}
 use Rattle.fault_campaign.specs.declared.fault.CampaignFault.TheVariants as fault
+use Rattle.fault_campaign.specs.Written.{VerdictsWritten}
 
 -- ---- what a campaign finds
 
 -- the verdict of each group over these rows of inputs
 abbrev pub verdicts_of : Numbers → Lists → List (List Fault) → List (List ℤ) → List Verdict
 verdicts_of t g groups rows = map (λ faults. verdict_of t g faults rows) groups
-
--- ---- how much of it is written
-
--- whatever the later verdicts are, a front of the whole text was written that lacks at least its last byte
-abbrev pub PartTold : Lists → List (List Fault) → List Verdict → Option (List ℕ) → Option (List ℕ) → Type 0
-PartTold g groups vs old new = (later : List Verdict) → length vs + length later ≡ length groups → AppendsPart old new (campaign_text g groups (vs ++ later))
-
--- all lines of the verdicts before the last were written, and maybe more
-abbrev pub EarlierTold : Lists → List (List Fault) → List Verdict → Option (List ℕ) → Option (List ℕ) → Type 0
-EarlierTold g groups vs old new =
-    (earlier : List Verdict) (last : Verdict) → vs ≡ earlier ++ last ∷ [] → (more : List ℕ) × Appends old new (verdict_lines g groups earlier ++ more)
-
--- What was written where these verdicts were found. At the end it is all, with a verdict for each group; where a write failed it is a part; where
--- memory was wanted for the next verdict it is the lines of those before it.
-abbrev pub Tells : Lists → List (List Fault) → List Verdict → Option (List ℕ) → Option (List ℕ) → Result (Unit {0}) CampaignFault → Type 0
-Tells g groups vs old new (Ok _) = (length vs ≡ length groups) × Appends old new (campaign_text g groups vs)
-Tells g groups vs old new (Err fault.Write) = PartTold g groups vs old new × EarlierTold g groups vs old new
-Tells g groups vs old new (Err fault.Memory) = Appends old new (verdict_lines g groups vs)
 
 -- ---- which calls are made
 
@@ -64,7 +45,7 @@ pub record Told (t : Numbers) (g : Lists) (groups : List (List Fault)) (rows : L
   pub few : length verdicts ≤ length groups
   pub asked : Asks t g groups rows verdicts before now result
   pub right : StaysHonest before now → verdicts ≡ take (length verdicts) (verdicts_of t g groups rows)
-  pub written : Tells g groups verdicts old new result
+  pub written : VerdictsWritten (verdict_lines g groups) (campaign_text g groups) (length groups) verdicts old new result
 
 -- so a campaign tells that goes on behind a run without faults that was carried before, whose answers are right where none was wrong
 abbrev pub ToldBehind : KeptRun → List (List Fault) → UnitSeen → UnitSeen → Option (List ℕ) → Option (List ℕ) → Result (Unit {0}) CampaignFault → Type 0

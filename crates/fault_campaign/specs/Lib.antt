@@ -4,3 +4,4 @@ pub mod GroupLines
 pub mod GroupRuns
 pub mod PairCampaigns
 pub mod PairVerdicts
+pub mod Written

@@ -83,11 +83,15 @@ totals_text t = totals_front t ++ codes "\n"
 
 -- ---- a whole campaign
 
--- the lines of these verdicts, group by group, each with the number of its group's line
+-- lines, group by group, each with the number of its group's line
+abbrev pub lines_by : {V : Type 0} → (ℕ → V → List ℕ) → List (List Fault) → List V → List ℕ
+lines_by text [] vs = []
+lines_by text (group ∷ groups) [] = []
+lines_by text (group ∷ groups) (v ∷ vs) = text (line_of group) v ++ lines_by text groups vs
+
+-- those of verdicts
 abbrev pub verdict_lines : Lists → List (List Fault) → List Verdict → List ℕ
-verdict_lines g [] vs = []
-verdict_lines g (group ∷ groups) [] = []
-verdict_lines g (group ∷ groups) (v ∷ vs) = verdict_text g (line_of group) v ++ verdict_lines g groups vs
+verdict_lines g groups vs = lines_by (verdict_text g) groups vs
 
 -- all of it: a line for each verdict, and then their totals
 abbrev pub campaign_text : Lists → List (List Fault) → List Verdict → List ℕ

@@ -6,5 +6,5 @@
 mod lines;
 mod verdict;
 
-pub use lines::{Totals, then_totals, then_verdict, totals_line, verdict_line};
+pub use lines::{Totals, then_count, then_totals, then_verdict, totals_line, verdict_line};
 pub use verdict::Verdict;

@@ -171,8 +171,8 @@ pub fn verdict_line<O: Sink>(
     text.end(out)
 }
 
-// Goes on with a word and a number.
-fn then_count<O: Sink>(line: &mut Line, out: &mut O, word: &[u8], number: u64)
+/// Goes on with a word and a number.
+pub fn then_count<O: Sink>(line: &mut Line, out: &mut O, word: &[u8], number: u64)
     ensures { GathersTo (O.seen out.old) (O.seen out.new) line.old line.new (word.now ++ decimal number) }
 {
     line.text(out, word);

@@ -17,7 +17,8 @@ use Rattle.fault_script.specs.Groups.{line_of}
 use Rattle.fault_injector.specs.declared.verdict.Verdict.{Verdict}
 use Rattle.fault_campaign.specs.declared.fault.CampaignFault.{CampaignFault}
 use Rattle.fault_campaign.specs.declared.fault.CampaignFault.TheVariants as campaign
-use Rattle.fault_campaign.specs.Campaign.{EarlierTold, JudgedOnce, Told, campaign_text, verdict_lines}
+use Rattle.fault_campaign.specs.Campaign.{JudgedOnce, Told, campaign_text, verdict_lines}
+use Rattle.fault_campaign.specs.Written.{EarlierWritten}
 use Rattle.fault_injector.specs.FaultLines.{verdict_text, totals_of, totals_text}
 use Rattle.vcp_words.specs.Forms.{Rows, inject}
 use Rattle.vcp_words.specs.Tables.{rows_name}
@@ -267,8 +268,8 @@ module _ (c : Campaign) (unit unit' : UnitSeen) (out out' : SinkSeen) where
   }
 
   -- the lines before the last were written
-  earlier_lines : (vs : List Verdict) → Appends out.written out'.written (verdict_lines c.graph c.groups vs) → EarlierTold c.graph c.groups vs out.written
-      out'.written
+  earlier_lines : (vs : List Verdict) → Appends out.written out'.written (verdict_lines c.graph c.groups vs)
+      → EarlierWritten (verdict_lines c.graph c.groups) vs out.written out'.written
   earlier_lines vs w earlier last is =
       let (more, lines) = lines_go_on c.graph c.groups earlier (last ∷ []) in
       (more, subst (λ (t : List ℕ). Appends out.written out'.written t) (ap (verdict_lines c.graph c.groups) is ∙ lines) w)

@@ -18,7 +18,8 @@ use Rattle.fault_campaign.specs.declared.fault.CampaignFault.{CampaignFault}
 use Rattle.fault_campaign.specs.declared.fault.CampaignFault.TheVariants as campaign
 use Rattle.fault_campaign.specs.declared.pairs.verdict.PairVerdict.{PairVerdict}
 use Rattle.fault_campaign.specs.GroupLines.{group_text, pair_totals_text, totals_of}
-use Rattle.fault_campaign.specs.PairCampaigns.{EarlierTold, PairsTold, group_lines, pairs_text}
+use Rattle.fault_campaign.specs.PairCampaigns.{PairsTold, group_lines, pairs_text}
+use Rattle.fault_campaign.specs.Written.{EarlierWritten}
 use Rattle.fault_campaign.specs.PairVerdicts.{told_verdict}
 use Rattle.vcp_words.specs.Forms.{Rows, pairs}
 use Rattle.vcp_words.specs.Tables.{rows_name}
@@ -189,7 +190,8 @@ module _ (c : Campaign) (unit unit' : UnitSeen) (out out' : SinkSeen) where
   }
 
   -- the lines before the last were written
-  earlier_lines : (vs : List PairVerdict) → Appends out.written out'.written (group_lines c.groups vs) → EarlierTold c.groups vs out.written out'.written
+  earlier_lines : (vs : List PairVerdict) → Appends out.written out'.written (group_lines c.groups vs)
+      → EarlierWritten (group_lines c.groups) vs out.written out'.written
   earlier_lines vs w earlier last is =
       let (more, lines) = lines_go_on c.groups earlier (last ∷ []) in
       (more, subst (λ (t : List ℕ). Appends out.written out'.written t) (ap (group_lines c.groups) is ∙ lines) w)

@@ -1,12 +1,13 @@
 //! The lines of a script of faults on a pair of channels: a verdict a line, and their totals. Each call writes one line to a sink and takes no
 //! memory. It answers `Failed` only where the sink's count of faults rose, and then a part of the line is written.
 
-ghost use Rattle.std.specs.Prelude.{◌≡◌, ◌<◌, ◌++◌, decimal};
+ghost use Rattle.std.specs.Prelude.{◌≡◌, ◌<◌};
 ghost use Rattle.vcp_outside.specs.Written.{WritesTo};
 ghost use Rattle.vcp_outside.specs.Gathering.{GathersTo};
 ghost use Rattle.fault_campaign.specs.GroupLines.{shown, group_text, groups_in, counted, no_groups, pair_totals_text};
 
 use crate::pairs::verdict::PairVerdict;
+use fault_injector::then_count;
 use vcp_outside::{Failed, Line, Sink, begin};
 
 /// How many groups of a script have which verdict.
@@ -53,14 +54,6 @@ fn then_verdict<O: Sink>(line: &mut Line, out: &mut O, verdict: &PairVerdict)
         PairVerdict::Same => line.text(out, b"same"),
         PairVerdict::Held { cycle } => then_count(line, out, b"held ", cycle as u64),
     }
-}
-
-// Goes on with a word and a number.
-fn then_count<O: Sink>(line: &mut Line, out: &mut O, word: &[u8], number: u64)
-    ensures { GathersTo (O.seen out.old) (O.seen out.new) line.old line.new (word.now ++ decimal number) }
-{
-    line.text(out, word);
-    line.count(out, number);
 }
 
 /// Writes the verdict on the group that begins on this line of a script. After `Failed` a part of the line is
