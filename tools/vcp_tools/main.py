@@ -19,13 +19,14 @@ TOOLS: dict[str, str] = {
     "diff": "whether two programs or images have the same operations, and where they part",
     "lint": "what is lawful and likely a mistake",
     "report": "one HTML file that tells a program and its run, to be filed",
+    "campaign": "every fault of a class or a script, tried on an image, and what became of each",
     "help": "where to read on",
 }
 """The tools, with what their help says."""
 MODULES = {
     "explain": "explain.command", "rows": "rows.command", "table": "pictures.table", "vcd": "pictures.vcd", "expect": "compare.expect",
     "diff": "compare.diff", "lint": "lint.command", "report": "pictures.report",
-    "help": "guide",
+    "campaign": "campaign.command", "help": "guide",
 }
 """The module of each tool."""
 VALUED = frozenset(("--changes-of", "--cycles", "--cycle-time", "--faults", "--horizon", "--check", "-o", "--allow"))
@@ -52,12 +53,13 @@ def parser() -> argparse.ArgumentParser:
 
 def _are_words_of_vcp(words: list[str]) -> bool:
     """Whether the words behind `explain` are a call of vcp that begins with an option, which isn't one of `explain`."""
-    return words[:1] == ["explain"] and len(words) > 1 and words[1].startswith("-") and words[1] not in ("-h", "--help", "--all")
+    kept = ("-h", "--help", "--all") if words[:1] == ["explain"] else ("-h", "--help")
+    return words[:1] in (["explain"], ["campaign"]) and len(words) > 1 and words[1].startswith("-") and words[1] not in kept
 
 
 def _options_first(words: list[str]) -> list[str]:
     """The words with the options of a tool behind its name, so that they may stand anywhere, as `--cycles N` in the place of ROWS does."""
-    if not words or words[0] == "explain":
+    if not words or words[0] in ("explain", "campaign"):
         return words
     options: list[str] = []
     rest: list[str] = []
