@@ -1,4 +1,8 @@
 -- CampaignKind: groups of faults that are judged: what stands after all of them, and what stands where they were cut off.
+-- With an honest unit the verdicts are the defined ones, group by group, and their lines and the totals come
+-- whole and nothing else, with status 0, unless the status is 5, 6 or 7, and where nothing failed unless it
+-- is 7.
+-- Whatever the unit answers and whatever the verdicts are, the status is 0, unless it is 5, 6 or 7.
 use Rattle.std.specs.Prelude.{◌≡◌, ◌≤◌, ◌+◌, ◌⊎◌, List, [], ◌++◌, length, All}
 use Rattle.fault_injector.specs.declared.verdict.Verdict.{Verdict}
 use Rattle.fault_injector.specs.Names.{Names}

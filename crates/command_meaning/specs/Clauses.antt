@@ -1,4 +1,32 @@
 -- Clauses: what the top call promises of a command beside its answer, and of words that are none.
+-- Where the files that the words name are held, the files didn't break and no sink failed, a command ends
+-- with one of its own statuses, unless memory was lacking.
+-- Words that call no unit, those of `check`, `format`, `plain`, `compile`, `list`, `widen` and `audit`, leave
+-- its log and its count of wrong answers.
+-- The words of `demo` read no file: what is unread of the file that was begun last stays, and so do the
+-- counts of the files.
+-- `check`, `format`, `compile`, `list`, `widen`, `audit`, `inject` and `pairs` end with 0 or 1, `wire` with
+-- 0, 1 or 3, `plain` with 0, 1 or 2, `run`, `il`, `exec`, `trace`, `pair` and `demo` with 0, 1, 2 or 3, and
+-- each also with 5, 6 and 7.
+-- With any unit, status 2 of `run`, `il`, `exec`, `trace`, `pair` and `demo` comes only where the log ends in
+-- a stop: its last answer is one, or an output's word in the last cycle has a value outside its type and only
+-- words came after it. For files in memory, the printed stop is that one.
+-- Status 3 comes only where the unit's count of wrong answers rose; in memory, with a kept log, exactly where
+-- the run that the log's answers give ends refused, or the channels of `pair` disagree by them, or a sending
+-- of `wire` is answered by no word, unless the status is 5 or 6.
+-- Status 5 comes only where the files' count of faults rose; in memory, only where they broke, or where the
+-- task is that a name is lacking, which the line then names. In memory: where a name is lacking, 5 comes,
+-- unless the status is 6 or 7.
+-- Status 6 comes only where a sink's count of faults rose: that of the output, and then `write fault` was
+-- told, or that of the errors.
+-- What stands on the errors after each status: nothing after 0, 2 and 3; after 1 a refusal of a file that the
+-- words name, of `--cycles` or, for `demo`, of what was made, and never `no memory`; after 5 the line of a
+-- file that the words name; after 6 `write fault`, and only where the count of the output rose; after 7 `no
+-- memory`, which names no file. Or, with 6, a part of the line of the status that would else have come, in
+-- which the count of the errors' sink rose.
+-- In commands that read files, status 0, 2 and 3 come only where nothing is unread of the file that was begun
+-- last, if the files say it; and 1 too, unless the line tells that a file that the command reads has more
+-- bytes than it may, and it has. The status is none but 0 to 7, and what is held stays.
 use Rattle.std.specs.Prelude.{ℕ, ◌≡◌, ◌≢◌, ◌⊎◌, ◌<◌, false, true, List, [], ◌∷◌, ◌++◌, length, Option, Some, IfSome}
 use Rattle.std.specs.Io.KnownBytes.{Appends, IsAtEnd}
 use Rattle.vcp_outside.specs.Counts.{Rose}

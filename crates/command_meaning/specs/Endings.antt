@@ -1,4 +1,27 @@
 -- Endings: how a command ends, for the task that it comes to, and the cause of each status.
+-- A command may be given up before its task is known: the files broke (5), memory was lacking (7), or the
+-- errors' sink failed in the line of one of these (6). Nothing else was written then, and the unit wasn't
+-- called.
+-- The defined answer is the bytes for `out` and `err` and the status, from the task and the run that the
+-- unit's answers give.
+-- Where the words lead to an answer without a unit, of `check`, `format`, `plain`, `list`, `widen`, `audit`
+-- or of a refusal, it comes whole, its bytes and its status and nothing else, unless the status is 5, 6 or 7,
+-- and where nothing failed unless it is 7.
+-- `compile` writes the image of a graph that means the program and has at most Size operations, whole and
+-- nothing else, unless the status is 5, 6 or 7, and where nothing failed unless it is 7.
+-- Status 0 comes only where there is such an answer with that status, a run on the unit, of one channel or of
+-- two, with no refusal behind its rows, a program to be compiled, faults to be judged, or the script of a
+-- wire to be run.
+-- Status 1 comes only where a file is refused, or a row of one.
+-- Status 2 comes only where the source stops: in `plain`, or, with an honest unit, in `run`, `il` and `demo`;
+-- or, with an honest unit, where the image's graph stops in `exec`, `pair` and `trace`, for `trace` in its
+-- cycle or an earlier one; and where it stops, 2 comes, unless the status is 5, 6 or 7.
+-- With an honest unit: a run is done as the program means it, or as the image's graph runs on plain integers,
+-- with status 0, or 1 at a row that is refused, or 2 where the meaning stops, and all its lines written,
+-- unless the status is 5, 6 or 7.
+-- Completeness: where nothing failed and the unit was honest, a run is done so, or the status is 7.
+-- What is written to `out` and `err` for each status is what the table 'Endings' says; with an honest unit,
+-- after 6 from the output, it is a proper front of what the program means.
 use Rattle.std.specs.Prelude.{ℕ, ◌≡◌, ◌≢◌, ◌⊎◌, ◌≤◌, true, List}
 use Rattle.std.specs.Io.KnownBytes.{Appends}
 use Rattle.vcp_outside.specs.Counts.{Rose}

@@ -1,4 +1,13 @@
 -- PairKind: a run of two channels that are compared: what stands after a whole one, and what stands where it was cut off.
+-- Whatever the unit answers in `pair`: the rows that are written are the first of the graph's run on plain
+-- integers, all of them where the status is 0 or 2, and a stop is that run's stop; status 3 comes only where
+-- the unit's count of wrong answers rose.
+-- What `pair` writes and its status are read off the answers that the unit gave, cycle by cycle: the first
+-- channel's end is the one that they give, the second's and its row are those of the graph's cycle on plain
+-- integers, and the pair's end is the defined one of the two. A kept log grew by exactly the calls of the
+-- first channel's cycles with these answers, one cycle for each row up to the first that isn't released.
+-- Where no answer was wrong, `pair` comes to the run of the image's graph on plain integers; of a run that
+-- was cut off, a part of what is printed of that stands.
 use Rattle.std.specs.Prelude.{ℕ, ◌≡◌, List, [], Option, Some, None}
 use Rattle.vcp_outside.specs.Counts.{Rose}
 use Rattle.input_rows.specs.declared.fault.RowFault.{RowFault}

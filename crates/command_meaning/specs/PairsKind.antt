@@ -1,4 +1,10 @@
 -- PairsKind: groups of faults that a pair of channels may hold: what stands after all of them, and what stands where they were cut off.
+-- What `pairs` writes is read off the answers that the unit gave, group by group: a group is held in the
+-- first cycle in which the channels disagree by the answers that the group makes of them, beside the graph's
+-- cycles on plain integers. A kept log grew by exactly the calls of the groups' runs, one after another, with
+-- the group's changes.
+-- Where no answer was wrong, each verdict of `pairs` is the defined one of its group, as a pair tells it; of
+-- groups that were cut off, a part of what is printed of these stands.
 use Rattle.std.specs.Prelude.{◌≡◌, ◌≤◌, ◌+◌, List, ◌++◌, length}
 use Rattle.coded_unit.specs.Seen.{UnitSeen, StaysHonest}
 use Rattle.machine_run.specs.Moments.{Moment}

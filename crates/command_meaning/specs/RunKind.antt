@@ -1,4 +1,20 @@
 -- RunKind: runs on a unit: what stands after a whole one, and what stands where it was cut off.
+-- The graph that is run, or whose image is written, means the program, and so has the code that its types
+-- want, and has at most as many operations as its Size, and no pass leaves less of it: nothing is left to
+-- fold, to join or to leave out. In `exec`, `trace`, `inject`, `pair` and `pairs` it is that of the image.
+-- The answers of a run are those of a whole one: one cycle for each row up to the first that ends the run, in
+-- each cycle an answer to each operation up to the first that is no word, and none after it.
+-- With a kept log: it grew by exactly the calls of that graph in these cycles, with the table of the seed and
+-- step and with these answers; without a run, a wire or faults to be judged it stayed as it was. For `inject`
+-- it grew by the calls of the run without faults, and then, group by group, by those of the rerun off whose
+-- answers the verdict is read; or, where memory was lacking for the run without faults, by none, and then
+-- nothing was written.
+-- What `trace` prints are, in order, the words among the answers to the calls of its cycle, each with its
+-- value, its residue and the residue that is expected, and then `released` or the line of the run's end;
+-- where an earlier cycle ended the run, that line alone, and where a row is refused before, nothing.
+-- Where no answer was wrong, the run that the answers give is the meaning of the program; in `il` the run of
+-- the instruction list on the accumulator; in `exec` and `trace` the run of the image's graph on plain
+-- integers; and each word of `trace` has the value of its operation in that run, and the expected residue.
 use Rattle.std.specs.Prelude.{ℕ, ◌≡◌, List, ◌∷◌, [], ◌++◌, length, map, Option}
 use Rattle.std.specs.Io.KnownBytes.{Appends}
 use Rattle.input_rows.specs.RowsOf.{RowsLeft}
