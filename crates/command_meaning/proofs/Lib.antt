@@ -1,4 +1,2 @@
 mod Causing
-pub mod OneFile
-pub mod Performed
 pub mod Worked

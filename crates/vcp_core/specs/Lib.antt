@@ -4,7 +4,8 @@ pub mod Demo
 pub mod EachTask
 pub mod EndLines
 pub mod Faults
-pub mod Inject
+pub mod Judging
+pub mod Loading
 pub mod MachineRun
 pub mod PlainRun
 pub mod Reach

@@ -14,6 +14,7 @@ mod format;
 mod graphs;
 mod il;
 mod inject;
+mod judging;
 mod laws;
 mod listing;
 mod loading;
