@@ -2,6 +2,7 @@
 from __future__ import annotations
 
 import unittest
+from unittest import mock
 
 from vcp_tools.read.rows_file import cell_value, read_rows
 from tests.support import EXAMPLES, InFolder
@@ -66,6 +67,19 @@ class Check(InFolder):
         self.assertEqual([record.fields for record in rows.records], [("a", 'b "c"'), ("1", "x\ny"), (" 2 ", "3")])
         self.assertEqual([record.line for record in rows.records], [1, 2, 6])
         self.assertEqual(rows.records[2].cells, ["2", "3"])
+
+    def test_large_files_are_read_at_once(self) -> None:
+        for data in (b"a,b\r\n1,2\r\r\n\n3 ,4\n", b"", b"\n\na\n1", b"\xef\xbb\xbfa\n\n", b"a,\n,\n\r"):
+            quoted = read_rows(data + b'\n"q"')
+            plain = read_rows(data + b"\nq")
+            self.assertEqual([(it.line, it.cells) for it in plain.records], [(it.line, it.cells) for it in quoted.records], data)
+            self.assertEqual((plain.empty_lines, plain.line_count), (quoted.empty_lines, quoted.line_count), data)
+        self.write("p.st", PROGRAM)
+        self.write("in.csv", "go,speed\n" + "1,3\n" * 101)
+        with mock.patch("vcp_tools.explain.hints_rows.MOST_RECORDS", 100), mock.patch("vcp_tools.explain.hints_rows.PROGRESS", 50):
+            printed = self.tool("rows", "check", "in.csv", "p.st", status=1)
+        self.assertIn("in.csv:102:1: there are 101 rows, and 100 are the most", printed)
+        self.assertIn("rows: 100 of 102 records", printed)
 
     def test_cells_after_the_document(self) -> None:
         for cell, type_name, value in (("TRUE", "BOOL", 1), ("2", "BOOL", None), ("-0", "INT", 0), ("+007", "INT", 7), ("32768", "INT", None),

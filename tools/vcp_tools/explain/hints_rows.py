@@ -2,6 +2,7 @@
 from __future__ import annotations
 
 import re
+import sys
 from dataclasses import dataclass
 
 from vcp_tools.wording import article, listed, nearest
@@ -9,6 +10,10 @@ from vcp_tools.read.rows_file import Record, RowsFile, cell_value, read_rows
 from vcp_tools.read.source import GREATEST, LEAST
 from vcp_tools.read.syntax import Declaration
 
+MOST_RECORDS = 1_000_000
+"""So many records a rows file may have behind its header."""
+PROGRESS = 250_000
+"""Behind so many records of a large file it is said how far reading has come."""
 _SEPARATORS = {";": "semicolons", "\t": "tabs", "|": "bars"}
 
 
@@ -146,6 +151,9 @@ def silent_faults(data: bytes, inputs: list[Declaration] | None) -> list[RowsHin
     found += [width_hint(rows, it.number) for it in rows.records[1:] if len(it.fields) != width]
     if inputs is not None:
         found += _cell_faults(rows, inputs, width)
+    if len(rows.records) - 1 > MOST_RECORDS:
+        line = rows.records[MOST_RECORDS + 1].line
+        found.append(RowsHint(f"there are {len(rows.records) - 1} rows, and {MOST_RECORDS} are the most: run them in parts", line))
     if len(rows.records) == 1:
         found.append(RowsHint("there is no record behind the header: a run has no cycle", rows.records[0].line))
     return sorted(found, key=lambda it: it.line)
@@ -170,6 +178,8 @@ def _cell_faults(rows: RowsFile, inputs: list[Declaration], width: int) -> list[
     types = {it.name.upper(): it.type for it in inputs}
     found = []
     for record in rows.records[1:]:
+        if record.number % PROGRESS == 0:
+            print(f"rows: {record.number} of {len(rows.records)} records", file=sys.stderr)
         for column, cell in enumerate(record.cells[:width], 1):
             type_name = types.get(rows.records[0].cells[column - 1].upper())
             if type_name and cell_value(cell, type_name) is None:

@@ -8,6 +8,8 @@ from dataclasses import dataclass
 from vcp_tools.read.source import GREATEST, LEAST
 
 _NUMBER = re.compile(r"[+-]?[0-9]+\Z")
+_QUOTED = re.compile(r'"((?:[^"]|"")*)"?')
+_PLAIN = re.compile(r"[^,\r\n]*")
 
 
 @dataclass(frozen=True)
@@ -36,6 +38,8 @@ class RowsFile:
 def read_rows(data: bytes) -> RowsFile:
     """The records of a file: fields between commas, in double quotes where they begin with one; empty lines are skipped."""
     text = data.removeprefix(codecs.BOM_UTF8).decode("utf-8", "replace")
+    if '"' not in text:
+        return _unquoted(text)
     records: list[Record] = []
     empty: list[int] = []
     at, line = 0, 1
@@ -47,6 +51,22 @@ def read_rows(data: bytes) -> RowsFile:
         else:
             records.append(Record(len(records) + 1, start_line, tuple(fields)))
     return RowsFile(records, empty, line)
+
+
+def _unquoted(text: str) -> RowsFile:
+    """The records of a text without quotes: each line is one, split at its commas."""
+    lines = text.replace("\r\n", "\n").replace("\r", "\n").split("\n")
+    count = len(lines)
+    if lines[-1] == "":
+        lines.pop()
+    records: list[Record] = []
+    empty: list[int] = []
+    for number, line in enumerate(lines, 1):
+        if line:
+            records.append(Record(len(records) + 1, number, tuple(line.split(","))))
+        else:
+            empty.append(number)
+    return RowsFile(records, empty, count)
 
 
 def _record(text: str, at: int, line: int) -> tuple[list[str], int, int]:
@@ -67,12 +87,12 @@ def _record(text: str, at: int, line: int) -> tuple[list[str], int, int]:
 def _field(text: str, at: int, line: int) -> tuple[str, int, int]:
     """The field at a place, up to a comma or a line's end."""
     if text.startswith('"', at):
-        closing = re.compile(r'"((?:[^"]|"")*)"?').match(text, at)
+        closing = _QUOTED.match(text, at)
         assert closing is not None
-        rest = re.compile(r"[^,\r\n]*").match(text, closing.end())
+        rest = _PLAIN.match(text, closing.end())
         assert rest is not None
         return closing[1].replace('""', '"') + rest[0], rest.end(), line + closing[0].count("\n")
-    plain = re.compile(r"[^,\r\n]*").match(text, at)
+    plain = _PLAIN.match(text, at)
     assert plain is not None
     return plain[0], plain.end(), line
 
