@@ -21,7 +21,7 @@ use Rattle.vcp_inputs.specs.Programs.{IsProgram, NoProgram, TypedOf, NotTyped}
 use Rattle.vcp_inputs.specs.RowsOutcome.{RowsOutcome, lacking, refused, opened, rows_outcome}
 use Rattle.vcp_inputs.specs.Scripts.{ScriptOf, NotScript}
 use Rattle.vcp_inputs.specs.Wires.{WireOf, NotWire}
-use Rattle.telegram.specs.declared.script.script.Script.{Script}
+use Rattle.telegram.specs.declared.script.script.WireScript.{WireScript}
 use Rattle.command_meaning.specs.Kinds.{Task, lacks, refusal_task}
 
 -- What the file under a name comes to, of which these are the bytes, if there are any. It is lacking; or it is refused, since it has more
@@ -54,7 +54,7 @@ abbrev pub ScriptFile : Lists → (List (List Fault) → Task → Type 0) → Li
 ScriptFile g Then f held task = TakenFile (ScriptOf g) (NotScript g) most_source_bytes Then f (held f) task
 
 -- the file F, of whose script of a wire this is said
-abbrev pub WireFile : (Script → Task → Type 0) → List ℕ → Held → Task → Type 0
+abbrev pub WireFile : (WireScript → Task → Type 0) → List ℕ → Held → Task → Type 0
 WireFile Then f held task = TakenFile WireOf NotWire most_source_bytes Then f (held f) task
 
 -- ---- ROWS

@@ -18,7 +18,7 @@ use Rattle.machine_run.specs.Moments.{Moment}
 use Rattle.command_meaning.specs.Seen.{Appending}
 use Rattle.command_meaning.specs.RunKind.{Job, RunDone, RunLeft, job_answer, run_meant}
 use Rattle.command_meaning.specs.CampaignKind.{CampaignDone, CampaignLeft, verdicts_answer, verdicts_meant}
-use Rattle.telegram.specs.declared.script.script.Script.{Script}
+use Rattle.telegram.specs.declared.script.script.WireScript.{WireScript}
 use Rattle.command_meaning.specs.WireKind.{WireDone, WireLeft, wire_meant}
 use Rattle.command_meaning.specs.PairsKind.{PairsDone, PairsLeft, pairs_answer, pairs_meant}
 use Rattle.command_meaning.specs.PairKind.{PairJob, PairJobDone, PairJobLeft, pair_answer, pair_meant}
@@ -32,7 +32,7 @@ pub data Task : Type 0 where
   compiles : Program → Code → Task
   runs : Job → Task
   judges : Campaign → Task
-  wires : Script → Task
+  wires : WireScript → Task
   compares : PairJob → Task
   pairs_ : Campaign → Task
 

@@ -13,7 +13,7 @@ use Rattle.coded_unit.specs.Seen.{UnitSeen, StaysHonest}
 use Rattle.telegram.specs.Deliveries.{AreYoung, ComeFromSender, Rising, delivered}
 use Rattle.telegram.specs.WireRead.{right_words}
 use Rattle.telegram.specs.WireRun.{sent_in, wired}
-use Rattle.telegram.specs.declared.script.script.Script.{Script}
+use Rattle.telegram.specs.declared.script.script.WireScript.{WireScript}
 use Rattle.telegram.specs.ScriptOf.{ScriptFits}
 use Rattle.telegram.specs.Runs.{AreWords, EarlierTold, RoseBy, meant_text, told_handings, told_text}
 use Rattle.telegram.specs.Sends.{Cut, calls_of}
@@ -27,17 +27,17 @@ wire_status None = 0
 wire_status (Some c) = 3
 
 -- the answer where the sendings had these words: a line for each telegram that the receiver is handed, and the last line
-abbrev pub wire_answer : Script → List (List ℤ) → Option Cut → Answer
+abbrev pub wire_answer : WireScript → List (List ℤ) → Option Cut → Answer
 wire_answer s words cut = record { out = told_text s.wire s.events words cut; err = []; status = wire_status cut }
 
 -- the answer that is meant: the lines of the wire run, and the totals
-abbrev pub wire_meant : Script → Answer
+abbrev pub wire_meant : WireScript → Answer
 wire_meant s = printed (meant_text s.wire s.events)
 
 -- The script was run, to its end or to a sending that was answered by no word. The told log grew by one call a sender and cycle, in order,
 -- with these words, and what is answered is read off them by the rules of the receiver. Where no answer was wrong, it is what is meant; and
 -- the count of wrong answers rose where a sending was answered by no word.
-pub record WireDone (s : Script) (before after : UnitSeen) (x : Answer) : Type 0 where
+pub record WireDone (s : WireScript) (before after : UnitSeen) (x : Answer) : Type 0 where
   pub words : List (List ℤ)
   pub cut : Option Cut
   pub fits : ScriptFits s
@@ -49,7 +49,7 @@ pub record WireDone (s : Script) (before after : UnitSeen) (x : Answer) : Type 0
   pub honest : StaysHonest before after → x ≡ wire_meant s
 
 -- so much of what these words come to was written, whatever words the later cycles have
-abbrev pub WritesTold : Appending → Script → List (List ℤ) → Option Cut → Moment → Moment → Type 0
+abbrev pub WritesTold : Appending → WireScript → List (List ℤ) → Option Cut → Moment → Moment → Type 0
 WritesTold Writes s words None before after =
     (later : List (List ℤ)) → length words + length later ≡ length (sent_in s.events)
     → Writes before.out.written after.out.written (wire_answer s (words ++ later) None).out
@@ -57,7 +57,7 @@ WritesTold Writes s words (Some c) before after = Writes before.out.written afte
 
 -- Some of it was done, where `Writes` says how much was written: so much of what these words come to, by which the log grew, with the lines of
 -- all that is handed before the last cycle that was begun. Where no answer was wrong, it is so much of what is meant.
-pub record WireLeft (s : Script) (Writes : Appending) (before after : Moment) : Type 0 where
+pub record WireLeft (s : WireScript) (Writes : Appending) (before after : Moment) : Type 0 where
   pub words : List (List ℤ)
   pub cut : Option Cut
   pub fits : ScriptFits s
@@ -71,7 +71,7 @@ pub record WireLeft (s : Script) (Writes : Appending) (before after : Moment) : 
 -- What holds of all that is told of a script's receiver. Whatever words are answered, the delivered numbers strictly rise, and nothing is
 -- delivered before its sending nor more cycles after it than the age. Where all words are the right ones, what is told is the wire run, in which
 -- what is delivered of a telegram that wasn't altered is what the heard sender sent under its number.
-pub record DeliversRightly (s : Script) : Type 0 where
+pub record DeliversRightly (s : WireScript) : Type 0 where
   pub rises : (words : List (List ℤ)) (cut : Option Cut) → Rising (delivered (told_handings s.wire s.events words cut))
   pub young : (words : List (List ℤ)) (cut : Option Cut) → AreYoung s.wire.age (told_handings s.wire s.events words cut)
   pub right : told_handings s.wire s.events (right_words s.wire 0 (sent_in s.events)) None ≡ wired s.wire s.events
@@ -79,4 +79,4 @@ pub record DeliversRightly (s : Script) : Type 0 where
 
 -- so of each script that fits
 abbrev pub WiresDeliver : Type 0
-WiresDeliver = (s : Script) → ScriptFits s → DeliversRightly s
+WiresDeliver = (s : WireScript) → ScriptFits s → DeliversRightly s

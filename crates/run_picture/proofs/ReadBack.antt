@@ -9,7 +9,7 @@ use Rattle.input_rows.specs.RowsOf.{values_after}
 use Rattle.vcp_base.specs.Limits.{most_cycles, most_names}
 use Rattle.vcp_base.specs.Types.{fits}
 use Rattle.vcp_base.specs.declared.ty.Ty.TheVariants as ty
-use Rattle.run_picture.specs.declared.fault.RunFault.{RunFault}
+use Rattle.run_picture.specs.declared.fault.RunTextFault.{RunTextFault}
 use Rattle.run_picture.specs.declared.ending.Mark.{Mark}
 use Rattle.run_picture.specs.declared.ending.Ending.{Ending}
 use Rattle.run_picture.specs.declared.lines.Line.{Line}
@@ -50,7 +50,7 @@ same_count a b e = grind (arith, nat_tests)
 below : (a b : ℕ) → a < b → nat_lt a b ≡ true
 below a b h = grind (arith, nat_tests)
 
-chosen : (a b e : Bool) (x y z w : Result Line RunFault) → a ≡ true → b ≡ true → e ≡ true → cond a (cond b (cond e x y) z) w ≡ x
+chosen : (a b e : Bool) (x y z w : Result Line RunTextFault) → a ≡ true → b ≡ true → e ≡ true → cond a (cond b (cond e x y) z) w ≡ x
 chosen a b e x y z w h k l = rw (h, k, l) refl
 
 row_read : (width cycle : ℕ) (row : List ℤ) → is_row width row ≡ true → cycle < most_cycles → line_of width cycle (row_cells cycle row) ≡ Ok (line.Row row)

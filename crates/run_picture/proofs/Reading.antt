@@ -4,8 +4,8 @@ use Rattle.std.proofs.lemmas.List.{append-nil}
 use Rattle.std.proofs.lemmas.Bool.Decides.{nat_tests}
 use Rattle.input_rows.specs.RowsOf.{values_after}
 use Rattle.vcp_base.specs.Limits.{most_names}
-use Rattle.run_picture.specs.declared.fault.RunFault.{RunFault}
-use Rattle.run_picture.specs.declared.fault.RunFault.TheVariants as fault
+use Rattle.run_picture.specs.declared.fault.RunTextFault.{RunTextFault}
+use Rattle.run_picture.specs.declared.fault.RunTextFault.TheVariants as fault
 use Rattle.run_picture.specs.declared.ending.Ending.{Ending}
 use Rattle.run_picture.specs.declared.lines.Line.TheVariants as line
 use Rattle.run_picture.specs.Values.{printed_value, values_of, behind}
@@ -107,7 +107,7 @@ pub row_told : (w c : ℕ) (rows : List (List ℤ)) (row : List ℤ) (cells : Li
 row_told w c rows row cells more told e is =
     e ∙ rw (is, append_assoc rows (row ∷ []) (told_from w (c + 1) more).rows) refl
 
-pub refused_told : (w c : ℕ) (rows : List (List ℤ)) (why : RunFault) (cells : List (List ℕ)) (more : List (List (List ℕ))) (told : Told)
+pub refused_told : (w c : ℕ) (rows : List (List ℤ)) (why : RunTextFault) (cells : List (List ℕ)) (more : List (List (List ℕ))) (told : Told)
     → told ≡ onto rows (told_from w c (cells ∷ more)) → line_of w c cells ≡ Err why → told.behind ≡ Err why
 refused_told w c rows why cells more told e is = ap (λ (t : Told). t.behind) e ∙ rw is refl
 

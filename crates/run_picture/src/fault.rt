@@ -1,13 +1,13 @@
 //! Why a text is no run.
 
 ghost use Rattle.std.specs.Prelude.{◌≡◌};
-ghost use Rattle.run_picture.specs.declared.fault.RunFault.TheVariants as fault;
+ghost use Rattle.run_picture.specs.declared.fault.RunTextFault.TheVariants as fault;
 
 use vcp_base::Memory;
 
 /// Why a text is no run. Records count from 1, the header's; columns count from 1.
 #[derive(Clone, Copy, Debug, PartialEq, Eq)]
-pub enum RunFault {
+pub enum RunTextFault {
     /// The first record isn't there, or doesn't begin with `cycle`.
     Header,
     /// The header has more than 1,024 names.
@@ -44,10 +44,10 @@ pub enum RunFault {
     Memory,
 }
 
-impl From<Memory> for RunFault {
+impl From<Memory> for RunTextFault {
     ghost from_gives = { λ _ f. f ≡ fault.Memory };
 
-    fn from(_: Memory) -> RunFault {
-        RunFault::Memory
+    fn from(_: Memory) -> RunTextFault {
+        RunTextFault::Memory
     }
 }

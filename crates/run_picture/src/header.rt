@@ -6,22 +6,22 @@ ghost use Rattle.vcp_base.specs.Limits.{most_names};
 ghost use Rattle.run_picture.specs.Answers.{Answers};
 ghost use Rattle.run_picture.specs.RunOf.{names_of};
 
-use crate::fault::RunFault;
+use crate::fault::RunTextFault;
 use csv::ByteRecord;
 use input_rows::field;
 use std::alloc::Global;
 use vcp_base::{MOST_NAMES, Words};
 
 /// The names in a header: what stands behind `cycle`.
-pub(crate) fn names(alloc: Global, cells: &ByteRecord) -> Result<Words, RunFault>
+pub(crate) fn names(alloc: Global, cells: &ByteRecord) -> Result<Words, RunTextFault>
     ensures names { Answers (names_of (fields_of cells.now)) result }
     ensures few { IfOk result (λ names. length names ≤ most_names) }
 {
     if cells.len() == 0 || field(cells, 0) != b"cycle".as_slice() {
-        return Err(RunFault::Header);
+        return Err(RunTextFault::Header);
     }
     if cells.len() > MOST_NAMES as usize + 1 {
-        return Err(RunFault::Names);
+        return Err(RunTextFault::Names);
     }
     let mut names = Words::new(alloc);
     'cells: for j in 1..cells.len() {

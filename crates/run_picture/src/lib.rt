@@ -19,7 +19,7 @@ mod shown;
 mod values;
 
 pub use ending::{Ending, Mark};
-pub use fault::RunFault;
+pub use fault::RunTextFault;
 pub use laws::{a_printed_run_is_read_back, a_run_is_drawn_whole, last_lines_are_known};
 pub use layout::Layout;
 pub use picture::write_waves;

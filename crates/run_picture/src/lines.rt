@@ -8,7 +8,7 @@ ghost use Rattle.run_picture.specs.RunOf.{line_of, row_line, last_line, last_of,
 ghost use Rattle.run_picture.specs.Told.{Tells, IfRow, HasWidth};
 
 use crate::ending::{Ending, mark_of};
-use crate::fault::RunFault;
+use crate::fault::RunTextFault;
 use crate::row_table::RowTable;
 use crate::values::values;
 use csv::ByteRecord;
@@ -27,7 +27,12 @@ pub(crate) enum Line {
 }
 
 // The row of a cycle. The record begins with the cycle's number.
-fn row_line_of(alloc: Global, cells: &ByteRecord, width: u32, cycle: u32) -> Result<Line, RunFault>
+fn row_line_of(
+    alloc: Global,
+    cells: &ByteRecord,
+    width: u32,
+    cycle: u32,
+) -> Result<Line, RunTextFault>
     requires cells { 0 < length (fields_of cells.now) }
     requires names { width ≤ most_names }
     requires cycle { cycle ≤ most_cycles }
@@ -36,16 +41,21 @@ fn row_line_of(alloc: Global, cells: &ByteRecord, width: u32, cycle: u32) -> Res
     ensures cycle { IfOk result (λ line. cycle < most_cycles) }
 {
     if cycle >= MOST_CYCLES {
-        return Err(RunFault::Cycles);
+        return Err(RunTextFault::Cycles);
     }
     if cells.len() != width as usize + 1 {
-        return Err(RunFault::Width { record: cycle + 2 });
+        return Err(RunTextFault::Width { record: cycle + 2 });
     }
     Ok(Line::Row(values(alloc, cycle + 2, cells)?))
 }
 
 // The last line, which is one cell.
-fn last_line_of(alloc: Global, text: &[u8], cells: usize, cycle: u32) -> Result<Ending, RunFault>
+fn last_line_of(
+    alloc: Global,
+    text: &[u8],
+    cells: usize,
+    cycle: u32,
+) -> Result<Ending, RunTextFault>
     requires cycle { cycle ≤ most_cycles }
     ensures { (more : List (List ℕ)) → cells ≡ length more + 1 → Answers (last_line cycle text.now more) result }
 {
@@ -55,18 +65,23 @@ fn last_line_of(alloc: Global, text: &[u8], cells: usize, cycle: u32) -> Result<
             return Ok(Ending { mark, text });
         }
     }
-    Err(RunFault::Line { record: cycle + 2 })
+    Err(RunTextFault::Line { record: cycle + 2 })
 }
 
 // The line that stands where the row of a cycle may stand.
-fn read_line(alloc: Global, cells: &ByteRecord, width: u32, cycle: u32) -> Result<Line, RunFault>
+fn read_line(
+    alloc: Global,
+    cells: &ByteRecord,
+    width: u32,
+    cycle: u32,
+) -> Result<Line, RunTextFault>
     requires names { width ≤ most_names }
     requires cycle { cycle ≤ most_cycles }
     ensures line { Answers (line_of width cycle (fields_of cells.now)) result }
     ensures width { IfOk result (λ line. IfRow line (λ row. (length row ≡ width) × (cycle < most_cycles))) }
 {
     if cells.len() == 0 {
-        return Err(RunFault::Line { record: cycle + 2 });
+        return Err(RunTextFault::Line { record: cycle + 2 });
     }
     let first = field(cells, 0);
     if first == Buffer::new().format(cycle).as_bytes() {
@@ -82,12 +97,12 @@ fn last(
     cells: &mut ByteRecord,
     number: u32,
     ending: Ending,
-) -> Result<Ending, RunFault>
+) -> Result<Ending, RunTextFault>
     requires { number < 2 ^ 31 }
     ensures { (left : List (List (List ℕ))) → records.old.left ≡ Some left → Answers (last_of number ending left) result }
 {
     if records.next(cells)? {
-        return Err(RunFault::Rest { record: number + 1 });
+        return Err(RunTextFault::Rest { record: number + 1 });
     }
     Ok(ending)
 }
@@ -98,7 +113,7 @@ pub(crate) fn read_lines(
     records: &mut Records<'_>,
     cells: &mut ByteRecord,
     width: u32,
-) -> Result<(RowTable, Ending), RunFault>
+) -> Result<(RowTable, Ending), RunTextFault>
     requires names { width ≤ most_names }
     ensures told { (left : List (List (List ℕ))) → records.old.left ≡ Some left → Tells (told_from width 0 left) result }
     ensures width { IfOk result (λ told. HasWidth width told.0) }
@@ -118,5 +133,5 @@ pub(crate) fn read_lines(
             }
         }
     }
-    Err(RunFault::End)
+    Err(RunTextFault::End)
 }

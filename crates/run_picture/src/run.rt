@@ -6,7 +6,7 @@ ghost use Rattle.run_picture.specs.Drawn.{value_at};
 ghost use Rattle.run_picture.specs.RunOf.{run_of, ends_a_line as ends_a_line_of};
 
 use crate::ending::Ending;
-use crate::fault::RunFault;
+use crate::fault::RunTextFault;
 use crate::header::names;
 use crate::lines::read_lines;
 use crate::row_table::RowTable;
@@ -52,19 +52,19 @@ fn ends_a_line(text: &[u8]) -> bool
 /// the number of cycle n and has a value of 64 bits, as it is printed, for each name, and behind the rows
 /// stands one last line, ended by LF. Each other text has its fault, and nothing but want of memory comes
 /// besides.
-pub fn read_run(alloc: Global, text: &[u8]) -> Result<Run, RunFault>
+pub fn read_run(alloc: Global, text: &[u8]) -> Result<Run, RunTextFault>
     ensures run { IfOk result (λ run. run_of text.now ≡ Ok run) }
-    ensures fault { IfErr result (λ f. f ≢ RunFault.Memory → run_of text.now ≡ Err f) }
+    ensures fault { IfErr result (λ f. f ≢ RunTextFault.Memory → run_of text.now ≡ Err f) }
 {
     let mut records = Records::new(alloc, text);
     let mut cells = ByteRecord::new(alloc);
     if !records.next(&mut cells)? {
-        return Err(RunFault::Header);
+        return Err(RunTextFault::Header);
     }
     let names = names(alloc, &cells)?;
     let (rows, ending) = read_lines(alloc, &mut records, &mut cells, names.len() as u32)?;
     if !ends_a_line(text) {
-        return Err(RunFault::Cut);
+        return Err(RunTextFault::Cut);
     }
     Ok(Run {
         names,

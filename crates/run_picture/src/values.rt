@@ -6,7 +6,7 @@ ghost use Rattle.run_picture.specs.Answers.{Answers};
 ghost use Rattle.run_picture.specs.RunOf.{row_of_values};
 ghost use Rattle.run_picture.specs.Values.{printed_value as printed_value_of, values_of};
 
-use crate::fault::RunFault;
+use crate::fault::RunTextFault;
 use csv::ByteRecord;
 use input_rows::field;
 use itoa::Buffer;
@@ -26,7 +26,7 @@ fn printed_value(cell: &[u8]) -> Option<i64>
 }
 
 /// The values of a record's cells behind the first, or a refusal of the first cell that is none.
-pub(crate) fn values(alloc: Global, number: u32, cells: &ByteRecord) -> Result<Row, RunFault>
+pub(crate) fn values(alloc: Global, number: u32, cells: &ByteRecord) -> Result<Row, RunTextFault>
     requires some { 0 < length (fields_of cells.now) }
     requires few { length (fields_of cells.now) < 2 ^ 32 }
     ensures row { Answers (row_of_values number (values_of 2 (drop 1 (fields_of cells.now)))) result }
@@ -37,7 +37,7 @@ pub(crate) fn values(alloc: Global, number: u32, cells: &ByteRecord) -> Result<R
         match printed_value(field(cells, j)) {
             Some(value) => row.push(value)?,
             None => {
-                return Err(RunFault::Cell {
+                return Err(RunTextFault::Cell {
                     record: number,
                     column: j as u32 + 1,
                 });

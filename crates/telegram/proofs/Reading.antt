@@ -8,7 +8,7 @@ use Rattle.telegram.specs.declared.event.Event.{Event}
 use Rattle.telegram.specs.declared.event.Event.TheVariants as event
 use Rattle.telegram.specs.declared.wire.Wire.{Wire}
 use Rattle.telegram.specs.WireRun.{Every, IsEvent, sent_in}
-use Rattle.telegram.specs.declared.script.script.Script.{Script}
+use Rattle.telegram.specs.declared.script.script.WireScript.{WireScript}
 use Rattle.telegram.specs.declared.script.wire_fault.WireFault.{WireFault}
 use Rattle.telegram.specs.declared.script.wire_fault.WireFault.TheVariants as refusal
 use Rattle.telegram.specs.Forms.{event_of, head_of}
@@ -115,7 +115,7 @@ said w line ls more r is says rest =
 pub nothing_said : (ls : List Line) → ls ≡ [] → script_said ls ≡ Err (refusal.Form 1)
 nothing_said ls none = ap script_said none
 
-pub with_head : (ls : List Line) (b : Bool) (r : Result Script WireFault) → b ≡ list_any is_head ls → script_said ls ≡ r → b ≡ true
+pub with_head : (ls : List Line) (b : Bool) (r : Result WireScript WireFault) → b ≡ list_any is_head ls → script_said ls ≡ r → b ≡ true
     → cond (list_any is_head ls) (script_said ls) (Err (refusal.Form 1)) ≡ r
 with_head ls b r is says h = ap (λ (b : Bool). cond b (script_said ls) (Err (refusal.Form 1))) (sym is ∙ h) ∙ says
 

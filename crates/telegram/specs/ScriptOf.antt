@@ -8,7 +8,7 @@ use Rattle.telegram.specs.declared.event.Event.{Event}
 use Rattle.telegram.specs.declared.event.Event.TheVariants as event
 use Rattle.telegram.specs.declared.wire.Wire.{Wire}
 use Rattle.telegram.specs.WireRun.{AreEvents, IsWire}
-use Rattle.telegram.specs.declared.script.script.Script.{Script}
+use Rattle.telegram.specs.declared.script.script.WireScript.{WireScript}
 use Rattle.telegram.specs.declared.script.wire_fault.WireFault.{WireFault}
 use Rattle.telegram.specs.declared.script.wire_fault.WireFault.TheVariants as refusal
 use Rattle.telegram.specs.Forms.{head_of, event_of, names_wire}
@@ -34,16 +34,16 @@ events_of w begun [] = Ok []
 events_of w begun (line ∷ more) = with_event (event_of w begun line.number (words line.text)) (λ e. events_of w (begun_after begun e) more)
 
 -- a wire and its events
-abbrev pub whole : Wire → Result (List Event) WireFault → Result Script WireFault
+abbrev pub whole : Wire → Result (List Event) WireFault → Result WireScript WireFault
 whole w (Ok es) = Ok (record { wire = w; events = es })
 whole w (Err why) = Err why
 
-abbrev pub with_wire : Result Wire WireFault → (Wire → Result (List Event) WireFault) → Result Script WireFault
+abbrev pub with_wire : Result Wire WireFault → (Wire → Result (List Event) WireFault) → Result WireScript WireFault
 with_wire (Ok w) later = whole w (later w)
 with_wire (Err why) later = Err why
 
 -- the script of these lines, the first of which has the numbers of the wire
-abbrev pub script_said : List Line → Result Script WireFault
+abbrev pub script_said : List Line → Result WireScript WireFault
 script_said [] = Err (refusal.Form 1)
 script_said (line ∷ more) = with_wire (head_of line.number (words line.text)) (λ w. events_of w 0 more)
 
@@ -53,7 +53,7 @@ is_head line = names_wire (words line.text)
 
 -- The script of a text, or its first refused line. A text in which no line's first word is `wire` is refused at line 1. Lines end at LF, and a
 -- CR before it is dropped; the last line needs no LF, and keeps a CR at its end. Empty lines and those that begin with `#` say nothing.
-abbrev pub script_of : List ℕ → Result Script WireFault
+abbrev pub script_of : List ℕ → Result WireScript WireFault
 script_of text = cond (list_any is_head (read_lines 1 (lines text))) (script_said (read_lines 1 (lines text))) (Err (refusal.Form 1))
 
 -- ---- what holds of a script
@@ -65,7 +65,7 @@ AreSent begun (event.Cycle values ∷ es) = AreSent (begun + 1) es
 AreSent begun (event.Deliver line id number alter ∷ es) = (number < begun) × AreSent begun es
 
 -- the wire's numbers are in their ranges, each event is one of the wire, and what is delivered was sent
-pub record ScriptFits (script : Script) : Type 0 where
+pub record ScriptFits (script : WireScript) : Type 0 where
   pub wire : IsWire script.wire
   pub events : AreEvents script.wire script.events
   pub sent : AreSent 0 script.events

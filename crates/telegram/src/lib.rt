@@ -28,7 +28,7 @@ pub use laws::{
 pub use receipt::Receipt;
 pub use receiver::Receiver;
 pub use runs::{WireEnd, WireRunFault, run_wire};
-pub use script::{Events, Script, WireFault, read_wire};
+pub use script::{Events, WireFault, WireScript, read_wire};
 pub use sending::send;
 pub use telegram::Telegram;
 pub use wire::Wire;

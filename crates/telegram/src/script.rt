@@ -13,5 +13,5 @@ mod wire_fault;
 
 pub use events::Events;
 pub use reader::read_wire;
-pub use script::Script;
+pub use script::WireScript;
 pub use wire_fault::WireFault;

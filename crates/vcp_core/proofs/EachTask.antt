@@ -38,7 +38,7 @@ use Rattle.image_file.specs.Image.{image_of}
 use Rattle.fault_script.specs.declared.act.Fault.{Fault}
 use Rattle.fault_script.specs.declared.script_fault.ScriptFault.{ScriptFault}
 use Rattle.fault_script.specs.ScriptOf.{script_of}
-use Rattle.telegram.specs.declared.script.script.Script.{Script}
+use Rattle.telegram.specs.declared.script.script.WireScript.{WireScript}
 use Rattle.telegram.specs.declared.script.wire_fault.WireFault.{WireFault}
 use Rattle.telegram.specs.ScriptOf as wiring
 use Rattle.weight_audit.specs.Audit.{most_weights, weights_up_to}
@@ -134,12 +134,12 @@ script_answered g text = by_result (script_of g text) refl
   where
     by_result : (r : Result (List (List Fault)) ScriptFault) → script_of g text ≡ r → Answered (ScriptOf g) (NotScript g) text
     by_result (Ok groups) e = inl (groups, e)
-    by_result (Err f) e = inr (refusal.Script f, no_script f (λ is. script_not_memory g text (subst (λ (x : ScriptFault). script_of g text ≡ Err x) is e)) e)
+    by_result (Err f) e = inr (refusal.WireScript f, no_script f (λ is. script_not_memory g text (subst (λ (x : ScriptFault). script_of g text ≡ Err x) is e)) e)
 
 wire_answered : (text : List ℕ) → Answered WireOf NotWire text
 wire_answered text = by_result (wiring.script_of text) refl
   where
-    by_result : (r : Result Script WireFault) → wiring.script_of text ≡ r → Answered WireOf NotWire text
+    by_result : (r : Result WireScript WireFault) → wiring.script_of text ≡ r → Answered WireOf NotWire text
     by_result (Ok s) e = inl (s, e)
     by_result (Err f) e = inr (refusal.Wire f, no_wire f (λ is. wire_not_memory text (subst (λ (x : WireFault). wiring.script_of text ≡ Err x) is e)) e)
 

@@ -33,7 +33,7 @@ use Rattle.vcp_inputs.specs.RowsOutcome.{RowsOutcome, lacking, opened, rows_or_r
 use Rattle.vcp_inputs.specs.RowsOutcome as outcome
 use Rattle.vcp_inputs.specs.Scripts.{ScriptOf, NotScript, no_script}
 use Rattle.vcp_inputs.specs.Wires.{WireOf, NotWire}
-use Rattle.telegram.specs.declared.script.script.Script.{Script}
+use Rattle.telegram.specs.declared.script.script.WireScript.{WireScript}
 use Rattle.image_file.specs.Graphs.{HasImage}
 use Rattle.image_file.specs.Image.{image_of}
 use Rattle.signature_table.specs.Signatures.{Numbers, table_of}
@@ -124,7 +124,7 @@ script_once g text x y h k =
     let other : script_of g text ≡ Ok y = k in cc
 
 no_script_once : (g : Lists) (text : List ℕ) (r s : Refusal) → NotScript g text r → NotScript g text s → r ≡ s
-no_script_once g text _ _ (no_script f known is) (no_script e other also) = let same : f ≡ e = cc in ap refusal.Script same
+no_script_once g text _ _ (no_script f known is) (no_script e other also) = let same : f ≡ e = cc in ap refusal.WireScript same
 
 script_or_none : (g : Lists) (text : List ℕ) (x : List (List Fault)) (r : Refusal) → ScriptOf g text x → NotScript g text r → ⊥
 script_or_none g text x _ h (no_script f known is) = let one : script_of g text ≡ Ok x = h in cc
@@ -433,7 +433,7 @@ module _ (P : Task → Type 0) (given : (a : Answer) → a.status ≤ 2 → P (a
       (λ groups y is. is_has y (pairs_ (campaign i left groups)) (pairing (campaign i left groups)) is) x)) task comes
 
   pub task_has : (f : Form) (held : Held) → Lacking P held (about f).files → ((j : Job) → P (runs j)) → ((p : Program) (code : Code) → P (compiles p code)) →
-      ((c : Campaign) → P (judges c)) → ((j : PairJob) → P (compares j)) → ((c : Campaign) → P (pairs_ c)) → ((s : Script) → P (wires s)) → (task : Task) →
+      ((c : Campaign) → P (judges c)) → ((j : PairJob) → P (compares j)) → ((c : Campaign) → P (pairs_ c)) → ((s : WireScript) → P (wires s)) → (task : Task) →
       TaskOf f held task → P task
   task_has (check p) held none running writing judging comparing pairing wiring task comes =
       typed_is (λ t. prints (ok_text (size t))) p held (none (source_word p) (inl refl)) (λ t. given _ (lit≤ tt)) task comes

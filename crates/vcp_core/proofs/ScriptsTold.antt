@@ -22,7 +22,7 @@ use Rattle.fault_script.specs.Groups.{is_taken}
 use Rattle.fault_script.specs.ScriptOf.{most_faults, fault_at, fault_if, fault_of, Item, begins, ends, says, item_by, item_of, counted, items_of, onto, ended, with_fault, groups_of, script_of}
 use Rattle.telegram.specs.declared.event.Event.{Event}
 use Rattle.telegram.specs.declared.wire.Wire.{Wire}
-use Rattle.telegram.specs.declared.script.script.Script.{Script}
+use Rattle.telegram.specs.declared.script.script.WireScript.{WireScript}
 use Rattle.telegram.specs.declared.script.wire_fault.WireFault.{WireFault}
 use Rattle.telegram.specs.declared.script.wire_fault.WireFault.TheVariants as wire
 use Rattle.telegram.specs.Forms.{integers_of, wire_with, or_range, wire_of, head_of, cycle_of, delivery_of, event_of, is_below}
@@ -170,6 +170,6 @@ said_told (line ∷ more) =
 
 pub wire_not_memory : (text : List ℕ) → wires.script_of text ≡ Err wire.Memory → ⊥
 wire_not_memory text e =
-    subst (λ (r : Result Script WireFault). WireTold r) e
+    subst (λ (r : Result WireScript WireFault). WireTold r) e
     (wire_test (list_any is_head (read_lines 1 (lines text))) (script_said (read_lines 1 (lines text))) (Err (wire.Form 1))
     (said_told (read_lines 1 (lines text))) tt)

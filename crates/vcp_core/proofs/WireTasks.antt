@@ -9,7 +9,7 @@ use Rattle.vcp_outside.specs.Held.{Held}
 use Rattle.vcp_outside.specs.Seen.{FilesSeen, SinkSeen}
 use Rattle.vcp_outside.specs.Written.{AppendsPart}
 use Rattle.telegram.specs.WireRun.{sent_in}
-use Rattle.telegram.specs.declared.script.script.Script.{Script}
+use Rattle.telegram.specs.declared.script.script.WireScript.{WireScript}
 use Rattle.telegram.specs.ScriptOf.{ScriptFits, script_of}
 use Rattle.telegram.specs.declared.runs.wire_end.WireEnd.{WireEnd}
 use Rattle.telegram.specs.declared.runs.wire_end.WireEnd.TheVariants as end
@@ -38,7 +38,7 @@ use Rattle.vcp_core.proofs.PlainTurns.{appends-nothing}
 
 -- ---- a text is one script, or is refused in one way
 
-wire_once : (text : List ℕ) (x y : Script) → WireOf text x → WireOf text y → x ≡ y
+wire_once : (text : List ℕ) (x y : WireScript) → WireOf text x → WireOf text y → x ≡ y
 wire_once text x y h k =
     let one : script_of text ≡ Ok x = h in
     let other : script_of text ≡ Ok y = k in cc
@@ -46,7 +46,7 @@ wire_once text x y h k =
 no_wire_once : (text : List ℕ) (r s : Refusal) → NotWire text r → NotWire text s → r ≡ s
 no_wire_once text _ _ (no_wire f known is) (no_wire e other also) = let same : f ≡ e = cc in ap refusal.Wire same
 
-wire_or_none : (text : List ℕ) (x : Script) (r : Refusal) → WireOf text x → NotWire text r → ⊥
+wire_or_none : (text : List ℕ) (x : WireScript) (r : Refusal) → WireOf text x → NotWire text r → ⊥
 wire_or_none text x _ h (no_wire f known is) = let one : script_of text ≡ Ok x = h in cc
 
 pub wire_not_bytes : (text : List ℕ) (r : Refusal) → NotWire text r → r ≢ refusal.Bytes
@@ -60,7 +60,7 @@ wire_task_once f held a b h k =
 
 -- ---- how far the script was run
 
-module _ (s : Script) (fits : ScriptFits s) (unit unit' : UnitSeen) (out out' : SinkSeen) where
+module _ (s : WireScript) (fits : ScriptFits s) (unit unit' : UnitSeen) (out out' : SinkSeen) where
   abbrev before : Moment
   before = moment unit out
 
@@ -133,7 +133,7 @@ module _ (s : Script) (fits : ScriptFits s) (unit unit' : UnitSeen) (out out' : 
 
 -- ---- how far the command came
 
-module _ (f : List ℕ) (files later : FilesSeen) (held : later.held ≡ files.held) (ended : IsAtEnd later.rest) (s : Script) (fits : ScriptFits s)
+module _ (f : List ℕ) (files later : FilesSeen) (held : later.held ≡ files.held) (ended : IsAtEnd later.rest) (s : WireScript) (fits : ScriptFits s)
     (comes : IfSome files.held (λ h. WireTask f h (wires s))) (unit unit' : UnitSeen) (out out' : SinkSeen) where
   reads : (about (wire f)).files ≢ []
   reads none = cc

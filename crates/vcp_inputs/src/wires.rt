@@ -15,12 +15,12 @@ ghost use Rattle.vcp_inputs.specs.declared.refusal.Refusal.TheVariants as refusa
 use crate::reading::read_file;
 use crate::refusal::NoInput;
 use std::alloc::Global;
-use telegram::{Script, read_wire};
+use telegram::{WireScript, read_wire};
 use vcp_base::{MOST_SOURCE_BYTES, Text};
 use vcp_outside::Files;
 
 /// The script of a wire that a text is.
-fn wire_of(alloc: Global, text: &[u8]) -> Result<Script, NoInput>
+fn wire_of(alloc: Global, text: &[u8]) -> Result<WireScript, NoInput>
     requires short { length text.now ≤ most_source_bytes }
     ensures ok { IfOk result (WireOf text.now) }
     ensures err { IfErr result (Untaken (NotWire text.now)) }
@@ -33,7 +33,7 @@ fn wire_of(alloc: Global, text: &[u8]) -> Result<Script, NoInput>
 /// The script of a wire under a name: the file is read whole, and has at most 1,048,576 bytes. Its numbers
 /// are in their ranges, and it hands what was sent; or it is refused: its length, then its first refused line
 /// with its one reason.
-pub fn load_wire<F: Files>(alloc: Global, files: &mut F, name: &Text) -> Result<Script, NoInput>
+pub fn load_wire<F: Files>(alloc: Global, files: &mut F, name: &Text) -> Result<WireScript, NoInput>
     // What is answered: the script that the file is, or why there is none.
     ensures loads { IfSome (F.seen files.old).held (λ h. Loads WireOf NotWire h name.now most_source_bytes
         (F.seen files.old).broken (F.seen files.new).broken result) }

@@ -9,8 +9,8 @@ use Rattle.fault_sites.specs.declared.class.Classes.{Classes}
 use Rattle.fault_sites.specs.SiteText.{classes_of}
 use Rattle.fault_sites.specs.declared.scripts.chosen.Chosen.{Chosen}
 use Rattle.fault_sites.specs.declared.scripts.chosen.Chosen.TheVariants as chosen
-use Rattle.vcp_study_core.specs.declared.command.Command.{Command}
-use Rattle.vcp_study_core.specs.declared.command.Command.TheVariants as command
+use Rattle.vcp_study_core.specs.declared.command.StudyCommand.{StudyCommand}
+use Rattle.vcp_study_core.specs.declared.command.StudyCommand.TheVariants as command
 use Rattle.vcp_study_core.specs.declared.fault.Fault.{Fault}
 use Rattle.vcp_study_core.specs.declared.fault.Fault.TheVariants as fault
 
@@ -131,7 +131,7 @@ form_of (w ∷ words) =
     (cond (bytes_eq w (codes "script")) (script_form words) None)))))))
 
 -- a command, as a form
-abbrev pub form : Command → Form
+abbrev pub form : StudyCommand → Form
 form (command.Graph image horizon) = graph image.now horizon
 form (command.Dot image horizon) = dot image.now horizon
 form (command.Waves file) = waves file.now

@@ -1,12 +1,12 @@
 -- RunLines: the line where a file is no run, by its first fault. It begins with the file's name, and ends with LF.
 use Rattle.std.specs.Prelude.{ℕ, List, ◌++◌, codes}
 use Rattle.input_rows.specs.declared.fault.RowFault.TheVariants as rows
-use Rattle.run_picture.specs.declared.fault.RunFault.{RunFault}
-use Rattle.run_picture.specs.declared.fault.RunFault.TheVariants as fault
+use Rattle.run_picture.specs.declared.fault.RunTextFault.{RunTextFault}
+use Rattle.run_picture.specs.declared.fault.RunTextFault.TheVariants as fault
 use Rattle.vcp_inputs.specs.Lines.{rows_text, place_text, memory_text}
 
 -- what rows are refused for too has their lines
-abbrev pub run_text : List ℕ → RunFault → List ℕ
+abbrev pub run_text : List ℕ → RunTextFault → List ℕ
 run_text name fault.Header = rows_text name rows.Header
 run_text name fault.Names = name ++ codes ":1 L3 Names\n"
 run_text name (fault.Line number) = place_text name number (codes "V1 Line")

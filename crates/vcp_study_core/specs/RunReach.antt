@@ -8,7 +8,7 @@ use Rattle.vcp_base.specs.Limits.{most_rows_bytes}
 use Rattle.vcp_outside.specs.Held.{Held}
 use Rattle.vcp_outside.specs.Written.{AppendsPart}
 use Rattle.vcp_inputs.specs.Files.{NotLoaded, Never}
-use Rattle.run_picture.specs.declared.fault.RunFault.TheVariants as run
+use Rattle.run_picture.specs.declared.fault.RunTextFault.TheVariants as run
 use Rattle.run_picture.specs.Elements.{IsPictureOf}
 use Rattle.run_picture.specs.RunOf.{Recorded, run_of}
 use Rattle.vcp_study_core.specs.declared.fault.Fault.{Fault}

@@ -10,11 +10,11 @@ ghost use Rattle.vcp_words.specs.Tables.{rows_name as rows_name_of};
 use crate::fault::Fault;
 use fault_sites::{Chosen, Classes, Part, classes_named};
 use vcp_base::{MOST_CYCLES, MOST_HORIZON, Text, Words, numeral};
-use vcp_words::{RowsWord, WordsLeft};
+use vcp_words::{CommandWords, RowsWord};
 
 /// A command, with its own words. A name of a file isn't empty and doesn't begin with `-`.
 #[derive(Clone, Copy, Debug)]
-pub enum Command<'a> {
+pub enum StudyCommand<'a> {
     /// `graph M HORIZON`: the picture of an image's graph.
     Graph {
         /// The name of the image, M.
@@ -120,27 +120,27 @@ fn told_file<'a>(image: &'a Text, script: &'a Text, verdicts: &'a Text, fault: &
     }
 }
 
-impl Command<'_> {
+impl StudyCommand<'_> {
     /// The name of the file that the line of a fault names.
     pub(crate) fn file(&self, fault: &Fault) -> &[u8]
         ensures { result.now ≡ file_of (form self.now) fault.now }
     {
         match self {
-            Command::Graph { image, .. } => image.bytes(),
-            Command::Dot { image, .. } => image.bytes(),
-            Command::Waves { file } => file.bytes(),
-            Command::Ranges { image, .. } => image.bytes(),
-            Command::Sites { image, .. } => image.bytes(),
-            Command::Flips { image, rows, .. } => match fault {
+            StudyCommand::Graph { image, .. } => image.bytes(),
+            StudyCommand::Dot { image, .. } => image.bytes(),
+            StudyCommand::Waves { file } => file.bytes(),
+            StudyCommand::Ranges { image, .. } => image.bytes(),
+            StudyCommand::Sites { image, .. } => image.bytes(),
+            StudyCommand::Flips { image, rows, .. } => match fault {
                 Fault::Rows(_) => rows_name(*rows),
                 _ => image.bytes(),
             },
-            Command::Sum {
+            StudyCommand::Sum {
                 image,
                 script,
                 verdicts,
             } => told_file(image, script, verdicts, fault),
-            Command::SumApart {
+            StudyCommand::SumApart {
                 image,
                 script,
                 verdicts,
@@ -149,12 +149,12 @@ impl Command<'_> {
                 Fault::Rows(_) => rows_name(*rows),
                 _ => told_file(image, script, verdicts, fault),
             },
-            Command::Faults {
+            StudyCommand::Faults {
                 image,
                 script,
                 verdicts,
             } => told_file(image, script, verdicts, fault),
-            Command::Script { image, named } => match fault {
+            StudyCommand::Script { image, named } => match fault {
                 Fault::Script(_) | Fault::Named(_) => named.bytes(),
                 _ => image.bytes(),
             },
@@ -163,11 +163,11 @@ impl Command<'_> {
 }
 
 /// The command that the words say; None where they are none of the forms.
-pub fn command_of(words: &Words) -> Option<Command<'_>>
+pub fn command_of(words: &Words) -> Option<StudyCommand<'_>>
     ensures form { option_map form result ≡ form_of words.now }
     ensures sound { IfSome result (λ command. IsSound (form command)) }
 {
-    let mut left = WordsLeft::new(words);
+    let mut left = CommandWords::new(words);
     let command = left.next()?.bytes();
     if command == b"graph".as_slice() {
         return graph_words(&mut left);
@@ -197,7 +197,7 @@ pub fn command_of(words: &Words) -> Option<Command<'_>>
 }
 
 /// M and HORIZON, and no words behind them.
-fn image_and_horizon<'a>(words: &mut WordsLeft<'a>) -> Option<(&'a Text, u32)>
+fn image_and_horizon<'a>(words: &mut CommandWords<'a>) -> Option<(&'a Text, u32)>
     ensures words { option_map (λ d. (d.0.now, d.1)) result ≡ image_and_horizon_of words.old }
     ensures horizon { IfSome result (λ d. d.1 ≤ most_horizon) }
 {
@@ -211,25 +211,25 @@ fn image_and_horizon<'a>(words: &mut WordsLeft<'a>) -> Option<(&'a Text, u32)>
 }
 
 /// The words of `graph`.
-fn graph_words<'a>(words: &mut WordsLeft<'a>) -> Option<Command<'a>>
+fn graph_words<'a>(words: &mut CommandWords<'a>) -> Option<StudyCommand<'a>>
     ensures form { option_map form result ≡ graph_form words.old }
     ensures sound { IfSome result (λ command. IsSound (form command)) }
 {
     let (image, horizon) = image_and_horizon(words)?;
-    Some(Command::Graph { image, horizon })
+    Some(StudyCommand::Graph { image, horizon })
 }
 
 /// The words of `dot`.
-fn dot_words<'a>(words: &mut WordsLeft<'a>) -> Option<Command<'a>>
+fn dot_words<'a>(words: &mut CommandWords<'a>) -> Option<StudyCommand<'a>>
     ensures form { option_map form result ≡ dot_form words.old }
     ensures sound { IfSome result (λ command. IsSound (form command)) }
 {
     let (image, horizon) = image_and_horizon(words)?;
-    Some(Command::Dot { image, horizon })
+    Some(StudyCommand::Dot { image, horizon })
 }
 
 /// The word of `waves`: FILE.
-fn waves_words<'a>(words: &mut WordsLeft<'a>) -> Option<Command<'a>>
+fn waves_words<'a>(words: &mut CommandWords<'a>) -> Option<StudyCommand<'a>>
     ensures form { option_map form result ≡ waves_form words.old }
     ensures sound { IfSome result (λ command. IsSound (form command)) }
 {
@@ -237,11 +237,11 @@ fn waves_words<'a>(words: &mut WordsLeft<'a>) -> Option<Command<'a>>
     if !words.is_end() {
         return None;
     }
-    Some(Command::Waves { file })
+    Some(StudyCommand::Waves { file })
 }
 
 /// Whether all operations are told: `--all` says so, as the last word.
-fn all_word(words: &mut WordsLeft<'_>) -> Option<bool>
+fn all_word(words: &mut CommandWords<'_>) -> Option<bool>
     ensures { result ≡ all_of words.old }
 {
     match words.next() {
@@ -255,13 +255,13 @@ fn all_word(words: &mut WordsLeft<'_>) -> Option<bool>
 }
 
 /// The words of `ranges`: M, and `--all` where it is said.
-fn ranges_words<'a>(words: &mut WordsLeft<'a>) -> Option<Command<'a>>
+fn ranges_words<'a>(words: &mut CommandWords<'a>) -> Option<StudyCommand<'a>>
     ensures form { option_map form result ≡ ranges_form words.old }
     ensures sound { IfSome result (λ command. IsSound (form command)) }
 {
     let image = words.name()?;
     let all = all_word(words)?;
-    Some(Command::Ranges { image, all })
+    Some(StudyCommand::Ranges { image, all })
 }
 
 /// Whether only the number is wanted: `--count` says so.
@@ -285,7 +285,7 @@ fn part_chosen(from: &Text, count: &Text) -> Option<Chosen>
 }
 
 /// What is written of the sites: without more words the script of all.
-fn chosen_words(words: &mut WordsLeft<'_>) -> Option<Chosen>
+fn chosen_words(words: &mut CommandWords<'_>) -> Option<Chosen>
     ensures { result ≡ chosen_of words.old }
 {
     match words.next() {
@@ -324,15 +324,15 @@ fn class_words<'a>(
     image: &'a Text,
     rows: RowsWord<'a>,
     class: &Text,
-    words: &mut WordsLeft<'a>,
-) -> Option<Command<'a>>
+    words: &mut CommandWords<'a>,
+) -> Option<StudyCommand<'a>>
     ensures form { option_map form result ≡ class_form image.now (rows_of rows.entry) class.now words.old }
     ensures sound { IfSome result (λ command. IsSound (form command)) }
 {
     let cycles = cycles_in(rows)?;
     let classes = classes_named(class.bytes())?;
     let chosen = chosen_words(words)?;
-    Some(Command::Sites {
+    Some(StudyCommand::Sites {
         image,
         cycles,
         classes,
@@ -344,14 +344,14 @@ fn class_words<'a>(
 fn flips_words<'a>(
     image: &'a Text,
     rows: RowsWord<'a>,
-    words: &mut WordsLeft<'a>,
-) -> Option<Command<'a>>
+    words: &mut CommandWords<'a>,
+) -> Option<StudyCommand<'a>>
     requires { AreFew (rows_of rows) }
     ensures form { option_map form result ≡ option_map (flips image.now (rows_of rows.entry)) (chosen_of words.old) }
     ensures sound { IfSome result (λ command. IsSound (form command)) }
 {
     let chosen = chosen_words(words)?;
-    Some(Command::Flips {
+    Some(StudyCommand::Flips {
         image,
         rows,
         chosen,
@@ -362,8 +362,8 @@ fn flips_words<'a>(
 fn behind_words<'a>(
     image: &'a Text,
     rows: RowsWord<'a>,
-    words: &mut WordsLeft<'a>,
-) -> Option<Command<'a>>
+    words: &mut CommandWords<'a>,
+) -> Option<StudyCommand<'a>>
     requires { AreFew (rows_of rows) }
     ensures form { option_map form result ≡ behind_form image.now (rows_of rows.entry) words.old }
     ensures sound { IfSome result (λ command. IsSound (form command)) }
@@ -376,7 +376,7 @@ fn behind_words<'a>(
 }
 
 /// The words of `sites`: M, and what is behind it.
-fn sites_words<'a>(words: &mut WordsLeft<'a>) -> Option<Command<'a>>
+fn sites_words<'a>(words: &mut CommandWords<'a>) -> Option<StudyCommand<'a>>
     ensures form { option_map form result ≡ sites_form words.old }
     ensures sound { IfSome result (λ command. IsSound (form command)) }
 {
@@ -390,8 +390,8 @@ fn apart_words<'a>(
     image: &'a Text,
     script: &'a Text,
     verdicts: &'a Text,
-    words: &mut WordsLeft<'a>,
-) -> Option<Command<'a>>
+    words: &mut CommandWords<'a>,
+) -> Option<StudyCommand<'a>>
     ensures form { option_map form result ≡ apart_form image.now script.now verdicts.now words.old }
     ensures sound { IfSome result (λ command. IsSound (form command)) }
 {
@@ -399,7 +399,7 @@ fn apart_words<'a>(
     if !words.is_end() {
         return None;
     }
-    Some(Command::SumApart {
+    Some(StudyCommand::SumApart {
         image,
         script,
         verdicts,
@@ -408,7 +408,7 @@ fn apart_words<'a>(
 }
 
 /// The words of `sum`: M, SCRIPT and VERDICTS, and ROWS where there are more words.
-fn sum_words<'a>(words: &mut WordsLeft<'a>) -> Option<Command<'a>>
+fn sum_words<'a>(words: &mut CommandWords<'a>) -> Option<StudyCommand<'a>>
     ensures form { option_map form result ≡ sum_form words.old }
     ensures sound { IfSome result (λ command. IsSound (form command)) }
 {
@@ -416,7 +416,7 @@ fn sum_words<'a>(words: &mut WordsLeft<'a>) -> Option<Command<'a>>
     let script = words.name()?;
     let verdicts = words.name()?;
     if words.is_end() {
-        return Some(Command::Sum {
+        return Some(StudyCommand::Sum {
             image,
             script,
             verdicts,
@@ -426,7 +426,7 @@ fn sum_words<'a>(words: &mut WordsLeft<'a>) -> Option<Command<'a>>
 }
 
 /// The words of `faults`: M, SCRIPT and VERDICTS.
-fn faults_words<'a>(words: &mut WordsLeft<'a>) -> Option<Command<'a>>
+fn faults_words<'a>(words: &mut CommandWords<'a>) -> Option<StudyCommand<'a>>
     ensures form { option_map form result ≡ faults_form words.old }
     ensures sound { IfSome result (λ command. IsSound (form command)) }
 {
@@ -436,7 +436,7 @@ fn faults_words<'a>(words: &mut WordsLeft<'a>) -> Option<Command<'a>>
     if !words.is_end() {
         return None;
     }
-    Some(Command::Faults {
+    Some(StudyCommand::Faults {
         image,
         script,
         verdicts,
@@ -444,7 +444,7 @@ fn faults_words<'a>(words: &mut WordsLeft<'a>) -> Option<Command<'a>>
 }
 
 /// The words of `script`: M and NAMED.
-fn script_words<'a>(words: &mut WordsLeft<'a>) -> Option<Command<'a>>
+fn script_words<'a>(words: &mut CommandWords<'a>) -> Option<StudyCommand<'a>>
     ensures form { option_map form result ≡ script_form words.old }
     ensures sound { IfSome result (λ command. IsSound (form command)) }
 {
@@ -453,5 +453,5 @@ fn script_words<'a>(words: &mut WordsLeft<'a>) -> Option<Command<'a>>
     if !words.is_end() {
         return None;
     }
-    Some(Command::Script { image, named })
+    Some(StudyCommand::Script { image, named })
 }

@@ -4,7 +4,7 @@ ghost use Rattle.std.specs.Prelude.{◌≡◌};
 ghost use Rattle.vcp_study_core.specs.declared.fault.Fault.TheVariants as fault;
 
 use fault_names::Refused;
-use run_picture::RunFault;
+use run_picture::RunTextFault;
 use vcp_base::Memory;
 use vcp_inputs::NoInput;
 use vcp_outside::Failed;
@@ -20,7 +20,7 @@ pub enum Fault {
     /// An allocation failed.
     Memory,
     /// The file is no run.
-    NoRun(RunFault),
+    NoRun(RunTextFault),
     /// The script would have more than 10,000 faults.
     Sites,
     /// There is nothing of the recorded inputs.

@@ -17,5 +17,5 @@ mod told;
 mod top;
 mod waves;
 
-pub use command::{Command, command_of};
+pub use command::{StudyCommand, command_of};
 pub use top::vcp_study;

@@ -12,7 +12,7 @@ ghost use Rattle.vcp_study_core.specs.Reach.{fault_text, fault_status as status_
 use crate::fault::Fault;
 use fault_names::Why;
 use input_rows::RowFault;
-use run_picture::RunFault;
+use run_picture::RunTextFault;
 use vcp_inputs::{Refusal, input_status, tell_input, tell_of, tell_place, tell_refusal};
 use vcp_outside::{Failed, Sink, write_all};
 use verdict_tables::VerdictsFault;
@@ -51,15 +51,15 @@ pub fn tell<E: Sink>(err: &mut E, name: &[u8], fault: &Fault) -> Result<(), Fail
 }
 
 /// Prints the line of a file that is no run.
-fn tell_no_run<E: Sink>(err: &mut E, name: &[u8], why: RunFault) -> Result<(), Failed>
+fn tell_no_run<E: Sink>(err: &mut E, name: &[u8], why: RunTextFault) -> Result<(), Failed>
     ensures { WritesTo (E.seen err.old) (E.seen err.new) (run_text name.now why) result }
 {
     match why {
-        RunFault::Header => tell_rows(err, name, RowFault::Header),
-        RunFault::Names => tell_of(err, name, b":1 L3 Names"),
-        RunFault::Line { record } => tell_place(err, name, record, b"V1 Line"),
-        RunFault::Width { record } => tell_rows(err, name, RowFault::Width { row: record }),
-        RunFault::Cell { record, column } => tell_rows(
+        RunTextFault::Header => tell_rows(err, name, RowFault::Header),
+        RunTextFault::Names => tell_of(err, name, b":1 L3 Names"),
+        RunTextFault::Line { record } => tell_place(err, name, record, b"V1 Line"),
+        RunTextFault::Width { record } => tell_rows(err, name, RowFault::Width { row: record }),
+        RunTextFault::Cell { record, column } => tell_rows(
             err,
             name,
             RowFault::Cell {
@@ -67,11 +67,11 @@ fn tell_no_run<E: Sink>(err: &mut E, name: &[u8], why: RunFault) -> Result<(), F
                 column,
             },
         ),
-        RunFault::Cycles => tell_rows(err, name, RowFault::Cycles),
-        RunFault::End => tell_of(err, name, b" V2 End"),
-        RunFault::Rest { record } => tell_place(err, name, record, b"V3 Rest"),
-        RunFault::Cut => tell_of(err, name, b" V4 Cut"),
-        RunFault::Memory => write_all(err, b"no memory\n"),
+        RunTextFault::Cycles => tell_rows(err, name, RowFault::Cycles),
+        RunTextFault::End => tell_of(err, name, b" V2 End"),
+        RunTextFault::Rest { record } => tell_place(err, name, record, b"V3 Rest"),
+        RunTextFault::Cut => tell_of(err, name, b" V4 Cut"),
+        RunTextFault::Memory => write_all(err, b"no memory\n"),
     }
 }
 

@@ -10,7 +10,7 @@ ghost use Rattle.vcp_study_core.specs.Seen.{outside};
 ghost use Rattle.vcp_study_core.specs.declared.fault.Fault.TheVariants as fault;
 
 use crate::apart::apart_command;
-use crate::command::{Command, command_of};
+use crate::command::{StudyCommand, command_of};
 use crate::dot::dot_command;
 use crate::fault::Fault;
 use crate::faults::faults_command;
@@ -74,7 +74,7 @@ pub fn vcp_study<F: Files, O: Sink, E: Sink>(
 /// Does a command and, where it ends by a fault, tells the fault's line.
 fn serve<F: Files, O: Sink, E: Sink>(
     alloc: Global,
-    command: &Command<'_>,
+    command: &StudyCommand<'_>,
     files: &mut F,
     out: &mut O,
     err: &mut E,
@@ -107,7 +107,7 @@ fn with_status(drawn: Result<(), Fault>) -> Result<u8, Fault>
 /// Does what a command says, and writes to `out` alone. Answers its status, where no fault keeps it from its end.
 fn study<F: Files, O: Sink>(
     alloc: Global,
-    command: &Command<'_>,
+    command: &StudyCommand<'_>,
     files: &mut F,
     out: &mut O,
 ) -> Result<u8, Fault>
@@ -121,41 +121,41 @@ fn study<F: Files, O: Sink>(
     ensures known { IfOk result (λ status. status ≤ 1) }
 {
     match command {
-        Command::Graph { image, horizon } => with_status(graph_command(
+        StudyCommand::Graph { image, horizon } => with_status(graph_command(
             alloc, image, *horizon, files, out,
         )),
-        Command::Dot { image, horizon } => with_status(dot_command(
+        StudyCommand::Dot { image, horizon } => with_status(dot_command(
             alloc, image, *horizon, files, out,
         )),
-        Command::Waves { file } => with_status(waves_command(alloc, file, files, out)),
-        Command::Ranges { image, all } => ranges_command(alloc, image, *all, files, out),
-        Command::Sites {
+        StudyCommand::Waves { file } => with_status(waves_command(alloc, file, files, out)),
+        StudyCommand::Ranges { image, all } => ranges_command(alloc, image, *all, files, out),
+        StudyCommand::Sites {
             image,
             cycles,
             classes,
             chosen,
         } => sites_command(alloc, image, *cycles, *classes, chosen, files, out),
-        Command::Flips {
+        StudyCommand::Flips {
             image,
             rows,
             chosen,
         } => flips_command(alloc, image, *rows, chosen, files, out),
-        Command::Sum {
+        StudyCommand::Sum {
             image,
             script,
             verdicts,
         } => sum_command(alloc, image, script, verdicts, files, out),
-        Command::SumApart {
+        StudyCommand::SumApart {
             image,
             script,
             verdicts,
             rows,
         } => apart_command(alloc, image, *rows, script, verdicts, files, out),
-        Command::Faults {
+        StudyCommand::Faults {
             image,
             script,
             verdicts,
         } => faults_command(alloc, image, script, verdicts, files, out),
-        Command::Script { image, named } => script_command(alloc, image, named, files, out),
+        StudyCommand::Script { image, named } => script_command(alloc, image, named, files, out),
     }
 }

@@ -9,7 +9,7 @@ ghost use Rattle.vcp_study_core.specs.RunReach.{IsNoRun, WritesRun, DrawsRun, Re
 ghost use Rattle.vcp_study_core.specs.declared.fault.Fault.TheVariants as fault;
 
 use crate::fault::Fault;
-use run_picture::{Run, RunFault, read_run, write_waves};
+use run_picture::{Run, RunTextFault, read_run, write_waves};
 use std::alloc::Global;
 use vcp_base::{MOST_ROWS_BYTES, Text};
 use vcp_inputs::read_file;
@@ -22,7 +22,7 @@ fn run_in(alloc: Global, text: &[u8]) -> Result<Run, Fault>
 {
     match read_run(alloc, text) {
         Ok(told) => Ok(told),
-        Err(RunFault::Memory) => Err(Fault::Memory),
+        Err(RunTextFault::Memory) => Err(Fault::Memory),
         Err(why) => Err(Fault::NoRun(why)),
     }
 }

@@ -7,4 +7,4 @@ mod words_left;
 
 pub use command::{Code, Command, DEFAULT_CODE, RowsWord};
 pub use words::{command_of, usage};
-pub use words_left::WordsLeft;
+pub use words_left::CommandWords;

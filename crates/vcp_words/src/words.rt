@@ -7,7 +7,7 @@ ghost use Rattle.vcp_words.specs.Forms.{check, format, plain, run, il, compile, 
 ghost use Rattle.vcp_words.specs.Forms.{number_then, code_then, end_then, form, form_of, image_form, most_made, usage_text, IsSound};
 
 use crate::command::Command;
-use crate::words_left::WordsLeft;
+use crate::words_left::CommandWords;
 use vcp_base::{MOST_CYCLES, MOST_HORIZON, SEEDS, Words};
 
 /// The line that words get which are none of the forms. It names all commands.
@@ -25,7 +25,7 @@ pub fn command_of(words: &Words) -> Option<Command<'_>>
     ensures form { option_map form result ≡ form_of words.now }
     ensures sound { IfSome result (λ command. IsSound (form command)) }
 {
-    let mut left = WordsLeft::new(words);
+    let mut left = CommandWords::new(words);
     let command = left.next()?.bytes();
     if command == b"check".as_slice() {
         return check_words(&mut left);
@@ -55,7 +55,7 @@ pub fn command_of(words: &Words) -> Option<Command<'_>>
 }
 
 /// The command on an image that its name and its own words say.
-fn image_command<'a>(command: &[u8], words: &mut WordsLeft<'a>) -> Option<Command<'a>>
+fn image_command<'a>(command: &[u8], words: &mut CommandWords<'a>) -> Option<Command<'a>>
     ensures form { option_map form result ≡ image_form command.now words.old }
     ensures sound { IfSome result (λ command. IsSound (form command)) }
 {
@@ -87,7 +87,7 @@ fn image_command<'a>(command: &[u8], words: &mut WordsLeft<'a>) -> Option<Comman
 }
 
 /// The words of `check`: P.
-fn check_words<'a>(words: &mut WordsLeft<'a>) -> Option<Command<'a>>
+fn check_words<'a>(words: &mut CommandWords<'a>) -> Option<Command<'a>>
     ensures form { option_map form result ≡ name_then (λ p. end_then (check p)) words.old }
     ensures sound { IfSome result (λ command. IsSound (form command)) }
 {
@@ -100,7 +100,7 @@ fn check_words<'a>(words: &mut WordsLeft<'a>) -> Option<Command<'a>>
 }
 
 /// The words of `format`: P.
-fn format_words<'a>(words: &mut WordsLeft<'a>) -> Option<Command<'a>>
+fn format_words<'a>(words: &mut CommandWords<'a>) -> Option<Command<'a>>
     ensures form { option_map form result ≡ name_then (λ p. end_then (format p)) words.old }
     ensures sound { IfSome result (λ command. IsSound (form command)) }
 {
@@ -113,7 +113,7 @@ fn format_words<'a>(words: &mut WordsLeft<'a>) -> Option<Command<'a>>
 }
 
 /// The words of `plain`: P and ROWS.
-fn plain_words<'a>(words: &mut WordsLeft<'a>) -> Option<Command<'a>>
+fn plain_words<'a>(words: &mut CommandWords<'a>) -> Option<Command<'a>>
     ensures form { option_map form result ≡ name_then (λ p. rows_then (λ rows. end_then (plain p rows))) words.old }
     ensures sound { IfSome result (λ command. IsSound (form command)) }
 {
@@ -127,7 +127,7 @@ fn plain_words<'a>(words: &mut WordsLeft<'a>) -> Option<Command<'a>>
 }
 
 /// The words of `run`: P, ROWS and CODE.
-fn run_words<'a>(words: &mut WordsLeft<'a>) -> Option<Command<'a>>
+fn run_words<'a>(words: &mut CommandWords<'a>) -> Option<Command<'a>>
     ensures form { option_map form result ≡ name_then (λ p. rows_then (λ rows. code_then (run p rows))) words.old }
     ensures sound { IfSome result (λ command. IsSound (form command)) }
 {
@@ -138,7 +138,7 @@ fn run_words<'a>(words: &mut WordsLeft<'a>) -> Option<Command<'a>>
 }
 
 /// The words of `il`: P, ROWS and CODE.
-fn il_words<'a>(words: &mut WordsLeft<'a>) -> Option<Command<'a>>
+fn il_words<'a>(words: &mut CommandWords<'a>) -> Option<Command<'a>>
     ensures form { option_map form result ≡ name_then (λ p. rows_then (λ rows. code_then (il p rows))) words.old }
     ensures sound { IfSome result (λ command. IsSound (form command)) }
 {
@@ -149,7 +149,7 @@ fn il_words<'a>(words: &mut WordsLeft<'a>) -> Option<Command<'a>>
 }
 
 /// The words of `compile`: P and CODE.
-fn compile_words<'a>(words: &mut WordsLeft<'a>) -> Option<Command<'a>>
+fn compile_words<'a>(words: &mut CommandWords<'a>) -> Option<Command<'a>>
     ensures form { option_map form result ≡ name_then (λ p. code_then (compile p)) words.old }
     ensures sound { IfSome result (λ command. IsSound (form command)) }
 {
@@ -159,7 +159,7 @@ fn compile_words<'a>(words: &mut WordsLeft<'a>) -> Option<Command<'a>>
 }
 
 /// The words of `wire`: F.
-fn wire_words<'a>(words: &mut WordsLeft<'a>) -> Option<Command<'a>>
+fn wire_words<'a>(words: &mut CommandWords<'a>) -> Option<Command<'a>>
     ensures form { option_map form result ≡ name_then (λ f. end_then (wire f)) words.old }
     ensures sound { IfSome result (λ command. IsSound (form command)) }
 {
@@ -172,7 +172,7 @@ fn wire_words<'a>(words: &mut WordsLeft<'a>) -> Option<Command<'a>>
 }
 
 /// The words of `demo`: N.
-fn demo_words<'a>(words: &mut WordsLeft<'a>) -> Option<Command<'a>>
+fn demo_words<'a>(words: &mut CommandWords<'a>) -> Option<Command<'a>>
     ensures form { option_map form result ≡ number_then 0 most_made (λ n. end_then (demo n)) words.old }
     ensures sound { IfSome result (λ command. IsSound (form command)) }
 {
@@ -185,7 +185,7 @@ fn demo_words<'a>(words: &mut WordsLeft<'a>) -> Option<Command<'a>>
 }
 
 /// The words of `list`: M.
-fn list_words<'a>(words: &mut WordsLeft<'a>) -> Option<Command<'a>>
+fn list_words<'a>(words: &mut CommandWords<'a>) -> Option<Command<'a>>
     ensures form { option_map form result ≡ name_then (λ m. end_then (list m)) words.old }
     ensures sound { IfSome result (λ command. IsSound (form command)) }
 {
@@ -198,7 +198,7 @@ fn list_words<'a>(words: &mut WordsLeft<'a>) -> Option<Command<'a>>
 }
 
 /// The words of `exec`: M and ROWS.
-fn exec_words<'a>(words: &mut WordsLeft<'a>) -> Option<Command<'a>>
+fn exec_words<'a>(words: &mut CommandWords<'a>) -> Option<Command<'a>>
     ensures form { option_map form result ≡ name_then (λ m. rows_then (λ rows. end_then (exec m rows))) words.old }
     ensures sound { IfSome result (λ command. IsSound (form command)) }
 {
@@ -212,7 +212,7 @@ fn exec_words<'a>(words: &mut WordsLeft<'a>) -> Option<Command<'a>>
 }
 
 /// The words of `trace`: M, ROWS and CYCLE.
-fn trace_words<'a>(words: &mut WordsLeft<'a>) -> Option<Command<'a>>
+fn trace_words<'a>(words: &mut CommandWords<'a>) -> Option<Command<'a>>
     ensures form { option_map form result ≡ name_then (λ m. rows_then (λ rows. number_then 0 (most_cycles - 1) (λ c. end_then (trace m rows c)))) words.old }
     ensures sound { IfSome result (λ command. IsSound (form command)) }
 {
@@ -227,7 +227,7 @@ fn trace_words<'a>(words: &mut WordsLeft<'a>) -> Option<Command<'a>>
 }
 
 /// The words of `widen`: M.
-fn widen_words<'a>(words: &mut WordsLeft<'a>) -> Option<Command<'a>>
+fn widen_words<'a>(words: &mut CommandWords<'a>) -> Option<Command<'a>>
     ensures form { option_map form result ≡ name_then (λ m. end_then (widen m)) words.old }
     ensures sound { IfSome result (λ command. IsSound (form command)) }
 {
@@ -240,7 +240,7 @@ fn widen_words<'a>(words: &mut WordsLeft<'a>) -> Option<Command<'a>>
 }
 
 /// The words of `audit`: M and HORIZON.
-fn audit_words<'a>(words: &mut WordsLeft<'a>) -> Option<Command<'a>>
+fn audit_words<'a>(words: &mut CommandWords<'a>) -> Option<Command<'a>>
     ensures form { option_map form result ≡ name_then (λ m. number_then 0 most_horizon (λ h. end_then (audit m h))) words.old }
     ensures sound { IfSome result (λ command. IsSound (form command)) }
 {
@@ -254,7 +254,7 @@ fn audit_words<'a>(words: &mut WordsLeft<'a>) -> Option<Command<'a>>
 }
 
 /// The words of `inject`: M, ROWS and F.
-fn inject_words<'a>(words: &mut WordsLeft<'a>) -> Option<Command<'a>>
+fn inject_words<'a>(words: &mut CommandWords<'a>) -> Option<Command<'a>>
     ensures form { option_map form result ≡ name_then (λ m. rows_then (λ rows. name_then (λ f. end_then (inject m rows f)))) words.old }
     ensures sound { IfSome result (λ command. IsSound (form command)) }
 {
@@ -273,7 +273,7 @@ fn inject_words<'a>(words: &mut WordsLeft<'a>) -> Option<Command<'a>>
 }
 
 /// The words of `pair`: M, ROWS and SEED.
-fn pair_words<'a>(words: &mut WordsLeft<'a>) -> Option<Command<'a>>
+fn pair_words<'a>(words: &mut CommandWords<'a>) -> Option<Command<'a>>
     ensures form { option_map form result ≡ name_then (λ m. rows_then (λ rows. number_then 0 (seeds - 1) (λ s. end_then (pair m rows s)))) words.old }
     ensures sound { IfSome result (λ command. IsSound (form command)) }
 {
@@ -288,7 +288,7 @@ fn pair_words<'a>(words: &mut WordsLeft<'a>) -> Option<Command<'a>>
 }
 
 /// The words of `pairs`: M, ROWS, SEED and F.
-fn pairs_words<'a>(words: &mut WordsLeft<'a>) -> Option<Command<'a>>
+fn pairs_words<'a>(words: &mut CommandWords<'a>) -> Option<Command<'a>>
     ensures form { option_map form result
         ≡ name_then (λ m. rows_then (λ rows. number_then 0 (seeds - 1) (λ s. name_then (λ f. end_then (pairs m rows s f))))) words.old }
     ensures sound { IfSome result (λ command. IsSound (form command)) }

@@ -12,12 +12,12 @@ use vcp_base::{MOST_CYCLES, MOST_STEP, SEEDS, Text, Words, numeral};
 
 /// The words that are left, from the front, seen as a list.
 #[derive(Drop)]
-pub struct WordsLeft<'a> {
+pub struct CommandWords<'a> {
     words: &'a Words,
     at: usize,
 }
 
-impl<'a> Model for WordsLeft<'a> {
+impl<'a> Model for CommandWords<'a> {
     ghost use Rattle.std.specs.Prelude.{List, ℕ, drop};
 
     ghost Value = { List (List ℕ) };
@@ -49,12 +49,12 @@ fn number(word: &Text, least: u64, most: u64) -> Option<u64>
     }
 }
 
-impl<'a> WordsLeft<'a> {
+impl<'a> CommandWords<'a> {
     /// All these words.
-    pub fn new(words: &'a Words) -> WordsLeft<'a>
+    pub fn new(words: &'a Words) -> CommandWords<'a>
         ensures { result ≡ words.now }
     {
-        WordsLeft { words, at: 0 }
+        CommandWords { words, at: 0 }
     }
 
     /// Whether no word is left.

@@ -10,7 +10,7 @@ ghost use Rattle.telegram.specs.Runs.{RunsWire, is_cycle, one_of};
 use crate::runs::lines::{end_line, receipt_line, unsent_line};
 use crate::runs::sends::send_all;
 use crate::runs::wire_end::{WireEnd, WireRunFault};
-use crate::{Event, Events, Receipt, Receiver, Script, Telegram, receipts_follow_the_equation};
+use crate::{Event, Events, Receipt, Receiver, Telegram, WireScript, receipts_follow_the_equation};
 use coded_unit::{Unit, Word};
 use std::alloc::Global;
 use vcp_base::Memory;
@@ -89,7 +89,7 @@ fn delivered_by(receipt: &Receipt) -> u64
 pub fn run_wire<U: Unit, O: Sink>(
     alloc: Global,
     out: &mut O,
-    script: &Script,
+    script: &WireScript,
     unit: &mut U,
 ) -> Result<WireEnd, WireRunFault>
     requires { ScriptFits script.now }

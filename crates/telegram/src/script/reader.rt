@@ -12,7 +12,7 @@ ghost use Rattle.telegram.specs.declared.script.wire_fault.WireFault.TheVariants
 use crate::script::events::Events;
 use crate::script::head::{head, names_wire};
 use crate::script::lines::event;
-use crate::script::script::Script;
+use crate::script::script::WireScript;
 use crate::script::wire_fault::WireFault;
 use crate::{Event, Wire};
 use script_text::first_read;
@@ -82,7 +82,7 @@ fn events(alloc: Global, wire: &Wire, bytes: &[u8], before: u32) -> Result<Event
 /// telegram that is handed is of one of the senders and of a cycle that has begun before, and what is added
 /// to its word is at most 2^62 in size.
 #[tactic(auto, using(crate::proofs::Reading::head_fails, crate::proofs::Reading::said, crate::proofs::Reading::nothing_said, crate::proofs::Reading::with_head, crate::proofs::Reading::without_head))]
-pub fn read_wire(alloc: Global, bytes: &[u8]) -> Result<Script, WireFault>
+pub fn read_wire(alloc: Global, bytes: &[u8]) -> Result<WireScript, WireFault>
     requires { length bytes.now ≤ most_source_bytes }
     ensures script { IfOk result (λ script. script_of bytes.now ≡ Ok script) }
     ensures refusal { IfErr result (λ f. f ≢ refusal.Memory → script_of bytes.now ≡ Err f) }
@@ -96,5 +96,5 @@ pub fn read_wire(alloc: Global, bytes: &[u8]) -> Result<Script, WireFault>
     };
     let wire = head(alloc, number, line)?;
     let events = events(alloc, &wire, more, number)?;
-    Ok(Script { wire, events })
+    Ok(WireScript { wire, events })
 }

@@ -5,7 +5,7 @@ use crate::script::events::Events;
 
 /// A wire, and what happens on it.
 #[derive(Debug, Drop)]
-pub struct Script {
+pub struct WireScript {
     /// The wire.
     pub wire: Wire,
     /// What happens on it, in the order of the lines.

@@ -1,7 +1,7 @@
 use Rattle.std.proofs.Common.{◌≡◌, true, false, ◌&&◌, is_none, codes, bytes_eq, refl, arith}
 use Rattle.vcp_words.proofs.CodeWords.{code_by_options, seed_next, step_next, not_both, not_free}
-use Rattle.vcp_words.proofs.words_left.WordsLeft.code.Goals as goal
-use Rattle.vcp_words.proofs.words_left.WordsLeft.code.Goals.{else-is_none-via-then-is_none+else-eq, else-is_none-via-else-is_none}
+use Rattle.vcp_words.proofs.words_left.CommandWords.code.Goals as goal
+use Rattle.vcp_words.proofs.words_left.CommandWords.code.Goals.{else-is_none-via-then-is_none+else-eq, else-is_none-via-else-is_none}
 
 pub options-init : goal.options-init
 options-init c = record { left = code_by_options c.args.self.now; seed = tt; step_from = tt; step_to = tt }

@@ -2,7 +2,7 @@ use Rattle.std.proofs.Common.{◌≡◌, ◌<◌, ◌≤◌, IfSome, length}
 use Rattle.vcp_base.specs.Limits.{seeds, most_step}
 use Rattle.vcp_words.specs.Forms.{code_of}
 use Rattle.vcp_words.proofs.CodeWords.{code_after}
-use Rattle.vcp_words.proofs.words_left.WordsLeft.code.Given as goal
+use Rattle.vcp_words.proofs.words_left.CommandWords.code.Given as goal
 
 abbrev pub invariant-options : goal.invariant-options
 invariant-options l = record {
