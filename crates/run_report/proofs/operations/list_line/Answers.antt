@@ -1,8 +1,14 @@
-use Rattle.std.proofs.Common.{append_assoc, rules, w64}
+use Rattle.std.proofs.Common.{◌≡◌, ℕ, List, ◌++◌, codes, append_assoc, rules, w64}
 use mir.Val.{SFits}
 use Rattle.std.proofs.Math.Facts.{to_z-of_z}
 use Rattle.op_graph.specs.declared.op.Op.{Op}
+use Rattle.run_report.specs.OperationLines.{operation_front, operands_text, own_text, code_text, source_text}
+use Rattle.vcp_outside.proofs.Gathering.{written_same}
 use Rattle.run_report.proofs.operations.list_line.Goals as goal
+
+pieces : (front read own code source : List ℕ)
+    → front ++ (read ++ (own ++ (code ++ (source ++ codes "\n")))) ≡ front ++ read ++ own ++ code ++ source ++ codes "\n"
+pieces front read own code source = simp append_assoc
 
 pub returns : goal.returns
 returns g c =
@@ -13,4 +19,5 @@ returns g c =
     let code = c.then_code.ensures _ _ _ own in
     let source = rw c.operation-op.ensures at c.then_source.ensures in
     rw c.operation-op.ensures
-    (simp append_assoc at (c.end.ensures.writes _ _ _ (source _ _ _ code)))
+    (written_same (c.end.ensures.writes _ _ _ (source _ _ _ code))
+    (pieces (operation_front c.args.i op) (operands_text op) (own_text op.kind op.imm) (code_text c.args.table.now c.args.i) (source_text c.args.graph.now op)))

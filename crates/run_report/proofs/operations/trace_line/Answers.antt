@@ -1,8 +1,14 @@
-use Rattle.std.proofs.Common.{append_assoc, rules}
+use Rattle.std.proofs.Common.{◌≡◌, ℕ, List, ◌++◌, codes, decimal, append_assoc, rules}
 use Rattle.std.specs.Int.{w128}
 use mir.Val.{SFits}
 use Rattle.std.proofs.Math.Facts.{to_z-of_z}
+use Rattle.vcp_outside.proofs.Gathering.{written_same}
 use Rattle.run_report.proofs.operations.trace_line.Goals as goal
+
+pieces : (number kind word parts wanted : List ℕ)
+    → number ++ (codes " " ++ (kind ++ (codes " " ++ (word ++ (codes " " ++ (parts ++ (codes " " ++ (wanted ++ codes "\n"))))))))
+    ≡ number ++ codes " " ++ kind ++ codes " " ++ word ++ codes " " ++ parts ++ codes " " ++ wanted ++ codes "\n"
+pieces number kind word parts wanted = simp append_assoc
 
 pub returns : goal.returns
 returns g c =
@@ -13,4 +19,4 @@ returns g c =
     let parts = c.then_parts.ensures _ _ _ (c.text-4.ensures.gathers _ _ _ word) in
     let wanted = c.count.ensures.gathers _ _ _ (c.text-5.ensures.gathers _ _ _ parts) in
     let told = rw (c.get.ensures.value, c.profile.ensures.value, c.expected.ensures.value) at wanted in
-    rw c.operation.ensures (simp append_assoc at (c.end.ensures.writes _ _ _ told))
+    rw c.operation.ensures (written_same (c.end.ensures.writes _ _ _ told) (pieces (decimal c.args.i) _ _ _ _))
