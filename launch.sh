@@ -1,6 +1,7 @@
 #!/bin/sh
 # launch.sh PROGRAM WORDS..: runs the proved program with these words, in the caller's folder. Where the program isn't built yet, or
-# a source that it is made of has changed since, it is proved and built first, as many crates side by side as the machine has room for.
+# a source that it is made of has changed since, it is proved and built first, as many crates side by side as the machine has room for;
+# it warns then where the toolchain isn't the one that docs/PROMISES.md names.
 name=${1:?the name of a program} && shift
 here=$(dirname -- "$(readlink -f -- "$0")") || exit 1
 program=$here/crates/$name/out/$name
@@ -63,12 +64,21 @@ follow() {
     done
 }
 
+# Warns where `rt version` isn't the line of the toolchain that docs/PROMISES.md has under 'Trusted': the proofs passed with that one.
+compare_toolchain() {
+    promised=$(sed -n 's/^    \(rattle-kit.*\)$/\1/p' "$here/docs/PROMISES.md" 2>/dev/null | head -n 1)
+    present=$(rt version 2>/dev/null | head -n 1)
+    [ "$present" = "$promised" ] ||
+        echo "$name: warning: rt version says '$present', and docs/PROMISES.md names '$promised', with which the proofs passed" >&2
+}
+
 # Proves the crates side by side, as `rt ci` does it, and takes the program that it has built of them.
 build() {
     command -v rt >/dev/null 2>&1 || {
         echo "$name: the program isn't built, and the toolchain's command rt isn't there" >&2
         return 1
     }
+    compare_toolchain
     tree=$(mktemp -d) || return 1
     count=$(parts | wc -l)
     echo "$name: proving and building $((count)) crates; docs/MEASURES.md has the time from nothing, memory and disk" >&2

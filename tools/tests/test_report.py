@@ -6,10 +6,13 @@ import os
 import re
 import shutil
 from html.parser import HTMLParser
+from unittest import mock
 
 from vcp_tools.read.audit_lines import reached_from, read_audit
 from vcp_tools.read.image import read_image
 from vcp_tools.pictures.report import sections_of
+from vcp_tools.pictures.report_parts import toolchain_told
+from vcp_tools.program import present_toolchain, promised_toolchain
 from tests.support import EXAMPLES, InFolder, needs_program
 from vcp_tools.read.verdict_lines import read_verdicts
 from vcp_tools.pictures.waves import segments
@@ -116,6 +119,22 @@ class Reports(InFolder):
         audit = sections_of((self.folder / "r.html").read_text(encoding="utf-8"))["audit"][1]
         self.assertRegex(audit, r"(?s)Blind: .*<code>INPUT</code></td><td><code>x</code>")
         self.assertIn("y across 0", audit)
+
+    def test_the_toolchain_is_compared_with_the_one_that_is_promised(self) -> None:
+        self.assertRegex(promised_toolchain() or "", r"^rattle-kit-\S+ logic [0-9a-f]{16}$")
+        self.assertIn("say the same", toolchain_told("rattle-kit-1 logic a", "rattle-kit-1 logic a"))
+        other = toolchain_told("rattle-kit-1 logic a", "rattle-kit-2 logic b")
+        self.assertRegex(other, r'rattle-kit-1 logic a</code>, by docs/PROMISES\.md; <span class="bad">another one</span>.*rattle-kit-2 logic b')
+        self.assertIn("isn't here, to say its own", toolchain_told("rattle-kit-1 logic a", None))
+        self.assertRegex(toolchain_told(None, "rattle-kit-1 logic a"), "^not named: .*the one that is here, .*rattle-kit-1 logic a")
+
+    def test_the_line_of_rt_is_read(self) -> None:
+        rt = self.write("rt", "#!/bin/sh\necho rattle-kit-1 logic a\n")
+        rt.chmod(0o755)
+        with mock.patch.dict("os.environ", {"PATH": f"{self.folder}:{os.environ['PATH']}"}):
+            self.assertEqual(present_toolchain(), "rattle-kit-1 logic a")
+        with mock.patch.dict("os.environ", {"PATH": str(self.folder / "none")}):
+            self.assertIsNone(present_toolchain())
 
     @needs_program
     def test_a_run_that_stops_is_told(self) -> None:

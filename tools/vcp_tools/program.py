@@ -2,6 +2,7 @@
 from __future__ import annotations
 
 import os
+import re
 import shutil
 import subprocess
 from dataclasses import dataclass
@@ -55,6 +56,23 @@ def find_program(name: str = "vcp") -> Path | None:
 def is_built_here(file: Path) -> bool:
     """Whether a program is the one that `./vcp` or `rt ci` left in this repository, which they do only where all was proved."""
     return in_repository() and file.resolve() == (TOP / "crates" / file.name / "out" / file.name).resolve()
+
+
+def present_toolchain() -> str | None:
+    """The line that `rt version` prints, of the toolchain that is on the PATH; None where there is none, or it prints no line."""
+    try:
+        done = subprocess.run(["rt", "version"], capture_output=True, stdin=subprocess.DEVNULL, check=False, timeout=60)
+    except (OSError, subprocess.TimeoutExpired):
+        return None
+    lines = done.stdout.decode("utf-8", "replace").split("\n")
+    return lines[0].strip() or None if done.returncode == 0 else None
+
+
+def promised_toolchain() -> str | None:
+    """The toolchain with which the program is proved, as docs/PROMISES.md names it; None outside the repository."""
+    document = TOP / "docs" / "PROMISES.md"
+    match = re.search(r"^ {4}(rattle-kit\S* .*)$", document.read_text(encoding="utf-8"), re.M) if document.is_file() else None
+    return match[1].strip() if match else None
 
 
 class Program:

@@ -12,7 +12,7 @@ from vcp_tools.read.image import Operation
 from vcp_tools.pictures.markup import code, element, section, table, text
 from vcp_tools.files import read_bytes
 from vcp_tools.needs import find_module
-from vcp_tools.program import TOP, is_built_here
+from vcp_tools.program import is_built_here, present_toolchain, promised_toolchain
 from vcp_tools.read.given import assigned_at
 from vcp_tools.read.verdict_lines import faults_of_group, never_reached
 from vcp_tools.pictures.waves import waves
@@ -37,11 +37,15 @@ def tools_digest() -> str:
     return digest(b"".join(file.name.encode() + b"\0" + digest(file.read_bytes()).encode() for file in files))
 
 
-def toolchain() -> str:
-    """The toolchain with which the program is proved, as the README names it."""
-    document = TOP / "docs" / "PROMISES.md"
-    match = re.search(r"`?(rattle-kit\S* [^`\n]*)`?", document.read_text()) if document.is_file() else None
-    return match[1] if match else "not named"
+def toolchain_told(promised: str | None, present: str | None) -> str:
+    """The toolchain that docs/PROMISES.md names, and whether the one that is here says the same of itself."""
+    if promised and promised == present:
+        return code(promised) + ": docs/PROMISES.md and " + code("rt version") + " say the same"
+    named = code(promised) + ", by docs/PROMISES.md" if promised else "not named: docs/PROMISES.md isn't here"
+    if present is None:
+        return named + "; " + code("rt") + " isn't here, to say its own"
+    other = element("span", "another one", class_="bad") if promised else "the one that is here"
+    return named + "; " + other + ", by " + code("rt version") + ": " + code(present)
 
 
 def _verdict_on(case: Case) -> str:
@@ -113,7 +117,7 @@ def _tool(case: Case) -> str:
     rows = [
         ("program vcp", code(digest(case.program.file.read_bytes()))),
         ("vcp_tools, all files", code(tools_digest())),
-        ("toolchain of the proof", code(toolchain())),
+        ("toolchain of the proof", toolchain_told(promised_toolchain(), present_toolchain())),
     ]
     built = f"The program is proved where it was built by {code('./vcp')} or {code('rt ci')}; these tools are tested. A digest tells which file it was."
     note = element("p", built, class_="dim")
