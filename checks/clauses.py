@@ -31,8 +31,8 @@ Of each public function, method, trait and type: what its comment says, then
 - *clauses*: the names of what it ensures, and behind *needs* of what a caller must meet; `(1)` is one without a name. All are proved: the gate checks them.
 - *read*: the modules of `specs/` that the clauses name, of the same crate where no other is named, and how many lines of how many modules that comes to with
   all that these name. If you accept them, you need not read code or proofs.
-- *broken by*: wrong lines of code that the proofs refuse: files of the crate's `must-fail/`, which the gate tries, or, where *by hand* stands behind it, of
-  `checks/edits/`.
+- *broken by*: wrong lines of code that the proofs refuse: files of the crate's `must-fail/`, or, where *by hand* stands behind it, of `checks/edits/`. The gate
+  tries the first, TRIED of them, and not the others, BY_HAND of them, which `checks/edits.sh` tries (`docs/ASSESSOR.md`, 'What the gate shows').
 - *shown by*: tests, as `CRATE::TEST`, and texts of rows that a program plays, as `session NAME` or `rows NAME` (`docs/SESSIONS.md`).
 
 A dash says that there is none: the proof alone shows that promise. A method of a trait that says nothing of its own has the words of the trait. At the end of a
@@ -55,9 +55,11 @@ class Marks:
     def __init__(self, crates):
         self.crates = crates
         self.broken_by, self.shown_by, self.faults = {}, {}, []
+        self.edits = {"": 0, "by hand": 0}
         for name in crates:
             for folder, how in ((CRATES / name / "must-fail", ""), (TOP / "checks" / "edits" / name, "by hand")):
                 for file in sorted(folder.glob("*.edit")):
+                    self.edits[how] += 1
                     names = marks(file.read_text(), "# breaks")
                     if not names:
                         self.faults.append(f"{file.relative_to(TOP)}: no line says what it breaks")
@@ -216,7 +218,8 @@ class Page:
                 self.used |= set(below[crate])
         shown = [crate for crate in self.crates.values() if not is_for_tests(crate.name) and any(item.clauses for item in crate.items)]
         sections = [(crate, self.section(crate)) for crate in shown]
-        rows = [HEAD, "## Contents", "", "| crate | public items with an annex | without an edit | without a test | without either |", "|---|---|---|---|---|"]
+        head = HEAD.replace("TRIED", str(self.marks.edits[""])).replace("BY_HAND", str(self.marks.edits["by hand"]))
+        rows = [head, "## Contents", "", "| crate | public items with an annex | without an edit | without a test | without either |", "|---|---|---|---|---|"]
         for name, counts in [*self.counts.items(), ("all", [sum(column) for column in zip(*self.counts.values())])]:
             rows.append(f"| {f'[{name}](#{name})' if name in self.crates else name} | {' | '.join(map(str, counts))} |")
         rows.append("")

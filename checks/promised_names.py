@@ -2,7 +2,7 @@
 """Whether what documents name is there.
 
     checks/promised_names.py            prints what isn't
-    checks/promised_names.py --write    puts the numbers of lines right in docs/PROMISES.md and docs/ASSESSOR.md, and then prints
+    checks/promised_names.py --write    puts the numbers of lines and of edits right in docs/PROMISES.md and docs/ASSESSOR.md, and then prints
 
 Of docs/PROMISES.md, each claim: its clauses and its edits are there, named with their crates, an edit that the gate doesn't try is called so, and the definitions
 to be read have so many lines; and all that is named so elsewhere on that page is there.
@@ -13,7 +13,7 @@ modules is the one that checks/cited_modules.py prints.
 Of docs/GLOSSARY.md: the names in the last column are there (of names that two crates have, checks/double_names.py tells).
 Of docs/UNITS.md: each line of code that it shows is a line of the crates coded_unit or worked_unit.
 Of docs/ASSESSOR.md: each step of the order of reading names modules that are there, and has as many lines as the top call rests on in its
-crates; and each crate that the top call rests on has a step, or is told behind them.
+crates; each crate that the top call rests on has a step, or is told behind them; and there are as many edits as it says.
 
 What docs/CLAUSES.md names is there, since checks/clauses.py makes it. It ends with status 1 where there is something. It reads the sources and proves nothing.
 """
@@ -256,6 +256,21 @@ def faults_of_assessor():
         yield f"the top call rests on `{crate}`, which has no step"
 
 
+EDITS = re.compile(r"(\d+) edits stand in\s+`must-fail/`(.*?)(\d+) others stand in\s+`checks/edits/`", re.S)
+
+
+def count_edits():
+    """How many edits the gate tries, and how many are tried by hand."""
+    return len(list(CRATES.glob("*/must-fail/*.edit"))), len(list(CHECKS.glob("edits/*/*.edit")))
+
+
+def faults_of_counts():
+    found = EDITS.search(ASSESSOR.read_text())
+    tried, by_hand = count_edits()
+    if not found or (int(found[1]), int(found[3])) != (tried, by_hand):
+        yield f"the gate tries {tried} edits, and {by_hand} are tried by hand"
+
+
 def write_lines_of_assessor():
     lines_of = lines_below_the_top_call()
 
@@ -266,6 +281,8 @@ def write_lines_of_assessor():
         return found[1] + cited_modules(found[2]).split("\n")[-2] + "\n"
 
     text = STEP.sub(of_step, ASSESSOR.read_text())
+    tried, by_hand = count_edits()
+    text = EDITS.sub(lambda found: found[0].replace(found[1], str(tried), 1).replace(found[3] + " others", f"{by_hand} others"), text)
     text = BESIDE.sub(lambda found: f"`{found[1]}` ({lines_of.get(found[1], found[2])} lines)", text)
     ASSESSOR.write_text(re.sub(r"(    \$ checks/cited_modules\.py (\S+) \| tail -n 1\n    ).*\n", of_command, text))
 
@@ -281,7 +298,7 @@ def main():
     faults += [f"GLOSSARY: {fault}" for fault in faults_of_glossary(listed, names)]
     faults += faults_of_rows()
     faults += [f"UNITS: {fault}" for fault in faults_of_units()]
-    faults += [f"ASSESSOR: {fault}" for fault in faults_of_assessor()]
+    faults += [f"ASSESSOR: {fault}" for fault in [*faults_of_assessor(), *faults_of_counts()]]
     print("\n".join(faults) or "promised_names: all is there")
     sys.exit(1 if faults else 0)
 
