@@ -162,6 +162,7 @@ class Campaigns(InFolder):
         self.assertIn("drawn: 7 of the 350 faults of `skip`, seed 3; wrong: 0, a share between 0.000000 and 0.409616", printed)
         self.assertIn("no coverage", printed)
 
+    @needs_programs
     def test_words_that_have_no_form(self) -> None:
         for words, said in (("c.img", "are wanted"), ("c.img crossing.csv", "are wanted"), ("c.img a b --cycles 3", "are wanted"),
                             ("c.img a --rows", "a word is missing"), ("c.img a --cycles x", "a number from 1"), ("c.img a --cycles 3 --rows r", "together")):
