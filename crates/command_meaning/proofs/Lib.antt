@@ -1,2 +1,4 @@
 mod Causing
+pub mod OneFile
+pub mod Performed
 pub mod Worked

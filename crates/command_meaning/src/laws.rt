@@ -1,14 +1,12 @@
 //! Laws of the definitions.
 
-ghost use Rattle.command_meaning.specs.Endings.{DoneHasStatus, DoneIsMeant, EndingsHaveCauses, GivingUpHasCauses};
+ghost use Rattle.command_meaning.specs.Endings.{DoneIsMeant, EndingsHaveCauses, GivingUpHasCauses};
 
-/// A task that is done with an honest unit is done as it is meant; and with a status of an end or of a
-/// refusal, unless a name is lacking. However a command ends, each status
+/// A task that is done with an honest unit is done as it is meant. However a command ends, each status
 /// has its cause, where a task that is an answer has the status 0, 1 or 2; and so it has where the
 /// command is given up.
 pub fn endings_have_causes()
     ensures meant { DoneIsMeant }
-    ensures status { DoneHasStatus }
     ensures ended { EndingsHaveCauses }
     ensures given_up { GivingUpHasCauses }
 {}

@@ -64,7 +64,7 @@ use Rattle.command_meaning.specs.FileTasks.{TakenFile, missing, untaken, taken, 
 use Rattle.command_meaning.specs.Kinds.{Task, lacks, answers, compiles, runs, judges, compares, pairs_, wires, prints, refusal_task}
 use Rattle.vcp_core.specs.Demo.{made_held, summary_job}
 use Rattle.vcp_core.specs.EachTask.{HoldsBytes}
-use Rattle.vcp_core.specs.Tasks.{TaskOf, Audited, too_large, printed, WholeRows, FewRows, too_many, few, JudgedScript, SeedsDiffer, same_seed, two_seeds, Compared, PairsRows, PairsScript, pair_job, plain_answer, rows_job, words_job, ok_text, most_trace, table_code, listing, widened}
+use Rattle.vcp_core.specs.Tasks.{TaskOf, Audited, too_large, printed, WholeRows, FewRows, too_many, few, JudgedScript, Apart, same_seed, two_seeds, Compared, PairsRows, PairsScript, pair_job, plain_answer, rows_job, words_job, ok_text, most_trace, table_code, listing, widened}
 use Rattle.vcp_inputs.specs.RowsRead.{graph_columns}
 use Rattle.vcp_core.proofs.ScriptsTold.{script_not_memory, wire_not_memory}
 
@@ -120,8 +120,7 @@ some_few name g Then rows next = ⊎_elim
     (next.0, few next.0 (let less = h.1 in omega (arith, less)) next.1))
     (leb_tells (suc most_trace) (length rows * length g.operations))
 
-some_apart : (name : List ℕ) (seed : ℕ) (Then : Image → Task → Type 0) (i : Image) → ((task : Task) × Then i task)
-    → (task : Task) × SeedsDiffer name seed Then i task
+some_apart : (name : List ℕ) (seed : ℕ) (Then : Image → Task → Type 0) (i : Image) → ((task : Task) × Then i task) → (task : Task) × Apart name seed Then i task
 some_apart name seed Then i next = ⊎_elim
     (λ (h : ((seed == i.table.seed) ≡ true) × (seed ≡ i.table.seed)). (refusal_task name refusal.Seed, same_seed h.1))
     (λ (h : ((seed == i.table.seed) ≡ false) × (seed ≢ i.table.seed)). (next.0, two_seeds next.0 h.1 next.1))
@@ -134,7 +133,7 @@ script_answered g text = by_result (script_of g text) refl
   where
     by_result : (r : Result (List (List Fault)) ScriptFault) → script_of g text ≡ r → Answered (ScriptOf g) (NotScript g) text
     by_result (Ok groups) e = inl (groups, e)
-    by_result (Err f) e = inr (refusal.WireScript f, no_script f (λ is. script_not_memory g text (subst (λ (x : ScriptFault). script_of g text ≡ Err x) is e)) e)
+    by_result (Err f) e = inr (refusal.Script f, no_script f (λ is. script_not_memory g text (subst (λ (x : ScriptFault). script_of g text ≡ Err x) is e)) e)
 
 wire_answered : (text : List ℕ) → Answered WireOf NotWire text
 wire_answered text = by_result (wiring.script_of text) refl
@@ -290,10 +289,10 @@ module _ (laws : AnswerLaws) where
       graph_on (λ i left. WholeRows (rows_name rows) (FewRows (rows_name rows) i.graph (JudgedScript i f held)) left.rows left.refusal) m rows held bytes
       (judged (rows_name rows) f held)
   some_task (pair m rows seed) held bytes =
-      some_image (SeedsDiffer m seed (Compared rows held)) m held bytes (λ i is. some_apart m seed (Compared rows held) i
+      some_image (Apart m seed (Compared rows held)) m held bytes (λ i is. some_apart m seed (Compared rows held) i
       (rows_is (λ left. compares (pair_job (rows_name rows) i left)) rows held (graph_columns i.graph)))
   some_task (pairs m rows seed f) held bytes =
-      some_image (SeedsDiffer m seed (PairsRows rows f held)) m held bytes
+      some_image (Apart m seed (PairsRows rows f held)) m held bytes
       (λ i is. some_apart m seed (PairsRows rows f held) i (held_by_pair rows f held i))
   some_task (wire f) held bytes =
       some_file WireOf NotWire most_source_bytes (λ s x. x ≡ wires s) f (held f) (λ text here. wire_answered text) (λ text s is. (wires s, refl))

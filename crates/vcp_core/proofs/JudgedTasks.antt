@@ -1,10 +1,9 @@
--- What commands that judge groups of faults come to, and how far `inject` comes, from what loading their files and judging the groups give.
-use Rattle.std.proofs.Common.{ℕ, ℤ, ◌+◌, ◌*◌, ◌<◌, ◌≤◌, ◌≡◌, ◌≢◌, ◌⊎◌, inl, inr, refl, sym, ap, subst, ◌∙◌, arith, List, [], ◌∷◌, ◌++◌, append_assoc, length, length-append, take, drop, false, IfSome, Option, Some, None, Ok, Err}
+-- What `inject` comes to and how far it comes, from what reading its files and judging the groups give.
+use Rattle.std.proofs.Common.{ℕ, ℤ, ◌+◌, ◌≤◌, ◌≡◌, ◌≢◌, ◌⊎◌, inl, inr, refl, sym, ap, subst, ◌∙◌, arith, List, [], ◌∷◌, ◌++◌, append_assoc, length, length-append, take, drop, false, IfSome, Option, Some, Ok, Err}
 use Rattle.std.proofs.lemmas.List.{length-map, take-append-drop}
 use Rattle.std.proofs.Math.Seq.{take-length}
 use Rattle.std.specs.Io.KnownBytes.{Appends, IsAtEnd}
-use Rattle.vcp_base.specs.Limits.{most_image_bytes}
-use Rattle.vcp_base.specs.declared.columns.Column.{Column}
+use Rattle.vcp_base.specs.Limits.{most_image_bytes, most_source_bytes}
 use Rattle.coded_unit.specs.Seen.{UnitSeen}
 use Rattle.vcp_outside.specs.Counts.{Rose}
 use Rattle.vcp_outside.specs.Held.{Held}
@@ -28,43 +27,61 @@ use Rattle.vcp_inputs.specs.declared.refusal.Refusal.{Refusal}
 use Rattle.vcp_inputs.specs.declared.refusal.Refusal.TheVariants as refusal
 use Rattle.vcp_inputs.specs.declared.refusal.NoInput.{NoInput}
 use Rattle.vcp_inputs.specs.declared.refusal.NoInput.TheVariants as input
-use Rattle.vcp_inputs.specs.declared.rows.RowsSource.{RowsSource}
+use Rattle.vcp_inputs.specs.Files.{Loads, NotLoaded as FileLost}
+use Rattle.vcp_inputs.specs.Images.{ImageOf, NotImage}
 use Rattle.vcp_inputs.specs.Lines.{input_status, input_text, refusal_text}
-use Rattle.vcp_inputs.specs.RowsOutcome.{RowsOutcome, source_outcome}
+use Rattle.vcp_inputs.specs.Refusals.{no_rows}
+use Rattle.vcp_inputs.specs.RowsOutcome.{RowsOutcome, opened, rows_outcome}
 use Rattle.vcp_inputs.specs.RowsRead.{AllRead, NoneRead, RowsBroken, at_header, at_row, graph_columns}
 use Rattle.vcp_inputs.specs.Scripts.{ScriptOf, NotScript, no_script}
-use Rattle.command_meaning.specs.Abouts.{About, about, FileWord, image_word, rows_words, script_word, Among}
+use Rattle.command_meaning.specs.Abouts.{About, about, FileWord, rows_words, script_word, Among}
 use Rattle.command_meaning.specs.Answer.{Campaign}
 use Rattle.command_meaning.specs.CampaignKind.{CampaignDone, CampaignLeft, verdicts_answer, verdicts_meant}
-use Rattle.command_meaning.specs.FileTasks.{OnRows, ScriptFile, TakenFile, TakenRows, taken}
+use Rattle.command_meaning.specs.Clauses.{IsTooLong}
+use Rattle.command_meaning.specs.FileTasks.{OnRows, taken}
 use Rattle.command_meaning.specs.Kinds.{Task, judges, refusal_task}
-use Rattle.command_meaning.specs.Performing.{Reaches, done, cut, wanting, unmade, Performs}
+use Rattle.command_meaning.specs.Performing.{Reaches, done, cut, wanting, unread, unmade, Performs}
 use Rattle.vcp_outside.specs.Seen.{FilesSeen, SinkSeen}
 use Rattle.machine_run.specs.Moments.{Moment, moment}
-use Rattle.vcp_core.specs.Tasks.{FewRows, InjectTask, WholeRows, most_trace}
+use Rattle.vcp_core.specs.Tasks.{FewRows, InjectTask, JudgedScript, WholeRows, most_trace}
 use Rattle.vcp_core.specs.Tasks as task
 use Rattle.vcp_core.specs.Faults.{of_campaign}
-use Rattle.vcp_core.specs.Judging.{AllRows, AreFewFor, JudgingGiven, JudgingLost, NoRows, RowsRefused, broken, no_list, no_run, no_script as script_gone, too_many}
-use Rattle.vcp_core.specs.Loading.{IsUnwanted, IsWanted, ReadOn, RunGiven}
+use Rattle.vcp_core.specs.Inject.{AllRows, NoRows, RowsRefused, broken, too_many}
 use Rattle.vcp_core.specs.Reach.{fault_status, fault_text}
-use Rattle.vcp_core.proofs.Facts.{if_some_always, if_some_both, if_some_weaker}
-use Rattle.vcp_core.proofs.ImageLoaded.{unwanted_not_bytes}
-use Rattle.vcp_core.proofs.LoadedRows.{ReadsRun, given_comes, rows_may, run_lost}
-use Rattle.vcp_core.proofs.Performing.{among_behind, files_lost, part_performs, performs_on, quiet_gone, short_performs, still}
+use Rattle.vcp_core.proofs.Performing.{file_lost, file_taken, file_takes, part_performs, short_performs, still}
 
--- that is no read fault
-rows_are_read : (other : Option ℕ) (o : RowsOutcome) (g : Lists) (i : NoInput) → NoRows other o g i → i ≡ input.Unread → ⊥
-rows_are_read other o g (input.Refused r) h is = cc
-rows_are_read other o g input.Memory h is = cc
-rows_are_read other o g input.Unread h is = h
+-- ---- all rows
 
 -- rows that aren't read are none for any graph
-pub none_for : (other : Option ℕ) (o : RowsOutcome) (g : Lists) (i : NoInput) → NoneRead o i → NoRows other o g i
-none_for other o g input.Unread h = h
-none_for other o g (input.Refused r) h = broken r h
-none_for other o g input.Memory h = tt
+pub none_for : (o : RowsOutcome) (g : Lists) (i : NoInput) → NoneRead o i → NoRows o g i
+none_for o g input.Unread h = h
+none_for o g (input.Refused r) h = broken r h
+none_for o g input.Memory h = tt
 
--- ---- all rows and a script
+-- that is no read fault
+pub rows_are_read : (o : RowsOutcome) (g : Lists) (i : NoInput) → NoRows o g i → i ≡ input.Unread → ⊥
+rows_are_read o g (input.Refused r) h is = cc
+rows_are_read o g input.Memory h is = cc
+rows_are_read o g input.Unread h is = h
+
+-- ---- the files of `inject`
+
+pub rows_front : (word : FileWord) (words more : List FileWord) → Among word words → Among word (words ++ more)
+rows_front word [] more h = absurd h
+rows_front word (w ∷ words) more (inl e) = inl e
+rows_front word (w ∷ words) more (inr h) = inr (rows_front word words more h)
+
+pub script_end : (word : FileWord) (words more : List FileWord) → Among word more → Among word (words ++ more)
+script_end word [] more h = h
+script_end word (w ∷ words) more h = inr (script_end word words more h)
+
+pub rows_named : (m : List ℕ) (rows : Rows) (f : List ℕ) (word : FileWord) → Among word (rows_words rows) → Among word (about (inject m rows f)).files
+rows_named m rows f word h = inr (rows_front word (rows_words rows) (script_word f ∷ []) h)
+
+pub script_named : (m : List ℕ) (rows : Rows) (f : List ℕ) → Among (script_word f) (about (inject m rows f)).files
+script_named m rows f = inr (script_end (script_word f) (rows_words rows) (script_word f ∷ []) (inl refl))
+
+-- ---- what it comes to
 
 -- all rows that stand behind no refusal come to what is said of them
 abbrev pub WholeLeft : Rows → (List (List ℤ) → Task → Type 0) → RowsLeft → Task → Type 0
@@ -89,115 +106,96 @@ whole_comes rows o Then list all t comes =
 abbrev pub campaign_of : Image → List (List ℤ) → List (List ScriptedFault) → Campaign
 campaign_of i list groups = record { graph = i.graph; table = i.table; rows = list; groups = groups }
 
--- rows come to what is said of them, if they are few enough where there is no second channel
-abbrev pub FewFor : Option ℕ → Rows → Lists → (List (List ℤ) → Task → Type 0) → List (List ℤ) → Task → Type 0
-FewFor None rows g Then = FewRows (rows_name rows) g Then
-FewFor (Some seed) rows g Then = Then
+-- what its rows come to, once they are opened
+abbrev pub OnLeft : Rows → List ℕ → Held → Image → RowsLeft → Task → Type 0
+OnLeft rows f held i left t = WholeRows (rows_name rows) (FewRows (rows_name rows) i.graph (JudgedScript i f held)) left.rows left.refusal t
 
-few_come : (other : Option ℕ) (rows : Rows) (g : Lists) (Then : List (List ℤ) → Task → Type 0) (list : List (List ℤ)) (t : Task) → AreFewFor other g list
-    → Then list t → FewFor other rows g Then list t
-few_come None rows g Then list t few comes = task.few t few comes
-few_come (Some seed) rows g Then list t few comes = comes
+-- M holds this image, and ROWS come to this for its graph
+abbrev pub LoadsAt : List ℕ → Rows → Image → RowsOutcome → Held → Type 0
+LoadsAt m rows i o held = Loads ImageOf NotImage held m most_image_bytes 0 0 (Ok i) × (rows_outcome rows held (graph_columns i.graph) ≡ o)
 
-many_come : (other : Option ℕ) (rows : Rows) (g : Lists) (Then : List (List ℤ) → Task → Type 0) (list : List (List ℤ)) → other ≡ None
-    → most_trace < length list * length g.operations → FewFor other rows g Then list (refusal_task (rows_name rows) refusal.Trace)
-many_come None rows g Then list alone more = task.too_many more
-many_come (Some seed) rows g Then list alone more = absurd cc
+module _ (m : List ℕ) (rows : Rows) (f : List ℕ) (held : Held) where
+  -- what ROWS come to for a graph
+  abbrev Comes : Image → RowsOutcome → Task → Type 0
+  Comes i o t = OnRows (rows_name rows) (OnLeft rows f held i) o t
 
-module _ (other : Option ℕ) (rows : Rows) (g : Lists) (Then : List (List ℤ) → Task → Type 0) (o : RowsOutcome) where
-  all_come : (list : List (List ℤ)) → AllRows other o g list → (t : Task) → Then list t
-      → OnRows (rows_name rows) (WholeLeft rows (FewFor other rows g Then)) o t
-  all_come list all t comes = whole_comes rows o (FewFor other rows g Then) list all.read t (few_come other rows g Then list t all.few comes)
+  -- M was loaded
+  rows_come : (i : Image) (o : RowsOutcome) → Loads ImageOf NotImage held m most_image_bytes 0 0 (Ok i) → rows_outcome rows held (graph_columns i.graph) ≡ o
+      → (t : Task) → Comes i o t → InjectTask m rows f held t
+  rows_come i o (text, found, few, is) same t comes =
+      taken text i t found few is (subst (λ (x : RowsOutcome). Comes i x t) (sym same) comes)
 
-  all_refused : (r : Refusal) → RowsRefused other o g r
-      → OnRows (rows_name rows) (WholeLeft rows (FewFor other rows g Then)) o (refusal_task (rows_name rows) r)
-  all_refused r (broken _ why) = whole_broken rows o (FewFor other rows g Then) r why
-  all_refused _ (too_many list alone all more) =
-      whole_comes rows o (FewFor other rows g Then) list all (refusal_task (rows_name rows) refusal.Trace) (many_come other rows g Then list alone more)
+  -- ROWS are refused
+  rows_refused : (i : Image) (o : RowsOutcome) (r : Refusal) → RowsRefused o i.graph r → Comes i o (refusal_task (rows_name rows) r)
+  rows_refused i o r (broken _ why) = whole_broken rows o (FewRows (rows_name rows) i.graph (JudgedScript i f held)) r why
+  rows_refused i o _ (too_many left is none more) =
+      subst (λ (x : RowsOutcome). Comes i x (refusal_task (rows_name rows) refusal.Trace)) (sym is)
+      (subst (λ (x : Option RowFault). WholeRows (rows_name rows) (FewRows (rows_name rows) i.graph (JudgedScript i f held)) left.rows x
+      (refusal_task (rows_name rows) refusal.Trace)) (sym none) (task.too_many more))
 
--- ---- a command that judges the groups of a script
+  -- or all of them were read
+  script_comes : (i : Image) (o : RowsOutcome) (list : List (List ℤ)) → AllRows o i.graph list → (t : Task) → JudgedScript i f held list t → Comes i o t
+  script_comes i o list all t comes =
+      whole_comes rows o (FewRows (rows_name rows) i.graph (JudgedScript i f held)) list all.read t (task.few t all.few comes)
 
-script_not_bytes : (g : Lists) (text : List ℕ) (r : Refusal) → NotScript g text r → r ≢ refusal.Bytes
-script_not_bytes g text _ (no_script why known is) e = cc
+  module _ (files later : FilesSeen) (i : Image) (o : RowsOutcome) (loads : Loads ImageOf NotImage held m most_image_bytes 0 0 (Ok i))
+      (same : rows_outcome rows held (graph_columns i.graph) ≡ o) where
+    -- there are no rows, and nothing was done
+    pub rows_lost : (at : Moment) (e : NoInput) → NoRows o i.graph e
+        → Reaches (about (inject m rows f)) (InjectTask m rows f held) files later at at (input_text (rows_name rows) e) (input_status e)
+    rows_lost at (input.Refused r) h =
+        done (refusal_task (rows_name rows) r) (record { out = []; err = refusal_text (rows_name rows) r; status = 1 })
+        (rows_come i o loads same (refusal_task (rows_name rows) r) (rows_refused i o r h)) (refl, refl) (still at).out refl refl
+    rows_lost at input.Memory h = unmade (still at) refl refl
+    rows_lost at input.Unread h = absurd h
 
--- its last file is the script
-pub script_read : (word : FileWord) (rows : Rows) (f : List ℕ) → Among (script_word f) (word ∷ (rows_words rows ++ script_word f ∷ []))
-script_read word rows f = inr (among_behind (script_word f) (rows_words rows) (script_word f ∷ []) (inl refl))
+    module _ (list : List (List ℤ)) (all : AllRows o i.graph list) where
+      -- the task of the script is that of the command
+      judged_comes : (t : Task) → JudgedScript i f held list t → InjectTask m rows f held t
+      judged_comes t comes = rows_come i o loads same t (script_comes i o list all t comes)
 
-module _ (other : Option ℕ) (m : List ℕ) (rows : Rows) (f : List ℕ) (To : Campaign → Task) (c : About) (by : ReadsRun c (image_word m) rows)
-    (script : Among (script_word f) c.files) where
-  -- what the script comes to for an image and rows, and all rows for an image
-  abbrev OnScript : Held → Image → List (List ℤ) → Task → Type 0
-  OnScript held i list t = ScriptFile i.graph (λ groups x. x ≡ To (campaign_of i list groups)) f held t
+      script_reaches : (before after : Moment) (line : List ℕ) (code : ℕ)
+          → Reaches (about (inject m rows f)) (JudgedScript i f held list) files later before after line code
+          → Reaches (about (inject m rows f)) (InjectTask m rows f held) files later before after line code
+      script_reaches before after line code (done t x comes d w line_is code_is) = done t x (judged_comes t comes) d w line_is code_is
+      script_reaches before after line code (cut t comes left rose line_is code_is) = cut t (judged_comes t comes) left rose line_is code_is
+      script_reaches before after line code (wanting t comes left late line_is code_is) = wanting t (judged_comes t comes) left late line_is code_is
+      script_reaches before after line code (unread word named rose s line_is code_is) = unread word named rose s line_is code_is
+      script_reaches before after line code (unmade s line_is code_is) = unmade s line_is code_is
 
-  abbrev OnAll : Held → Image → RowsLeft → Task → Type 0
-  OnAll held i left t = WholeLeft rows (FewFor other rows i.graph (OnScript held i)) left t
+      -- there is no script, and nothing was done
+      pub script_lost : (at : Moment) (e : NoInput) → FileLost (NotScript i.graph) held f most_source_bytes files.broken later.broken e
+          → Reaches (about (inject m rows f)) (InjectTask m rows f held) files later at at (input_text f e) (input_status e)
+      script_lost at e lost =
+          script_reaches at at (input_text f e) (input_status e)
+          (file_lost (about (inject m rows f)) files later at at (ScriptOf i.graph) (NotScript i.graph) most_source_bytes
+          (λ groups x. x ≡ judges (campaign_of i list groups)) f held (script_word f) (script_named m rows f) refl (still at) e lost)
 
-  -- and the image
-  abbrev pub OnImage : Held → Task → Type 0
-  OnImage held t =
-      TakenFile (IsWanted other) (IsUnwanted other) most_image_bytes (λ i. TakenRows (OnAll held i) rows held (graph_columns i.graph)) m (held m) t
+      -- the groups are there
+      pub groups_come : (groups : List (List ScriptedFault))
+          → ((text : List ℕ) × (held f ≡ Some text) × (length text ≤ most_source_bytes) × ScriptOf i.graph text groups)
+          → InjectTask m rows f held (judges (campaign_of i list groups))
+      groups_come groups found =
+          judged_comes (judges (campaign_of i list groups))
+          (file_takes (ScriptOf i.graph) (NotScript i.graph) most_source_bytes (λ fs x. x ≡ judges (campaign_of i list fs)) f held groups
+          (judges (campaign_of i list groups)) found refl)
 
-  module _ {files mid : FilesSeen} {i : Image} {columns : List Column} {s : RowsSource}
-      (given : RunGiven (IsWanted other) (λ x. graph_columns x.graph) (image_word m) rows files mid i columns s) where
-    run_on : ReadOn files mid
-    run_on = record {
-      held = given.source.on.held ∙ given.file.on.held;
-      faults = omega (arith, given.source.on.faults, given.file.on.faults);
-      broken = omega (arith, given.source.on.broken, given.file.on.broken);
-    }
+-- why there is no script, where the files that broke were so many before an earlier file
+pub lost_for : (Why : List ℕ → Refusal → Type 0) (held : Held) (name : List ℕ) (most b mid n : ℕ) (i : NoInput) → b ≤ mid
+    → FileLost Why held name most mid n i → FileLost Why held name most b n i
+lost_for Why held name most b mid n input.Unread later (inl none) = inl none
+lost_for Why held name most b mid n input.Unread later (inr rose) = inr (omega (arith, later, rose))
+lost_for Why held name most b mid n (input.Refused r) later h = h
+lost_for Why held name most b mid n input.Memory later h = tt
 
-    run_gives : IfSome files.held (λ h. (t : Task) → OnRows (rows_name rows) (OnAll h i) (source_outcome s columns) t → OnImage h t)
-    run_gives =
-        if_some_weaker files.held _ _
-        (λ h ((text, found, few, is), same) t comes.
-        taken text i t found few is (subst (λ (x : RowsOutcome). OnRows (rows_name rows) (OnAll h i) x t) (sym same) comes))
-        (given_comes (IsWanted other) (IsUnwanted other) (λ x. graph_columns x.graph) c (image_word m) rows by OnAll given)
-
-  -- there are no rows, and nothing was done
-  list_lost : (files later : FilesSeen) (at : Moment) (i : Image) (o : RowsOutcome) (held : Held) (e : NoInput)
-      → ((t : Task) → OnRows (rows_name rows) (OnAll held i) o t → OnImage held t) → NoRows other o i.graph e
-      → Reaches c (OnImage held) files later at at (input_text (rows_name rows) e) (input_status e)
-  list_lost files later at i o held (input.Refused r) gives h =
-      done (refusal_task (rows_name rows) r) (record { out = []; err = refusal_text (rows_name rows) r; status = 1 })
-      (gives (refusal_task (rows_name rows) r) (all_refused other rows i.graph (OnScript held i) o r h)) (refl, refl) (still at).out refl refl
-  list_lost files later at i o held input.Memory gives h = unmade (still at) refl refl
-  list_lost files later at i o held input.Unread gives h = absurd h
-
-  -- one of them is lost
-  pub judging_lost : (files later : FilesSeen) (at : Moment) (line : List ℕ) (code : ℕ)
-      → JudgingLost other (image_word m) rows (script_word f) files later line code → Performs c OnImage files later at at line code
-  judging_lost files later at line code (no_run lost) =
-      run_lost (IsWanted other) (IsUnwanted other) (λ x. graph_columns x.graph) c (image_word m) rows by OnAll (unwanted_not_bytes other) files later at line
-      code lost
-  judging_lost files later at line code (no_list i columns s given e none caused line_is code_is) =
-      rw (line_is, code_is)
-      (files_lost c OnImage files later by.reads (run_on given).held by.one at (rows_name rows) e
-      (if_some_weaker files.held _ _ (λ h gives. list_lost files later at i (source_outcome s columns) h e gives none) (run_gives given))
-      (λ is. if_some_always files.held _ (λ h. inl (given.source.end given.file.end)))
-      (λ is. absurd (rows_are_read other (source_outcome s columns) i.graph e none is))
-      (λ is. absurd (rows_are_read other (source_outcome s columns) i.graph e none is)) caused (rows_may c rows by.more by.names))
-  judging_lost files later at line code (script_gone mid i columns s given list all lost) =
-      performs_on c (λ h. OnScript h i list) OnImage files mid later at at line code by.reads (run_on given)
-      (if_some_weaker files.held _ _
-      (λ h gives t comes. gives t (all_come other rows i.graph (OnScript h i) (source_outcome s columns) list all t comes)) (run_gives given))
-      (quiet_gone c (ScriptOf i.graph) (NotScript i.graph) (λ h groups x. x ≡ To (campaign_of i list groups)) (script_word f) mid later at line code script
-      by.reads by.one (script_not_bytes i.graph) lost)
-
-  -- all of them are there
-  module _ {files later : FilesSeen} {i : Image} {list : List (List ℤ)} {groups : List (List ScriptedFault)}
-      (given : JudgingGiven other (image_word m) rows (script_word f) files later i list groups) where
-    pub judging_held : later.held ≡ files.held
-    judging_held = given.file.on.held ∙ (run_on given.run).held
-
-    pub judging_comes : IfSome files.held (λ h. OnImage h (To (campaign_of i list groups)))
-    judging_comes =
-        if_some_both files.held given.mid.held _ _ _ (run_on given.run).held
-        (λ h gives (text, found, few, is).
-        gives (To (campaign_of i list groups))
-        (all_come other rows i.graph (OnScript h i) (source_outcome given.source given.columns) list given.all (To (campaign_of i list groups))
-        (taken text groups (To (campaign_of i list groups)) found few is refl)))
-        (run_gives given.run) given.file.text
+-- where it is refused, it was read to its end, or it is too long
+pub script_taken : (m : List ℕ) (rows : Rows) (f : List ℕ) (held : Held) (g : Lists) (b n : ℕ) (i : NoInput) (rest : Option (List ℕ))
+    → ((r : Refusal) → i ≡ input.Refused r → r ≢ refusal.Bytes → IsAtEnd rest) → FileLost (NotScript g) held f most_source_bytes b n i
+    → input_status i ≡ 1 → IsAtEnd rest ⊎ IsTooLong (about (inject m rows f)) held (input_text f i)
+script_taken m rows f held g b n i rest ends h is =
+    file_taken (about (inject m rows f)) (NotScript g) f held b n (script_word f) (script_named m rows f) refl i rest ends not_bytes h is where
+      not_bytes : (text : List ℕ) (r : Refusal) → NotScript g text r → r ≢ refusal.Bytes
+      not_bytes text _ (no_script why known is) e = cc
 
 -- ---- the lines of verdicts
 

@@ -2,9 +2,7 @@ pub mod AuditKinds
 pub mod DemoRun
 pub mod EachTask
 pub mod Facts
-pub mod OneFile
 pub mod PairsTasks
-pub mod Performed
 pub mod ImageLoaded
 pub mod JobFacts
 pub mod JudgedTasks

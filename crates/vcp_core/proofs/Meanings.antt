@@ -47,9 +47,9 @@ use Rattle.command_meaning.specs.Kinds.{Task, lacks, answers, compiles, runs, ju
 use Rattle.command_meaning.specs.PairKind.{PairJob}
 use Rattle.command_meaning.specs.Reports.{end_told, run_status}
 use Rattle.command_meaning.specs.RunKind.{Job, job_answer, run_meant}
-use Rattle.vcp_core.proofs.OneFile.{one_file, file_has}
-use Rattle.vcp_core.specs.Tasks.{Audited, too_large, printed, FewRows, too_many, few, JudgedScript, WholeRows, SeedsDiffer, same_seed, two_seeds, Compared, PairsRows, PairsScript, pair_job, AuditTask, TaskOf, PlainTask, RunTask, plain_answer, rows_job, words_job, ok_text, most_trace, table_code, listing, widened}
-use Rattle.vcp_core.proofs.Performed.{NeedsNone}
+use Rattle.command_meaning.proofs.OneFile.{one_file, file_has}
+use Rattle.vcp_core.specs.Tasks.{Audited, too_large, printed, FewRows, too_many, few, JudgedScript, WholeRows, Apart, same_seed, two_seeds, Compared, PairsRows, PairsScript, pair_job, AuditTask, TaskOf, PlainTask, RunTask, plain_answer, rows_job, words_job, ok_text, most_trace, table_code, listing, widened}
+use Rattle.command_meaning.proofs.Performed.{NeedsNone}
 use Rattle.vcp_inputs.specs.RowsRead.{graph_columns}
 use Rattle.vcp_core.specs.Demo.{made_held, summary_job}
 use Rattle.vcp_core.proofs.OneText.{ImageLaws, Laws, OneAudit, image_once, image_or_none, no_image_once, program_once, program_or_none, refused_once, typed_once, typed_apart, untyped_once, listing_or_none, no_listing_once}
@@ -106,7 +106,7 @@ few_once name g Then rows next _ _ (few a less is) (few b other also) = next a b
 
 -- an image with another seed comes to one task, and one with this seed is refused
 apart_once : (name : List ℕ) (seed : ℕ) (Then : Image → Task → Type 0) → ((i : Image) (a b : Task) → Then i a → Then i b → a ≡ b) →
-    (i : Image) (a b : Task) → SeedsDiffer name seed Then i a → SeedsDiffer name seed Then i b → a ≡ b
+    (i : Image) (a b : Task) → Apart name seed Then i a → Apart name seed Then i b → a ≡ b
 apart_once name seed Then once i _ _ (same_seed is) (same_seed also) = refl
 apart_once name seed Then once i _ _ (same_seed is) (two_seeds b other comes) = absurd (other is)
 apart_once name seed Then once i _ _ (two_seeds a other comes) (same_seed is) = absurd (other is)
@@ -124,7 +124,7 @@ script_once g text x y h k =
     let other : script_of g text ≡ Ok y = k in cc
 
 no_script_once : (g : Lists) (text : List ℕ) (r s : Refusal) → NotScript g text r → NotScript g text s → r ≡ s
-no_script_once g text _ _ (no_script f known is) (no_script e other also) = let same : f ≡ e = cc in ap refusal.WireScript same
+no_script_once g text _ _ (no_script f known is) (no_script e other also) = let same : f ≡ e = cc in ap refusal.Script same
 
 script_or_none : (g : Lists) (text : List ℕ) (x : List (List Fault)) (r : Refusal) → ScriptOf g text x → NotScript g text r → ⊥
 script_or_none g text x _ h (no_script f known is) = let one : script_of g text ≡ Ok x = h in cc
@@ -229,10 +229,9 @@ module _ (laws : Laws) where
       graph_once_on (λ i left. WholeRows (rows_name rows) (FewRows (rows_name rows) i.graph (JudgedScript i f held)) left.rows left.refusal) m rows held
       (judged_once (rows_name rows) f held) a b h k
   task_once (pair m rows seed) held a b h k =
-      image_file_once laws.images (SeedsDiffer m seed (Compared rows held)) m held (apart_once m seed (Compared rows held) (compared_once rows held)) a b h k
+      image_file_once laws.images (Apart m seed (Compared rows held)) m held (apart_once m seed (Compared rows held) (compared_once rows held)) a b h k
   task_once (pairs m rows seed f) held a b h k =
-      image_file_once laws.images (SeedsDiffer m seed (PairsRows rows f held)) m held
-      (apart_once m seed (PairsRows rows f held) (pairs_once rows f held)) a b h k
+      image_file_once laws.images (Apart m seed (PairsRows rows f held)) m held (apart_once m seed (PairsRows rows f held) (pairs_once rows f held)) a b h k
   task_once (wire f) held a b h k = wire_task_once f held a b h k
   task_once (demo number) held a b h k =
       typed_file_once (λ t. OnRows made_name (λ left x. x ≡ runs (summary_job number t left)) (made_outcome number t)) made_name (made_held number)
@@ -392,7 +391,7 @@ module _ (P : Task → Type 0) (given : (a : Answer) → a.status ≤ 2 → P (a
   audited_has horizon m i _ (printed less told is) = given _ (lit≤ tt)
 
   apart_has : (name : List ℕ) (seed : ℕ) (Then : Image → Task → Type 0) → ((i : Image) (x : Task) → Then i x → P x) → (i : Image) (task : Task) →
-      SeedsDiffer name seed Then i task → P task
+      Apart name seed Then i task → P task
   apart_has name seed Then next i _ (same_seed is) = refused name refusal.Seed
   apart_has name seed Then next i _ (two_seeds task other comes) = next i task comes
 
@@ -469,10 +468,10 @@ module _ (P : Task → Type 0) (given : (a : Answer) → a.status ≤ 2 → P (a
       (judged_has (rows_name rows) f held (none (script_word f) (among_behind (script_word f) (image_word m ∷ rows_words rows) (script_word f ∷ []) (inl refl)))
       judging) task comes
   task_has (pair m rows seed) held none running writing judging comparing pairing wiring task comes =
-      image_has (SeedsDiffer m seed (Compared rows held)) m held (none (image_word m) (inl refl))
+      image_has (Apart m seed (Compared rows held)) m held (none (image_word m) (inl refl))
       (apart_has m seed (Compared rows held) (compared_has rows held (λ word among. none word (inr among)) comparing)) task comes
   task_has (pairs m rows seed f) held none running writing judging comparing pairing wiring task comes =
-      image_has (SeedsDiffer m seed (PairsRows rows f held)) m held (none (image_word m) (inl refl))
+      image_has (Apart m seed (PairsRows rows f held)) m held (none (image_word m) (inl refl))
       (apart_has m seed (PairsRows rows f held)
       (pairs_has rows f held (λ word among. none word (among_front word (image_word m ∷ rows_words rows) (script_word f ∷ []) (inr among)))
       (none (script_word f) (among_behind (script_word f) (image_word m ∷ rows_words rows) (script_word f ∷ []) (inl refl))) pairing)) task comes

@@ -1,12 +1,15 @@
 -- What `pairs` comes to and how far it comes, from what reading its files and running the groups give.
 use Rattle.std.proofs.Common.{ℕ, ℤ, ◌≤◌, ◌≡◌, ◌≢◌, ◌⊎◌, inl, inr, refl, sym, ap, subst, ◌∙◌, List, [], ◌∷◌, ◌++◌, append_assoc, length, drop, Option, Some, Ok, Err}
 use Rattle.std.proofs.lemmas.List.{length-map}
-use Rattle.std.specs.Io.KnownBytes.{Appends}
+use Rattle.std.specs.Io.KnownBytes.{Appends, IsAtEnd}
+use Rattle.vcp_base.specs.Limits.{most_image_bytes, most_source_bytes}
 use Rattle.coded_unit.specs.Seen.{UnitSeen}
 use Rattle.vcp_outside.specs.Counts.{Rose}
 use Rattle.vcp_outside.specs.Held.{Held}
 use Rattle.vcp_outside.specs.Seen.{FilesSeen, SinkSeen}
 use Rattle.vcp_outside.specs.Written.{AppendsFront, AppendsPart}
+use Rattle.input_rows.specs.RowsOf.{RowsLeft}
+use Rattle.op_graph.specs.Lists.{Lists}
 use Rattle.machine_run.specs.Moments.{Moment, moment}
 use Rattle.fault_script.specs.declared.act.Fault.{Fault as ScriptedFault}
 use Rattle.fault_script.specs.Groups.{line_of}
@@ -19,15 +22,115 @@ use Rattle.fault_campaign.specs.PairCampaigns.{PairsTold, group_lines, pairs_tex
 use Rattle.fault_campaign.specs.Written.{EarlierWritten}
 use Rattle.fault_campaign.specs.PairVerdicts.{told_verdict}
 use Rattle.vcp_words.specs.Forms.{Rows, pairs}
-use Rattle.command_meaning.specs.Abouts.{about}
+use Rattle.vcp_words.specs.Tables.{rows_name}
+use Rattle.vcp_inputs.specs.declared.images.Image.{Image}
+use Rattle.vcp_inputs.specs.declared.refusal.Refusal.{Refusal}
+use Rattle.vcp_inputs.specs.declared.refusal.Refusal.TheVariants as refusal
+use Rattle.vcp_inputs.specs.declared.refusal.NoInput.{NoInput}
+use Rattle.vcp_inputs.specs.declared.refusal.NoInput.TheVariants as input
+use Rattle.vcp_inputs.specs.Files.{Loads, NotLoaded as FileLost}
+use Rattle.vcp_inputs.specs.Images.{ImageOf, NotImage}
+use Rattle.vcp_inputs.specs.Lines.{input_status, input_text, refusal_text}
+use Rattle.vcp_inputs.specs.RowsOutcome.{RowsOutcome, rows_outcome}
+use Rattle.vcp_inputs.specs.Scripts.{ScriptOf, NotScript, no_script}
+use Rattle.command_meaning.specs.Abouts.{Among, FileWord, about, rows_words, script_word}
 use Rattle.command_meaning.specs.Answer.{Campaign}
+use Rattle.command_meaning.specs.Clauses.{IsTooLong}
+use Rattle.command_meaning.specs.FileTasks.{OnRows, taken}
 use Rattle.command_meaning.specs.PairsKind.{PairsDone, PairsLeft, pairs_answer, pairs_meant}
-use Rattle.command_meaning.specs.Kinds.{pairs_}
-use Rattle.command_meaning.specs.Performing.{Reaches, done, cut, wanting}
+use Rattle.command_meaning.specs.Kinds.{Task, pairs_, refusal_task}
+use Rattle.command_meaning.specs.Performing.{Reaches, done, cut, wanting, unread, unmade}
 use Rattle.vcp_core.specs.Faults.{of_campaign}
 use Rattle.vcp_core.specs.Reach.{fault_status, fault_text}
-use Rattle.vcp_core.specs.Tasks.{PairsTask}
-use Rattle.vcp_core.proofs.JudgedTasks.{all_of, left_count, left_of}
+use Rattle.vcp_inputs.specs.RowsRead.{AllRead, NoneRead, graph_columns}
+use Rattle.vcp_core.specs.Tasks.{PairsScript, PairsTask, two_seeds}
+use Rattle.vcp_core.proofs.JudgedTasks.{WholeLeft, all_of, campaign_of, left_count, left_of, rows_front, script_end, whole_broken, whole_comes}
+use Rattle.vcp_core.proofs.Performing.{file_lost, file_taken, file_takes, still}
+
+-- that is no read fault
+pub none_is_read : (o : RowsOutcome) (i : NoInput) → NoneRead o i → i ≡ input.Unread → ⊥
+none_is_read o (input.Refused r) h is = cc
+none_is_read o input.Memory h is = cc
+none_is_read o input.Unread h is = h
+
+-- ---- the files of `pairs`
+
+pub rows_named : (m : List ℕ) (rows : Rows) (seed : ℕ) (f : List ℕ) (word : FileWord) → Among word (rows_words rows) →
+    Among word (about (pairs m rows seed f)).files
+rows_named m rows seed f word h = inr (rows_front word (rows_words rows) (script_word f ∷ []) h)
+
+pub script_named : (m : List ℕ) (rows : Rows) (seed : ℕ) (f : List ℕ) → Among (script_word f) (about (pairs m rows seed f)).files
+script_named m rows seed f = inr (script_end (script_word f) (rows_words rows) (script_word f ∷ []) (inl refl))
+
+-- ---- what it comes to
+
+-- what its rows come to, once they are opened
+abbrev pub OnLeft : Rows → List ℕ → Held → Image → RowsLeft → Task → Type 0
+OnLeft rows f held i left t = WholeLeft rows (PairsScript i f held) left t
+
+-- M holds this image, and ROWS come to this for its graph
+abbrev pub LoadsAt : List ℕ → Rows → Image → RowsOutcome → Held → Type 0
+LoadsAt m rows i o held = Loads ImageOf NotImage held m most_image_bytes 0 0 (Ok i) × (rows_outcome rows held (graph_columns i.graph) ≡ o)
+
+module _ (m : List ℕ) (rows : Rows) (seed : ℕ) (f : List ℕ) (held : Held) (files later : FilesSeen) (i : Image) (apart : seed ≢ i.table.seed)
+    (o : RowsOutcome) (loads : Loads ImageOf NotImage held m most_image_bytes 0 0 (Ok i)) (same : rows_outcome rows held (graph_columns i.graph) ≡ o) where
+  -- what ROWS come to for a graph
+  abbrev Comes : RowsOutcome → Task → Type 0
+  Comes x t = OnRows (rows_name rows) (OnLeft rows f held i) x t
+
+  rows_come : (t : Task) → Comes o t → PairsTask m rows seed f held t
+  rows_come t comes =
+      let (text, found, few, is) = loads in
+      taken text i t found few is (two_seeds t apart (subst (λ (x : RowsOutcome). Comes x t) (sym same) comes))
+
+  -- there are no rows, and nothing was done
+  pub rows_lost : (at : Moment) (e : NoInput) → NoneRead o e →
+      Reaches (about (pairs m rows seed f)) (PairsTask m rows seed f held) files later at at (input_text (rows_name rows) e) (input_status e)
+  rows_lost at (input.Refused r) h =
+      done (refusal_task (rows_name rows) r) (record { out = []; err = refusal_text (rows_name rows) r; status = 1 })
+      (rows_come (refusal_task (rows_name rows) r) (whole_broken rows o (PairsScript i f held) r h)) (refl, refl) (still at).out refl refl
+  rows_lost at input.Memory h = unmade (still at) refl refl
+  rows_lost at input.Unread h = absurd h
+
+  module _ (list : List (List ℤ)) (all : AllRead o list) where
+    -- the task of the script is that of the command
+    script_comes : (t : Task) → PairsScript i f held list t → PairsTask m rows seed f held t
+    script_comes t comes = rows_come t (whole_comes rows o (PairsScript i f held) list all t comes)
+
+    script_reaches : (before after : Moment) (line : List ℕ) (code : ℕ)
+        → Reaches (about (pairs m rows seed f)) (PairsScript i f held list) files later before after line code
+        → Reaches (about (pairs m rows seed f)) (PairsTask m rows seed f held) files later before after line code
+    script_reaches before after line code (done t x comes d w line_is code_is) = done t x (script_comes t comes) d w line_is code_is
+    script_reaches before after line code (cut t comes left rose line_is code_is) = cut t (script_comes t comes) left rose line_is code_is
+    script_reaches before after line code (wanting t comes left late line_is code_is) = wanting t (script_comes t comes) left late line_is code_is
+    script_reaches before after line code (unread word named rose s line_is code_is) = unread word named rose s line_is code_is
+    script_reaches before after line code (unmade s line_is code_is) = unmade s line_is code_is
+
+    -- there is no script, and nothing was done
+    pub script_lost : (at : Moment) (e : NoInput) → FileLost (NotScript i.graph) held f most_source_bytes files.broken later.broken e
+        → Reaches (about (pairs m rows seed f)) (PairsTask m rows seed f held) files later at at (input_text f e) (input_status e)
+    script_lost at e lost =
+        script_reaches at at (input_text f e) (input_status e)
+        (file_lost (about (pairs m rows seed f)) files later at at (ScriptOf i.graph) (NotScript i.graph) most_source_bytes
+        (λ groups x. x ≡ pairs_ (campaign_of i list groups)) f held (script_word f) (script_named m rows seed f) refl (still at) e lost)
+
+    -- the groups are there
+    pub groups_come : (groups : List (List ScriptedFault))
+        → ((text : List ℕ) × (held f ≡ Some text) × (length text ≤ most_source_bytes) × ScriptOf i.graph text groups)
+        → PairsTask m rows seed f held (pairs_ (campaign_of i list groups))
+    groups_come groups found =
+        script_comes (pairs_ (campaign_of i list groups))
+        (file_takes (ScriptOf i.graph) (NotScript i.graph) most_source_bytes (λ fs x. x ≡ pairs_ (campaign_of i list fs)) f held groups
+        (pairs_ (campaign_of i list groups)) found refl)
+
+-- where the script is refused, it was read to its end, or it is too long
+pub script_taken : (m : List ℕ) (rows : Rows) (seed : ℕ) (f : List ℕ) (held : Held) (g : Lists) (b n : ℕ) (i : NoInput) (rest : Option (List ℕ))
+    → ((r : Refusal) → i ≡ input.Refused r → r ≢ refusal.Bytes → IsAtEnd rest) → FileLost (NotScript g) held f most_source_bytes b n i
+    → input_status i ≡ 1 → IsAtEnd rest ⊎ IsTooLong (about (pairs m rows seed f)) held (input_text f i)
+script_taken m rows seed f held g b n i rest ends h is =
+    file_taken (about (pairs m rows seed f)) (NotScript g) f held b n (script_word f) (script_named m rows seed f) refl i rest ends not_bytes h is where
+      not_bytes : (text : List ℕ) (r : Refusal) → NotScript g text r → r ≢ refusal.Bytes
+      not_bytes text _ (no_script why known is) e = cc
 
 -- ---- the lines of verdicts
 

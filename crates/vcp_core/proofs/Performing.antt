@@ -18,6 +18,7 @@ use Rattle.vcp_inputs.specs.declared.refusal.NoInput.TheVariants as input
 use Rattle.vcp_inputs.specs.Files.{NotLoaded, long, short}
 use Rattle.vcp_inputs.specs.Lines.{input_text, input_status, memory_text, refusal_text, rows_text, write_fault_text}
 use Rattle.vcp_inputs.specs.Refusals.{IsCaused, no_rows}
+use Rattle.vcp_inputs.proofs.Causes.{row_caused}
 use Rattle.command_meaning.specs.Answer.{printed}
 use Rattle.command_meaning.specs.Abouts.{Among, About, FileWord}
 use Rattle.command_meaning.specs.Clauses.{IsEnd, IsLine, IsTooLong, MayHold, MayName, NamesFile}
@@ -31,8 +32,7 @@ use Rattle.vcp_core.specs.declared.ending.Ending.{Ending}
 use Rattle.vcp_core.specs.declared.ending.Ending.TheVariants as end
 use Rattle.vcp_core.specs.MachineRun.{RunsTo}
 use Rattle.vcp_core.specs.Reach.{end_status, run_code, run_line}
-use Rattle.vcp_core.specs.Loading.{FileLost, ReadOn}
-use Rattle.vcp_core.proofs.Facts.{if_some_always, if_some_same, if_some_weaker}
+use Rattle.vcp_core.proofs.Facts.{if_some_always, if_some_weaker}
 use Rattle.vcp_core.proofs.PlainTurns.{appends-nothing}
 
 -- ---- the statuses of inputs that aren't there
@@ -76,16 +76,6 @@ row_read row.Form h = cc
 row_read row.Cycles h = cc
 row_read row.Cycle h = cc
 row_read row.Memory h = cc
-
--- nor want of memory, where it is refused
-row_caused : (f : RowFault) → IsCaused (no_rows f)
-row_caused row.Header = λ e. cc
-row_caused (row.Width n) = λ e. cc
-row_caused (row.Cell n m) = λ e. cc
-row_caused row.Form = λ e. cc
-row_caused row.Cycles = λ e. cc
-row_caused row.Cycle = λ e. cc
-row_caused row.Memory = tt
 
 -- the line and the status of one that is refused
 pub row_told : (name : List ℕ) (f : RowFault) → f ≢ row.Memory → (input_text name (no_rows f) ≡ rows_text name f) × (input_status (no_rows f) ≡ 1)
@@ -133,12 +123,12 @@ six_write (Err run.Memory) h = absurd (omega (arith, h))
 
 -- ---- the statuses of a command
 
-pub among_front : {X : Type 0} (x : X) (xs ys : List X) → Among x xs → Among x (xs ++ ys)
+among_front : (x : ℕ) (xs ys : List ℕ) → Among x xs → Among x (xs ++ ys)
 among_front x [] ys h = absurd h
 among_front x (y ∷ xs) ys (inl is) = inl is
 among_front x (y ∷ xs) ys (inr h) = inr (among_front x xs ys h)
 
-pub among_behind : {X : Type 0} (x : X) (xs ys : List X) → Among x ys → Among x (xs ++ ys)
+among_behind : (x : ℕ) (xs ys : List ℕ) → Among x ys → Among x (xs ++ ys)
 among_behind x [] ys h = h
 among_behind x (y ∷ xs) ys h = inr (among_behind x xs ys h)
 
@@ -456,45 +446,6 @@ module _ (c : About) (Comes : Held → Task → Type 0) (files later : FilesSeen
       quiet_part comes rose =
           part_performs (λ no. unit) rose (if_some_weaker files.held _ _ (λ h (task, is, l). cut task is l rose refl refl) comes)
 
--- ---- a command that goes on behind a file, and comes to more tasks
-
-module _ (c : About) (Comes Other : Held → Task → Type 0) (files mid later : FilesSeen) (before after : Moment) (line : List ℕ) (code : ℕ)
-    (reads : c.files ≢ []) (on : ReadOn files mid) where
-  reaches_on : (h : Held) → ((task : Task) → Comes h task → Other h task) → Reaches c (Comes h) mid later before after line code
-      → Reaches c (Other h) files later before after line code
-  reaches_on h more (done task x comes d w l s) = done task x (more task comes) d w l s
-  reaches_on h more (cut task comes left rose l s) = cut task (more task comes) left rose l s
-  reaches_on h more (reached.wanting task comes left late l s) = reached.wanting task (more task comes) left late l s
-  reaches_on h more (unread word named rose s l n) = unread word named (omega (arith, on.broken, rose)) s l n
-  reaches_on h more (unmade s l n) = unmade s l n
-
-  pub performs_on : IfSome files.held (λ h. (task : Task) → Comes h task → Other h task) → Performs c Comes mid later before after line code
-      → Performs c Other files later before after line code
-  performs_on more p = record {
-    reaches = λ h may.
-        reaches_on h (on_held c Other files mid reads on.held (λ k. (task : Task) → Comes k task → Other k task) more h may)
-        (p.reaches h (subst (λ (o : Option Held). MayHold c o h) (sym on.held) may));
-    statuses = p.statuses;
-    told = p.told;
-    held = p.held ∙ on.held;
-    unit = p.unit;
-    stay = λ none. absurd (reads none);
-    ended = p.ended;
-    taken = λ some is. if_some_same files.held mid.held _ on.held (p.taken some is);
-    stopped = p.stopped;
-    refused = p.refused;
-    read = λ is. omega (arith, on.faults, p.read is);
-    write = p.write;
-  }
-
--- it reads on from where it stands
-pub performs_by : (c : About) (Comes Other : Held → Task → Type 0) (files later : FilesSeen) (before after : Moment) (line : List ℕ) (code : ℕ)
-    → c.files ≢ [] → ((h : Held) (task : Task) → Comes h task → Other h task) → Performs c Comes files later before after line code
-    → Performs c Other files later before after line code
-performs_by c Comes Other files later before after line code reads more p =
-    performs_on c Comes Other files files later before after line code reads (record { held = refl; faults = omega arith; broken = omega arith })
-    (if_some_always files.held _ more) p
-
 -- the one file isn't taken, or the first
 pub quiet_lost : (c : About) {V : Type 0} (Is : List ℕ → V → Type 0) (Why : List ℕ → Refusal → Type 0) (Then : Held → V → Task → Type 0) (word : FileWord)
     (files later : FilesSeen) (at : Moment) (i : NoInput) → Among word c.files → c.files ≢ [] → Among 1 c.ends → later.held ≡ files.held
@@ -507,11 +458,3 @@ quiet_lost c Is Why Then word files later at i named reads one held lost whole o
     (if_some_weaker files.held _ _ (λ h l. file_lost c files later at at Is Why word.most (Then h) word.name h word named refl (still at) i l) lost)
     (λ is. if_some_weaker files.held _ _ (λ h l. file_taken c Why word.name h files.broken later.broken word named refl i later.rest whole other l is) lost)
     rose (λ is. (word, named, refl)) caused (inl (word, named, refl))
-
-pub quiet_gone : (c : About) {V : Type 0} (Is : List ℕ → V → Type 0) (Why : List ℕ → Refusal → Type 0) (Then : Held → V → Task → Type 0) (word : FileWord)
-    (files later : FilesSeen) (at : Moment) (line : List ℕ) (code : ℕ) → Among word c.files → c.files ≢ [] → Among 1 c.ends
-    → ((text : List ℕ) (r : Refusal) → Why text r → r ≢ refusal.Bytes) → FileLost Why word files later line code →
-    Performs c (λ h task. TakenFile Is Why word.most (Then h) word.name (h word.name) task) files later at at line code
-quiet_gone c Is Why Then word files later at line code named reads one other lost =
-    rw (lost.line_is, lost.code_is)
-    (quiet_lost c Is Why Then word files later at lost.cause named reads one lost.on.held lost.why lost.end other lost.rose lost.caused)

@@ -5,27 +5,19 @@ use Rattle.vcp_words.specs.Forms.{Form}
 use Rattle.command_meaning.specs.Abouts.{about, AllHeld, without_unit}
 use Rattle.command_meaning.specs.Answer.{Answer}
 use Rattle.command_meaning.specs.Clauses.{AsPlain, MayHold, Serves}
-use Rattle.command_meaning.specs.Endings.{Answered, Came, Causes, DoneHasStatus, EndingsHaveCauses, GivenUp, GivingUpHasCauses, HasOwnStatus, IsNoFault, known, given_up, unread, unmade}
+use Rattle.command_meaning.specs.Endings.{Answered, Came, Causes, GivenUp, HasOwnStatus, IsNoFault, known, given_up, unread, unmade}
 use Rattle.command_meaning.specs.Kinds.{Task, answers, lacks, Meant}
 use Rattle.coded_unit.specs.Seen.{StaysHonest}
 use Rattle.command_meaning.specs.Seen.{Outside}
-use Rattle.vcp_core.proofs.Performed.{IsMeaning}
+use Rattle.command_meaning.proofs.Performed.{IsMeaning}
 use Rattle.vcp_core.specs.Tasks.{TaskOf}
 use Rattle.vcp_core.proofs.Facts.{if_some_always, if_some_weaker}
 
 -- each command means one thing
 pub meaning : ((f : Form) (held : Held) (a b : Task) → TaskOf f held a → TaskOf f held b → a ≡ b) →
     ((f : Form) (held : Held) (task : Task) → TaskOf f held task → HasOwnStatus task) →
-    ((f : Form) (held : Held) (name : List ℕ) → AllHeld held (about f).files → TaskOf f held (lacks name) → ⊥) → DoneHasStatus → EndingsHaveCauses →
-    GivingUpHasCauses → (f : Form) → IsMeaning (about f) (TaskOf f)
-meaning one own found statuses ends giving_up f = record {
-  one = one f;
-  own = own f;
-  found = found f;
-  statuses = statuses;
-  ends_caused = ends;
-  giving_up_caused = giving_up;
-}
+    ((f : Form) (held : Held) (name : List ℕ) → AllHeld held (about f).files → TaskOf f held (lacks name) → ⊥) → (f : Form) → IsMeaning (about f) (TaskOf f)
+meaning one own found f = record { one = one f; own = own f; found = found f }
 
 -- what was given up ended by a fault
 gave_no_answer : (f : Form) (before after : Outside) (status : ℕ) → GivenUp (about f) before after status → IsNoFault status → ⊥

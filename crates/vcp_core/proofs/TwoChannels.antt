@@ -16,9 +16,12 @@ use Rattle.pair_channel.specs.declared.pair_end.PairEnd.{PairEnd}
 use Rattle.pair_channel.specs.declared.pair_end.PairEnd.TheVariants as pair
 use Rattle.pair_channel.specs.PairRuns.{Disagrees}
 use Rattle.pair_channel.specs.BesideDone.{BesideDone, BesideRunsTo}
+use Rattle.vcp_words.specs.Forms.{Rows}
+use Rattle.vcp_words.specs.Forms as form
+use Rattle.vcp_words.specs.Tables.{rows_name}
 use Rattle.vcp_inputs.specs.declared.images.Image.{Image}
 use Rattle.vcp_inputs.specs.declared.refusal.Refusal.TheVariants as refusal
-use Rattle.vcp_inputs.specs.Files.{long, short}
+use Rattle.vcp_inputs.specs.Files.{Loads}
 use Rattle.vcp_inputs.specs.Images.{ImageOf, NotImage}
 use Rattle.vcp_inputs.specs.Lines.{input_status, input_text, refusal_text}
 use Rattle.vcp_inputs.specs.Refusals.{no_rows}
@@ -26,14 +29,15 @@ use Rattle.command_meaning.specs.Abouts.{About, about}
 use Rattle.command_meaning.specs.FileTasks.{TakenFile, missing, taken, untaken, TakenRows}
 use Rattle.command_meaning.specs.Kinds.{Task, compares, refusal_task}
 use Rattle.command_meaning.specs.PairKind.{PairJob, pair_answer, pair_behind, pair_read, pair_status}
-use Rattle.command_meaning.specs.Performing.{Reaches, done, cut, wanting, unmade}
+use Rattle.command_meaning.specs.Performing.{Performs, Reaches, done, cut, wanting, unread, unmade}
 use Rattle.vcp_core.specs.declared.ending.Ending.{Ending}
 use Rattle.vcp_core.specs.ChannelsRun.{ComparesTo, PairAnswers}
-use Rattle.vcp_core.specs.Loading.{IsUnwanted, IsWanted, own_seed, unread}
 use Rattle.vcp_core.specs.Reach.{end_status, run_code, run_line}
-use Rattle.vcp_core.specs.Tasks.{SeedsDiffer, same_seed, two_seeds}
+use Rattle.vcp_inputs.specs.RowsRead.{graph_columns}
+use Rattle.vcp_core.specs.Tasks.{Apart, same_seed, two_seeds, Compared, PairTask, pair_job}
+use Rattle.vcp_core.proofs.Facts.{if_some_weaker}
 use Rattle.vcp_core.proofs.JobRun.{record-of}
-use Rattle.vcp_core.proofs.Performing.{row_told}
+use Rattle.vcp_core.proofs.Performing.{file_takes, row_told, still}
 
 -- ---- the run
 
@@ -116,15 +120,71 @@ wrote g t left before after (run.Rows why) h is = absurd cc
 wrote g t left before after run.Write h is = h.1
 wrote g t left before after run.Memory h is = absurd cc
 
+-- ---- a command that comes to more tasks
+
+module _ (c : About) (Comes Other : Held → Task → Type 0) (weaker : (h : Held) (task : Task) → Comes h task → Other h task) (files later : FilesSeen)
+    (before after : Moment) (line : List ℕ) (code : ℕ) where
+  reaches_by : (h : Held) → Reaches c (Comes h) files later before after line code → Reaches c (Other h) files later before after line code
+  reaches_by h (done task x comes d w l s) = done task x (weaker h task comes) d w l s
+  reaches_by h (cut task comes left rose l s) = cut task (weaker h task comes) left rose l s
+  reaches_by h (wanting task comes left late l s) = wanting task (weaker h task comes) left late l s
+  reaches_by h (unread word named rose s l n) = unread word named rose s l n
+  reaches_by h (unmade s l n) = unmade s l n
+
+  pub performs_by : Performs c Comes files later before after line code → Performs c Other files later before after line code
+  performs_by p = record {
+    reaches = λ h may. reaches_by h (p.reaches h may);
+    statuses = p.statuses;
+    told = p.told;
+    held = p.held;
+    unit = p.unit;
+    stay = p.stay;
+    ended = p.ended;
+    taken = p.taken;
+    stopped = p.stopped;
+    refused = p.refused;
+    read = p.read;
+    write = p.write;
+  }
+
 -- ---- two seeds
 
--- what an image comes to that is wanted for its seed is what it comes to
+-- a text is an image whose seed is another one
+abbrev pub ApartImage : ℕ → List ℕ → Image → Type 0
+ApartImage seed text i = ImageOf text i × (seed ≢ i.table.seed)
+
+-- the task of an image, its rows and the second seed
+abbrev pub Comparing : Rows → Held → Image → RowsLeft → Task → Type 0
+Comparing rows held i left task = task ≡ compares (pair_job (rows_name rows) i left)
+
 pub apart_by : (m : List ℕ) (seed : ℕ) (Then : Image → Task → Type 0) (found : Option (List ℕ)) (task : Task) →
-    TakenFile (IsWanted (Some seed)) (IsUnwanted (Some seed)) most_image_bytes Then m found task →
-    TakenFile ImageOf NotImage most_image_bytes (SeedsDiffer m seed Then) m found task
+    TakenFile (ApartImage seed) NotImage most_image_bytes Then m found task →
+    TakenFile ImageOf NotImage most_image_bytes (Apart m seed Then) m found task
 apart_by m seed Then found _ (missing none) = missing none
-apart_by m seed Then found _ (untaken text _ here (long more)) = untaken text refusal.Bytes here (long more)
-apart_by m seed Then found _ (untaken text _ here (short _ few (unread r why))) = untaken text r here (short r few why)
-apart_by m seed Then found _ (untaken text _ here (short _ few (own_seed i is same))) =
-    taken text i (refusal_task m refusal.Seed) here few is (same_seed same)
+apart_by m seed Then found _ (untaken text r here why) = untaken text r here why
 apart_by m seed Then found task (taken text i _ here few is comes) = taken text i task here few is.0 (two_seeds task is.1 comes)
+
+pub apart_comes : (m : List ℕ) (rows : Rows) (seed : ℕ) (held : Held) (task : Task) →
+    TakenFile (ApartImage seed) NotImage most_image_bytes (λ i. TakenRows (Comparing rows held i) rows held (graph_columns i.graph)) m (held m) task →
+    PairTask m rows seed held task
+apart_comes m rows seed held task comes = apart_by m seed (Compared rows held) (held m) task comes
+
+pub loads_apart : (m : List ℕ) (seed : ℕ) (held : Option Held) (b n : ℕ) (i : Image) → seed ≢ i.table.seed →
+    IfSome held (λ h. Loads ImageOf NotImage h m most_image_bytes b n (Ok i)) →
+    IfSome held (λ h. Loads (ApartImage seed) NotImage h m most_image_bytes b n (Ok i))
+loads_apart m seed held b n i apart loads = if_some_weaker held _ _ (λ h (text, found, few, is). (text, found, few, (is, apart))) loads
+
+-- the seeds are one, and nothing was done
+pub seeds_same : (c : About) (m : List ℕ) (seed : ℕ) (Then : Image → Task → Type 0) (held : Held) (i : Image) (files later : FilesSeen) (at : Moment) →
+    ((text : List ℕ) × (held m ≡ Some text) × (length text ≤ most_image_bytes) × ImageOf text i) → seed ≡ i.table.seed →
+    Reaches c (λ task. TakenFile ImageOf NotImage most_image_bytes (Apart m seed Then) m (held m) task) files later at at (refusal_text m refusal.Seed) 1
+seeds_same c m seed Then held i files later at loads same =
+    done (refusal_task m refusal.Seed) (record { out = []; err = refusal_text m refusal.Seed; status = 1 })
+    (file_takes ImageOf NotImage most_image_bytes (Apart m seed Then) m held i (refusal_task m refusal.Seed) loads (same_seed same)) (refl, refl)
+    (still at).out refl refl
+
+pub seed_refused : (m : List ℕ) (rows : Rows) (seed : ℕ) (held : Held) (i : Image) (files later : FilesSeen) (at : Moment) →
+    ((text : List ℕ) × (held m ≡ Some text) × (length text ≤ most_image_bytes) × ImageOf text i) → seed ≡ i.table.seed →
+    Reaches (about (form.pair m rows seed)) (PairTask m rows seed held) files later at at (refusal_text m refusal.Seed) 1
+seed_refused m rows seed held i files later at loads same =
+    seeds_same (about (form.pair m rows seed)) m seed (Compared rows held) held i files later at loads same

@@ -4,8 +4,7 @@ pub mod Demo
 pub mod EachTask
 pub mod EndLines
 pub mod Faults
-pub mod Judging
-pub mod Loading
+pub mod Inject
 pub mod MachineRun
 pub mod PlainRun
 pub mod Reach

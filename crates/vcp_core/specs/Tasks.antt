@@ -182,9 +182,9 @@ abbrev pub pair_job : List ℕ → Image → RowsLeft → PairJob
 pair_job name i left = record { graph = i.graph; table = i.table; rows = left; rows_name = name }
 
 -- an image is refused where its seed is the one of the second channel; else this is said of it
-pub data SeedsDiffer (name : List ℕ) (seed : ℕ) (Then : Image → Task → Type 0) (i : Image) : Task → Type 0 where
-  same_seed : seed ≡ i.table.seed → SeedsDiffer name seed Then i (refusal_task name refusal.Seed)
-  two_seeds : (task : Task) → seed ≢ i.table.seed → Then i task → SeedsDiffer name seed Then i task
+pub data Apart (name : List ℕ) (seed : ℕ) (Then : Image → Task → Type 0) (i : Image) : Task → Type 0 where
+  same_seed : seed ≡ i.table.seed → Apart name seed Then i (refusal_task name refusal.Seed)
+  two_seeds : (task : Task) → seed ≢ i.table.seed → Then i task → Apart name seed Then i task
 
 -- its graph is run on ROWS
 abbrev pub Compared : Rows → Held → Image → Task → Type 0
@@ -194,7 +194,7 @@ Compared rows held i task = TakenRows (λ left x. x ≡ compares (pair_job (rows
 -- image's seed; else to those of ROWS as for `run`, or to a run of two channels over that graph and the rows
 -- that are left after the header, the first with the image's table on the unit.
 abbrev pub PairTask : List ℕ → Rows → ℕ → Held → Task → Type 0
-PairTask m rows seed held task = ImageFile (SeedsDiffer m seed (Compared rows held)) m held task
+PairTask m rows seed held task = ImageFile (Apart m seed (Compared rows held)) m held task
 
 -- the groups of the script F over all rows of an image, on two channels; they may be as many as a run may have
 abbrev pub PairsScript : Image → List ℕ → Held → List (List ℤ) → Task → Type 0
@@ -209,7 +209,7 @@ PairsRows rows f held i task =
 -- image's seed; then to those of ROWS with all its rows, and to those of F, as for `inject` but without `L7`;
 -- else to the groups of the script over these rows, in order, on two channels, and the totals.
 abbrev pub PairsTask : List ℕ → Rows → ℕ → List ℕ → Held → Task → Type 0
-PairsTask m rows seed f held task = ImageFile (SeedsDiffer m seed (PairsRows rows f held)) m held task
+PairsTask m rows seed f held task = ImageFile (Apart m seed (PairsRows rows f held)) m held task
 
 -- ---- telegrams
 

@@ -16,10 +16,9 @@ ghost use Rattle.vcp_core.specs.Reach.{told_line, told_status};
 
 use crate::ending::Ending;
 use crate::fault::Fault;
-use crate::loading::image_named;
 use std::alloc::Global;
 use vcp_base::Text;
-use vcp_inputs::{Image, NoInput, Refusal};
+use vcp_inputs::{Image, NoInput, Refusal, load_image};
 use vcp_outside::{Files, Sink};
 use weight_audit::weigh::weights;
 use weight_audit::{AuditFault, Weights, write_audit};
@@ -54,7 +53,15 @@ pub fn audit_command<'a, F: Files, O: Sink>(
         (F.seen files.old) (F.seen files.new) (moment unit (O.seen out.old)) (moment unit (O.seen out.new))
         (told_line result) (told_status result) }
 {
-    let loaded = image_named(alloc, files, image, None)?;
+    let loaded = match load_image(alloc, files, image) {
+        Ok(loaded) => loaded,
+        Err(input) => {
+            return Err(Fault::Input {
+                name: image.bytes(),
+                input,
+            });
+        }
+    };
     match weights_of(alloc, &loaded, horizon) {
         Ok(weights) => {
             write_audit(out, &loaded.graph, &weights, horizon)?;

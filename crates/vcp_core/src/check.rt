@@ -12,9 +12,9 @@ ghost use Rattle.vcp_core.specs.Reach.{told_line, told_status};
 
 use crate::ending::Ending;
 use crate::fault::Fault;
-use crate::loading::{Language, program_named};
 use std::alloc::Global;
 use vcp_base::Text;
+use vcp_inputs::load_typed;
 use vcp_outside::{Failed, Files, Line, Sink};
 
 /// A program that is one of the language, with its Size.
@@ -39,7 +39,14 @@ pub fn check_command<'a, F: Files, O: Sink>(
         (F.seen files.old) (F.seen files.new) (moment unit (O.seen out.old)) (moment unit (O.seen out.new))
         (told_line result) (told_status result) }
 {
-    let program = program_named(alloc, files, source, Language::StructuredText)?;
-    ok_line(out, program.size())?;
-    Ok(Ending::Done)
+    match load_typed(alloc, files, source) {
+        Ok(program) => {
+            ok_line(out, program.size())?;
+            Ok(Ending::Done)
+        }
+        Err(input) => Err(Fault::Input {
+            name: source.bytes(),
+            input,
+        }),
+    }
 }

@@ -13,11 +13,11 @@ ghost use Rattle.vcp_core.specs.Reach.{told_line, told_status};
 use crate::ending::Ending;
 use crate::fault::Fault;
 use crate::graphs::graph_of;
-use crate::loading::{Language, program_named};
 use image_file::write_image;
 use signature_table::Table;
 use std::alloc::Global;
 use vcp_base::{Memory, Text};
+use vcp_inputs::load_typed;
 use vcp_outside::{Files, Sink, write_all};
 use vcp_typed::Typed;
 use vcp_words::Code;
@@ -48,8 +48,15 @@ pub fn compile_command<'a, F: Files, O: Sink>(
         (F.seen files.old) (F.seen files.new) (moment unit (O.seen out.old)) (moment unit (O.seen out.new))
         (told_line result) (told_status result) }
 {
-    let program = program_named(alloc, files, source, Language::StructuredText)?;
-    let image = image_for(alloc, &program, code)?;
-    write_all(out, image.bytes())?;
-    Ok(Ending::Done)
+    match load_typed(alloc, files, source) {
+        Ok(program) => {
+            let image = image_for(alloc, &program, code)?;
+            write_all(out, image.bytes())?;
+            Ok(Ending::Done)
+        }
+        Err(input) => Err(Fault::Input {
+            name: source.bytes(),
+            input,
+        }),
+    }
 }

@@ -10,12 +10,13 @@ ghost use Rattle.vcp_core.specs.Reach.{told_line, told_status};
 use crate::ending::{Ending, run_ended};
 use crate::every_row::{EveryRow, RowLines};
 use crate::fault::Fault;
-use crate::loading::{Language, load_program_rows, rows_name};
+use crate::loading::{input_columns, rows_name};
 use crate::printed::run_program;
 use coded_unit::Unit;
 use il_front::accumulator_runs;
 use std::alloc::Global;
 use vcp_base::Text;
+use vcp_inputs::{load_il, load_rows};
 use vcp_outside::{Files, Sink};
 use vcp_words::{Code, RowsWord};
 
@@ -38,14 +39,27 @@ pub fn il_command<'a, F: Files, U: Unit, O: Sink>(
 {
     // So what is run is the list on the accumulator.
     accumulator_runs();
+    let program = match load_il(alloc, files, source) {
+        Ok(program) => program,
+        Err(input) => {
+            return Err(Fault::Input {
+                name: source.bytes(),
+                input,
+            });
+        }
+    };
+    let columns = input_columns(alloc, &program)?;
     let name = rows_name(rows);
-    let given = load_program_rows(alloc, files, source, Language::InstructionList, rows)?;
-    match given.source.open(alloc, &given.columns) {
+    let inputs = match load_rows(alloc, files, rows, &columns) {
+        Ok(inputs) => inputs,
+        Err(input) => return Err(Fault::Input { name, input }),
+    };
+    match inputs.open(alloc, &columns) {
         Ok(mut rows) => run_ended(
             name,
             run_program(
                 alloc,
-                &given.program,
+                &program,
                 code,
                 &mut rows,
                 unit,

@@ -1,21 +1,59 @@
 //! The command `inject`, up to the line of its fault.
 
+ghost use Rattle.std.specs.Prelude.{◌≡◌, ◌≤◌, All, IfErr, IfOk, length};
+ghost use Rattle.vcp_base.specs.Limits.{most_cycles, most_names};
 ghost use Rattle.vcp_words.specs.Forms.{inject, rows_of, AreFew};
+ghost use Rattle.vcp_inputs.specs.Refusals.{IsCaused};
+ghost use Rattle.vcp_inputs.specs.RowsOutcome.{HasFewCycles, source_outcome};
 ghost use Rattle.command_meaning.specs.Abouts.{about};
 ghost use Rattle.command_meaning.specs.Performing.{Performs};
 ghost use Rattle.machine_run.specs.Moments.{moment};
 ghost use Rattle.vcp_core.specs.Tasks.{InjectTask};
+ghost use Rattle.vcp_core.specs.Inject.{AllRows, NoRows};
 ghost use Rattle.vcp_core.specs.Reach.{told_line, told_status};
 
 use crate::ending::Ending;
 use crate::fault::Fault;
-use crate::judging::load_judging;
+use crate::loading::rows_name;
 use coded_unit::Unit;
 use fault_campaign::run_campaign;
+use input_rows::RowList;
+use op_graph::Graph;
 use std::alloc::Global;
-use vcp_base::Text;
+use vcp_base::{Columns, Text};
+use vcp_inputs::{
+    NoInput, Refusal, RowsSource, graph_columns, load_image, load_rows, load_script, whole_rows,
+};
 use vcp_outside::{Files, Sink};
 use vcp_words::RowsWord;
+
+/// The most cycles times operations of a run under faults.
+const MOST_TRACE: u64 = 16777216;
+
+/// All rows, few enough for the operations of a graph: none is refused.
+fn all_rows(
+    alloc: Global,
+    inputs: &RowsSource,
+    columns: &Columns,
+    graph: &Graph,
+) -> Result<RowList, NoInput>
+    requires few { HasFewCycles inputs.now }
+    requires narrow { length columns.now ≤ most_names }
+    ensures rows { IfOk result (AllRows (source_outcome inputs.now columns.now) graph.now) }
+    ensures fault { IfErr result (NoRows (source_outcome inputs.now columns.now) graph.now) }
+    ensures caused { IfErr result IsCaused }
+    ensures width { IfOk result (λ list. All (λ row. length row ≡ length columns.now) list) }
+    ensures few { IfOk result (λ list. length list ≤ most_cycles) }
+{
+    let list = match whole_rows(alloc, inputs, columns) {
+        Ok(list) => list,
+        Err(input) => return Err(input),
+    };
+    if list.len() as u64 * graph.len() as u64 > MOST_TRACE {
+        return Err(NoInput::Refused(Refusal::Trace));
+    }
+    Ok(list)
+}
 
 /// Does what the words `inject M ROWS F` say, and writes to `out` alone: M is read whole and taken
 /// through its refusals, then ROWS with all rows, and then F; and then the run without faults is carried on
@@ -34,14 +72,41 @@ pub fn inject_command<'a, F: Files, U: Unit, O: Sink>(
         (F.seen files.old) (F.seen files.new) (moment (U.seen unit.old) (O.seen out.old)) (moment (U.seen unit.new) (O.seen out.new))
         (told_line result) (told_status result) }
 {
-    let given = load_judging(alloc, files, image, rows, None, script)?;
+    let loaded = match load_image(alloc, files, image) {
+        Ok(loaded) => loaded,
+        Err(input) => {
+            return Err(Fault::Input {
+                name: image.bytes(),
+                input,
+            });
+        }
+    };
+    let columns = graph_columns(alloc, &loaded.graph)?;
+    let name = rows_name(rows);
+    let inputs = match load_rows(alloc, files, rows, &columns) {
+        Ok(inputs) => inputs,
+        Err(input) => return Err(Fault::Input { name, input }),
+    };
+    let list = match all_rows(alloc, &inputs, &columns, &loaded.graph) {
+        Ok(list) => list,
+        Err(input) => return Err(Fault::Input { name, input }),
+    };
+    let groups = match load_script(alloc, files, script, &loaded.graph) {
+        Ok(groups) => groups,
+        Err(input) => {
+            return Err(Fault::Input {
+                name: script.bytes(),
+                input,
+            });
+        }
+    };
     run_campaign(
         alloc,
         out,
-        &given.image.graph,
-        &given.image.table,
-        &given.rows,
-        &given.groups,
+        &loaded.graph,
+        &loaded.table,
+        &list,
+        &groups,
         unit,
     )?;
     Ok(Ending::Done)

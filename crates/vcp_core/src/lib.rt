@@ -14,7 +14,6 @@ mod format;
 mod graphs;
 mod il;
 mod inject;
-mod judging;
 mod laws;
 mod listing;
 mod loading;

@@ -12,12 +12,12 @@ ghost use Rattle.vcp_core.specs.Reach.{told_line, told_status};
 
 use crate::ending::Ending;
 use crate::fault::Fault;
-use crate::loading::image_named;
 use op_graph::Graph;
 use run_report::list_line;
 use signature_table::Table;
 use std::alloc::Global;
 use vcp_base::Text;
+use vcp_inputs::load_image;
 use vcp_outside::{Failed, Files, Sink};
 
 /// Prints a line for each operation of a graph. It takes no memory.
@@ -43,7 +43,14 @@ pub fn list_command<'a, F: Files, O: Sink>(
         (F.seen files.old) (F.seen files.new) (moment unit (O.seen out.old)) (moment unit (O.seen out.new))
         (told_line result) (told_status result) }
 {
-    let loaded = image_named(alloc, files, image, None)?;
-    list_operations(out, &loaded.graph, &loaded.table)?;
-    Ok(Ending::Done)
+    match load_image(alloc, files, image) {
+        Ok(loaded) => {
+            list_operations(out, &loaded.graph, &loaded.table)?;
+            Ok(Ending::Done)
+        }
+        Err(input) => Err(Fault::Input {
+            name: image.bytes(),
+            input,
+        }),
+    }
 }

@@ -11,12 +11,13 @@ ghost use Rattle.vcp_core.specs.Reach.{told_line, told_status};
 
 use crate::ending::Ending;
 use crate::fault::Fault;
-use crate::judging::load_judging;
+use crate::loading::rows_name;
 use coded_unit::Unit;
 use fault_campaign::run_pairs;
 use signature_table::Table;
 use std::alloc::Global;
 use vcp_base::Text;
+use vcp_inputs::{NoInput, Refusal, graph_columns, load_image, load_rows, load_script, whole_rows};
 use vcp_outside::{Files, Sink};
 use vcp_words::RowsWord;
 
@@ -40,17 +41,49 @@ pub fn pairs_command<'a, F: Files, U: Unit, O: Sink>(
         (F.seen files.old) (F.seen files.new) (moment (U.seen unit.old) (O.seen out.old)) (moment (U.seen unit.new) (O.seen out.new))
         (told_line result) (told_status result) }
 {
-    let given = load_judging(alloc, files, image, rows, Some(seed), script)?;
-    let image = &given.image;
-    let other = Table::new(alloc, &image.graph, seed, image.table.step())?;
+    let loaded = match load_image(alloc, files, image) {
+        Ok(loaded) => loaded,
+        Err(input) => {
+            return Err(Fault::Input {
+                name: image.bytes(),
+                input,
+            });
+        }
+    };
+    if loaded.table.seed() == seed {
+        return Err(Fault::Input {
+            name: image.bytes(),
+            input: NoInput::Refused(Refusal::Seed),
+        });
+    }
+    let columns = graph_columns(alloc, &loaded.graph)?;
+    let name = rows_name(rows);
+    let inputs = match load_rows(alloc, files, rows, &columns) {
+        Ok(inputs) => inputs,
+        Err(input) => return Err(Fault::Input { name, input }),
+    };
+    let list = match whole_rows(alloc, &inputs, &columns) {
+        Ok(list) => list,
+        Err(input) => return Err(Fault::Input { name, input }),
+    };
+    let groups = match load_script(alloc, files, script, &loaded.graph) {
+        Ok(groups) => groups,
+        Err(input) => {
+            return Err(Fault::Input {
+                name: script.bytes(),
+                input,
+            });
+        }
+    };
+    let other = Table::new(alloc, &loaded.graph, seed, loaded.table.step())?;
     run_pairs(
         alloc,
         out,
-        &image.graph,
-        &image.table,
+        &loaded.graph,
+        &loaded.table,
         &other,
-        &given.rows,
-        &given.groups,
+        &list,
+        &groups,
         unit,
     )?;
     Ok(Ending::Done)

@@ -37,7 +37,6 @@ use crate::trace::trace_command;
 use crate::widen::widen_command;
 use crate::wire::wire_command;
 use coded_unit::Unit;
-use command_meaning::endings_have_causes;
 use fault_runs::accepted_outputs_are_released;
 use il_front::accumulator_runs;
 use std::alloc::Global;
@@ -139,7 +138,6 @@ pub fn vcp<F: Files, U: Unit, O: Sink, E: Sink>(
     ensures delivers { WiresDeliver }
 {
     one_task();
-    endings_have_causes();
     accepted_outputs_are_released();
     stale_operands_are_seen();
     accumulator_runs();
@@ -176,9 +174,8 @@ fn serve<F: Files, U: Unit, O: Sink, E: Sink>(
     ensures no_usage { result ≢ 4 }
     ensures known { result ≤ 7 }
 {
-    // A command comes to one task, and each end of it has its cause.
+    // A command comes to one task.
     one_task();
-    endings_have_causes();
     match perform(alloc, command, files, unit, out) {
         Ok(end) => status_of(end),
         Err(fault) => match tell(err, &fault) {

@@ -11,11 +11,12 @@ ghost use Rattle.vcp_core.specs.Reach.{told_line, told_status};
 
 use crate::ending::{Ending, run_ended};
 use crate::fault::Fault;
-use crate::loading::{load_image_rows, rows_name};
+use crate::loading::rows_name;
 use crate::tracing::run_words;
 use coded_unit::Unit;
 use std::alloc::Global;
 use vcp_base::Text;
+use vcp_inputs::{graph_columns, load_image, load_rows};
 use vcp_outside::{Files, Sink};
 use vcp_words::RowsWord;
 
@@ -37,15 +38,28 @@ pub fn trace_command<'a, F: Files, U: Unit, O: Sink>(
         (F.seen files.old) (F.seen files.new) (moment (U.seen unit.old) (O.seen out.old)) (moment (U.seen unit.new) (O.seen out.new))
         (told_line result) (told_status result) }
 {
+    let loaded = match load_image(alloc, files, image) {
+        Ok(loaded) => loaded,
+        Err(input) => {
+            return Err(Fault::Input {
+                name: image.bytes(),
+                input,
+            });
+        }
+    };
+    let columns = graph_columns(alloc, &loaded.graph)?;
     let name = rows_name(rows);
-    let given = load_image_rows(alloc, files, image, rows, None)?;
-    match given.source.open(alloc, &given.columns) {
+    let inputs = match load_rows(alloc, files, rows, &columns) {
+        Ok(inputs) => inputs,
+        Err(input) => return Err(Fault::Input { name, input }),
+    };
+    match inputs.open(alloc, &columns) {
         Ok(rows) => run_ended(
             name,
             run_words(
                 alloc,
-                &given.image.graph,
-                &given.image.table,
+                &loaded.graph,
+                &loaded.table,
                 cycle,
                 &mut rows.through(cycle),
                 unit,

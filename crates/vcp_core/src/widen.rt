@@ -12,12 +12,11 @@ ghost use Rattle.vcp_core.specs.Reach.{told_line, told_status};
 
 use crate::ending::Ending;
 use crate::fault::Fault;
-use crate::loading::image_named;
 use image_file::write_image;
 use signature_table::Table;
 use std::alloc::Global;
 use vcp_base::{Memory, Text};
-use vcp_inputs::Image;
+use vcp_inputs::{Image, load_image};
 use vcp_outside::{Files, Sink, write_all};
 
 /// The image of a graph in the wide code, with the seed and the step that its own has.
@@ -43,8 +42,15 @@ pub fn widen_command<'a, F: Files, O: Sink>(
         (F.seen files.old) (F.seen files.new) (moment unit (O.seen out.old)) (moment unit (O.seen out.new))
         (told_line result) (told_status result) }
 {
-    let loaded = image_named(alloc, files, image, None)?;
-    let wide = wide_image(alloc, loaded)?;
-    write_all(out, wide.bytes())?;
-    Ok(Ending::Done)
+    match load_image(alloc, files, image) {
+        Ok(loaded) => {
+            let wide = wide_image(alloc, loaded)?;
+            write_all(out, wide.bytes())?;
+            Ok(Ending::Done)
+        }
+        Err(input) => Err(Fault::Input {
+            name: image.bytes(),
+            input,
+        }),
+    }
 }

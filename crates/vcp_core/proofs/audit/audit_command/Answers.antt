@@ -9,66 +9,65 @@ use Rattle.vcp_core.specs.Tasks.{Audited, AuditTask}
 use Rattle.vcp_core.proofs.AuditKinds.{audit_told, too_large_audit, weights_caused, weights_read}
 use Rattle.vcp_core.proofs.Facts.{if_some_always, if_some_weaker}
 use Rattle.vcp_core.proofs.ImageLoaded.{image_not_bytes}
-use Rattle.vcp_core.proofs.Performing.{files_lost, quiet_gone, quiet_part, quiet_whole}
+use Rattle.vcp_core.proofs.Performing.{files_lost, quiet_lost, quiet_part, quiet_whole}
 use Rattle.vcp_core.proofs.audit.audit_command.Goals as goal
 
-pub returns-in_err-loaded : goal.returns-in_err-loaded
-returns-in_err-loaded g c unit =
-    let m = c.args.image.now in
-    let horizon = c.args.horizon in
-    let q = err_from_is_err_and c.from_residual.result c.from_residual.ensures.1 in
-    rw (q.1, q.2)
-    (quiet_gone (about (audit m horizon)) ImageOf NotImage (λ h. Audited horizon m) (image_word m) _ _ _ _ _ (inl refl)
-    (λ none. cc) (inr (inl refl)) image_not_bytes
-    c.in_err-loaded.ensures.lost)
-
-pub returns-in_err-write_audit-in-Ok : goal.returns-in_err-write_audit-in-Ok
-returns-in_err-write_audit-in-Ok g c unit =
+pub returns-in-Err : goal.returns-in-Err
+returns-in-Err g c unit =
     let m = c.args.image.now in
     let horizon = c.args.horizon in
     let files = g.F.Files.seen c.args.files.now in
-    let later = g.F.Files.seen c.image_named.new.files in
-    let given = c.in_ok-loaded.ensures.given in
-    let q = err_from_is_err_and c.from_residual-in_err-write_audit-in-Ok.result c.from_residual-in_err-write_audit-in-Ok.ensures.1 in
-    let w = c.in_err-write_audit-in-Ok.ensures in
+    let later = g.F.Files.seen c.load_image.new.files in
+    rw c.bytes.ensures
+    (quiet_lost (about (audit m horizon)) ImageOf NotImage (λ h. Audited horizon m) (image_word m) files later _ c.in-Err.input (inl refl) (λ none. cc)
+    (inr (inl refl)) c.load_image.ensures.held
+    c.in-Err.ensures.loads (λ r is. c.in-Err.ensures.whole r (ap Err is)) image_not_bytes (λ is. c.in-Err.ensures.unread (ap Err is))
+    c.in-Err.ensures.caused)
+
+pub returns-in_err-write_audit-in-Ok-weights_of : goal.returns-in_err-write_audit-in-Ok-weights_of
+returns-in_err-write_audit-in-Ok-weights_of g c unit =
+    let m = c.args.image.now in
+    let horizon = c.args.horizon in
+    let files = g.F.Files.seen c.args.files.now in
+    let later = g.F.Files.seen c.load_image.new.files in
+    let q = err_from_is_err_and c.from_residual.result c.from_residual.ensures.1 in
+    let w = c.in_err-write_audit-in-Ok-weights_of.ensures in
     rw (q.1, q.2)
-    (quiet_part (about (audit m horizon)) (AuditTask m horizon) files later (λ none. cc) given.on.held _ _ given.end refl
+    (quiet_part (about (audit m horizon)) (AuditTask m horizon) files later (λ none. cc) c.load_image.ensures.held _ _ c.in-Ok.ensures.ended refl
     (if_some_weaker files.held _ _
     (λ h loads. (
       prints _,
-      audit_told m horizon h c.in_ok-loaded.loaded loads _ c.in-Ok.ensures.few c.in-Ok.ensures.weights,
+      audit_told m horizon h c.in-Ok.loaded loads _ c.in-Ok-weights_of.ensures.few c.in-Ok-weights_of.ensures.weights,
       (refl, (printed_answer _, refl, w.part)),
-    )) given.text)
+    )) c.in-Ok.ensures.loads)
     w.cause.failed)
 
-pub returns-in-Ok : goal.returns-in-Ok
-returns-in-Ok g c unit =
+pub returns-in-Ok-weights_of : goal.returns-in-Ok-weights_of
+returns-in-Ok-weights_of g c unit =
     let m = c.args.image.now in
     let horizon = c.args.horizon in
     let files = g.F.Files.seen c.args.files.now in
-    let later = g.F.Files.seen c.image_named.new.files in
-    let given = c.in_ok-loaded.ensures.given in
-    quiet_whole (about (audit m horizon)) (AuditTask m horizon) files later (λ none. cc) given.on.held _ _ given.end refl (inl refl) _
+    let later = g.F.Files.seen c.load_image.new.files in
+    quiet_whole (about (audit m horizon)) (AuditTask m horizon) files later (λ none. cc) c.load_image.ensures.held _ _ c.in-Ok.ensures.ended refl (inl refl) _
     (if_some_weaker files.held _ _
     (λ h loads. (
       prints _,
-      audit_told m horizon h c.in_ok-loaded.loaded loads _ c.in-Ok.ensures.few c.in-Ok.ensures.weights,
+      audit_told m horizon h c.in-Ok.loaded loads _ c.in-Ok-weights_of.ensures.few c.in-Ok-weights_of.ensures.weights,
       (refl, refl),
-    )) given.text)
-    c.in_ok-write_audit-in-Ok.ensures.whole
+    )) c.in-Ok.ensures.loads)
+    c.in_ok-write_audit-in-Ok-weights_of.ensures.whole
 
 pub returns : goal.returns
 returns g c unit =
     let m = c.args.image.now in
     let horizon = c.args.horizon in
     let files = g.F.Files.seen c.args.files.now in
-    let later = g.F.Files.seen c.image_named.new.files in
-    let given = c.in_ok-loaded.ensures.given in
-    let why = c.in-Err.ensures.fault in
-    let e = c.in-Err.input in
-    rw c.bytes.ensures
-    (files_lost (about (audit m horizon)) (AuditTask m horizon) files later (λ none. cc) given.on.held (inr (inl refl)) _ m e
-    (if_some_weaker files.held _ _ (λ h loads. too_large_audit m horizon h c.in_ok-loaded.loaded files later _ e loads why) given.text)
-    (λ is. if_some_always files.held _ (λ h. inl given.end)) (λ is. absurd (weights_read c.in_ok-loaded.loaded horizon e why is))
-    (λ is. absurd (weights_read c.in_ok-loaded.loaded horizon e why is)) (weights_caused c.in_ok-loaded.loaded horizon e why)
+    let later = g.F.Files.seen c.load_image.new.files in
+    let why = c.in-Err-weights_of.ensures.fault in
+    let e = c.in-Err-weights_of.input in
+    rw c.bytes-in-Err-weights_of.ensures
+    (files_lost (about (audit m horizon)) (AuditTask m horizon) files later (λ none. cc) c.load_image.ensures.held (inr (inl refl)) _ m e
+    (if_some_weaker files.held _ _ (λ h loads. too_large_audit m horizon h c.in-Ok.loaded files later _ e loads why) c.in-Ok.ensures.loads)
+    (λ is. if_some_always files.held _ (λ h. inl c.in-Ok.ensures.ended)) (λ is. absurd (weights_read c.in-Ok.loaded horizon e why is))
+    (λ is. absurd (weights_read c.in-Ok.loaded horizon e why is)) (weights_caused c.in-Ok.loaded horizon e why)
     (inl (image_word m, inl refl, refl)))

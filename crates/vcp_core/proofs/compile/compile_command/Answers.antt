@@ -10,65 +10,64 @@ use Rattle.command_meaning.specs.Abouts.{about, source_word}
 use Rattle.command_meaning.specs.GraphsOf.{image_answer}
 use Rattle.command_meaning.specs.Kinds.{compiles as compiles_to}
 use Rattle.vcp_core.specs.Tasks.{CompileTask}
-use Rattle.vcp_core.proofs.Performing.{file_takes, files_wanted, quiet_gone, quiet_part, quiet_whole}
+use Rattle.vcp_core.proofs.Performing.{file_takes, files_wanted, quiet_lost, quiet_part, quiet_whole}
 use Rattle.vcp_core.proofs.compile.compile_command.Goals as goal
 
-pub returns-in_err-program : goal.returns-in_err-program
-returns-in_err-program g c unit =
+pub returns-in-Err : goal.returns-in-Err
+returns-in-Err g c unit =
     let p = c.args.source.now in
     let code = as_code c.args.code in
+    let files = g.F.Files.seen c.args.files.now in
+    let later = g.F.Files.seen c.load_typed.new.files in
+    rw c.bytes-in-Err.ensures
+    (quiet_lost (about (compile p code)) TypedOf NotTyped (λ h t x. x ≡ compiles_to t code) (source_word p) files later _ c.in-Err.input (inl refl)
+    (λ none. cc) (inr (inl refl)) c.load_typed.ensures.held
+    c.in-Err.ensures.loads (λ r is. c.in-Err.ensures.whole r (ap Err is)) typed_not_bytes (λ is. c.in-Err.ensures.unread (ap Err is))
+    c.in-Err.ensures.caused)
+
+pub returns-in_err-image-in-Ok : goal.returns-in_err-image-in-Ok
+returns-in_err-image-in-Ok g c unit =
+    let p = c.args.source.now in
+    let code = as_code c.args.code in
+    let files = g.F.Files.seen c.args.files.now in
+    let later = g.F.Files.seen c.load_typed.new.files in
     let q = err_from_is_err_and c.from_residual.result c.from_residual.ensures.1 in
     rw (q.1, q.2)
-    (quiet_gone (about (compile p code)) TypedOf NotTyped (λ h t x. x ≡ compiles_to t code) (source_word p) _ _ _ _ _ (inl refl)
-    (λ none. cc) (inr (inl refl)) typed_not_bytes
-    c.in_err-program.ensures.lost)
+    (files_wanted (about (compile p code)) (CompileTask p code) files later (λ none. cc) c.load_typed.ensures.held _)
 
-pub returns-in_err-image : goal.returns-in_err-image
-returns-in_err-image g c unit =
+pub returns-in_err-write_all-in-Ok : goal.returns-in_err-write_all-in-Ok
+returns-in_err-write_all-in-Ok g c unit =
     let p = c.args.source.now in
     let code = as_code c.args.code in
     let files = g.F.Files.seen c.args.files.now in
-    let later = g.F.Files.seen c.program_named.new.files in
-    let given = c.in_ok-program.ensures.given in
-    let q = err_from_is_err_and c.from_residual-in_err-image.result c.from_residual-in_err-image.ensures.1 in
+    let later = g.F.Files.seen c.load_typed.new.files in
+    let q = err_from_is_err_and c.from_residual-in_err-write_all-in-Ok.result c.from_residual-in_err-write_all-in-Ok.ensures.1 in
+    let (graph, may, is) = c.in_ok-image-in-Ok.ensures in
     rw (q.1, q.2)
-    (files_wanted (about (compile p code)) (CompileTask p code) files later (λ none. cc) given.on.held _)
-
-pub returns-in_err-write_all : goal.returns-in_err-write_all
-returns-in_err-write_all g c unit =
-    let p = c.args.source.now in
-    let code = as_code c.args.code in
-    let files = g.F.Files.seen c.args.files.now in
-    let later = g.F.Files.seen c.program_named.new.files in
-    let given = c.in_ok-program.ensures.given in
-    let q = err_from_is_err_and c.from_residual-in_err-write_all.result c.from_residual-in_err-write_all.ensures.1 in
-    let (graph, may, is) = c.in_ok-image.ensures in
-    rw (q.1, q.2)
-    (quiet_part (about (compile p code)) (CompileTask p code) files later (λ none. cc) given.on.held _ _ given.end refl
+    (quiet_part (about (compile p code)) (CompileTask p code) files later (λ none. cc) c.load_typed.ensures.held _ _ c.in-Ok.ensures.ended refl
     (if_some_weaker files.held _ _
     (λ h loads. (
-      compiles_to c.in_ok-program.program code,
-      file_takes TypedOf NotTyped most_source_bytes (λ t x. x ≡ compiles_to t code) p h c.in_ok-program.program
-          (compiles_to c.in_ok-program.program code) loads refl,
-      (refl, (image_answer code graph, (graph, may, refl), rw (c.bytes.ensures, is) at c.in_err-write_all.ensures.part)),
-    )) given.text)
-    c.in_err-write_all.ensures.cause.failed)
+      compiles_to c.in-Ok.program code,
+      file_takes TypedOf NotTyped most_source_bytes (λ t x. x ≡ compiles_to t code) p h c.in-Ok.program
+          (compiles_to c.in-Ok.program code) loads refl,
+      (refl, (image_answer code graph, (graph, may, refl), rw (c.bytes.ensures, is) at c.in_err-write_all-in-Ok.ensures.part)),
+    )) c.in-Ok.ensures.loads)
+    c.in_err-write_all-in-Ok.ensures.cause.failed)
 
-pub returns : goal.returns
-returns g c unit =
+pub returns-in_ok-write_all-in-Ok : goal.returns-in_ok-write_all-in-Ok
+returns-in_ok-write_all-in-Ok g c unit =
     let p = c.args.source.now in
     let code = as_code c.args.code in
     let files = g.F.Files.seen c.args.files.now in
-    let later = g.F.Files.seen c.program_named.new.files in
-    let given = c.in_ok-program.ensures.given in
-    let (graph, may, is) = c.in_ok-image.ensures in
-    quiet_whole (about (compile p code)) (CompileTask p code) files later (λ none. cc) given.on.held _ _ given.end refl (inl refl)
+    let later = g.F.Files.seen c.load_typed.new.files in
+    let (graph, may, is) = c.in_ok-image-in-Ok.ensures in
+    quiet_whole (about (compile p code)) (CompileTask p code) files later (λ none. cc) c.load_typed.ensures.held _ _ c.in-Ok.ensures.ended refl (inl refl)
     (image_of graph code.seed code.step)
     (if_some_weaker files.held _ _
     (λ h loads. (
-      compiles_to c.in_ok-program.program code,
-      file_takes TypedOf NotTyped most_source_bytes (λ t x. x ≡ compiles_to t code) p h c.in_ok-program.program
-          (compiles_to c.in_ok-program.program code) loads refl,
+      compiles_to c.in-Ok.program code,
+      file_takes TypedOf NotTyped most_source_bytes (λ t x. x ≡ compiles_to t code) p h c.in-Ok.program
+          (compiles_to c.in-Ok.program code) loads refl,
       (refl, (graph, may, refl)),
-    )) given.text)
-    (rw (c.bytes.ensures, is) at c.in_ok-write_all.ensures.whole)
+    )) c.in-Ok.ensures.loads)
+    (rw (c.bytes.ensures, is) at c.in_ok-write_all-in-Ok.ensures.whole)

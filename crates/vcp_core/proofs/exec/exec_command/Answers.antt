@@ -1,76 +1,123 @@
-use Rattle.std.proofs.Common.{ℕ, ◌≡◌, ap, refl, Err}
+use Rattle.std.proofs.Common.{◌∙◌, ◌≡◌, inl, inr, ap, refl, Err}
 use Rattle.std.proofs.lemmas.Result.{err_from_is_err_and}
-use Rattle.input_rows.specs.RowsOf.{RowsLeft}
-use Rattle.machine_run.specs.Moments.{moment}
-use Rattle.vcp_outside.specs.Held.{Held}
-use Rattle.vcp_words.specs.Forms.{Rows, rows_of, exec}
+use Rattle.vcp_words.specs.Forms.{exec, rows_of}
 use Rattle.vcp_words.specs.Tables.{rows_name}
-use Rattle.vcp_inputs.specs.declared.images.Image.{Image}
+use Rattle.machine_run.specs.Moments.{moment}
 use Rattle.vcp_inputs.specs.Images.{ImageOf, NotImage}
-use Rattle.vcp_inputs.specs.RowsRead.{graph_columns}
 use Rattle.command_meaning.specs.Abouts.{about, image_word}
+use Rattle.command_meaning.specs.FileTasks.{TakenRows}
+use Rattle.command_meaning.specs.Kinds.{runs as runs_to}
 use Rattle.command_meaning.specs.Answer.{image}
-use Rattle.command_meaning.specs.Kinds.{Task, runs as runs_to}
 use Rattle.command_meaning.specs.Printing.{every_row, no_words}
 use Rattle.command_meaning.specs.Reports.{subject_outputs}
 use Rattle.vcp_core.specs.MachineRun.{RunsTo}
-use Rattle.vcp_core.specs.Tasks.{table_code, rows_job, ExecTask}
-use Rattle.vcp_core.proofs.ImageLoaded.{image-carried, image_not_bytes, table-is-of, types-width}
-use Rattle.vcp_core.proofs.LoadedRows.{run_ended_so, run_lost, run_unopened, runs_read}
-use Rattle.vcp_core.proofs.Performing.{ran, run_ends}
 use Rattle.vcp_core.proofs.PrintedRun.{rows-shown}
+use Rattle.vcp_inputs.specs.RowsRead.{graph_columns}
+use Rattle.vcp_core.specs.Tasks.{table_code, rows_job, ExecTask}
+use Rattle.vcp_core.proofs.Facts.{if_some_weaker}
+use Rattle.vcp_core.proofs.ImageLoaded.{image-carried, image_not_bytes, table-is-of, types-width}
+use Rattle.vcp_core.proofs.LoadedRows.{opened_comes, rows_may, rows_unloaded, rows_unopened}
+use Rattle.vcp_core.proofs.Performing.{files_run, files_wanted, quiet_lost, ran, run_ends}
 use Rattle.vcp_core.proofs.exec.exec_command.Goals as goal
 
--- what comes of an image and the rows that are left
-abbrev Runs : Rows → Held → Image → RowsLeft → Task → Type 0
-Runs rows held i left task = task ≡ runs_to (rows_job (rows_name rows) (table_code i.table) (image i.graph) left)
-
 pub run_printed-requires-clause-table : goal.run_printed-requires-clause-table
-run_printed-requires-clause-table g c = table-is-of c.in_ok-given.given.image.table c.in_ok-given.given.image.graph c.in_ok-given.ensures.table
+run_printed-requires-clause-table g c = table-is-of c.in-Ok.loaded.table c.in-Ok.loaded.graph c.in-Ok.ensures.table
 
 pub run_printed-requires-clause-width : goal.run_printed-requires-clause-width
 run_printed-requires-clause-width g c =
-    types-width c.in_ok-given.given.image.graph c.in_ok-given.given.columns c.in-Ok.rows.types c.in-Ok.ensures.types c.in_ok-given.ensures.given.columns_are
+    types-width c.in-Ok.loaded.graph c.in_ok-columns.columns c.in-Ok-open.rows.types c.in-Ok-open.ensures.types c.in_ok-columns.ensures.columns
 
--- ---- the image or its ROWS are lost
+-- ---- the file isn't taken, or memory is wanted
 
-pub returns-in_err-given : goal.returns-in_err-given
-returns-in_err-given g c =
+pub returns-in-Err : goal.returns-in-Err
+returns-in-Err g c =
     let m = c.args.image.now in
     let rows = rows_of c.args.rows in
+    let f = exec m rows in
+    let files = g.F.Files.seen c.args.files.now in
+    let mid = g.F.Files.seen c.load_image.new.files in
+    rw c.bytes.ensures
+    (quiet_lost (about f) ImageOf NotImage (λ h i. TakenRows (λ left x. x ≡ runs_to (rows_job (rows_name rows) (table_code i.table) (image i.graph) left))
+    rows h (graph_columns i.graph)) (image_word m) files mid _
+    c.in-Err.input (inl refl) (λ none. cc) (inr (inl refl)) c.load_image.ensures.held
+    c.in-Err.ensures.loads (λ r is. c.in-Err.ensures.whole r (ap Err is)) image_not_bytes (λ is. c.in-Err.ensures.unread (ap Err is))
+    c.in-Err.ensures.caused)
+
+pub returns-in_err-columns : goal.returns-in_err-columns
+returns-in_err-columns g c =
+    let m = c.args.image.now in
+    let rows = rows_of c.args.rows in
+    let f = exec m rows in
+    let files = g.F.Files.seen c.args.files.now in
+    let mid = g.F.Files.seen c.load_image.new.files in
     let q = err_from_is_err_and c.from_residual.result c.from_residual.ensures.1 in
-    rw (q.1, q.2)
-    (run_lost ImageOf NotImage (λ i. graph_columns i.graph) (about (exec m rows)) (image_word m) rows (runs_read (image_word m) rows) (Runs rows)
-    image_not_bytes _ _ _ _ _ c.in_err-given.ensures.lost)
+    rw (q.1, q.2) (files_wanted (about f) (ExecTask m rows) files mid (λ none. cc) c.load_image.ensures.held _)
+
+-- ---- there is nothing of ROWS
+
+pub returns-in-Err-load_rows : goal.returns-in-Err-load_rows
+returns-in-Err-load_rows g c =
+    let m = c.args.image.now in
+    let rows = rows_of c.args.rows in
+    let f = exec m rows in
+    let files = g.F.Files.seen c.args.files.now in
+    let mid = g.F.Files.seen c.load_image.new.files in
+    let later = g.F.Files.seen c.load_rows.new.files in
+    rw c.rows_name-name.ensures
+    (rows_unloaded ImageOf NotImage (λ i. graph_columns i.graph) (about f) (image_word m) rows (λ none. cc) (inr (inl refl)) (λ w among. inr among)
+    (λ n among. among) (λ h i left x. x ≡ runs_to (rows_job (rows_name rows) (table_code i.table) (image i.graph) left))
+    files mid later c.in-Ok.loaded c.in_ok-columns.columns
+    c.in_ok-columns.ensures.columns c.load_image.ensures.held c.load_rows.ensures.held c.in-Ok.ensures.loads _
+    c.in-Err-load_rows.input c.load_image.ensures.later c.load_image.ensures.broken_later c.in-Ok.ensures.ended c.in-Err-load_rows.ensures.loads
+    (λ is. c.in-Err-load_rows.ensures.begun (ap Err is)) (λ is. c.in-Err-load_rows.ensures.unread (ap Err is))
+    (λ r is other. c.in-Err-load_rows.ensures.whole r (ap Err is) other) (λ is. c.in-Err-load_rows.ensures.long (ap Err is))
+    c.in-Err-load_rows.ensures.caused)
 
 pub returns : goal.returns
 returns g c =
     let m = c.args.image.now in
     let rows = rows_of c.args.rows in
+    let f = exec m rows in
+    let files = g.F.Files.seen c.args.files.now in
+    let mid = g.F.Files.seen c.load_image.new.files in
+    let later = g.F.Files.seen c.load_rows.new.files in
     rw c.rows_name-name.ensures
-    (run_unopened ImageOf NotImage (λ i. graph_columns i.graph) (about (exec m rows)) (image_word m) rows (runs_read (image_word m) rows) (Runs rows)
-    c.in_ok-given.ensures.given _ c.in-Err.input (λ is. c.in-Err.ensures.read (ap Err is)) c.in-Err.ensures.opens c.in-Err.ensures.caused)
+    (rows_unopened ImageOf NotImage (λ i. graph_columns i.graph) (about f) (image_word m) rows (λ none. cc) (inr (inl refl)) (λ w among. inr among)
+    (λ n among. among) (λ h i left x. x ≡ runs_to (rows_job (rows_name rows) (table_code i.table) (image i.graph) left))
+    files mid later c.in-Ok.loaded c.in_ok-columns.columns
+    c.in_ok-columns.ensures.columns c.load_image.ensures.held c.load_rows.ensures.held c.in-Ok.ensures.loads
+    c.in-Ok-load_rows.inputs (c.in-Ok-load_rows.ensures.ended c.in-Ok.ensures.ended) c.in-Ok-load_rows.ensures.loads _ c.in-Err-open.input
+    (λ is. c.in-Err-open.ensures.read (ap Err is)) (c.in-Err-open.ensures.opens files.broken later.broken) c.in-Err-open.ensures.caused)
 
 -- ---- the run
 
-pub returns-in-Ok : goal.returns-in-Ok
-returns-in-Ok g c =
+pub returns-in-Ok-open : goal.returns-in-Ok-open
+returns-in-Ok-open g c =
     let m = c.args.image.now in
     let rows = rows_of c.args.rows in
     let f = exec m rows in
-    let i = c.in_ok-given.given.image in
-    let left = c.in-Ok.rows in
-    let j = rows_job (rows_name rows) (table_code i.table) (image i.graph) left in
     let files = g.F.Files.seen c.args.files.now in
-    let later = g.F.Files.seen c.load_image_rows.new.files in
+    let mid = g.F.Files.seen c.load_image.new.files in
+    let later = g.F.Files.seen c.load_rows.new.files in
+    let j = rows_job (rows_name rows) (table_code c.in-Ok.loaded.table) (image c.in-Ok.loaded.graph) c.in-Ok-open.rows in
     let before = moment (g.U.Unit.seen c.args.unit.now) (g.O.Sink.seen c.args.out.now) in
     let after = moment (g.U.Unit.seen c.run_printed.new.unit) (g.O.Sink.seen c.run_printed.new.out) in
-    let r = c.run_printed.result in
-    let ended : RunsTo j before after r = c.run_printed.ensures.ran (image i.graph) (table_code i.table) (rows_name rows)
-    (every_row (subject_outputs (image i.graph))) no_words (image-carried i.graph i.table left c.in_ok-given.ensures.table)
-    (rows-shown _ _ (image i.graph) (table_code i.table) left (rows_name rows) i.graph) in
+    let ended : RunsTo j before after c.run_printed.result = c.run_printed.ensures.ran (image c.in-Ok.loaded.graph)
+    (table_code c.in-Ok.loaded.table) (rows_name rows) (every_row (subject_outputs (image c.in-Ok.loaded.graph))) no_words
+    (image-carried c.in-Ok.loaded.graph c.in-Ok.loaded.table c.in-Ok-open.rows c.in-Ok.ensures.table)
+    (rows-shown _ _ (image c.in-Ok.loaded.graph) (table_code c.in-Ok.loaded.table) c.in-Ok-open.rows (rows_name rows) c.in-Ok.loaded.graph) in
     rw (c.run_ended.ensures.line, c.run_ended.ensures.status, c.rows_name-name.ensures)
-    (run_ended_so ImageOf NotImage (λ i. graph_columns i.graph) (about f) (image_word m) rows (runs_read (image_word m) rows) (Runs rows)
-    c.in_ok-given.ensures.given left (c.in-Ok.ensures.opens 0 0) (λ h. runs_to j) (λ h. refl) before after r (λ e is. run_ends e)
-    (λ h comes. ran (about f) files later before after (ExecTask m rows h) j r refl comes c.run_printed.ensures.causes.write ended)
-    (λ no. absurd cc) c.run_printed.ensures.causes)
+    (files_run (about f) (ExecTask m rows) files later (λ none. cc) (c.load_rows.ensures.held ∙ c.load_image.ensures.held) (inr (inl refl)) before after
+    (rows_name rows)
+    c.run_printed.result (λ e is. run_ends e)
+    (if_some_weaker files.held _ _
+    (λ h comes. ran (about f) files later before after (ExecTask m rows h) j c.run_printed.result refl comes c.run_printed.ensures.causes.write ended)
+    (opened_comes ImageOf NotImage (λ i. graph_columns i.graph) (about f) (image_word m) rows (λ none. cc) (inr (inl refl)) (λ w among. inr among)
+    (λ n among. among) (λ h i left x. x ≡ runs_to (rows_job (rows_name rows) (table_code i.table) (image i.graph) left))
+    files mid later c.in-Ok.loaded c.in_ok-columns.columns
+    c.in_ok-columns.ensures.columns c.load_image.ensures.held c.load_rows.ensures.held c.in-Ok.ensures.loads
+    c.in-Ok-load_rows.inputs (c.in-Ok-load_rows.ensures.ended c.in-Ok.ensures.ended) c.in-Ok-load_rows.ensures.loads c.in-Ok-open.rows (λ h. runs_to j)
+    (c.in-Ok-open.ensures.opens 0 0) (λ h. refl)))
+    (c.in-Ok-load_rows.ensures.ended c.in-Ok.ensures.ended) (λ no. absurd cc) (λ calls. c.run_printed.ensures.causes.stopped)
+    c.run_printed.ensures.causes.refused c.run_printed.ensures.causes.write
+    (rows_may (about f) rows (λ w among. inr among) (λ n among. among)))

@@ -1,77 +1,127 @@
-use Rattle.std.proofs.Common.{ℕ, ◌≡◌, ◌∙◌, ap, refl, Err}
+use Rattle.std.proofs.Common.{◌∙◌, ◌≡◌, inl, inr, ap, refl, Err}
 use Rattle.std.proofs.lemmas.Result.{err_from_is_err_and}
-use Rattle.input_rows.specs.RowsOf.{RowsLeft, types_of}
-use Rattle.machine_run.specs.Moments.{moment}
-use Rattle.vcp_outside.specs.Held.{Held}
-use Rattle.vcp_words.specs.Forms.{Code, Rows, as_code, rows_of, run}
+use Rattle.input_rows.specs.RowsOf.{types_of}
+use Rattle.vcp_words.specs.Forms.{run, rows_of, as_code}
 use Rattle.vcp_words.specs.Tables.{rows_name}
+use Rattle.machine_run.specs.Moments.{moment}
 use Rattle.vcp_typed.specs.Fitting.{input_columns}
-use Rattle.vcp_typed.specs.SourceRun.{Program}
 use Rattle.vcp_inputs.specs.Programs.{TypedOf, NotTyped}
 use Rattle.command_meaning.specs.Abouts.{about, source_word}
+use Rattle.command_meaning.specs.FileTasks.{TakenRows}
 use Rattle.command_meaning.specs.Answer.{source}
-use Rattle.command_meaning.specs.Kinds.{Task, runs as runs_to}
+use Rattle.command_meaning.specs.Kinds.{runs as runs_to}
 use Rattle.command_meaning.specs.Printing.{every_row, no_words}
 use Rattle.command_meaning.specs.Reports.{subject_outputs}
 use Rattle.vcp_core.specs.MachineRun.{RunsTo}
-use Rattle.vcp_core.specs.Tasks.{rows_job, RunTask}
 use Rattle.vcp_core.proofs.JobFacts.{as-itself}
-use Rattle.vcp_core.proofs.Loaded.{typed_not_bytes}
-use Rattle.vcp_core.proofs.LoadedRows.{run_ended_so, run_lost, run_unopened, runs_read}
-use Rattle.vcp_core.proofs.Performing.{ran, run_ends}
-use Rattle.vcp_core.proofs.PlainNames.{types-of-inputs}
 use Rattle.vcp_core.proofs.PrintedRun.{rows-shown}
+use Rattle.vcp_core.specs.Tasks.{rows_job, RunTask}
+use Rattle.vcp_core.proofs.Facts.{if_some_weaker}
+use Rattle.vcp_core.proofs.Loaded.{typed_not_bytes}
+use Rattle.vcp_core.proofs.LoadedRows.{opened_comes, rows_may, rows_unloaded, rows_unopened}
+use Rattle.vcp_core.proofs.Performing.{files_run, files_wanted, quiet_lost, ran, run_ends}
+use Rattle.vcp_core.proofs.PlainNames.{types-of-inputs}
 use Rattle.vcp_core.proofs.run.run_command.Goals as goal
-
--- what comes of a program and the rows that are left
-abbrev Runs : Rows → Code → Held → Program → RowsLeft → Task → Type 0
-Runs rows code held p left task = task ≡ runs_to (rows_job (rows_name rows) code (source p) left)
 
 pub run_program-requires-clause-types : goal.run_program-requires-clause-types
 run_program-requires-clause-types g c =
-    c.in-Ok.ensures.types ∙ (ap types_of c.in_ok-given.ensures.given.columns_are ∙ types-of-inputs c.in_ok-given.given.program.slots)
+    c.in-Ok-open.ensures.types ∙ (ap types_of c.in_ok-columns.ensures.columns ∙ types-of-inputs c.in-Ok.program.slots)
 
--- ---- the program or its ROWS are lost
+-- ---- the file isn't taken, or memory is wanted
 
-pub returns-in_err-given : goal.returns-in_err-given
-returns-in_err-given g c =
+pub returns-in-Err : goal.returns-in-Err
+returns-in-Err g c =
     let p = c.args.source.now in
-    let rows = rows_of c.args.rows in
     let code = as_code c.args.code in
+    let rows = rows_of c.args.rows in
+    let f = run p rows code in
+    let files = g.F.Files.seen c.args.files.now in
+    let mid = g.F.Files.seen c.load_typed.new.files in
+    rw c.bytes.ensures
+    (quiet_lost (about f) TypedOf NotTyped (λ h t. TakenRows (λ left x. x ≡ runs_to (rows_job (rows_name rows) code (source t) left)) rows h
+    (input_columns t.slots)) (source_word p) files mid _
+    c.in-Err.input (inl refl) (λ none. cc) (inr (inl refl)) c.load_typed.ensures.held
+    c.in-Err.ensures.loads (λ r is. c.in-Err.ensures.whole r (ap Err is)) typed_not_bytes (λ is. c.in-Err.ensures.unread (ap Err is))
+    c.in-Err.ensures.caused)
+
+pub returns-in_err-columns : goal.returns-in_err-columns
+returns-in_err-columns g c =
+    let p = c.args.source.now in
+    let code = as_code c.args.code in
+    let rows = rows_of c.args.rows in
+    let f = run p rows code in
+    let files = g.F.Files.seen c.args.files.now in
+    let mid = g.F.Files.seen c.load_typed.new.files in
     let q = err_from_is_err_and c.from_residual.result c.from_residual.ensures.1 in
-    rw (q.1, q.2)
-    (run_lost TypedOf NotTyped (λ t. input_columns t.slots) (about (run p rows code)) (source_word p) rows (runs_read (source_word p) rows) (Runs rows code)
-    typed_not_bytes _ _ _ _ _ c.in_err-given.ensures.lost)
+    rw (q.1, q.2) (files_wanted (about f) (RunTask p rows code) files mid (λ none. cc) c.load_typed.ensures.held _)
+
+-- ---- there is nothing of ROWS
+
+pub returns-in-Err-load_rows : goal.returns-in-Err-load_rows
+returns-in-Err-load_rows g c =
+    let p = c.args.source.now in
+    let code = as_code c.args.code in
+    let rows = rows_of c.args.rows in
+    let f = run p rows code in
+    let files = g.F.Files.seen c.args.files.now in
+    let mid = g.F.Files.seen c.load_typed.new.files in
+    let later = g.F.Files.seen c.load_rows.new.files in
+    rw c.rows_name-name.ensures
+    (rows_unloaded TypedOf NotTyped (λ t. input_columns t.slots) (about f) (source_word p) rows (λ none. cc) (inr (inl refl)) (λ w among. inr among)
+    (λ n among. among) (λ h t left x. x ≡ runs_to (rows_job (rows_name rows) code (source t) left))
+    files mid later c.in-Ok.program c.in_ok-columns.columns
+    c.in_ok-columns.ensures.columns c.load_typed.ensures.held c.load_rows.ensures.held c.in-Ok.ensures.loads _
+    c.in-Err-load_rows.input c.load_typed.ensures.later c.load_typed.ensures.broken_later c.in-Ok.ensures.ended c.in-Err-load_rows.ensures.loads
+    (λ is. c.in-Err-load_rows.ensures.begun (ap Err is)) (λ is. c.in-Err-load_rows.ensures.unread (ap Err is))
+    (λ r is other. c.in-Err-load_rows.ensures.whole r (ap Err is) other) (λ is. c.in-Err-load_rows.ensures.long (ap Err is))
+    c.in-Err-load_rows.ensures.caused)
 
 pub returns : goal.returns
 returns g c =
     let p = c.args.source.now in
-    let rows = rows_of c.args.rows in
     let code = as_code c.args.code in
+    let rows = rows_of c.args.rows in
+    let f = run p rows code in
+    let files = g.F.Files.seen c.args.files.now in
+    let mid = g.F.Files.seen c.load_typed.new.files in
+    let later = g.F.Files.seen c.load_rows.new.files in
     rw c.rows_name-name.ensures
-    (run_unopened TypedOf NotTyped (λ t. input_columns t.slots) (about (run p rows code)) (source_word p) rows (runs_read (source_word p) rows) (Runs rows code)
-    c.in_ok-given.ensures.given _ c.in-Err.input (λ is. c.in-Err.ensures.read (ap Err is)) c.in-Err.ensures.opens c.in-Err.ensures.caused)
+    (rows_unopened TypedOf NotTyped (λ t. input_columns t.slots) (about f) (source_word p) rows (λ none. cc) (inr (inl refl)) (λ w among. inr among)
+    (λ n among. among) (λ h t left x. x ≡ runs_to (rows_job (rows_name rows) code (source t) left))
+    files mid later c.in-Ok.program c.in_ok-columns.columns
+    c.in_ok-columns.ensures.columns c.load_typed.ensures.held c.load_rows.ensures.held c.in-Ok.ensures.loads
+    c.in-Ok-load_rows.inputs (c.in-Ok-load_rows.ensures.ended c.in-Ok.ensures.ended) c.in-Ok-load_rows.ensures.loads _ c.in-Err-open.input
+    (λ is. c.in-Err-open.ensures.read (ap Err is)) (c.in-Err-open.ensures.opens files.broken later.broken) c.in-Err-open.ensures.caused)
 
 -- ---- the run
 
-pub returns-in-Ok : goal.returns-in-Ok
-returns-in-Ok g c =
+pub returns-in-Ok-open : goal.returns-in-Ok-open
+returns-in-Ok-open g c =
     let p = c.args.source.now in
-    let rows = rows_of c.args.rows in
     let code = as_code c.args.code in
+    let rows = rows_of c.args.rows in
     let f = run p rows code in
-    let t = c.in_ok-given.given.program in
-    let left = c.in-Ok.rows in
-    let j = rows_job (rows_name rows) code (source t) left in
     let files = g.F.Files.seen c.args.files.now in
-    let later = g.F.Files.seen c.load_program_rows.new.files in
+    let mid = g.F.Files.seen c.load_typed.new.files in
+    let later = g.F.Files.seen c.load_rows.new.files in
+    let j = rows_job (rows_name rows) code (source c.in-Ok.program) c.in-Ok-open.rows in
     let before = moment (g.U.Unit.seen c.args.unit.now) (g.O.Sink.seen c.args.out.now) in
     let after = moment (g.U.Unit.seen c.run_program.new.unit) (g.O.Sink.seen c.run_program.new.out) in
-    let r = c.run_program.result in
-    let ended : RunsTo j before after r = c.run_program.ensures.ran (source t) (rows_name rows) (every_row (subject_outputs (source t))) no_words
-    (as-itself t left) (rows-shown _ _ (source t) code left (rows_name rows)) in
+    let ended : RunsTo j before after c.run_program.result = c.run_program.ensures.ran (source c.in-Ok.program) (rows_name rows)
+    (every_row (subject_outputs (source c.in-Ok.program))) no_words (as-itself c.in-Ok.program c.in-Ok-open.rows)
+    (rows-shown _ _ (source c.in-Ok.program) code c.in-Ok-open.rows (rows_name rows)) in
     rw (c.run_ended.ensures.line, c.run_ended.ensures.status, c.rows_name-name.ensures)
-    (run_ended_so TypedOf NotTyped (λ t. input_columns t.slots) (about f) (source_word p) rows (runs_read (source_word p) rows) (Runs rows code)
-    c.in_ok-given.ensures.given left (c.in-Ok.ensures.opens 0 0) (λ h. runs_to j) (λ h. refl) before after r (λ e is. run_ends e)
-    (λ h comes. ran (about f) files later before after (RunTask p rows code h) j r refl comes c.run_program.ensures.causes.write ended)
-    (λ no. absurd cc) c.run_program.ensures.causes)
+    (files_run (about f) (RunTask p rows code) files later (λ none. cc) (c.load_rows.ensures.held ∙ c.load_typed.ensures.held) (inr (inl refl)) before
+    after (rows_name rows)
+    c.run_program.result (λ e is. run_ends e)
+    (if_some_weaker files.held _ _
+    (λ h comes. ran (about f) files later before after (RunTask p rows code h) j c.run_program.result refl comes c.run_program.ensures.causes.write ended)
+    (opened_comes TypedOf NotTyped (λ t. input_columns t.slots) (about f) (source_word p) rows (λ none. cc) (inr (inl refl)) (λ w among. inr among)
+    (λ n among. among) (λ h t left x. x ≡ runs_to (rows_job (rows_name rows) code (source t) left))
+    files mid later c.in-Ok.program c.in_ok-columns.columns
+    c.in_ok-columns.ensures.columns c.load_typed.ensures.held c.load_rows.ensures.held c.in-Ok.ensures.loads
+    c.in-Ok-load_rows.inputs (c.in-Ok-load_rows.ensures.ended c.in-Ok.ensures.ended) c.in-Ok-load_rows.ensures.loads c.in-Ok-open.rows (λ h. runs_to j)
+    (c.in-Ok-open.ensures.opens 0 0) (λ h. refl)))
+    (c.in-Ok-load_rows.ensures.ended c.in-Ok.ensures.ended) (λ no. absurd cc) (λ calls. c.run_program.ensures.causes.stopped)
+    c.run_program.ensures.causes.refused c.run_program.ensures.causes.write
+    (rows_may (about f) rows (λ w among. inr among) (λ n among. among)))

@@ -2,7 +2,7 @@ use Rattle.std.proofs.Common.{inl, inr, refl}
 use Rattle.vcp_words.specs.Forms.{form}
 use Rattle.command_meaning.specs.Abouts.{about}
 use Rattle.command_meaning.specs.Seen.{outside}
-use Rattle.vcp_core.proofs.Performed.{performed_keeps, performed_serves}
+use Rattle.command_meaning.proofs.Performed.{performed_keeps, performed_serves}
 use Rattle.vcp_core.specs.Tasks.{TaskOf}
 use Rattle.vcp_core.proofs.PlainTurns.{appends-nothing}
 use Rattle.vcp_core.proofs.Served.{meaning, served_as_plain}
@@ -16,8 +16,7 @@ returns-in-Ok-clause-serves g c =
     let before = outside (g.F.Files.seen c.args.files.now) (g.U.Unit.seen c.args.unit.now) (g.O.Sink.seen c.args.out.now) (g.E.Sink.seen c.args.err.now) in
     let after = outside (g.F.Files.seen c.perform.new.files) (g.U.Unit.seen c.perform.new.unit) (g.O.Sink.seen c.perform.new.out)
     (g.E.Sink.seen c.args.err.now) in
-    performed_serves (about f) (TaskOf f) before after _ _ _ (meaning c.one_task.ensures.one c.one_task.ensures.own c.one_task.ensures.found
-    c.endings_have_causes.ensures.status c.endings_have_causes.ensures.ended c.endings_have_causes.ensures.given_up f)
+    performed_serves (about f) (TaskOf f) before after _ _ _ (meaning c.one_task.ensures.one c.one_task.ensures.own c.one_task.ensures.found f)
     c.in-Ok.ensures (inl (c.status_of.ensures, appends-nothing _))
 
 pub returns-in-Ok-clause-keeps : goal.returns-in-Ok-clause-keeps
@@ -35,8 +34,7 @@ returns-in-Ok-clause-as_plain g c =
     let after = outside (g.F.Files.seen c.perform.new.files) (g.U.Unit.seen c.perform.new.unit) (g.O.Sink.seen c.perform.new.out)
     (g.E.Sink.seen c.args.err.now) in
     served_as_plain c.one_task.ensures.as_plain f before after _ (g.F.Files.seen c.args.files.now).held
-    (performed_serves (about f) (TaskOf f) before after _ _ _ (meaning c.one_task.ensures.one c.one_task.ensures.own c.one_task.ensures.found
-    c.endings_have_causes.ensures.status c.endings_have_causes.ensures.ended c.endings_have_causes.ensures.given_up f)
+    (performed_serves (about f) (TaskOf f) before after _ _ _ (meaning c.one_task.ensures.one c.one_task.ensures.own c.one_task.ensures.found f)
     c.in-Ok.ensures (inl (c.status_of.ensures, appends-nothing _)))
 
 -- ---- it ended by a fault whose line was told
@@ -47,8 +45,7 @@ returns-in-Ok-tell-clause-serves g c =
     let before = outside (g.F.Files.seen c.args.files.now) (g.U.Unit.seen c.args.unit.now) (g.O.Sink.seen c.args.out.now) (g.E.Sink.seen c.args.err.now) in
     let after = outside (g.F.Files.seen c.perform.new.files) (g.U.Unit.seen c.perform.new.unit) (g.O.Sink.seen c.perform.new.out)
     (g.E.Sink.seen c.tell.new.err) in
-    performed_serves (about f) (TaskOf f) before after _ _ _ (meaning c.one_task.ensures.one c.one_task.ensures.own c.one_task.ensures.found
-    c.endings_have_causes.ensures.status c.endings_have_causes.ensures.ended c.endings_have_causes.ensures.given_up f)
+    performed_serves (about f) (TaskOf f) before after _ _ _ (meaning c.one_task.ensures.one c.one_task.ensures.own c.one_task.ensures.found f)
     c.in-Err.ensures (inl (c.fault_status.ensures, c.in-Ok-tell.ensures.whole))
 
 pub returns-in-Ok-tell-clause-keeps : goal.returns-in-Ok-tell-clause-keeps
@@ -66,8 +63,7 @@ returns-in-Ok-tell-clause-as_plain g c =
     let after = outside (g.F.Files.seen c.perform.new.files) (g.U.Unit.seen c.perform.new.unit) (g.O.Sink.seen c.perform.new.out)
     (g.E.Sink.seen c.tell.new.err) in
     served_as_plain c.one_task.ensures.as_plain f before after _ (g.F.Files.seen c.args.files.now).held
-    (performed_serves (about f) (TaskOf f) before after _ _ _ (meaning c.one_task.ensures.one c.one_task.ensures.own c.one_task.ensures.found
-    c.endings_have_causes.ensures.status c.endings_have_causes.ensures.ended c.endings_have_causes.ensures.given_up f)
+    (performed_serves (about f) (TaskOf f) before after _ _ _ (meaning c.one_task.ensures.one c.one_task.ensures.own c.one_task.ensures.found f)
     c.in-Err.ensures (inl (c.fault_status.ensures, c.in-Ok-tell.ensures.whole)))
 
 -- ---- or the line could not be told
@@ -78,8 +74,7 @@ returns-in-Err-tell-clause-serves g c =
     let before = outside (g.F.Files.seen c.args.files.now) (g.U.Unit.seen c.args.unit.now) (g.O.Sink.seen c.args.out.now) (g.E.Sink.seen c.args.err.now) in
     let after = outside (g.F.Files.seen c.perform.new.files) (g.U.Unit.seen c.perform.new.unit) (g.O.Sink.seen c.perform.new.out)
     (g.E.Sink.seen c.tell.new.err) in
-    performed_serves (about f) (TaskOf f) before after _ _ _ (meaning c.one_task.ensures.one c.one_task.ensures.own c.one_task.ensures.found
-    c.endings_have_causes.ensures.status c.endings_have_causes.ensures.ended c.endings_have_causes.ensures.given_up f)
+    performed_serves (about f) (TaskOf f) before after _ _ _ (meaning c.one_task.ensures.one c.one_task.ensures.own c.one_task.ensures.found f)
     c.in-Err.ensures (inr (refl, c.in-Err-tell.ensures.cause.failed, c.in-Err-tell.ensures.part))
 
 pub returns-in-Err-tell-clause-keeps : goal.returns-in-Err-tell-clause-keeps
@@ -97,6 +92,5 @@ returns-in-Err-tell-clause-as_plain g c =
     let after = outside (g.F.Files.seen c.perform.new.files) (g.U.Unit.seen c.perform.new.unit) (g.O.Sink.seen c.perform.new.out)
     (g.E.Sink.seen c.tell.new.err) in
     served_as_plain c.one_task.ensures.as_plain f before after _ (g.F.Files.seen c.args.files.now).held
-    (performed_serves (about f) (TaskOf f) before after _ _ _ (meaning c.one_task.ensures.one c.one_task.ensures.own c.one_task.ensures.found
-    c.endings_have_causes.ensures.status c.endings_have_causes.ensures.ended c.endings_have_causes.ensures.given_up f)
+    (performed_serves (about f) (TaskOf f) before after _ _ _ (meaning c.one_task.ensures.one c.one_task.ensures.own c.one_task.ensures.found f)
     c.in-Err.ensures (inr (refl, c.in-Err-tell.ensures.cause.failed, c.in-Err-tell.ensures.part)))

@@ -1,7 +1,7 @@
 use Rattle.vcp_words.specs.Forms.{form, form_of}
 use Rattle.command_meaning.specs.Abouts.{about}
 use Rattle.command_meaning.specs.Seen.{outside}
-use Rattle.vcp_core.proofs.Performed.{serves_completes}
+use Rattle.command_meaning.proofs.Performed.{serves_completes}
 use Rattle.vcp_core.specs.Tasks.{TaskOf}
 use Rattle.vcp_core.proofs.Facts.{if_some_is}
 use Rattle.vcp_core.proofs.Meanings.{none_needed}
@@ -23,6 +23,5 @@ returns-in-Some-clause-complete g c =
     let after = outside (g.F.Files.seen c.serve.new.files) (g.U.Unit.seen c.serve.new.unit) (g.O.Sink.seen c.serve.new.out)
     (g.E.Sink.seen c.serve.new.err) in
     if_some_is (form_of c.args.words.now) f _ c.in-Some.ensures.form
-    (λ h may. serves_completes (about f) h (TaskOf f h) before after _ c.endings_have_causes.ensures.meant
-    (λ quiet task comes. none_needed f h task quiet comes)
+    (λ h may. serves_completes (about f) h (TaskOf f h) before after _ (λ quiet task comes. none_needed f h task quiet comes)
     (c.serve.ensures.serves h may) c.serve.ensures.keeps c.serve.ensures.known c.serve.ensures.no_usage)

@@ -1,83 +1,131 @@
-use Rattle.std.proofs.Common.{ℕ, ◌≡◌, ◌≤◌, ◌+◌, ◌∙◌, ap, refl, sym, subst, length, None, Err}
+use Rattle.std.proofs.Common.{◌∙◌, ◌≡◌, ◌≤◌, ◌+◌, ap, refl, sym, subst, inl, inr, length, None, Err}
 use Rattle.std.proofs.lemmas.Result.{err_from_is_err_and}
 use Rattle.input_rows.specs.RowsOf.{RowsLeft, through}
-use Rattle.machine_run.specs.Moments.{moment}
-use Rattle.vcp_outside.specs.Held.{Held}
-use Rattle.vcp_words.specs.Forms.{Rows, rows_of, trace}
+use Rattle.vcp_words.specs.Forms.{trace, rows_of}
 use Rattle.vcp_words.specs.Tables.{rows_name}
-use Rattle.vcp_inputs.specs.declared.images.Image.{Image}
+use Rattle.machine_run.specs.Moments.{moment}
 use Rattle.vcp_inputs.specs.Images.{ImageOf, NotImage}
-use Rattle.vcp_inputs.specs.RowsRead.{graph_columns}
 use Rattle.command_meaning.specs.Abouts.{about, image_word}
-use Rattle.command_meaning.specs.Kinds.{Task, runs as runs_to}
+use Rattle.command_meaning.specs.FileTasks.{TakenRows}
+use Rattle.command_meaning.specs.Kinds.{runs as runs_to}
 use Rattle.vcp_core.specs.MachineRun.{RunsTo}
+use Rattle.vcp_inputs.specs.RowsRead.{graph_columns}
 use Rattle.vcp_core.specs.Tasks.{table_code, words_job, TraceTask}
+use Rattle.vcp_core.proofs.Facts.{if_some_weaker}
 use Rattle.vcp_core.proofs.ImageLoaded.{image_not_bytes, types-width}
-use Rattle.vcp_core.proofs.LoadedRows.{run_ended_so, run_lost, run_unopened, runs_read}
-use Rattle.vcp_core.proofs.Performing.{ran, run_ends}
+use Rattle.vcp_core.proofs.LoadedRows.{opened_comes, rows_may, rows_unloaded, rows_unopened}
+use Rattle.vcp_core.proofs.Performing.{files_run, files_wanted, quiet_lost, ran, run_ends}
 use Rattle.vcp_core.proofs.WordsRun.{through-few, through-all}
 use Rattle.vcp_core.proofs.trace.trace_command.Goals as goal
-
--- what comes of an image and the rows that are left
-abbrev Runs : Rows → ℕ → Held → Image → RowsLeft → Task → Type 0
-Runs rows n held i left task = task ≡ runs_to (words_job (rows_name rows) n i.graph (table_code i.table) (through n left))
 
 pub run_words-requires-clause-width : goal.run_words-requires-clause-width
 run_words-requires-clause-width g c =
     ap (λ (l : RowsLeft). length l.types) c.through.ensures.rows
-    ∙ types-width c.in_ok-given.given.image.graph c.in_ok-given.given.columns c.in-Ok.rows.types c.in-Ok.ensures.types
-    c.in_ok-given.ensures.given.columns_are
+    ∙ types-width c.in-Ok.loaded.graph c.in_ok-columns.columns c.in-Ok-open.rows.types c.in-Ok-open.ensures.types c.in_ok-columns.ensures.columns
 
 pub run_words-requires-clause-few : goal.run_words-requires-clause-few
 run_words-requires-clause-few g c =
-    subst (λ (l : RowsLeft). length l.rows ≤ c.args.cycle + 1) (sym c.through.ensures.rows) (through-few c.args.cycle c.in-Ok.rows)
+    subst (λ (l : RowsLeft). length l.rows ≤ c.args.cycle + 1) (sym c.through.ensures.rows) (through-few c.args.cycle c.in-Ok-open.rows)
 
 pub run_words-requires-clause-through : goal.run_words-requires-clause-through
 run_words-requires-clause-through g c =
-    subst (λ (l : RowsLeft). l.refusal ≡ None → length l.rows ≡ c.args.cycle + 1) (sym c.through.ensures.rows) (through-all c.args.cycle c.in-Ok.rows)
+    subst (λ (l : RowsLeft). l.refusal ≡ None → length l.rows ≡ c.args.cycle + 1) (sym c.through.ensures.rows) (through-all c.args.cycle c.in-Ok-open.rows)
 
--- ---- the image or its ROWS are lost
+-- ---- the file isn't taken, or memory is wanted
 
-pub returns-in_err-given : goal.returns-in_err-given
-returns-in_err-given g c =
+pub returns-in-Err : goal.returns-in-Err
+returns-in-Err g c =
     let m = c.args.image.now in
     let rows = rows_of c.args.rows in
     let n = c.args.cycle in
+    let f = trace m rows n in
+    let files = g.F.Files.seen c.args.files.now in
+    let mid = g.F.Files.seen c.load_image.new.files in
+    rw c.bytes.ensures
+    (quiet_lost (about f) ImageOf NotImage (λ h i. TakenRows (λ left x. x ≡ runs_to
+    (words_job (rows_name rows) n i.graph (table_code i.table) (through n left))) rows h (graph_columns i.graph)) (image_word m) files mid _
+    c.in-Err.input (inl refl) (λ none. cc) (inr (inl refl)) c.load_image.ensures.held
+    c.in-Err.ensures.loads (λ r is. c.in-Err.ensures.whole r (ap Err is)) image_not_bytes (λ is. c.in-Err.ensures.unread (ap Err is))
+    c.in-Err.ensures.caused)
+
+pub returns-in_err-columns : goal.returns-in_err-columns
+returns-in_err-columns g c =
+    let m = c.args.image.now in
+    let rows = rows_of c.args.rows in
+    let n = c.args.cycle in
+    let f = trace m rows n in
+    let files = g.F.Files.seen c.args.files.now in
+    let mid = g.F.Files.seen c.load_image.new.files in
     let q = err_from_is_err_and c.from_residual.result c.from_residual.ensures.1 in
-    rw (q.1, q.2)
-    (run_lost ImageOf NotImage (λ i. graph_columns i.graph) (about (trace m rows n)) (image_word m) rows (runs_read (image_word m) rows) (Runs rows n)
-    image_not_bytes _ _ _ _ _ c.in_err-given.ensures.lost)
+    rw (q.1, q.2) (files_wanted (about f) (TraceTask m rows n) files mid (λ none. cc) c.load_image.ensures.held _)
+
+-- ---- there is nothing of ROWS
+
+pub returns-in-Err-load_rows : goal.returns-in-Err-load_rows
+returns-in-Err-load_rows g c =
+    let m = c.args.image.now in
+    let rows = rows_of c.args.rows in
+    let n = c.args.cycle in
+    let f = trace m rows n in
+    let files = g.F.Files.seen c.args.files.now in
+    let mid = g.F.Files.seen c.load_image.new.files in
+    let later = g.F.Files.seen c.load_rows.new.files in
+    rw c.rows_name-name.ensures
+    (rows_unloaded ImageOf NotImage (λ i. graph_columns i.graph) (about f) (image_word m) rows (λ none. cc) (inr (inl refl)) (λ w among. inr among)
+    (λ n among. among) (λ h i left x. x ≡ runs_to (words_job (rows_name rows) n i.graph (table_code i.table) (through n left)))
+    files mid later c.in-Ok.loaded c.in_ok-columns.columns
+    c.in_ok-columns.ensures.columns c.load_image.ensures.held c.load_rows.ensures.held c.in-Ok.ensures.loads _
+    c.in-Err-load_rows.input c.load_image.ensures.later c.load_image.ensures.broken_later c.in-Ok.ensures.ended c.in-Err-load_rows.ensures.loads
+    (λ is. c.in-Err-load_rows.ensures.begun (ap Err is)) (λ is. c.in-Err-load_rows.ensures.unread (ap Err is))
+    (λ r is other. c.in-Err-load_rows.ensures.whole r (ap Err is) other) (λ is. c.in-Err-load_rows.ensures.long (ap Err is))
+    c.in-Err-load_rows.ensures.caused)
 
 pub returns : goal.returns
 returns g c =
     let m = c.args.image.now in
     let rows = rows_of c.args.rows in
     let n = c.args.cycle in
+    let f = trace m rows n in
+    let files = g.F.Files.seen c.args.files.now in
+    let mid = g.F.Files.seen c.load_image.new.files in
+    let later = g.F.Files.seen c.load_rows.new.files in
     rw c.rows_name-name.ensures
-    (run_unopened ImageOf NotImage (λ i. graph_columns i.graph) (about (trace m rows n)) (image_word m) rows (runs_read (image_word m) rows) (Runs rows n)
-    c.in_ok-given.ensures.given _ c.in-Err.input (λ is. c.in-Err.ensures.read (ap Err is)) c.in-Err.ensures.opens c.in-Err.ensures.caused)
+    (rows_unopened ImageOf NotImage (λ i. graph_columns i.graph) (about f) (image_word m) rows (λ none. cc) (inr (inl refl)) (λ w among. inr among)
+    (λ n among. among) (λ h i left x. x ≡ runs_to (words_job (rows_name rows) n i.graph (table_code i.table) (through n left)))
+    files mid later c.in-Ok.loaded c.in_ok-columns.columns
+    c.in_ok-columns.ensures.columns c.load_image.ensures.held c.load_rows.ensures.held c.in-Ok.ensures.loads
+    c.in-Ok-load_rows.inputs (c.in-Ok-load_rows.ensures.ended c.in-Ok.ensures.ended) c.in-Ok-load_rows.ensures.loads _ c.in-Err-open.input
+    (λ is. c.in-Err-open.ensures.read (ap Err is)) (c.in-Err-open.ensures.opens files.broken later.broken) c.in-Err-open.ensures.caused)
 
 -- ---- the run
 
-pub returns-in-Ok : goal.returns-in-Ok
-returns-in-Ok g c =
+pub returns-in-Ok-open : goal.returns-in-Ok-open
+returns-in-Ok-open g c =
     let m = c.args.image.now in
     let rows = rows_of c.args.rows in
     let n = c.args.cycle in
     let f = trace m rows n in
-    let i = c.in_ok-given.given.image in
-    let left = c.in-Ok.rows in
-    let j = words_job (rows_name rows) n i.graph (table_code i.table) (through n left) in
     let files = g.F.Files.seen c.args.files.now in
-    let later = g.F.Files.seen c.load_image_rows.new.files in
+    let mid = g.F.Files.seen c.load_image.new.files in
+    let later = g.F.Files.seen c.load_rows.new.files in
+    let j = words_job (rows_name rows) n c.in-Ok.loaded.graph (table_code c.in-Ok.loaded.table) (through n c.in-Ok-open.rows) in
     let before = moment (g.U.Unit.seen c.args.unit.now) (g.O.Sink.seen c.args.out.now) in
     let after = moment (g.U.Unit.seen c.run_words.new.unit) (g.O.Sink.seen c.run_words.new.out) in
-    let r = c.run_words.result in
-    let ended : RunsTo j before after r =
-    subst (λ x. RunsTo (words_job (rows_name rows) n i.graph (table_code i.table) x) before after r) c.through.ensures.rows
-    (c.run_words.ensures.ran (rows_name rows)) in
+    let ended : RunsTo j before after c.run_words.result =
+    subst (λ left. RunsTo (words_job (rows_name rows) n c.in-Ok.loaded.graph (table_code c.in-Ok.loaded.table) left) before after c.run_words.result)
+    c.through.ensures.rows (c.run_words.ensures.ran (rows_name rows)) in
     rw (c.run_ended.ensures.line, c.run_ended.ensures.status, c.rows_name-name.ensures)
-    (run_ended_so ImageOf NotImage (λ i. graph_columns i.graph) (about f) (image_word m) rows (runs_read (image_word m) rows) (Runs rows n)
-    c.in_ok-given.ensures.given left (c.in-Ok.ensures.opens 0 0) (λ h. runs_to j) (λ h. refl) before after r (λ e is. run_ends e)
-    (λ h comes. ran (about f) files later before after (TraceTask m rows n h) j r refl comes c.run_words.ensures.causes.write ended)
-    (λ no. absurd cc) c.run_words.ensures.causes)
+    (files_run (about f) (TraceTask m rows n) files later (λ none. cc) (c.load_rows.ensures.held ∙ c.load_image.ensures.held) (inr (inl refl)) before after
+    (rows_name rows)
+    c.run_words.result (λ e is. run_ends e)
+    (if_some_weaker files.held _ _
+    (λ h comes. ran (about f) files later before after (TraceTask m rows n h) j c.run_words.result refl comes c.run_words.ensures.causes.write ended)
+    (opened_comes ImageOf NotImage (λ i. graph_columns i.graph) (about f) (image_word m) rows (λ none. cc) (inr (inl refl)) (λ w among. inr among)
+    (λ n among. among) (λ h i left x. x ≡ runs_to (words_job (rows_name rows) n i.graph (table_code i.table) (through n left)))
+    files mid later c.in-Ok.loaded c.in_ok-columns.columns
+    c.in_ok-columns.ensures.columns c.load_image.ensures.held c.load_rows.ensures.held c.in-Ok.ensures.loads
+    c.in-Ok-load_rows.inputs (c.in-Ok-load_rows.ensures.ended c.in-Ok.ensures.ended) c.in-Ok-load_rows.ensures.loads c.in-Ok-open.rows (λ h. runs_to j)
+    (c.in-Ok-open.ensures.opens 0 0) (λ h. refl)))
+    (c.in-Ok-load_rows.ensures.ended c.in-Ok.ensures.ended) (λ no. absurd cc) (λ calls. c.run_words.ensures.causes.stopped) c.run_words.ensures.causes.refused
+    c.run_words.ensures.causes.write
+    (rows_may (about f) rows (λ w among. inr among) (λ n among. among)))

@@ -1,28 +1,28 @@
 -- Performed: from how far a command came, and what became of its line, to how it serves and what it keeps.
-use Rattle.std.proofs.Common.{ℕ, ◌≡◌, ◌≢◌, ◌≤◌, ◌⊎◌, inl, inr, refl, sym, ap, subst, ◌∙◌, Bool, true, false, List, [], ◌∷◌, ◌++◌, Option, Some, None, IfSome, arith}
+use Rattle.std.proofs.Common.{ℕ, ◌≡◌, ◌≢◌, ◌≤◌, ◌⊎◌, inl, inr, refl, sym, subst, ◌∙◌, Bool, true, false, List, [], ◌∷◌, ◌++◌, Option, Some, None, IfSome, arith}
 use Rattle.std.specs.Io.KnownBytes.{Appends, IsAtEnd}
 use Rattle.vcp_outside.specs.Counts.{Rose}
 use Rattle.vcp_outside.specs.Held.{Held}
 use Rattle.command_meaning.specs.Answer.{Answer}
 use Rattle.command_meaning.specs.Abouts.{Among, About, AllHeld}
 use Rattle.command_meaning.specs.Clauses.{IsEnd, IsTooLong, Keeps, MayHold, Serves, TellsTooLong, Completed, Completes, IsAccepted}
-use Rattle.command_meaning.specs.Endings.{Answered, known, given_up, Came, Causes, DoneHasStatus, DoneIsMeant, EndingsHaveCauses, Ends, Given, GivenUp, GivingUpHasCauses, HasOwnStatus, NothingFailed, TellsLine}
+use Rattle.command_meaning.specs.Endings.{Answered, known, given_up, Came, Causes, Ends, Given, GivenUp, HasOwnStatus, NothingFailed, TellsLine}
 use Rattle.command_meaning.specs.Endings as ends
-use Rattle.command_meaning.specs.Kinds.{Task, lacks, answers, compiles, runs, judges, compares, pairs_, wires, Done, Meant, lack_answer}
+use Rattle.command_meaning.specs.Kinds.{Task, lacks, answers, compiles, runs, judges, compares, pairs_, wires, Done, Meant}
 use Rattle.command_meaning.specs.Performing.{Reaches, done, cut, wanting, unread, unmade, Performs}
+use Rattle.command_meaning.specs.PairKind.{pair_read}
+use Rattle.command_meaning.specs.RunKind.{run_read}
 use Rattle.coded_unit.specs.Seen.{UnitSeen, StaysHonest}
 use Rattle.vcp_outside.specs.Seen.{SinkSeen}
 use Rattle.command_meaning.specs.Seen.{Outside, moment_of}
+use Rattle.command_meaning.proofs.Causing.{endings_have_causes, giving_up_has_causes, five_lacks, pair_small, run_small, status_of, done_is_meant, wire_small}
 
 -- A command comes to one task at most; to an answer only with a status of its own; and to a lacking name only where not all of its files
--- are held. And the laws hold of how commands end.
+-- are held.
 pub record IsMeaning (c : About) (Comes : Held → Task → Type 0) : Type 0 where
   pub one : (h : Held) (a b : Task) → Comes h a → Comes h b → a ≡ b
   pub own : (h : Held) (task : Task) → Comes h task → HasOwnStatus task
   pub found : (h : Held) (name : List ℕ) → AllHeld h c.files → Comes h (lacks name) → ⊥
-  pub statuses : DoneHasStatus
-  pub ends_caused : EndingsHaveCauses
-  pub giving_up_caused : GivingUpHasCauses
 
 -- a line that was told, under other names for it and its status
 retold : (line other : List ℕ) (code number : ℕ) (a b : SinkSeen) (status : ℕ) → line ≡ other → code ≡ number → TellsLine line code a b status
@@ -46,22 +46,16 @@ module _ (c : About) (Comes : Task → Type 0) (before after : Outside) (line : 
 
 -- ---- completeness
 
-status_of : (x y : Answer) → x ≡ y → x.status ≡ y.status
-status_of x y same = ap (λ (z : Answer). z.status) same
-
 -- no answer has the status of a sink that failed
-never_six : DoneHasStatus → (task : Task) (a b : UnitSeen) (x : Answer) → HasOwnStatus task → Done task a b x → x.status ≡ 6 → ⊥
-never_six has task a b x few d h =
-    elim (has task a b x few d) [
-      | inl small ↦ omega (arith, small, h)
-      | inr (name, is, lacking) ↦ omega (arith, h, status_of x (lack_answer name) lacking)
-    ]
-
--- only where a name is lacking there is that of a file that failed
-five_lacks : DoneHasStatus → (task : Task) (a b : UnitSeen) (x : Answer) → HasOwnStatus task → Done task a b x → x.status ≡ 5
-    → (name : List ℕ) × (task ≡ lacks name)
-five_lacks has task a b x few d h =
-    elim (has task a b x few d) [ inl small ↦ absurd (omega (arith, small, h)) | inr (name, is, lacking) ↦ (name, is) ]
+never_six : (task : Task) (a b : UnitSeen) (x : Answer) → HasOwnStatus task → Done task a b x → x.status ≡ 6 → ⊥
+never_six (lacks name) a b x few d h = omega (arith, h, status_of x _ d.1)
+never_six (answers y) a b x few d h = omega (arith, few, h, status_of x y d.1)
+never_six (compiles p code) a b x few (quiet, (g, may, is)) h = omega (arith, h, status_of x _ is)
+never_six (runs j) a b x few d h = omega (arith, h, status_of x _ d.read, run_small (run_read j d.graph d.cycles).end j.rows.refusal)
+never_six (judges c) a b x few d h = omega (arith, h, status_of x _ d.read)
+never_six (wires s) a b x few d h = omega (arith, h, status_of x _ d.read, wire_small d.cut)
+never_six (compares j) a b x few d h = omega (arith, h, status_of x _ d.read, pair_small (pair_read j d.cycles).end j.rows.refusal)
+never_six (pairs_ c) a b x few d h = omega (arith, h, status_of x _ d.read)
 
 -- a task that needs no unit: it comes to one answer, or to one of some, whatever a unit answers
 abbrev pub NeedsNone : Task → Type 0
@@ -105,17 +99,17 @@ told_six : (line : List ℕ) (code : ℕ) (a b : SinkSeen) (status : ℕ) → Te
 told_six line code a b status (inl t) is = inl (sym t.0 ∙ is)
 told_six line code a b status (inr t) is = inr t.1
 
-module _ (has : DoneHasStatus) (c : About) (before after : Outside) (status : ℕ) (nothing : NothingFailed before after) where
+module _ (c : About) (before after : Outside) (status : ℕ) (nothing : NothingFailed before after) where
   ended_five : (task : Task) → HasOwnStatus task → ((name : List ℕ) → task ≡ lacks name → ⊥) → Ends c task before after status → status ≡ 5 → ⊥
   ended_five task few found (ends.ended x d out told) is =
-      let l = five_lacks has task before.unit after.unit x few d (told_five _ _ before.err after.err status told is) in found l.0 l.1
+      let l = five_lacks task before.unit after.unit x few d (told_five _ _ before.err after.err status told is) in found l.0 l.1
   ended_five task few found (ends.cut rose left told) is = nothing.out rose
   ended_five task few found (ends.wanting late left told) is = let seven = told_five _ 7 before.err after.err status told is in omega (arith, seven)
 
   ended_six : (task : Task) → HasOwnStatus task → Ends c task before after status → status ≡ 6 → ⊥
   ended_six task few (ends.ended x d out told) is =
       elim (told_six _ _ before.err after.err status told is) [
-        | inl six ↦ never_six has task before.unit after.unit x few d six
+        | inl six ↦ never_six task before.unit after.unit x few d six
         | inr rose ↦ nothing.err rose
       ]
   ended_six task few (ends.cut rose left told) is = nothing.out rose
@@ -136,16 +130,16 @@ module _ (c : About) (Comes : Held → Task → Type 0) (before after : Outside)
   causes_of (known other comes finish) task takes =
       let same : other ≡ task = laws.one h other task comes takes in
       subst (λ (t : Task). Causes t before after status) same
-      (laws.ends_caused c other before after status (laws.own h other comes) finish)
-  causes_of (given_up g) task takes = laws.giving_up_caused c task before after status g
+      (endings_have_causes c other before after status (laws.own h other comes) finish)
+  causes_of (given_up g) task takes = giving_up_has_causes c task before after status g
 
   unfailing_of : Answered c (Comes h) before after status → AllHeld h c.files → NothingFailed before after → (status ≢ 5) × (status ≢ 6)
   unfailing_of (known task comes finish) all nothing = (
-    ended_five laws.statuses c before after status nothing task (laws.own h task comes)
+    ended_five c before after status nothing task (laws.own h task comes)
         (λ name is. laws.found h name all (subst (λ (t : Task). Comes h t) is comes)) finish,
-    ended_six laws.statuses c before after status nothing task (laws.own h task comes) finish,
+    ended_six c before after status nothing task (laws.own h task comes) finish,
   )
-  unfailing_of (given_up g) all nothing = (given_five laws.statuses c before after status nothing g, given_six laws.statuses c before after status nothing g)
+  unfailing_of (given_up g) all nothing = (given_five c before after status nothing g, given_six c before after status nothing g)
 
 -- where a command came so far and then its line was told, it serves
 pub performed_serves : (c : About) (Comes : Held → Task → Type 0) (before after : Outside) (line : List ℕ) (code status : ℕ) → IsMeaning c Comes →
@@ -243,7 +237,7 @@ module _ (c : About) (task : Task) (before after : Outside) (status : ℕ) (kept
         read = λ reads. kept.ended reads (inr (inl two));
       })
 
-  module _ (is_meant : DoneIsMeant) (small : status ≤ 7) (no_usage : status ≢ 4) (accepted : IsAccepted task) (faults : (status ≢ 5) × (status ≢ 6)) where
+  module _ (small : status ≤ 7) (no_usage : status ≢ 4) (accepted : IsAccepted task) (faults : (status ≢ 5) × (status ≢ 6)) where
     module _ (given : Given task before after status) where
       meant_so : Meant task given.answer → status ≢ 3 → (status ≡ 7) ⊎ Completed c task before after status
       meant_so meant three =
@@ -253,7 +247,7 @@ module _ (c : About) (task : Task) (before after : Outside) (status : ℕ) (kept
       -- with an honest unit, or for a task that needs none
       given_so : StaysHonest before.unit after.unit ⊎ NeedsNone task → (status ≡ 7) ⊎ Completed c task before after status
       given_so (inl honest) =
-          meant_so (is_meant task before.unit after.unit given.answer given.done honest)
+          meant_so (done_is_meant task before.unit after.unit given.answer given.done honest)
           (λ three. let rose = kept.refused three in omega (arith, rose, honest.0, honest.1))
       given_so (inr none) =
           meant_so (none_meant task before.unit after.unit given.answer none given.done)
@@ -272,8 +266,8 @@ honest_or_none false before after task honest none = inr (none refl)
 
 -- where a command serves and keeps what every command keeps, and comes to tasks that need no unit if it calls none, it completes
 pub serves_completes : (c : About) (held : Held) (Comes : Task → Type 0) (before after : Outside) (status : ℕ) →
-    DoneIsMeant → (c.calls ≡ false → (task : Task) → Comes task → NeedsNone task) → Serves c held Comes before after status → Keeps c before after status →
+    (c.calls ≡ false → (task : Task) → Comes task → NeedsNone task) → Serves c held Comes before after status → Keeps c before after status →
     status ≤ 7 → status ≢ 4 → Completes c held Comes before after status
-serves_completes c held Comes before after status is_meant none serves kept small no_usage all nothing honest task comes accepted =
-    came_so c task before after status kept is_meant small no_usage accepted (serves.unfailing all nothing)
+serves_completes c held Comes before after status none serves kept small no_usage all nothing honest task comes accepted =
+    came_so c task before after status kept small no_usage accepted (serves.unfailing all nothing)
     (honest_or_none c.calls before.unit after.unit task honest (λ no. none no task comes)) ((serves.causes task comes).finishes nothing)

@@ -1,0 +1,29 @@
+-- Inject: all rows of runs under faults, as they are read before the script.
+use Rattle.std.specs.Prelude.{ℤ, ◌≡◌, ◌≤◌, ◌<◌, ◌*◌, List, length, Some, None}
+use Rattle.input_rows.specs.declared.fault.RowFault.{RowFault}
+use Rattle.input_rows.specs.RowsOf.{RowsLeft}
+use Rattle.op_graph.specs.Lists.{Lists}
+use Rattle.vcp_inputs.specs.declared.refusal.NoInput.{NoInput}
+use Rattle.vcp_inputs.specs.declared.refusal.NoInput.TheVariants as input
+use Rattle.vcp_inputs.specs.declared.refusal.Refusal.{Refusal}
+use Rattle.vcp_inputs.specs.declared.refusal.Refusal.TheVariants as refusal
+use Rattle.vcp_inputs.specs.RowsOutcome.{RowsOutcome, opened}
+use Rattle.vcp_inputs.specs.RowsRead.{AllRead, RowsBroken}
+use Rattle.vcp_core.specs.Tasks.{most_trace}
+
+-- these are all rows, and few enough
+pub record AllRows (o : RowsOutcome) (g : Lists) (rows : List (List ℤ)) : Type 0 where
+  pub read : AllRead o rows
+  pub few : length rows * length g.operations ≤ most_trace
+
+-- why rows are refused: at their header or at a row, or since they are too many
+pub data RowsRefused (o : RowsOutcome) (g : Lists) : Refusal → Type 0 where
+  broken : (r : Refusal) → RowsBroken o r → RowsRefused o g r
+  too_many : (left : RowsLeft) → o ≡ opened left → left.refusal ≡ None → most_trace < length left.rows * length g.operations
+      → RowsRefused o g refusal.Trace
+
+-- why there are none: they are refused, or memory was wanted
+abbrev pub NoRows : RowsOutcome → Lists → NoInput → Type 0
+NoRows o g (input.Refused r) = RowsRefused o g r
+NoRows o g input.Memory = Unit {0}
+NoRows o g input.Unread = ⊥
