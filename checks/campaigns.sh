@@ -24,6 +24,12 @@ differs() {
     status=1
 }
 
+# A campaign that judges all, whether it finds faults that aren't seen (9) or none (0); what it prints stands in `told` and `log`.
+campaign() {
+    "$top/campaign.sh" "$@" >told 2>log
+    case $? in 0 | 9) ;; *) return 1 ;; esac
+}
+
 # The last campaign's folder.
 folder() {
     ls -dt campaign.*/ | head -n 1
@@ -53,7 +59,7 @@ each_class() {
     over=$(($(wc -l <rows) - 1))
     for class in bits flips stale skip from operator; do
         case $class in flips) behind=rows ;; *) behind=$over ;; esac
-        "$top/campaign.sh" image rows $class >told 2>log || differs "$class isn't told: $(cat log)"
+        campaign image rows $class || differs "$class isn't told: $(cat log)"
         in_slices $class $behind >wanted
         grep -v '^faults ' "$(folder)verdicts" | cmp -s - wanted || differs "$class has other verdicts in slices of $slice"
         counted "$(folder)verdicts" || differs "the totals of $class don't count its verdicts"
@@ -62,24 +68,24 @@ each_class() {
 
 # A campaign on other machines ends as one here.
 on_hosts() {
-    "$top/campaign.sh" image rows bits >told 2>log
+    campaign image rows bits || differs "bits isn't told: $(cat log)"
     here_told=$(folder)
     cp "$here_told/verdicts" verdicts.here && rm -r "$here_told"
-    "$top/campaign.sh" image rows bits --sshloginfile "$HOSTS" >told 2>log || differs "bits isn't told on other machines: $(cat log)"
+    campaign image rows bits --sshloginfile "$HOSTS" || differs "bits isn't told on other machines: $(cat log)"
     cmp -s "$here_told/verdicts" verdicts.here || differs "a campaign on other machines gives other bytes"
 }
 
 # A campaign that is ended in its midst, and one that lost parts, end as the whole one.
 broken_off() {
-    "$top/campaign.sh" image rows bits >told 2>log
+    campaign image rows bits || differs "bits isn't told: $(cat log)"
     whole=$(folder)
     cp "$whole/verdicts" verdicts.whole && cp "$whole/tables" tables.whole
     rm -r "$whole"
     timeout 0.3 "$top/campaign.sh" image rows bits >told 2>log
-    "$top/campaign.sh" image rows bits >told 2>log
+    campaign image rows bits || differs "bits isn't told: $(cat log)"
     cmp -s "$whole/verdicts" verdicts.whole && cmp -s "$whole/tables" tables.whole || differs "a campaign that was ended gives other bytes"
     rm -f "$whole"/parts/000000.verdicts
-    "$top/campaign.sh" image rows bits >told 2>log
+    campaign image rows bits || differs "bits isn't told: $(cat log)"
     cmp -s "$whole/verdicts" verdicts.whole && cmp -s "$whole/tables" tables.whole || differs "a campaign that lost a part gives other bytes"
 }
 
@@ -103,7 +109,7 @@ with_input() {
     "$VCP" compile added.st >added.img || differs "no input can be added"
     sed '1s/$/,added_by_the_check/; 2,$s/$/,0/' rows >added.csv
     "$VCP_STUDY" sites image "$over" skip >old.faults
-    if "$top/campaign.sh" added.img added.csv old.faults >told 2>log || ! grep -q 'another image' log; then
+    if campaign added.img added.csv old.faults || ! grep -q 'another image' log; then
         differs "a script of another image is taken"
     fi
     named >names

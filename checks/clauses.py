@@ -7,7 +7,7 @@
 A promise stands beside its clause: in the `///` of a public function, method, type or trait, or at the head of a module of specs/. Marks say the rest:
 
 - an edit of must-fail/ or checks/edits/ has a line `# breaks: CRATE::CALL.clause, ..`;
-- a text of a crate's data/, as a session, has lines `# shows: CRATE::CALL, ..`, and a #[test] function lines `// shows: ..` above it.
+- a text of a crate's data/, as a session or a file of rows, has lines `# shows: CRATE::CALL, ..`.
 
 A call is named as lib.rt exports it, a method with its type, as `op_graph::Graph::len`; behind a dot may stand the name of a clause.
 Its status is 1 where something is printed but the sums. It reads the sources and proves nothing.
@@ -33,7 +33,7 @@ Of each public function, method, trait and type: what its comment says, then
   all that these name. If you accept them, you need not read code or proofs.
 - *broken by*: wrong lines of code that the proofs refuse: files of the crate's `must-fail/`, or, where *by hand* stands behind it, of `checks/edits/`. The gate
   tries the first, TRIED of them, and not the others, BY_HAND of them, which `checks/edits.sh` tries (`docs/ASSESSOR.md`, 'What the gate shows').
-- *shown by*: tests, as `CRATE::TEST`, and texts of rows that a program plays, as `session NAME` or `rows NAME` (`docs/SESSIONS.md`).
+- *shown by*: texts of worked rows that a program plays, as `session NAME` or `rows NAME` (`docs/SESSIONS.md`).
 
 A dash says that there is none: the proof alone shows that promise. A method of a trait that says nothing of its own has the words of the trait. At the end of a
 crate stand the modules of definitions that public contracts cite, with what is said of them.
@@ -65,7 +65,6 @@ class Marks:
                         self.faults.append(f"{file.relative_to(TOP)}: no line says what it breaks")
                     self.put(self.broken_by, names, f"`{file.stem}`" if names and names[0].startswith(f"{name}::") else f"`{name}::{file.stem}`", how, file)
             self.read_rows(name)
-            self.read_tests(name)
 
     def read_rows(self, crate):
         for file in sorted(path for path in (CRATES / crate / "data").glob("**/*") if path.is_file()):
@@ -75,11 +74,6 @@ class Marks:
                 continue
             word = {".session": "session ", ".rows": "rows "}.get(file.suffix, f"{crate}/")
             self.put(self.shown_by, marks(text, "# shows"), f"`{word}{file.stem}`", "", file)
-
-    def read_tests(self, crate):
-        for file in sorted((CRATES / crate / "src").glob("**/*.rt")):
-            for comments, name in re.findall(r"((?:^ *//.*\n)*)^ *#\[test\]\s*(?:#\[[^\]]*\]\s*)*fn (\w+)", file.read_text(), re.M):
-                self.put(self.shown_by, marks(comments, "// shows"), f"`{crate}::{name}`", "", file)
 
     def put(self, where, names, what, how, file):
         for cited in names:
@@ -241,7 +235,7 @@ def main():
         faults.append("docs/CLAUSES.md isn't what the sources say: checks/clauses.py --write")
     print("\n".join(faults) or "clauses: docs/CLAUSES.md is what the sources say")
     items, unbroken, unshown, neither = (sum(column) for column in zip(*page.counts.values()))
-    print(f"clauses: of {items} items {unbroken} have no edit, {unshown} no test, {neither} neither")
+    print(f"clauses: of {items} items {unbroken} have no edit, {unshown} no row, {neither} neither")
     sys.exit(1 if faults else 0)
 
 

@@ -21,7 +21,6 @@ EXPECTED = {
     ("fault_names", "vcp_outside::Gathering"),
     ("fault_sites", "vcp_outside::Gathering"),
     ("pair_channel", "vcp_outside::Gathering"),
-    ("range_audit", "vcp_outside::Gathering"),
     ("run_report", "vcp_outside::Gathering"),
     ("telegram", "vcp_outside::Gathering"),
     ("verdict_tables", "vcp_outside::Gathering"),

@@ -19,7 +19,7 @@ def listed_crates():
 
 
 def is_for_tests(crate):
-    return crate.endswith("_tests") or crate in ("play_sessions", "play_rows", "worked_texts", "worked_graphs")
+    return crate in ("play_sessions", "play_rows", "worked_texts")
 
 
 def imports_of(text, keyword):

@@ -2,6 +2,7 @@
 from __future__ import annotations
 
 import os
+import re
 import shutil
 import sqlite3
 import subprocess
@@ -14,7 +15,7 @@ from tests.support import EXAMPLES, InFolder
 from vcp_tools.campaign.folder import Folder
 from vcp_tools.campaign.interval import clopper_pearson
 from vcp_tools.program import TOP, find_program
-from vcp_tools.read.script import cut, digest_of_remark
+from vcp_tools.read.script import cut, digest_of_remark, runs_of
 from vcp_tools.read.sum_tables import Sum, add, read_sum, sum_text
 from vcp_tools.refusal import Refusal
 
@@ -41,8 +42,8 @@ class Campaigns(InFolder):
         self.assertEqual(len(found), 1)
         return found[0]
 
-    def whole(self, status: int = 0) -> str:
-        """What the campaign prints."""
+    def whole(self, status: int = 9) -> str:
+        """What the campaign prints; some of its faults aren't seen."""
         return self.tool(*self.words, status=status)
 
     def wrapped(self, name: str, script: str) -> dict[str, str]:
@@ -82,7 +83,7 @@ class Campaigns(InFolder):
         shutil.rmtree(self.at())
         for script in ('[ "$1" != sum ] || { REAL "$@" | head -c 300; exit 0; }\nexec REAL "$@"\n', '[ "$1" != sum ] || kill -9 $$\nexec REAL "$@"\n'):
             with mock.patch.dict(os.environ, self.wrapped("vcp_study", script)):
-                printed = self.whole(1)
+                printed = self.whole(2)
                 self.assertIn("3 of 3 parts aren't judged", printed)
                 self.assertIn("parts/000001.faults isn't judged", printed)
                 self.assertFalse((self.at() / "tables").exists())
@@ -124,7 +125,7 @@ class Campaigns(InFolder):
     def test_a_limit_that_is_passed(self) -> None:
         call = f"ulimit -f 1; exec {TOP}/vcp_tools {' '.join(self.words)}"
         done = subprocess.run(["sh", "-c", call], cwd=self.folder, capture_output=True, text=True, check=False)
-        self.assertIn(done.returncode, (1, 2, 153))
+        self.assertIn(done.returncode, (2, 153))
         self.assertNotIn("Traceback", done.stderr)
         self.assertTrue(self.whole().endswith(TOTALS + "\n"))
 
@@ -140,7 +141,7 @@ class Campaigns(InFolder):
         shutil.rmtree(self.at())
         self.write("n.st", "PROGRAM n VAR_OUTPUT y : INT; END_VAR\ny := MIN(y + 1, 9);\nEND_PROGRAM\n")
         self.write("n.img", self.program("compile", "n.st"))
-        printed = self.tool("campaign", "n.img", "skip", "--cycles", "3", "--quiet", "--out", "here")
+        printed = self.tool("campaign", "n.img", "skip", "--cycles", "3", "--quiet", "--out", "here", status=None)
         self.assertRegex(printed, r"\nfaults \d+ same \d+ wrong \d+ ran-on 0 refused \d+ stopped \d+\n\Z")
         self.assertTrue((self.folder / "here/verdicts").is_file())
         self.assertIn("another campaign stands", self.tool("campaign", "n.img", "skip", "--cycles", "4", "--quiet", "--out", "here", status=2))
@@ -148,7 +149,8 @@ class Campaigns(InFolder):
     @needs_programs
     def test_several_runs_a_store_and_drawn_faults(self) -> None:
         self.write("short.csv", "\n".join((self.folder / "crossing.csv").read_text().split("\n")[:4]) + "\n")
-        printed = self.tool("campaign", "c.img", "crossing.faults", "--rows", "short.csv", "--rows", "crossing.csv", "--quiet", "--store", "s.db")
+        printed = self.tool("campaign", "c.img", "crossing.faults", "--rows", "short.csv", "--rows", "crossing.csv", "--quiet", "--store", "s.db",
+                            status=9)
         self.assertIn("crossing.csv: behind 2 runs, 6 of 14 faults are shown by none, ", printed)
         database = sqlite3.connect(self.folder / "s.db")
         self.addCleanup(database.close)
@@ -163,9 +165,34 @@ class Campaigns(InFolder):
         self.assertIn("no coverage", printed)
 
     @needs_programs
+    def test_dormant_faults_and_a_second_one(self) -> None:
+        self.write("d.st", "PROGRAM d VAR_INPUT x : INT; END_VAR VAR_OUTPUT y : INT; END_VAR VAR a, b, c : INT; END_VAR\n"
+                           "y := c; c := b; b := a; a := x;\nEND_PROGRAM\n")
+        self.write("d.img", self.program("compile", "d.st"))
+        self.write("d.csv", "x\n1\n2\n3\n4\n5\n6\n")
+        printed = self.tool("campaign", "d.img", "d.csv", "skip", "--then", "skip", "--draw", "9", "--quiet", status=None)
+        number = re.search(r"^dormant: (\d+) of the \d+ faults stand in a cell when the rows end$", printed, re.M)
+        counted = re.search(r"^ +(\d+) .*  stands in a cell$", printed.partition("dormant:")[0], re.M)
+        assert number is not None and counted is not None, printed
+        self.assertEqual(number[1], counted[1])
+        self.assertRegex(printed, r"\ndrawn: 9 of the \d+ pairs of a dormant fault of `skip` and a later one of `skip`, seed 0; wrong: \d+, a share ")
+        pairs = [file.read_text().split("begin\n")[1:] for file in self.folder.glob("campaign.*/pairs")][0]
+        self.assertEqual(len(set(pairs)), 9)
+        for pair in pairs:
+            first, second, end = pair.split("\n")[:3]
+            self.assertLess(int(first.split()[1]), int(second.split()[1]))
+            self.assertEqual(end, "end")
+        self.assertIn("pairs of a dormant fault and a later one of `skip`",
+                      self.tool("campaign", "d.img", "d.csv", "skip", "--then", "skip", "--draw", "9999", "--quiet", status=2))
+
+    @needs_programs
     def test_words_that_have_no_form(self) -> None:
         for words, said in (("c.img", "are wanted"), ("c.img crossing.csv", "are wanted"), ("c.img a b --cycles 3", "are wanted"),
-                            ("c.img a --rows", "a word is missing"), ("c.img a --cycles x", "a number from 1"), ("c.img a --cycles 3 --rows r", "together")):
+                            ("c.img a --rows", "a word is missing"),
+                            ("c.img a skip --then all --draw 3", "that goes by cycles"), ("c.img a flips --bits 3..63", "two numbers of 0 to 62"),
+                            ("c.img a skip --bits 3..6", "that the class `flips` turns"),
+                            ("c.img a skip --then skip", "so many pairs"), ("c.img skip --cycles 3 --then skip --draw 3", "one rows file"),
+                            ("c.img a --cycles x", "a number from 1"), ("c.img a --cycles 3 --rows r", "together")):
             self.assertIn(said, self.tool("campaign", *words.split(), status=2), words)
 
 
@@ -175,11 +202,13 @@ class Readers(unittest.TestCase):
     def test_no_group_is_cut(self) -> None:
         script = b"# of DIGEST\nskip 1 1\nbegin\r\nskip 2 1\r\nskip 2 2\r\nend\r\n\nskip 3 1\nskip 4 1\n"
         parts = cut(script, "f", 2)
-        self.assertEqual([(part.first, part.faults, part.groups) for part in parts], [(-1, 1, [3]), (1, 2, [3]), (6, 2, [2, 3])])
+        self.assertEqual([(part.first, part.faults, list(part.groups)) for part in parts], [(-1, 1, [3]), (1, 2, [3]), (6, 2, [2, 3])])
         self.assertEqual(parts[1].text, b"# part 2\nbegin\nskip 2 1\nskip 2 2\nend\n\n")
         for text in (b"begin\nskip 1 1\n", b"begin\nskip 1 1\nskip 1 2\nskip 1 3\nend\n"):
             with self.assertRaises(Refusal):
                 cut(text, "f", 2)
+        self.assertEqual(cut(b" \nskip 1 1\r\r\n#\r\n\r\nskip 2\r", "f", 5)[0].text, b"# part 1\n \nskip 1 1\r\r\n\n\nskip 2\r\r\n")
+        self.assertEqual([runs_of(it) for it in (range(2, 5), [1, 2, 4, 7, 8, 9], [])], [[[2, 3]], [[1, 2], [4, 1], [7, 3]], []])
         self.assertEqual(digest_of_remark(b"# sites bits of " + b"a" * 64 + b"\r\n"), "a" * 64)
 
     def test_sums_are_read_checked_and_added(self) -> None:

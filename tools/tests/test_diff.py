@@ -90,23 +90,23 @@ class Differences(InFolder):
                                ("a, b : INT", "b, a : INT", "the inputs stand in another order"),
                                ("z : BOOL", "zz, z : BOOL", "only B has the output zz : BOOL"),
                                ("y := a + b", "IF a <> 0 THEN y := a + b; END_IF", "only B keeps y : INT")):
-            self.assertIn(said, self.compare(old, new, 1))
+            self.assertIn(said, self.compare(old, new, 9))
 
     @needs_program
     def test_a_constant_is_named_and_not_what_rests_on_it(self) -> None:
-        printed = self.compare("kept + 1", "kept + 2", 1)
+        printed = self.compare("kept + 1", "kept + 2", 9)
         self.assertIn("CONST 1 at 7:16; in B operation", printed)
         self.assertNotIn("only A may stop", printed)
         self.assertRegex(printed, "ranges, whatever the rows: A .*, B |vcp_study ranges")
 
     @needs_program
     def test_exchanged_operands_are_told_at_their_operator(self) -> None:
-        printed = self.compare("y := a + b;", "y := b + a;", 1)
+        printed = self.compare("y := a + b;", "y := b + a;", 9)
         self.assertIn("output y: in A operation 2, ADD at 5:8 for y; in B operation 2, ADD at 5:8 for y, the same operands in another order", printed)
 
     @needs_program
     def test_an_operation_that_may_stop_and_gives_nothing(self) -> None:
-        self.assertIn("only B may stop at operation", self.compare("y := a + b;", "y := a * b;\ny := a + b;", 1))
+        self.assertIn("only B may stop at operation", self.compare("y := a + b;", "y := a * b;\ny := a + b;", 9))
 
     @needs_program
     def test_images_and_seeds(self) -> None:

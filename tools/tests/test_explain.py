@@ -107,13 +107,13 @@ class Calls(InFolder):
     @needs_program
     def test_lines_on_standard_input_are_explained(self) -> None:
         self.write("p.st", FRAME % "r = 1;\n")
-        printed = self.tool("explain", given="p.st:5:3 S4 Syntax\n", status=1)
+        printed = self.tool("explain", given="p.st:5:3 S4 Syntax\n", status=9)
         self.assertIn("to set a variable write `:=`", printed.split("\n")[0])
         self.assertEqual(self.tool("explain", given="ok 11\n"), "ok 11\n")
         for line in ("q.st:5:3 S4 Syntax", "q.csv:5:3 R3 Cell", "f.txt:2 F1 Form", "q.img:2132 I6 Table stored 0 expected 2", "q.csv:1 R1 Header"):
-            self.assertIn("the file isn't here", self.tool("explain", given=line + "\n", status=1))
+            self.assertIn("the file isn't here", self.tool("explain", given=line + "\n", status=9))
         for line in ("p.st:90:3 S1 Byte", "p.st:90:3 S4 Syntax", "p.st:90:3 S3 Number", "p.st:1:3 T3 Mismatch", "p.st:9 R2 Width", "p.st:90 F1 Form"):
-            self.tool("explain", given=line + "\n", status=1)
+            self.tool("explain", given=line + "\n", status=9)
 
     @needs_program
     def test_all_faults_of_a_ported_text_are_told_at_once(self) -> None:

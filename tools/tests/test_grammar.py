@@ -3,6 +3,7 @@ from __future__ import annotations
 
 import os
 import random
+import re
 import unittest
 from concurrent.futures import ThreadPoolExecutor
 from pathlib import Path
@@ -10,7 +11,7 @@ from pathlib import Path
 from tests.support import DATA, EXAMPLES, InFolder, needs_program
 from tests.test_explain import FRAME, mistakes
 from vcp_tools.needs import find_module
-from vcp_tools.program import Program
+from vcp_tools.program import TOP, Program
 from vcp_tools.read.fault_line import read_fault
 from vcp_tools.read.instruction_list import OPERATORS, InstructionList, parse_list
 from vcp_tools.read.source import RESERVED, Source
@@ -77,6 +78,23 @@ def refused_at(data: bytes, is_list: bool) -> tuple[int, int] | None:
         return Source(data).place(fault.at)
 
 
+def texts_of_sessions() -> list[bytes]:
+    """Each file of the sessions, whatever it is, but for a few of more than 20,000 bytes: docs/SESSIONS.md has their form."""
+    spelled = {b"n": b"\n", b"r": b"\r", b"t": b"\t", b"\\": b"\\"}
+    found: dict[bytes, None] = {}
+    for file in sorted((TOP / "crates/play_sessions/data").glob("*.session")):
+        files: dict[bytes, bytes] = {}
+        for line in file.read_bytes().split(b"\n"):
+            if line[:2] not in (b"< ", b"+ "):
+                continue
+            name, _, rest = line[2:].partition(b" ")
+            times, _, more = rest.partition(b" ") if line[:1] == b"+" else (b"1", b"", rest)
+            text = re.sub(rb"\\(x[0-9A-Fa-f]{2}|.)", lambda it: spelled[it[1]] if it[1] in spelled else bytes([int(it[1][1:], 16)]), more)
+            files[name] = (files.get(name, b"") if line[:1] == b"+" else b"") + text * int(times)
+            found[files[name]] = None
+    return [text for text in found if len(text) <= 20_000]
+
+
 @unittest.skipUnless(find_module("lark"), "lark isn't installed")
 class Grammars(InFolder):
     """Each text is taken by the grammar exactly where the program has no fault of tokens, grammar or instructions in it."""
@@ -111,6 +129,13 @@ class Grammars(InFolder):
         texts = [FRAME % text if form == "frame" else text for it in mistakes() for form, text in it.files.values() if form in ("frame", "")]
         self.compare([text.encode("utf-8") for text in texts], False)
         self.assertTrue(DATA.is_dir())
+
+    @needs_program
+    def test_texts_of_sessions(self) -> None:
+        texts = texts_of_sessions()
+        self.assertGreater(len(texts), 1000)
+        self.compare(texts, False)
+        self.compare(texts, True)
 
     @needs_program
     def test_made_texts(self) -> None:

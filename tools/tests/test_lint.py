@@ -60,7 +60,7 @@ class Findings(InFolder):
     @needs_program
     def test_kinds_may_be_left_out(self) -> None:
         self.write("p.st", HEAD + USES + "t := t + 1;\nEND_PROGRAM\n")
-        self.assertIn("stops in cycle 32767", self.tool("lint", "p.st", status=1))
+        self.assertIn("stops in cycle 32767", self.tool("lint", "p.st", status=9))
         self.assertIn("nothing that is likely", self.tool("lint", "p.st", "--allow", "counter-only-grows"))
         self.assertIn("`counters` is no kind", self.tool("lint", "p.st", "--allow", "counters", status=2))
         self.write("bad.st", "PROGRAM p")

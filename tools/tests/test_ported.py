@@ -60,6 +60,17 @@ class Lacking(InFolder):
         self.assertNotIn("wasn't looked at", self.tool("explain", "--all", "check", "p.st", status=1))
 
     @needs_program
+    def test_independent_faults_of_two_more_texts_are_told(self) -> None:
+        head = "PROGRAM p\nVAR_INPUT a, b : BOOL; n : INT; END_VAR\nVAR_OUTPUT q : BOOL; m : INT; END_VAR\nVAR c : INT; d : DINT; END_VAR\n"
+        for bodies in (("q := a = 1;", "IF n THEN q := TRUE; END_IF;", "m := d;", "m := n ** 2;", "m := SHL(n, 1);", "q := a OR_ELSE b;", "m := MAX(n, c, 5);",
+                        "m := +n;", "c := c + 1.0;", "q := n.3;", "FOR c := 0 TO n DO m := m + 1; END_FOR;", "CASE n OF 1..m: q := TRUE; END_CASE;",
+                        "TON1(IN := a, PT := T#5s);", "q := 1;", "m := TRUE;", "n := 5;", "RETURN;", "m := 16#FFFF;", "q := (a AND b;"),
+                       ("m := MIN(n, T#5s);", "q := n AND a;", "m := INT_TO_DINT(n);", "CASE a OF 1: m := 1; END_CASE;", "q S= b;", "m := n MOD TRUE;",
+                        "FOR n := 0 TO 3 DO m := c; END_FOR;", "IF a = 3 THEN m := 1; END_IF;", "m := ABS(n, c);", "q := NOT n = 3;")):
+            told = self.told(head + "\n".join(bodies) + "\nEND_PROGRAM\n")
+            self.assertEqual([line for line, _ in told], [str(line) for line in range(5, 5 + len(bodies))])
+
+    @needs_program
     def test_the_tools_own_text_is_never_quoted(self) -> None:
         for body in ("m := T#5s + 1.5;\n", "IF 1.5 THEN m := 2; END_IF;\n", "m := MIN(1.5, T#1s, 3);\n"):
             told = self.told("PROGRAM p\nVAR_OUTPUT m : INT; END_VAR\n" + body + "END_PROGRAM\n")
@@ -78,6 +89,11 @@ class Lacking(InFolder):
     def test_a_name_that_stands_twice_is_one_thing_to_mend(self) -> None:
         told = self.told("PROGRAM p\nVAR_OUTPUT q, r : INT; END_VAR\nVAR Q : BOOL; END_VAR\nQ := TRUE;\nIF q THEN r := 1; END_IF;\nEND_PROGRAM\n")
         self.assertEqual([line for line, _ in told], ["3"])
+        head = "PROGRAM p\nVAR_INPUT a : BOOL; END_VAR\nVAR A : INT; END_VAR\nVAR_OUTPUT q : BOOL; END_VAR\n"
+        told = self.told(head + "q := a;\na := 3;\nq := A AND q;\nEND_PROGRAM\n")
+        self.assertEqual([line for line, _ in told], ["3"])
+        told = self.told("PROGRAM p\nVAR_OUTPUT q, r, q : INT; END_VAR\nq := 1;\nr := q;\nEND_PROGRAM\n")
+        self.assertEqual([line for line, _ in told], ["2"])
 
 
 class Words(InFolder):
@@ -97,6 +113,7 @@ class Words(InFolder):
     @needs_program
     def test_exchanged_files_are_seen(self) -> None:
         self.assertIn("write `vcp run crossing.st crossing.csv ..`", self.tool("explain", "run", "crossing.csv", "crossing.st", status=1).split("\n")[0])
+        self.assertIn("write `vcp plain add.st in.csv ..`", self.tool("explain", "plain", "in.csv", "add.st", status=1).split("\n")[0])
         self.assertIn("write `vcp exec c.img crossing.csv ..`", self.tool("explain", "exec", "crossing.csv", "c.img", status=1).split("\n")[0])
         self.write("f.txt", "skip 5 10\n")
         self.assertIn("as in `vcp inject M ROWS F`", self.tool("explain", "inject", "c.img", "f.txt", "crossing.csv", status=1).split("\n")[0])

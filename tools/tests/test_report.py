@@ -94,7 +94,7 @@ class Reports(InFolder):
         self.assertIn("made again as it is filed", self.tool("report", *self.words, "--check", "r.html"))
         with open(self.folder / "crossing.csv", "a", encoding="ascii") as rows:
             rows.write("0,0,0\n")
-        printed = self.tool("report", *self.words, "--check", "r.html", status=1)
+        printed = self.tool("report", *self.words, "--check", "r.html", status=9)
         for title in ("Summary: filed `cycles 8`, made now `cycles 9`", "Files: ", "The run: ", "Values, cycle by cycle: "):
             self.assertIn(title, printed)
         self.assertNotIn("Source: ", printed)

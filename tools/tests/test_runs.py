@@ -1,14 +1,20 @@
 """`table`, `vcd` and `expect`: a run with its variables. What is wanted is worked out by hand from the programs' texts."""
 from __future__ import annotations
 
+import contextlib
+import io
 import re
 import shutil
 import subprocess
 import unittest
+from unittest import mock
 
 from vcp_tools.pictures.observe import opened
+from vcp_tools.pictures.runs import side_by_side
+from vcp_tools.program import Program
 from vcp_tools.read.run_lines import read_run, read_trace
 from vcp_tools.read.source import Source
+from vcp_tools.refusal import Refusal
 from tests.support import EXAMPLES, InFolder, needs_program
 
 COUNTER = """PROGRAM Counter
@@ -62,6 +68,13 @@ class Tables(InFolder):
         self.assertEqual(self.tool("table", "p.st", "in.csv", "--changes"), wanted)
 
     @needs_program
+    def test_cycles_in_which_named_columns_change(self) -> None:
+        wanted = "cycle  go   n  far\n    0   0  -1   99\n    3   1   2  101\nend 5\n"
+        self.assertEqual(self.tool("table", "p.st", "in.csv", "go", "n", "far", "--changes-of", "full"), wanted)
+        self.assertEqual(self.tool("table", "p.st", "in.csv", "n", "--changes-of", "GO,now", "--csv"), "cycle,n\n0,-1\n1,0\n2,1\n3,2\n4,2\nend 5\n")
+        self.assertIn("`ful` is no input", self.tool("table", "p.st", "in.csv", "--changes-of", "ful", status=2))
+
+    @needs_program
     def test_what_cannot_be_shown_is_refused(self) -> None:
         self.assertIn("did you mean `full`?", self.tool("table", "p.st", "in.csv", "ful", status=2))
         self.assertIn("`MOST` is no input, output or variable", self.tool("table", "p.st", "in.csv", "MOST", status=2))
@@ -71,7 +84,7 @@ class Tables(InFolder):
     @needs_program
     def test_a_run_that_stops(self) -> None:
         shutil.copy(EXAMPLES / "shares.st", self.folder)
-        printed = self.tool("table", "shares.st", "--cycles", "5", "--all", "--csv", status=1)
+        printed = self.tool("table", "shares.st", "--cycles", "5", "--all", "--csv", status=9)
         self.assertEqual(printed.split("\n")[-2], "stop 3 DIVZERO 8:14")
 
     def test_a_variable_becomes_an_output_and_a_constant_does_not(self) -> None:
@@ -84,6 +97,30 @@ class Tables(InFolder):
         words, last = read_trace("0 INPUT 10737418236 5 1 1\n3 OUT 13529146978 6 644245096 644245096\nreleased\n")
         told = [(word.operation, word.kind, word.value, word.expected) for word in words]
         self.assertEqual((told, last), ([(0, "INPUT", 5, 1), (3, "OUT", 6, 644245096)], "released"))
+        self.assertEqual((read_run("cycle\n0\n1\nend 2\n").rows, read_run("cycle,y\nend 0\n").rows), ([[], []], []))
+        self.assertEqual((read_run("cycle,y\n0,5\n1,6").rows, read_run("cycle,y\n0,5\n1,6").ending), ([[5], [6]], ""))
+        for text in ("", "rows\n", "cycle,y\n0,5\n1\nend 2\n", "cycle,y\n0,x\nend 1\n", "cycle,y\n0,9223372036854775808\nend 1\n"):
+            with self.assertRaises(Refusal, msg=text):
+                read_run(text)
+
+
+class SideBySide(InFolder):
+    """Runs that are made at once."""
+
+    def test_their_progress_is_told(self) -> None:
+        script = "#!/bin/sh\necho cycle,y\nfor at in 0 1 2; do sleep 0.2; echo $at,$2; done\necho end 3\necho $2 >&2\nexit $2\n"
+        program = self.write("program", script)
+        program.chmod(0o755)
+        errors = io.StringIO()
+        with mock.patch("vcp_tools.pictures.runs.SECONDS", 0.1), contextlib.redirect_stderr(errors):
+            found = side_by_side(Program(program), {"one": ("run", "0"), "other": ("run", "2")}, ("--cycles", "3"))
+        self.assertEqual([(it.status, it.fault) for it in found.values()], [(0, "0"), (2, "2")])
+        self.assertEqual(read_run(found["other"].text).rows, [[2], [2], [2]])
+        self.assertRegex(errors.getvalue(), r"cycles of 3 behind \d+ s: one \d, other \d\n")
+
+    def test_a_program_that_cannot_be_run(self) -> None:
+        with self.assertRaises(Refusal):
+            side_by_side(Program(self.folder / "none"), {"run": ("run", "p")}, ("--cycles", "3"))
 
 
 class Dumps(InFolder):
@@ -128,13 +165,13 @@ class Wanted(InFolder):
                            ("cycle,n\n5,2\n", "want.csv:2: cycle 5 is wanted, and the run ends before it: end 5"),
                            ("cycle,n\nend 6\n", "want.csv:2: the run ends with `end 5`, and `end 6` is wanted")):
             self.write("want.csv", text)
-            self.assertIn(said, self.tool("expect", "p.st", "in.csv", "want.csv", status=1))
+            self.assertIn(said, self.tool("expect", "p.st", "in.csv", "want.csv", status=9))
 
     @needs_program
     def test_an_early_end_that_is_not_wanted(self) -> None:
         shutil.copy(EXAMPLES / "shares.st", self.folder)
         self.write("want.csv", "share\n33\n50\n100\n")
-        self.assertIn("the run ends early", self.tool("expect", "shares.st", "--cycles", "5", "want.csv", status=1))
+        self.assertIn("the run ends early", self.tool("expect", "shares.st", "--cycles", "5", "want.csv", status=9))
         self.write("want.csv", "cycle,share\n0,33\n1,50\n2,100\nstop 3 DIVZERO 8:14\n")
         self.tool("expect", "shares.st", "--cycles", "5", "want.csv")
 

@@ -7,6 +7,7 @@ import subprocess
 from unittest import mock
 
 from tests.support import EXAMPLES, InFolder, needs_program
+from tests.test_campaign import needs_programs
 from vcp_tools.main import TOOLS
 from vcp_tools.program import TOP
 
@@ -19,6 +20,10 @@ CALLS = (
 """Calls of all tools, with `@` in the place of a file that can't be read."""
 WRITES = (("report", "a.st", "a.csv", "-o", "@"),)
 """Calls with `@` in the place of a file that can't be written."""
+CAMPAIGN_CALLS = (("campaign", "@", "a.csv", "skip"), ("campaign", "a.img", "@", "skip"), ("campaign", "a.img", "a.csv", "@"),
+                  ("campaign", "a.img", "skip", "--rows", "a.csv", "--rows", "@"), ("explain", "--source", "@", "inject", "a.img", "a.csv", "f.txt"))
+CAMPAIGN_WRITES = (("campaign", "a.img", "a.csv", "f.txt", "--quiet", "--store", "@"), ("campaign", "a.img", "a.csv", "f.txt", "--quiet", "--out", "@"))
+"""The same of campaigns, and of an image's verdicts."""
 
 
 class Files(InFolder):
@@ -49,6 +54,19 @@ class Files(InFolder):
     def test_files_that_cannot_be_written(self) -> None:
         for words in WRITES:
             for file in ("nodir/x.html", "folder", "a.st/x.html", "/dev/full"):
+                with self.subTest((words, file)):
+                    self.refused(words, file)
+
+    @needs_programs
+    def test_files_of_campaigns(self) -> None:
+        self.write("a.img", self.program("compile", "a.st"))
+        self.write("f.txt", "result 0 2 add 1\n")
+        for words in CAMPAIGN_CALLS:
+            for file in ("nowhere", "folder", "nowhere/x"):
+                with self.subTest((words, file)):
+                    self.refused(words, file)
+        for words in CAMPAIGN_WRITES:
+            for file in ("a.st", "a.st/x"):
                 with self.subTest((words, file)):
                     self.refused(words, file)
 

@@ -31,8 +31,8 @@ MODULES = {
 """The module of each tool."""
 VALUED = frozenset(("--changes-of", "--cycles", "--cycle-time", "--faults", "--horizon", "--check", "-o", "--allow"))
 """The options that a word follows."""
-USAGE = ("statuses: 0 nothing was found, 1 a fault, a difference or a likely mistake was found, 2 the words or a file can't be used; "
-         "explain gives vcp's own; report 9 where it tells something")
+USAGE = ("statuses: 0 nothing was found, 9 a fault, a difference or a likely mistake was found, 2 the words or a file can't be used; "
+         "explain gives vcp's own")
 
 
 def _module(tool: str) -> ModuleType:
@@ -53,7 +53,7 @@ def parser() -> argparse.ArgumentParser:
 
 def _are_words_of_vcp(words: list[str]) -> bool:
     """Whether the words behind `explain` are a call of vcp that begins with an option, which isn't one of `explain`."""
-    kept = ("-h", "--help", "--all") if words[:1] == ["explain"] else ("-h", "--help")
+    kept = ("-h", "--help", "--all", "--source") if words[:1] == ["explain"] else ("-h", "--help")
     return words[:1] in (["explain"], ["campaign"]) and len(words) > 1 and words[1].startswith("-") and words[1] not in kept
 
 

@@ -9,7 +9,7 @@ from dataclasses import dataclass
 from pathlib import Path
 from typing import Sequence
 
-from vcp_tools.refusal import Refusal
+from vcp_tools.refusal import FOUND, REFUSED, Refusal
 
 TOP = Path(__file__).resolve().parent.parent.parent
 """The repository's folder, where the tools stand in one."""
@@ -33,6 +33,12 @@ class Outcome:
         """The line of error, without its end; empty where there is none."""
         lines = self.errors.rstrip("\n").split("\n")
         return lines[-1]
+
+    @property
+    def has_found(self) -> bool:
+        """Whether all was written and something was found: status 9. A `vcp_study` from before that status ends with 1 there, without the line of error that
+        a refusal has."""
+        return self.status == FOUND or (self.status == REFUSED and not self.errors and self.output.endswith(b"\n"))
 
 
 def in_repository() -> bool:
@@ -102,10 +108,14 @@ class Program:
             raise Refusal(f"{self.file}: the program can't be run: {error.strerror}") from None
         return Outcome(done.returncode, done.stdout, done.stderr.decode("utf-8", "replace"))
 
-    def must(self, *words: str | Path, statuses: Sequence[int] = (0,), shown: Sequence[str] | None = None) -> Outcome:
-        """Runs the program, and refuses with its own line where it ends with another status than these. `shown` has the words as a reader may
-        repeat them, where some are of files that are gone then."""
+    def must(self, *words: str | Path, statuses: Sequence[int] = (0,), or_found: bool = False, shown: Sequence[str] | None = None) -> Outcome:
+        """Runs the program, and refuses with its own line where it ends with another status than these, or with `or_found` without having found
+        something. `shown` has the words as a reader may repeat them, where some are of files that are gone then."""
         outcome = self.call(*words)
+        return outcome if or_found and outcome.has_found else self.taken(outcome, words, statuses, shown)
+
+    def taken(self, outcome: Outcome, words: Sequence[str | Path], statuses: Sequence[int] = (0,), shown: Sequence[str] | None = None) -> Outcome:
+        """What a call with these words gave, refused as `must` does."""
         if outcome.status not in statuses:
             told = outcome.fault or f"status {outcome.status}"
             again = list(map(str, words)) if shown is None else list(shown)

@@ -2,10 +2,12 @@
 
 FINE = 0
 """Nothing was found: the program was accepted, the runs agree, the check is clean."""
-FOUND = 1
-"""The tool looked, and found what it looks for: a fault, a difference, a likely mistake."""
+REFUSED = 1
+"""What the proved programs end with where they refuse a file, and `explain` with them."""
 UNUSABLE = 2
 """The tool couldn't look: its words or a file that it was given are refused, and one line says why."""
+FOUND = 9
+"""The tool looked at all, and found what it looks for: a fault, a difference, a likely mistake. `vcp_study` ends so, too."""
 
 
 class Refusal(Exception):

@@ -1,5 +1,6 @@
 pub mod Modular
 pub mod Replacements
 pub mod Shifts
+pub mod Sizes
 pub mod Steps
 pub mod Worked

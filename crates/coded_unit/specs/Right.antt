@@ -1,5 +1,5 @@
 -- Right: the right answer to a call. No other definition computes the word of an answer.
-use Rattle.std.specs.Prelude.{ℕ, ℤ, pos, ◌+ℤ◌, ◌-ℤ◌, ◌*ℤ◌, Ok, Err}
+use Rattle.std.specs.Prelude.{ℕ, ◌<◌, ◌^◌, ℤ, pos, ◌+ℤ◌, ◌-ℤ◌, ◌*ℤ◌, unsigned_abs, Ok, Err}
 use Rattle.vcp_base.specs.declared.code.Profile.{Profile}
 use Rattle.vcp_base.specs.declared.kind.Kind.{Kind}
 use Rattle.vcp_base.specs.declared.kind.StopKind.TheVariants as stop
@@ -39,3 +39,10 @@ Right call =
     (outcome call.kind call.from call.ty call.imm (value_part call.profile call.a) (value_part call.profile call.b)
     (value_part call.profile call.c))
     (residue_of call)
+
+-- a word that is answered lies below 2^125 in size: the rest of the words is room for what a fault adds to it
+abbrev pub LeavesRoom : Answer → Type 0
+LeavesRoom (answer.Word w) = unsigned_abs w < 2 ^ 125
+LeavesRoom answer.Range = Unit {0}
+LeavesRoom answer.DivZero = Unit {0}
+LeavesRoom answer.Operand = Unit {0}

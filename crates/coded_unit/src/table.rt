@@ -4,7 +4,7 @@ ghost use Rattle.std.specs.Prelude.{◌≡◌, ◌<◌, ◌^◌, ℤ, pos, negsu
 ghost use Rattle.vcp_base.specs.Code.{modulus as modulus_of};
 ghost use Rattle.coded_unit.specs.Asked.{Asked};
 ghost use Rattle.coded_unit.specs.Words.{modulo, value_part, Short, Small};
-ghost use Rattle.coded_unit.specs.Right.{residue as residue_of, stamp_share as stamp_share_of, answer_of, Right};
+ghost use Rattle.coded_unit.specs.Right.{residue as residue_of, stamp_share as stamp_share_of, answer_of, LeavesRoom, Right};
 ghost use Rattle.coded_unit.specs.Step.{StepLaw};
 
 use crate::call::{Answer, Call};
@@ -19,13 +19,14 @@ use vcp_base::{Kind, Profile, Residue, StopKind, multiplier, outcome, short_outc
 /// wrong with an operand's residue is carried on, times the operand's multiplier.
 ///
 /// So operands with residues off by `d_j` give an answer off by the sum of `m_j*d_j`, and the same value or
-/// stop. A call may be asked where its correction is below the `A` of its code, its stamp at most
+/// stop. A word of it lies below 2^125 in size, whatever the operands. A call may be asked where its correction is below the `A` of its code, its stamp at most
 /// 1,000,000,000, and its code has words of both its types.
 #[inline(always)]
 pub fn answer(call: &Call) -> Answer
     requires { Asked call.now }
     ensures right { result ≡ Right call.now }
     ensures step { StepLaw call.now result }
+    ensures room { LeavesRoom result }
 {
     right(call)
 }

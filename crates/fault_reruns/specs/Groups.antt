@@ -1,5 +1,5 @@
 -- Groups: the groups of a script are rerun one after another, behind the run without faults.
-use Rattle.std.specs.Prelude.{◌≡◌, ℤ, List, [], ◌∷◌, ◌++◌, length, map, All}
+use Rattle.std.specs.Prelude.{◌≡◌, ◌⊎◌, ℤ, List, [], ◌∷◌, ◌++◌, length, map, All}
 use Rattle.coded_unit.specs.declared.call.Answer.{Answer}
 use Rattle.coded_unit.specs.Log.{Entry}
 use Rattle.coded_unit.specs.Seen.{UnitSeen}
@@ -44,3 +44,7 @@ pub record GroupsJudged (t : Numbers) (g : Lists) (rows : List (List ℤ)) (othe
 -- so a group is judged alone: by the calls of the run without faults, and then by those of its rerun
 abbrev pub JudgedAlone : Numbers → Lists → List (List ℤ) → List Fault → Verdict → UnitSeen → UnitSeen → Type 0
 JudgedAlone t g rows faults v before now = (others : List (List Answer)) × GroupsJudged t g rows others (faults ∷ []) (v ∷ []) before now
+
+-- and where memory was wanted it isn't: no call was made, or those of the run without faults and no call of its rerun
+abbrev pub JudgedNot : Numbers → Lists → List (List ℤ) → List Fault → UnitSeen → UnitSeen → Type 0
+JudgedNot t g rows faults before now = (now ≡ before) ⊎ ((others : List (List Answer)) × GroupsJudged t g rows others (faults ∷ []) [] before now)

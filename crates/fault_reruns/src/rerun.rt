@@ -13,7 +13,7 @@ ghost use Rattle.fault_runs.specs.RunLaw.{GroupStands, RunsKept};
 ghost use Rattle.fault_injector.specs.Names.{Names};
 ghost use Rattle.fault_injector.specs.Verdicts.{verdict_of};
 ghost use Rattle.fault_reruns.specs.Crossing.{CycleRan, Room};
-ghost use Rattle.fault_reruns.specs.Groups.{JudgedAlone};
+ghost use Rattle.fault_reruns.specs.Groups.{JudgedAlone, JudgedNot};
 ghost use Rattle.fault_reruns.specs.Laws.{AsksAtTouched, RerunsAreRight, TouchedLaws};
 ghost use Rattle.fault_reruns.specs.Reruns.{InCycles, IsReference, Reran};
 ghost use Rattle.fault_reruns.specs.Touched.{held_marks};
@@ -266,7 +266,7 @@ impl<'a> Reference<'a> {
 
 /// How a group of faults changes a run over these rows: the run without faults is carried through the unit once and kept, and then the unit
 /// is asked again as `Reference::verdict` asks it. Who judges several groups makes one `Reference` for them. `Memory` where there is no room;
-/// the run without faults may have been carried by then.
+/// then no call was made, or those of the run without faults and no other.
 ///
 /// The calls are those of the run without faults and then those of its rerun, and no other. Where no answer
 /// was wrong it is the defined verdict of the group, which fits the graph; it names an output or an operation
@@ -288,6 +288,7 @@ pub fn verdict<U: Unit>(
     ensures names { IfOk result (Names (length graph.now.outputs) (length graph.now.operations)) }
     ensures cycle { IfOk result (InCycles (length rows.now)) }
     ensures never_falls { (U.seen unit.old).wrong ≤ (U.seen unit.new).wrong }
+    ensures err { OnErr result (JudgedNot table.now graph.now rows.now group.now (U.seen unit.old) (U.seen unit.new)) }
 {
     // The calls are put together from those of the run without faults and of the rerun.
     groups_are_rerun_one_after_another();

@@ -1,5 +1,6 @@
 -- Boxed: boxes of cells, and cycles that end in one of them.
-use Rattle.std.proofs.Common.{◌≡◌, ℕ, zero, suc, ◌+◌, ◌<◌, ◌≤◌, ◌⊎◌, inl, inr, ℤ, ◌≤ℤ◌, ◌<ℤ◌, List, length, slice_get, Some, sym, ap, subst, ◌∙◌, arith}
+use Rattle.std.proofs.Common.{◌≡◌, ℕ, zero, suc, ◌+◌, ◌*◌, ◌<◌, ◌≤◌, ◌⊎◌, inl, inr, ℤ, ◌≤ℤ◌, ◌<ℤ◌, List, length, slice_get, Some, sym, ap, subst, ◌∙◌, arith}
+use Rattle.std.proofs.Math.Nat.{suc-mul}
 use Rattle.std.proofs.lemmas.Bool.{cases_order}
 use Rattle.std.proofs.lemmas.Int.{ints}
 use Rattle.std.proofs.lemmas.Option.{slice_get_within}
@@ -9,15 +10,16 @@ use Rattle.op_graph.specs.Lists.{Lists}
 use Rattle.op_graph.specs.Laws.{EntryLaws}
 use Rattle.op_graph.specs.Rules.{IsGraph}
 use Rattle.op_graph.specs.GraphRun.{initial, stored, cycle}
-use Rattle.range_audit.specs.declared.range.Range.{Range}
-use Rattle.range_audit.specs.Intervals.{IsIn, Fit, Hold}
-use Rattle.range_audit.specs.Walking.{start_of, HoldAt, InBox, AreSettled}
+use Rattle.range_walk.specs.declared.range.Range.{Range}
+use Rattle.range_walk.specs.Intervals.{IsIn, Fit, Hold}
+use Rattle.range_audit.specs.Searching.{start_of, HoldAt, InBox, AreSettled}
 use Rattle.range_audit.proofs.Steps.{get_there, map_at}
 
 -- ---- where boxes begin
 
-pub start_more : (many k : ℕ) → start_of many (k + 1) ≡ start_of many k + many
-start_more many k = let e : k + 1 ≡ suc k = omega arith in ap (start_of many) e
+pub start_product : (many k : ℕ) → k * many ≡ start_of many k
+start_product many zero = omega arith
+start_product many (suc k) = suc-mul k many ∙ ap (λ n. n + many) (start_product many k)
 
 start_by : (many k c : ℕ) → ((k < c) → start_of many k + many ≤ start_of many c) → (k ≡ c) ⊎ ((k < c) ⊎ (c < k)) → k < suc c
     → start_of many k + many ≤ start_of many (suc c)

@@ -22,11 +22,13 @@ use Rattle.op_graph.specs.Lists.{Lists}
 use Rattle.op_graph.specs.Laws.{OperandLaws, EntryLaws}
 use Rattle.op_graph.specs.Rules.{IsGraph, scope, place_of, numbered, entry_of, kind_fits, from_fits, ty_fits, imm_fits, is_input, same_type}
 use Rattle.op_graph.specs.GraphRun.{own, outcome_of, Stop, Cycle, after, cycle_from, cycle, initial, stored, Run, after_cycle, run_from, unless_stopped, cells_after, CellsFit}
-use Rattle.range_audit.specs.declared.range.Range.{Range}
-use Rattle.range_audit.specs.declared.range.Stops.{Stops}
-use Rattle.range_audit.specs.Audit.{Audit, is_named, RowFits, RowsFit, Holds, Names, Ends}
-use Rattle.range_audit.specs.Intervals.{Hold}
-use Rattle.range_audit.specs.Walking.{Given, OwnFits, IsWalk, AreKept, AreSettled, NamesFrom}
+use Rattle.range_walk.specs.declared.range.Range.{Range}
+use Rattle.range_walk.specs.declared.range.Stops.{Stops}
+use Rattle.range_audit.specs.Audit.{RowFits, RowsFit, Holds, NamesStops, EndsNamed}
+use Rattle.range_walk.specs.Known.{KnownRanges, is_named}
+use Rattle.range_walk.specs.Intervals.{Hold}
+use Rattle.range_audit.specs.Searching.{AreKept, AreSettled, NamesFrom}
+use Rattle.range_walk.specs.Walking.{Given, OwnFits, IsWalk}
 
 -- ---- lists
 
@@ -114,7 +116,7 @@ unless : (P : List ℤ → Type 0) (held next : List ℤ) (later : List ℤ → 
 unless P held next later None p q = q refl
 unless P held next later (Some why) p q = p
 
-pub kept_settled : (g : Lists) (cells : List Range) (a : Audit) → IsWalk g.operations cells a → AreKept g cells a.known → AreSettled g (Hold cells)
+pub kept_settled : (g : Lists) (cells : List Range) (a : KnownRanges) → IsWalk g.operations cells a → AreKept g cells a.known → AreSettled g (Hold cells)
 kept_settled g cells a walk kept = record {
   at_first = kept.at_first;
   next = λ held row hold fit whole.
@@ -205,7 +207,7 @@ named_from g Kept stops named laws entries graph held row hold fit row_fits why 
     let no : why ≢ stop.Operand = λ e. laws.cycle g held row graph fit (is ∙ ap Some e) in
     named held row values next.0 why hold c.given next.1 (own_fits g row (length values) next.0 entries graph row_fits next.1) no next.2
 
-pub holds : (g : Lists) (cells : List Range) (a : Audit) → IsWalk g.operations cells a → AreSettled g (Hold cells) → OperandLaws → IsGraph g
+pub holds : (g : Lists) (cells : List Range) (a : KnownRanges) → IsWalk g.operations cells a → AreSettled g (Hold cells) → OperandLaws → IsGraph g
     → Holds g a.known
 holds g cells a walk settled laws graph = λ rows row.
     let held = cells_after g (initial g) rows in
@@ -213,7 +215,7 @@ holds g cells a walk settled laws graph = λ rows row.
     walk.fits held row (cycle g held row).values hold (of_cycle g held row).given
 
 pub names : (g : Lists) (Kept : List ℤ → Type 0) (stops : List Stops) → NamesFrom g.operations Kept stops → AreSettled g Kept → OperandLaws → EntryLaws
-    → IsGraph g → Names g stops
+    → IsGraph g → NamesStops g stops
 names g Kept stops named settled laws entries graph = λ rows row why row_fits is.
     let held = cells_after g (initial g) rows in
     let hold = cells_keep g Kept settled laws graph (initial g) settled.at_first (laws.cells_at_first g graph) rows in
@@ -238,7 +240,7 @@ ends_from g Kept stops named settled laws entries graph held hold fit (row ∷ r
     (laws.cells_kept g held row graph fit whole) rows (λ n r e. rows_fit (suc n) r e))
 
 pub ends : (g : Lists) (Kept : List ℤ → Type 0) (stops : List Stops) → NamesFrom g.operations Kept stops → AreSettled g Kept → OperandLaws → EntryLaws
-    → IsGraph g → Ends g stops
+    → IsGraph g → EndsNamed g stops
 ends g Kept stops named settled laws entries graph = λ rows rows_fit.
     ends_from g Kept stops named settled laws entries graph (initial g) settled.at_first (laws.cells_at_first g graph) rows rows_fit
 

@@ -1,5 +1,5 @@
 -- Going: one piece of a text behind another.
-use Rattle.std.proofs.Common.{◌≡◌, ℕ, List, [], ◌++◌, Option, append_assoc}
+use Rattle.std.proofs.Common.{ℕ, List, [], ◌++◌, Option, append_assoc}
 use Rattle.std.proofs.lemmas.List.{append-nil}
 use Rattle.vcp_outside.specs.Gathering.{Gathered, Gathers}
 
@@ -11,7 +11,3 @@ unmoved start before text is = rw (append-nil text) is
 pub and_then : {a b c : Option (List ℕ)} {f g h : ℕ} {l m n : Gathered} {s t : List ℕ} → Gathers a b f g l m s → Gathers b c g h m n t
     → Gathers a c f h l n (s ++ t)
 and_then {s = s} {t = t} first second start before text is = rw (← (append_assoc text s t)) (second start before _ (first start before text is))
-
--- the same piece, written otherwise
-pub same : {a b : Option (List ℕ)} {f g : ℕ} {l m : Gathered} {s t : List ℕ} → Gathers a b f g l m s → t ≡ s → Gathers a b f g l m t
-same gathers e start before text is = rw e (gathers start before text is)

@@ -1,15 +1,7 @@
-mod Backward
-mod Bits
 mod Boxed
-mod Conditions
 mod Cycles
-mod Integers
+mod Going
 mod Joined
 mod NoneNamed
-mod Operands
-mod Outcomes
-mod Putting
 mod Steps
-mod ValueBounds
 mod Worked
-mod Going

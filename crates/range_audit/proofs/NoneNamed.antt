@@ -6,8 +6,9 @@ use Rattle.vcp_base.specs.declared.kind.StopKind.{StopKind}
 use Rattle.vcp_base.specs.declared.kind.StopKind.TheVariants as stop
 use Rattle.op_graph.specs.Lists.{Lists}
 use Rattle.op_graph.specs.GraphRun.{Stop, graph_run}
-use Rattle.range_audit.specs.declared.range.Stops.{Stops}
-use Rattle.range_audit.specs.Audit.{Audit, IsAudit, is_named, is_any_named, named_below, NeverStops}
+use Rattle.range_walk.specs.declared.range.Stops.{Stops}
+use Rattle.range_audit.specs.Audit.{IsRangeAudit, named_below, NeverStops}
+use Rattle.range_walk.specs.Known.{KnownRanges, is_named, is_any_named}
 
 -- one more where it holds is none only where it doesn't hold
 not_counted : (b : Bool) (n : ℕ) → n + cond b 1 0 ≡ 0 → (n ≡ 0) × (b ≡ false)
@@ -53,6 +54,6 @@ ends_nowhere : (stops : List Stops) → ((op : ℕ) → op < length stops → is
 ends_nowhere stops none None h = refl
 ends_nowhere stops none (Some e) h = absurd (unnamed stops e.kind e.op (slice_get stops e.op) refl (none e.op) h)
 
-pub never : (g : Lists) (a : Audit) → IsAudit g a → named_below a.stops (length g.operations) ≡ 0 → NeverStops g
+pub never : (g : Lists) (a : KnownRanges) → IsRangeAudit g a → named_below a.stops (length g.operations) ≡ 0 → NeverStops g
 never g a is none rows fit =
     ends_nowhere a.stops (λ op lt. none_counted a.stops (length g.operations) op none (omega (arith, lt, is.stops))) (graph_run g rows).end (is.ends rows fit)

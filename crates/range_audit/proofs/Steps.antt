@@ -1,29 +1,17 @@
--- Steps: what loops over the operations and the cells keep.
-use Rattle.std.proofs.Common.{◌≡◌, ◌≢◌, ℕ, zero, suc, ◌+◌, ◌<◌, ℤ, pos, true, List, [], ◌∷◌, ◌++◌, length, map, take, slice_get, Some, Ok, Err, refl, sym, ap, subst, ◌∙◌, length-take-le, get_or-take, take-take, arith, below_more}
+-- Steps: what loops over the cells keep.
+use Rattle.std.proofs.Common.{◌≡◌, ℕ, zero, suc, ◌+◌, ◌<◌, ℤ, true, List, [], ◌∷◌, ◌++◌, length, map, slice_get, Some, refl, sym, ap, subst, ◌∙◌, arith, below_more}
 use Rattle.std.proofs.lemmas.List.{length_push}
 use Rattle.std.proofs.lemmas.Option.{slice_get_within}
-use Rattle.vcp_base.specs.declared.kind.StopKind.{StopKind}
-use Rattle.vcp_base.specs.declared.kind.StopKind.TheVariants as stop
 use Rattle.vcp_base.specs.Types.{fits}
 use Rattle.vcp_base.specs.Values.{at}
 use Rattle.op_graph.specs.declared.op.Loaded.{Loaded}
-use Rattle.op_graph.specs.declared.op.Op.{Op}
 use Rattle.op_graph.specs.Lists.{Lists}
-use Rattle.op_graph.specs.Laws.{OperandLaws, EntryLaws, ReadLaws}
-use Rattle.op_graph.specs.Reads.{Linked, OperandThere}
-use Rattle.op_graph.specs.Rules.{IsGraph, scope, place_of, OpFits, Operates}
-use Rattle.op_graph.specs.GraphRun.{outcome_of, initial, stored, CellsFit, cycle}
-use Rattle.vcp_base.specs.declared.kind.Kind.{Kind}
-use Rattle.vcp_base.specs.declared.kind.Kind.TheVariants as kind
-use Rattle.std.specs.Prelude.{unsigned_abs}
-use Rattle.range_audit.specs.declared.range.Range.{Range}
-use Rattle.range_audit.specs.declared.range.Stops.{Stops}
-use Rattle.range_audit.specs.declared.told.Told.{Told}
-use Rattle.range_audit.specs.Audit.{is_named}
-use Rattle.range_audit.specs.Intervals.{IsIn, Fit, Hold}
-use Rattle.range_audit.specs.Walking.{Given, OwnFits, Tells, OperandIs, OperandsAre, IsWalk, CellKept, KeptAt, AreKept, AreSettled}
-
--- ---- lists
+use Rattle.op_graph.specs.Laws.{OperandLaws, EntryLaws}
+use Rattle.op_graph.specs.Rules.{IsGraph}
+use Rattle.op_graph.specs.GraphRun.{initial, stored, CellsFit, cycle}
+use Rattle.range_walk.specs.declared.range.Range.{Range}
+use Rattle.range_walk.specs.Intervals.{IsIn, Hold}
+use Rattle.range_audit.specs.Searching.{CellKept, KeptAt, AreKept, AreSettled}
 
 pub get_there : {X : Type 0} (xs : List X) (i : ℕ) → i < length xs → (x : X) × (slice_get xs i ≡ Some x)
 get_there [] i lt = absurd (omega arith)
@@ -55,115 +43,6 @@ pub map_at : {X : Type 0} (f : X → ℤ) (xs : List X) (i : ℕ) (x : X) → sl
 map_at f [] i x e = absurd cc
 map_at f (y ∷ xs) zero x e = let same : y ≡ x = cc in ap f same
 map_at f (y ∷ xs) (suc i) x e = map_at f xs i x e
-
--- ---- operands
-
-operand_is : (before : List Op) (stores : List ℕ) (cells : ℕ) (k : Kind) (imm : ℤ) (n : ℕ) → length stores ≡ cells → OperandThere before stores k imm n
-    → OperandIs cells (length before) k imm n
-operand_is before stores cells kind.Load imm n many there = let lt = slice_get_within stores (unsigned_abs imm) there.0 there.1 in omega (arith, lt)
-operand_is before stores cells _ imm n many there = there
-
-pub operands_are : (g : Lists) (i : ℕ) (op : Op) (cells : ℕ) → EntryLaws → ReadLaws → IsGraph g → slice_get g.operations i ≡ Some op
-    → length g.stores ≡ cells → OperandsAre cells i op
-operands_are g i op cells entries reads graph there many =
-    let lt : i < length g.operations = slice_get_within g.operations i op there in
-    let front : length (take i g.operations) ≡ i = length-take-le i g.operations (omega arith) in
-    let rules : OpFits (place_of (scope g) i) (length g.turn_nodes) (take i g.operations) op = entries.operation g i op graph.part there in
-    let operates : Operates (scope g) (length g.turn_nodes) (take i g.operations) op =
-    subst (λ j. OpFits (place_of (scope g) j) (length g.turn_nodes) (take i g.operations) op) (sym front) rules in
-    let linked : Linked g.stores (take i g.operations) op = reads.linked g (length g.turn_nodes) (take i g.operations) op graph operates in
-    let are : OperandsAre cells (length (take i g.operations)) op = record {
-      first = λ h. operand_is (take i g.operations) g.stores cells op.kind op.imm op.a many (linked.first h);
-      second = λ h. operand_is (take i g.operations) g.stores cells op.kind op.imm op.b many (linked.second h);
-      third = λ h. operand_is (take i g.operations) g.stores cells op.kind op.imm op.c many (linked.third h);
-    } in
-    subst (λ j. OperandsAre cells j op) front are
-
--- ---- the walk
-
--- what is told of operation i, where those before it are in these ranges
-abbrev pub TellsAt : List Op → List Range → List Range → ℕ → Told → Type 0
-TellsAt ops cells known i t = (held row vs : List ℤ) (op : Op) → slice_get ops i ≡ Some op → Hold cells held → Given ops held row vs
-    → Fit known vs → length vs ≡ i → Tells held row vs op t
-
--- the first operations are in these ranges
-abbrev pub FitsSoFar : List Op → List Range → List Range → Type 0
-FitsSoFar ops cells known = (held row vs : List ℤ) → Hold cells held → Given ops held row vs → Fit known vs
-
--- each of the first operations stops only as it is named
-abbrev pub NamesSoFar : List Op → List Range → List Stops → Type 0
-NamesSoFar ops cells stops = (held row vs : List ℤ) (op : Op) (why : StopKind) → length vs < length stops → Hold cells held → Given ops held row vs
-    → slice_get ops (length vs) ≡ Some op → OwnFits row op → why ≢ stop.Operand → outcome_of held row vs op ≡ Err why
-    → is_named why (slice_get stops (length vs)) ≡ true
-
-pub fit_front : (known : List Range) (vs : List ℤ) (i : ℕ) → i < length vs → Fit known vs → Fit known (take i vs)
-fit_front known vs i lt fit = λ k r below there.
-    let count : length (take i vs) ≡ i = length-take-le i vs (omega arith) in
-    let first : k < i = omega arith in
-    subst (λ v. IsIn r v) (sym (get_or-take i vs k (pos 0) first)) (fit k r (omega arith) there)
-
-pub given_front : (ops : List Op) (held row vs : List ℤ) (i : ℕ) → i < length vs → Given ops held row vs → Given ops held row (take i vs)
-given_front ops held row vs i lt given =
-    let few = given.few in
-    let count : length (take i vs) ≡ i = length-take-le i vs (omega arith) in
-    record {
-      few = omega arith;
-      each = λ j op below there.
-          let first : j < i = omega arith in
-          subst (λ ws. outcome_of held row ws op ≡ Ok (at (take i vs) j)) (sym (take-take j i vs (omega arith)))
-          (subst (λ w. outcome_of held row (take j vs) op ≡ Ok w) (sym (get_or-take i vs j (pos 0) first)) (given.each j op (omega arith) there));
-    }
-
-pub fits_more : (ops : List Op) (cells known : List Range) (i : ℕ) (t : Told) → length known ≡ i → i < length ops → TellsAt ops cells known i t
-    → FitsSoFar ops cells known → FitsSoFar ops cells (known ++ t.range ∷ [])
-fits_more ops cells known i t many within tells fits = λ held row vs hold given.
-    let fit : Fit known vs = fits held row vs hold given in
-    let op = get_there ops i within in
-    let here : length known < length vs → IsIn t.range (at vs (length known)) = λ lt.
-    let lt' : i < length vs = omega arith in
-    let told : Tells held row (take i vs) op.0 t =
-    tells held row (take i vs) op.0 op.1 hold (given_front ops held row vs i lt' given) (fit_front known vs i lt' fit) (length-take-le i vs (omega arith)) in
-    subst (λ n. IsIn t.range (at vs n)) (sym many) (told.value (at vs i) (given.each i op.0 lt' op.1)) in
-    λ k r lt there.
-    all_more (λ j r. j < length vs → IsIn r (at vs j)) known t.range (λ j r e lt. fit j r lt e) here k r there lt
-
-pub names_more : (ops : List Op) (cells known : List Range) (stops : List Stops) (i : ℕ) (t : Told) → length stops ≡ i → TellsAt ops cells known i t
-    → FitsSoFar ops cells known → NamesSoFar ops cells stops → NamesSoFar ops cells (stops ++ t.stops ∷ [])
-names_more ops cells known stops i t many tells fits names = λ held row vs op why lt hold given there own no e.
-    let P : ℕ → Type 0 = λ n. n ≡ length vs → is_named why (slice_get (stops ++ t.stops ∷ []) n) ≡ true in
-    let below : (n : ℕ) → n < length stops → P n = λ n less same.
-    let less' : length vs < length stops = omega arith in
-    let named : is_named why (slice_get stops n) ≡ true =
-    subst (λ m. is_named why (slice_get stops m) ≡ true) (sym same) (names held row vs op why less' hold given there own no e) in
-    subst (λ s. is_named why s ≡ true) (sym (get_front stops (t.stops ∷ []) n less)) named in
-    let here : P (length stops) = λ same.
-    let place : length vs ≡ i = omega arith in
-    let told : Tells held row vs op t =
-    tells held row vs op (subst (λ m. slice_get ops m ≡ Some op) place there) hold given (fits held row vs hold given) place in
-    subst (λ s. is_named why s ≡ true) (sym (get_last stops t.stops (length stops) refl)) (told.stop why own no e) in
-    let within : length vs < length stops + 1 = omega (arith, length_push stops t.stops) in
-    below_more P (length stops) below here (length vs) within refl
-
-pub fits_none : (ops : List Op) (cells known : List Range) → known ≡ [] → FitsSoFar ops cells known
-fits_none ops cells [] e = λ held row vs hold given k r lt there. absurd cc
-fits_none ops cells (r ∷ known) e = absurd cc
-
-pub names_none : (ops : List Op) (cells : List Range) (stops : List Stops) → stops ≡ [] → NamesSoFar ops cells stops
-names_none ops cells [] e = λ held row vs op why lt hold given there own no is. absurd (omega arith)
-names_none ops cells (s ∷ stops) e = absurd cc
-
-pub whole_walk : (ops : List Op) (cells known : List Range) (stops : List Stops) → length known ≡ length ops → length stops ≡ length ops
-    → FitsSoFar ops cells known → NamesSoFar ops cells stops → IsWalk ops cells (record { known = known; stops = stops })
-whole_walk ops cells known stops known_many stops_many fits names = record {
-  known_many = known_many;
-  stops_many = stops_many;
-  fits = λ held row vs hold given. fits held row vs hold given;
-  names = λ held row vs op why hold given there own no e.
-      let lt = slice_get_within ops (length vs) op there in
-      names held row vs op why (omega (arith, lt)) hold given there own no e;
-}
-
--- ---- the cells
 
 pub kept_same : (r r' s s' : Range) (m m' : Loaded) → r ≡ r' → s ≡ s' → m ≡ m' → CellKept r m.init s → CellKept r' m'.init s'
 kept_same r r' s s' m m' e f g h = subst (λ x. CellKept x m'.init s') e (subst (λ x. CellKept r x.init s') g (subst (λ x. CellKept r m.init x) f h))

@@ -9,8 +9,9 @@ use Rattle.vcp_base.specs.declared.kind.StopKind.TheVariants as stop
 use Rattle.op_graph.specs.declared.op.Op.{Op}
 use Rattle.op_graph.specs.Lists.{Lists, nothing}
 use Rattle.op_graph.specs.Building.{with_name, with_input, with_load, with_op, with_output, with_store}
-use Rattle.range_audit.specs.declared.range.Stops.{Stops}
-use Rattle.range_audit.specs.Audit.{cycle_after, is_named}
+use Rattle.range_walk.specs.declared.range.Stops.{Stops}
+use Rattle.range_audit.specs.Audit.{cycle_after}
+use Rattle.range_walk.specs.Known.{is_named}
 
 abbrev here : Spot
 here = record { line = 0; col = 0 }

@@ -1,31 +1,15 @@
 -- Audit: what the ranges of a graph's operations say of its runs, and which of its operations may stop.
-use Rattle.std.specs.Prelude.{◌≡◌, ℕ, zero, suc, ◌+◌, ℤ, Bool, true, false, ◌||◌, cond, List, length, slice_get, Option, Some, None, IfSome}
+use Rattle.std.specs.Prelude.{◌≡◌, ℕ, zero, suc, ◌+◌, ℤ, true, cond, List, length, slice_get, Some, None, IfSome}
 use Rattle.vcp_base.specs.declared.kind.StopKind.{StopKind}
-use Rattle.vcp_base.specs.declared.kind.StopKind.TheVariants as stop
 use Rattle.vcp_base.specs.Types.{fits}
 use Rattle.vcp_base.specs.Values.{at}
 use Rattle.op_graph.specs.declared.op.Var.{Var}
 use Rattle.op_graph.specs.Lists.{Lists}
 use Rattle.op_graph.specs.GraphRun.{Cycle, cycle, cells_after, initial, graph_run}
-use Rattle.range_audit.specs.declared.range.Range.{Range}
-use Rattle.range_audit.specs.declared.range.Stops.{Stops}
-use Rattle.range_audit.specs.Intervals.{Fit}
-
--- what is told of each operation: the range of its values, and why it may stop
-pub record Audit : Type 0 where
-  pub known : List Range
-  pub stops : List Stops
-
--- why an operation may stop; an operand is never outside its type
-abbrev pub may_stop : StopKind → Stops → Bool
-may_stop stop.Range s = s.range
-may_stop stop.DivZero s = s.div_zero
-may_stop stop.Operand s = false
-
--- the operation is there, and may stop so
-abbrev pub is_named : StopKind → Option Stops → Bool
-is_named why None = false
-is_named why (Some s) = may_stop why s
+use Rattle.range_walk.specs.declared.range.Range.{Range}
+use Rattle.range_walk.specs.declared.range.Stops.{Stops}
+use Rattle.range_walk.specs.Intervals.{Fit}
+use Rattle.range_walk.specs.Known.{KnownRanges, is_named, is_any_named, NamesAble, LieInTypes}
 
 -- each input has a value of its type
 abbrev pub RowFits : Lists → List ℤ → Type 0
@@ -44,26 +28,23 @@ abbrev pub Holds : Lists → List Range → Type 0
 Holds g known = (rows : List (List ℤ)) (row : List ℤ) → Fit known (cycle_after g rows row).values
 
 -- a cycle on a row that fits stops only at an operation that is named, and only so
-abbrev pub Names : Lists → List Stops → Type 0
-Names g stops = (rows : List (List ℤ)) (row : List ℤ) (why : StopKind) → RowFits g row → (cycle_after g rows row).stop ≡ Some why
+abbrev pub NamesStops : Lists → List Stops → Type 0
+NamesStops g stops = (rows : List (List ℤ)) (row : List ℤ) (why : StopKind) → RowFits g row → (cycle_after g rows row).stop ≡ Some why
     → is_named why (slice_get stops (length (cycle_after g rows row).values)) ≡ true
 
 -- a run over rows that fit ends at an operation that is named, or where its rows end
-abbrev pub Ends : Lists → List Stops → Type 0
-Ends g stops = (rows : List (List ℤ)) → RowsFit g rows → IfSome (graph_run g rows).end (λ e. is_named e.kind (slice_get stops e.op) ≡ true)
+abbrev pub EndsNamed : Lists → List Stops → Type 0
+EndsNamed g stops = (rows : List (List ℤ)) → RowsFit g rows → IfSome (graph_run g rows).end (λ e. is_named e.kind (slice_get stops e.op) ≡ true)
 
 -- what is told of a graph's operations, and what that says of the graph's runs
-pub record IsAudit (g : Lists) (a : Audit) : Type 0 where
+pub record IsRangeAudit (g : Lists) (a : KnownRanges) : Type 0 where
   pub known : length a.known ≡ length g.operations
   pub stops : length a.stops ≡ length g.operations
   pub holds : Holds g a.known
-  pub names : Names g a.stops
-  pub ends : Ends g a.stops
-
--- the operation is there, and may stop, however it may
-abbrev pub is_any_named : Option Stops → Bool
-is_any_named None = false
-is_any_named (Some s) = s.range || s.div_zero
+  pub names : NamesStops g a.stops
+  pub ends : EndsNamed g a.stops
+  pub able : NamesAble g.operations a.stops
+  pub types : LieInTypes g.operations a.known
 
 -- how many operations below operation n may stop
 abbrev pub named_below : List Stops → ℕ → ℕ

@@ -1,4 +1,3 @@
 pub mod Audit
-pub mod Intervals
-pub mod Walking
 pub mod RangeText
+pub mod Searching

@@ -11,9 +11,10 @@ use Rattle.op_graph.specs.Lists.{Lists}
 use Rattle.op_graph.specs.Rules.{is_input}
 use Rattle.graph_passes.specs.Part.{can_stop}
 use Rattle.run_report.specs.OperationLines.{source_text}
-use Rattle.range_audit.specs.declared.range.Range.{Range}
-use Rattle.range_audit.specs.declared.range.Stops.{Stops}
-use Rattle.range_audit.specs.Audit.{Audit, named_below}
+use Rattle.range_walk.specs.declared.range.Range.{Range}
+use Rattle.range_walk.specs.declared.range.Stops.{Stops}
+use Rattle.range_audit.specs.Audit.{named_below}
+use Rattle.range_walk.specs.Known.{KnownRanges}
 
 -- the ends of a range
 abbrev pub ends_text : Range → List ℕ
@@ -62,7 +63,7 @@ lines_of all g known i (Some op) None = []
 lines_of all g known i (Some op) (Some s) = operation_text all g known i op s
 
 -- the lines of the operations below operation n, in order
-abbrev pub lines_below : Bool → Lists → Audit → ℕ → List ℕ
+abbrev pub lines_below : Bool → Lists → KnownRanges → ℕ → List ℕ
 lines_below all g a zero = []
 lines_below all g a (suc i) = lines_below all g a i ++ lines_of all g a.known i (slice_get g.operations i) (slice_get a.stops i)
 
@@ -81,6 +82,6 @@ abbrev pub sum_text : ℕ → ℕ → List ℕ
 sum_text named able = codes "may stop " ++ (decimal named ++ (codes " of " ++ (decimal able ++ codes "\n")))
 
 -- the whole text
-abbrev pub ranges_text : Bool → Lists → Audit → List ℕ
+abbrev pub ranges_text : Bool → Lists → KnownRanges → List ℕ
 ranges_text all g a =
     lines_below all g a (length g.operations) ++ sum_text (named_below a.stops (length g.operations)) (able_below g (length g.operations))

@@ -2,28 +2,18 @@
 
 ghost use Rattle.std.specs.Prelude.{◌≡◌, ◌<◌, ℤ, List, length, IfOk};
 ghost use Rattle.op_graph.specs.Rules.{IsGraph};
-ghost use Rattle.range_audit.specs.Intervals.{Fit, Hold};
-ghost use Rattle.range_audit.specs.Walking.{Given, IsWalk, NamesFrom, StopsFrom, StopsIn};
+ghost use Rattle.range_walk.specs.Intervals.{Fit, Hold};
+ghost use Rattle.range_audit.specs.Searching.{NamesFrom, StopsFrom, StopsIn};
+ghost use Rattle.range_walk.specs.Walking.{Given, IsWalk};
 
-use crate::audit::Ranges;
 use crate::boxes::has_none;
 use crate::cases::{CONDITIONS, copied, halved, spend};
 use crate::naming::{joined_stops, stops_at};
-use crate::narrowing::{first_ranges, narrow};
 use crate::questions::open_condition;
-use crate::range::{Range, Stops};
-use crate::told::tell;
 use op_graph::Graph;
+use range_walk::{Range, Ranges, Stops, first_ranges, narrow, tell};
 use std::alloc::Global;
 use vcp_base::Memory;
-
-/// No reason to stop.
-fn no_stop() -> Stops {
-    Stops {
-        range: false,
-        div_zero: false,
-    }
-}
 
 /// Why operation `i` may stop, where the operations before it have values in these ranges, by the cases of conditions, so many at once.
 fn stops_by_cases(
@@ -43,7 +33,7 @@ fn stops_by_cases(
 {
     let none = has_none(ranges);
     if none {
-        return Ok(no_stop());
+        return Ok(Stops::none());
     }
     let told = tell(graph, cells, ranges, i);
     if depth == 0 {

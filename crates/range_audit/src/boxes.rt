@@ -1,14 +1,14 @@
 //! Boxes of cells: lists of ranges, one range for each cell, and one box behind another.
 
 ghost use Rattle.std.specs.Prelude.{◌≡◌, ◌<◌, ◌≤◌, ◌+◌, ℕ, ℤ, true, List, length, slice_get, Some, IfOk};
-ghost use Rattle.op_graph.specs.GraphRun.{initial, stored};
+ghost use Rattle.op_graph.specs.GraphRun.{stored};
 ghost use Rattle.op_graph.specs.Rules.{IsGraph};
-ghost use Rattle.range_audit.specs.Intervals.{IsIn, Fit, Hold};
-ghost use Rattle.range_audit.specs.Walking.{start_of, HoldAt, InBox};
+ghost use Rattle.range_walk.specs.Intervals.{IsIn, Fit, Hold};
+ghost use Rattle.range_audit.specs.Searching.{start_of, HoldAt, InBox};
 
-use crate::cells::{load_of, stored_range};
-use crate::range::{Range, range_at};
-use op_graph::{Graph, Loaded, entries_keep_their_rules};
+use crate::cells::stored_range;
+use op_graph::{Graph, entries_keep_their_rules};
+use range_walk::{Range, range_at};
 use std::alloc::Global;
 use vcp_base::Memory;
 
@@ -39,13 +39,16 @@ pub(crate) fn box_at(
     Ok(cells)
 }
 
-/// Where the next box begins.
-pub(crate) fn next_start(boxes: &[Range], start: usize, many: usize) -> usize
-    requires { start + many ≤ length boxes.now }
-    ensures { result ≡ start + many }
+/// Where box `k` of so many begins.
+pub(crate) fn box_start(boxes: &[Range], many: usize, count: u32, k: u32) -> usize
+    requires there { k < count }
+    requires boxes { start_of many count ≤ length boxes.now }
+    ensures start { result ≡ start_of many k }
+    ensures room { result + many ≤ length boxes.now }
 {
     let _count = boxes.len();
-    start + many
+    let start = k as usize * many;
+    start
 }
 
 /// Whether each range is inside that of its cell in the box that begins there.
@@ -70,14 +73,12 @@ pub(crate) fn is_in_one(cells: &[Range], boxes: &[Range], count: u32) -> bool
     ensures { result ≡ true → (held : List ℤ) → Hold cells.now held → InBox boxes.now (length cells.now) count held }
 {
     let many = cells.len();
-    let mut start: usize = 0;
     'boxes: for k in 0..count {
+        let start = box_start(boxes, many, count, k);
         let is = is_inside_at(cells, boxes, start);
         if is {
             return true;
         }
-        let next = next_start(boxes, start, many);
-        start = next;
     }
     false
 }
@@ -114,28 +115,6 @@ pub(crate) fn stored_cells(
     let mut cells = Vec::with_capacity(alloc, count)?;
     'cells: for k in 0..count {
         let range = stored_range(graph, ranges, k);
-        cells.push(range)?;
-    }
-    Ok(cells)
-}
-
-/// The initial value of a cell, as a range.
-fn initial_range(load: Loaded) -> Range
-    ensures { IsIn result load.init }
-{
-    Range::only(load.init)
-}
-
-/// The initial values of the cells, as ranges.
-pub(crate) fn initial_cells(alloc: Global, graph: &Graph) -> Result<Vec<Range>, Memory>
-    ensures many { IfOk result (λ cells. length cells.items ≡ length graph.now.loads) }
-    ensures holds { IfOk result (λ cells. Hold cells.items (initial graph.now)) }
-{
-    let count = graph.cells() as usize;
-    let mut cells = Vec::with_capacity(alloc, count)?;
-    'cells: for k in 0..count {
-        let load = load_of(graph, k);
-        let range = initial_range(load);
         cells.push(range)?;
     }
     Ok(cells)

@@ -1,53 +1,20 @@
 //! Where whole cycles end, by cases of the values of one operation.
 
-ghost use Rattle.std.specs.Prelude.{◌≡◌, ◌<◌, ◌≤◌, ℤ, true, List, length, IfOk, ◌≤ℤ◌, ◌<ℤ◌};
+ghost use Rattle.std.specs.Prelude.{◌≡◌, ◌<◌, ◌≤◌, ℤ, true, List, length, IfOk};
 ghost use Rattle.vcp_base.specs.Values.{at};
 ghost use Rattle.op_graph.specs.GraphRun.{stored};
 ghost use Rattle.op_graph.specs.Rules.{IsGraph};
-ghost use Rattle.range_audit.specs.Intervals.{IsIn, Fit, Hold};
-ghost use Rattle.range_audit.specs.Walking.{IsHalved, IsValueIn, Narrows, NarrowsTo, start_of, InBox, EndsIn};
+ghost use Rattle.range_walk.specs.Intervals.{Fit, Hold};
+ghost use Rattle.range_audit.specs.Searching.{IsHalved, IsValueIn, NarrowsTo, start_of, InBox, EndsIn};
+ghost use Rattle.range_walk.specs.Walking.{Narrows};
 
 use crate::boxes::{cell_count, has_none, is_in_one, stored_cells};
 use crate::cells::store_at;
-use crate::narrowing::{count_of, narrow, put};
 use crate::questions::{box_of, open_condition, wanted_at};
-use crate::range::{Range, both_hold, earlier_range};
 use op_graph::Graph;
+use range_walk::{Range, both_hold, count_of, earlier_range, narrow, put};
 use std::alloc::Global;
 use vcp_base::Memory;
-
-/// The values of a range that are no more than `m`.
-fn up_to(r: Range, m: i64) -> Range
-    ensures { (v : ℤ) → IsIn r v → v ≤ℤ m → IsIn result v }
-{
-    Range {
-        low: r.low,
-        high: m,
-        nonzero: r.nonzero,
-    }
-}
-
-/// The next integer of 64 bits, where there is one.
-fn next(m: i64) -> i64
-    ensures { (v : ℤ) → m <ℤ v → result ≤ℤ v }
-{
-    if m == i64::MAX {
-        return m;
-    }
-    m + 1
-}
-
-/// The values of a range that are more than `m`.
-fn above(r: Range, m: i64) -> Range
-    ensures { (v : ℤ) → IsIn r v → m <ℤ v → IsIn result v }
-{
-    let low = next(m);
-    Range {
-        low,
-        high: r.high,
-        nonzero: r.nonzero,
-    }
-}
 
 /// The same ranges.
 pub(crate) fn copied(alloc: Global, ranges: &[Range]) -> Result<Vec<Range>, Memory>
@@ -118,8 +85,8 @@ pub(crate) fn halved(
     ensures one { IfOk result (λ h. IsHalved graph.now.operations cells.now ranges.now h.low.items h.high.items) }
 {
     let r = earlier_range(ranges, q);
-    let at_most = up_to(r, 0);
-    let rest = above(r, 0);
+    let at_most = r.up_to(0);
+    let rest = r.above(0);
     let low = part(alloc, graph, cells, ranges, q, at_most)?;
     let high = part(alloc, graph, cells, ranges, q, rest)?;
     Ok(Halves { low, high })
@@ -137,15 +104,6 @@ pub(crate) fn spend(graph: &Graph, left: &mut u64) -> bool {
     }
     *left = *left - many;
     true
-}
-
-/// A range without a value.
-fn no_value() -> Range {
-    Range {
-        low: 1,
-        high: 0,
-        nonzero: false,
-    }
 }
 
 /// The range of operation `j` in cycles with values in these ranges, by the cases of conditions, so many at once, until it is inside
@@ -168,7 +126,7 @@ fn range_by_cases(
 {
     let none = has_none(ranges);
     if none {
-        return Ok(no_value());
+        return Ok(Range::none());
     }
     let known = earlier_range(ranges, j);
     if depth == 0 {
@@ -340,8 +298,8 @@ pub(crate) fn ends_by_cases(
     let r = earlier_range(ranges, n);
     let m = r.low;
     let less = depth - 1;
-    let one = up_to(r, m);
-    let rest = above(r, m);
+    let one = r.up_to(m);
+    let rest = r.above(m);
     let low = closer_part(alloc, graph, cells, ranges, boxes, count, n, one, left)?;
     let high = part(alloc, graph, cells, ranges, n, rest)?;
     let first = ends(alloc, graph, &low, boxes, count, missed)?;

@@ -1,14 +1,14 @@
 //! Ranges in which the cells are always.
 
 ghost use Rattle.std.specs.Prelude.{◌≡◌, ◌<◌, ℕ, ℤ, true, length, slice_get, Some, IfOk};
+ghost use Rattle.op_graph.specs.GraphRun.{initial};
 ghost use Rattle.op_graph.specs.Rules.{IsGraph};
-ghost use Rattle.range_audit.specs.Intervals.{IsIn, Hold};
-ghost use Rattle.range_audit.specs.Walking.{AreKept, CellKept, KeptAt, AreSettled};
+ghost use Rattle.range_walk.specs.Intervals.{IsIn, Hold};
+ghost use Rattle.range_audit.specs.Searching.{AreKept, CellKept, KeptAt, AreSettled};
 
-use crate::range::{Range, range_at};
 use crate::thresholds::{next_above, next_below, thresholds};
-use crate::walk::walk;
 use op_graph::{Graph, Loaded, entries_keep_their_rules, operands_are_in_their_types};
+use range_walk::{Range, range_at, walk};
 use std::alloc::Global;
 use vcp_base::{Memory, Ty, greatest, least};
 
@@ -183,13 +183,24 @@ fn renew(graph: &Graph, cells: &mut [Range], known: &[Range], step: Step, number
     }
 }
 
-/// The initial value of each cell, as a range.
-fn first_cells(alloc: Global, graph: &Graph) -> Result<Vec<Range>, Memory>
-    ensures { IfOk result (λ cells. length cells.items ≡ length graph.now.loads) }
+/// The initial value of a cell, as a range.
+fn initial_range(load: Loaded) -> Range
+    ensures { IsIn result load.init }
 {
-    let mut cells = Vec::with_capacity(alloc, graph.cells() as usize)?;
-    'cells: for cell in graph.loads() {
-        cells.push(Range::only(cell.init))?;
+    Range::only(load.init)
+}
+
+/// The initial values of the cells, as ranges.
+pub(crate) fn initial_cells(alloc: Global, graph: &Graph) -> Result<Vec<Range>, Memory>
+    ensures many { IfOk result (λ cells. length cells.items ≡ length graph.now.loads) }
+    ensures holds { IfOk result (λ cells. Hold cells.items (initial graph.now)) }
+{
+    let count = graph.cells() as usize;
+    let mut cells = Vec::with_capacity(alloc, count)?;
+    'cells: for k in 0..count {
+        let load = load_of(graph, k);
+        let range = initial_range(load);
+        cells.push(range)?;
     }
     Ok(cells)
 }
@@ -220,7 +231,7 @@ fn found(alloc: Global, graph: &Graph) -> Result<Vec<Range>, Memory>
 {
     let _operations = graph.len();
     let numbers = thresholds(alloc, graph)?;
-    let mut cells = first_cells(alloc, graph)?;
+    let mut cells = initial_cells(alloc, graph)?;
     'rounds: for round in 0..ROUNDS {
         let told = walk(alloc, graph, &cells)?;
         if are_kept(graph, &cells, told.known()) {
@@ -251,7 +262,7 @@ fn closer(alloc: Global, graph: &Graph, cells: Vec<Range>) -> Result<Vec<Range>,
     ensures settled { IfOk result (λ found. AreSettled graph.now (Hold found.items)) }
 {
     let told = walk(alloc, graph, &cells)?;
-    let mut next = first_cells(alloc, graph)?;
+    let mut next = initial_cells(alloc, graph)?;
     renew(graph, &mut next, told.known(), Step::Near, &[]);
     let is = are_settled(alloc, graph, &next)?;
     if is {

@@ -2,19 +2,17 @@
 
 ghost use Rattle.std.specs.Prelude.{◌≡◌, ◌<◌, ◌≤◌, ◌+◌, ℕ, true, length, IfOk, IfSome};
 ghost use Rattle.op_graph.specs.Rules.{IsGraph};
-ghost use Rattle.range_audit.specs.Audit.{IsAudit};
-ghost use Rattle.range_audit.specs.Intervals.{Hold};
-ghost use Rattle.range_audit.specs.Walking.{start_of, InBox, EndsFrom, AreSettled};
+ghost use Rattle.range_audit.specs.Audit.{IsRangeAudit};
+ghost use Rattle.range_walk.specs.Intervals.{Hold};
+ghost use Rattle.range_audit.specs.Searching.{start_of, InBox, EndsFrom, AreSettled};
 
-use crate::audit::Ranges;
-use crate::boxes::{box_at, cell_count, has_none, initial_cells, is_in_one, next_start};
+use crate::boxes::{box_at, box_start, cell_count, has_none, is_in_one};
 use crate::cases::{copied, ends_by_cases};
-use crate::cells::{Step, step_of, store_at, widened};
+use crate::cells::{Step, initial_cells, step_of, store_at, widened};
 use crate::naming::{named_by, named_from};
-use crate::range::{Range, Stops, both_hold};
 use crate::thresholds::thresholds;
-use crate::walk::walk;
 use op_graph::{Graph, entries_keep_their_rules, operands_are_in_their_types};
+use range_walk::{Range, Ranges, Stops, both_hold, walk};
 use std::alloc::Global;
 use vcp_base::{Memory, Ty};
 
@@ -84,14 +82,12 @@ fn are_boxes_kept(
     ensures { IfOk result (λ is. is ≡ true → (k : ℕ) → k < count → EndsFrom graph.now boxes.now count (start_of (length graph.now.stores) k)) }
 {
     let many = cell_count(graph);
-    let mut start: usize = 0;
     let mut all = true;
     'boxes: for k in 0..count {
+        let start = box_start(boxes, many, count, k);
         let kept = is_box_kept(alloc, graph, boxes, count, start, n, left, missed)?;
         let both = both_hold(all, kept);
         all = both;
-        let next = next_start(boxes, start, many);
-        start = next;
     }
     Ok(all)
 }
@@ -124,11 +120,7 @@ fn empty_box(alloc: Global, many: usize) -> Result<Vec<Range>, Memory>
 {
     let mut ranges = Vec::with_capacity(alloc, many)?;
     'cells: for j in 0..many {
-        ranges.push(Range {
-            low: 1,
-            high: 0,
-            nonzero: false,
-        })?;
+        ranges.push(Range::none())?;
     }
     Ok(ranges)
 }
@@ -291,8 +283,8 @@ fn with_family(
     requires graph { IsGraph graph.now }
     requires room { start_of (length graph.now.stores) count ≤ length boxes.now }
     requires settled { AreSettled graph.now (InBox boxes.now (length graph.now.stores) count) }
-    requires audit { IsAudit graph.now ranges.now }
-    ensures { IfOk result (λ a. IsAudit graph.now a) }
+    requires audit { IsRangeAudit graph.now ranges.now }
+    ensures { IfOk result (λ a. IsRangeAudit graph.now a) }
 {
     // No operation stops because an operand is outside its type.
     operands_are_in_their_types();
@@ -359,8 +351,8 @@ fn closer_by_family(
 ) -> Result<Ranges, Memory>
     requires graph { IsGraph graph.now }
     requires place { place < length graph.now.stores }
-    requires audit { IsAudit graph.now ranges }
-    ensures { IfOk result (λ a. IsAudit graph.now a) }
+    requires audit { IsRangeAudit graph.now ranges }
+    ensures { IfOk result (λ a. IsRangeAudit graph.now a) }
 {
     let any = names_any(ranges.stops());
     if !any {
@@ -386,8 +378,8 @@ fn closer_by(
 ) -> Result<Ranges, Memory>
     requires graph { IsGraph graph.now }
     requires place { place < length graph.now.stores }
-    requires audit { IsAudit graph.now ranges }
-    ensures { IfOk result (λ a. IsAudit graph.now a) }
+    requires audit { IsRangeAudit graph.now ranges }
+    ensures { IfOk result (λ a. IsRangeAudit graph.now a) }
 {
     let wanted = is_wanted(graph, place, bools);
     if !wanted {
@@ -414,8 +406,8 @@ fn closer_by_each(
     numbers: &[i64],
 ) -> Result<Ranges, Memory>
     requires graph { IsGraph graph.now }
-    requires audit { IsAudit graph.now ranges }
-    ensures { IfOk result (λ a. IsAudit graph.now a) }
+    requires audit { IsRangeAudit graph.now ranges }
+    ensures { IfOk result (λ a. IsRangeAudit graph.now a) }
 {
     let count = cell_count(graph);
     let mut told = ranges;
@@ -436,8 +428,8 @@ fn closer_in_one(
     numbers: &[i64],
 ) -> Result<Ranges, Memory>
     requires graph { IsGraph graph.now }
-    requires audit { IsAudit graph.now ranges }
-    ensures { IfOk result (λ a. IsAudit graph.now a) }
+    requires audit { IsRangeAudit graph.now ranges }
+    ensures { IfOk result (λ a. IsRangeAudit graph.now a) }
 {
     let many = cell_count(graph);
     let none = many == 0;
@@ -456,10 +448,10 @@ pub(crate) fn closer(
     cells: &[Range],
 ) -> Result<Ranges, Memory>
     requires graph { IsGraph graph.now }
-    requires audit { IsAudit graph.now ranges }
+    requires audit { IsRangeAudit graph.now ranges }
     requires many { length cells.now ≡ length graph.now.stores }
     requires settled { AreSettled graph.now (Hold cells.now) }
-    ensures { IfOk result (λ a. IsAudit graph.now a) }
+    ensures { IfOk result (λ a. IsRangeAudit graph.now a) }
 {
     if graph.len() > LARGEST {
         return Ok(ranges);

@@ -3,20 +3,21 @@
 ghost use Rattle.std.specs.Prelude.{◌≡◌, ◌<◌, ◌≤◌, ◌+◌, ℕ, true, false, length, slice_get, IfOk, Some};
 ghost use Rattle.vcp_base.specs.declared.kind.StopKind.{StopKind};
 ghost use Rattle.op_graph.specs.Rules.{IsGraph};
-ghost use Rattle.range_audit.specs.Audit.{may_stop, is_named};
-ghost use Rattle.range_audit.specs.Walking.{Parts, start_of, HoldAt, InBox, NamesFrom};
+ghost use Rattle.range_walk.specs.Known.{may_stop, is_named};
+ghost use Rattle.range_audit.specs.Searching.{start_of, HoldAt, InBox, NamesFrom};
+ghost use Rattle.range_walk.specs.Walking.{Parts};
 
 use crate::asking::closer_stops;
-use crate::boxes::{box_at, cell_count, has_none, next_start};
-use crate::range::{Range, Stops, both_hold, either_holds};
-use crate::walk::walk;
+use crate::boxes::{box_at, box_start, cell_count, has_none};
 use op_graph::Graph;
+use range_walk::{Range, Stops, both_hold, either_holds, walk};
 use std::alloc::Global;
 use vcp_base::Memory;
 
 /// Whether both hold, or one of the two.
 fn joined(both: bool, x: bool, y: bool) -> bool
-    ensures { Parts both (x ≡ true) (y ≡ true) → result ≡ true }
+    ensures holds { Parts both (x ≡ true) (y ≡ true) → result ≡ true }
+    ensures first { both ≡ true → result ≡ true → x ≡ true }
 {
     if both {
         return both_hold(x, y);
@@ -26,7 +27,8 @@ fn joined(both: bool, x: bool, y: bool) -> bool
 
 /// Why an operation may stop, that may for both these reasons, or for one of the two.
 pub(crate) fn joined_stops(both: bool, a: Stops, b: Stops) -> Stops
-    ensures { (why : StopKind) → Parts both (may_stop why a ≡ true) (may_stop why b ≡ true) → may_stop why result ≡ true }
+    ensures holds { (why : StopKind) → Parts both (may_stop why a ≡ true) (may_stop why b ≡ true) → may_stop why result ≡ true }
+    ensures first { both ≡ true → (why : StopKind) → may_stop why result ≡ true → may_stop why a ≡ true }
 {
     let range = joined(both, a.range, b.range);
     let div_zero = joined(both, a.div_zero, b.div_zero);
@@ -53,6 +55,8 @@ pub(crate) fn named_by(
     ensures named { IfOk result (λ stops. (why : StopKind) (i : ℕ)
         → Parts both (is_named why (slice_get a.now i) ≡ true) (is_named why (slice_get b.now i) ≡ true)
         → is_named why (slice_get stops.items i) ≡ true) }
+    ensures first { IfOk result (λ stops. both ≡ true → (why : StopKind) (i : ℕ) → is_named why (slice_get stops.items i) ≡ true
+        → is_named why (slice_get a.now i) ≡ true) }
 {
     let count = a.len();
     let mut stops = Vec::with_capacity(alloc, count)?;
@@ -72,10 +76,7 @@ fn none_named(alloc: Global, graph: &Graph) -> Result<Vec<Stops>, Memory>
     let count = graph.len();
     let mut stops = Vec::with_capacity(alloc, count as usize)?;
     'operations: for i in 0..count {
-        stops.push(Stops {
-            range: false,
-            div_zero: false,
-        })?;
+        stops.push(Stops::none())?;
     }
     Ok(stops)
 }
@@ -127,12 +128,10 @@ pub(crate) fn named_from(
 {
     let many = cell_count(graph);
     let mut stops = none_named(alloc, graph)?;
-    let mut start: usize = 0;
     'boxes: for k in 0..count {
+        let start = box_start(boxes, many, count, k);
         let more = with_box(alloc, graph, boxes, start, stops, wanted, left)?;
         stops = more;
-        let next = next_start(boxes, start, many);
-        start = next;
     }
     Ok(stops)
 }

@@ -2,8 +2,8 @@
 
 ghost use Rattle.std.specs.Prelude.{◌<◌, length};
 
-use crate::range::Range;
 use op_graph::Graph;
+use range_walk::Range;
 use vcp_base::{Kind, Ty};
 
 /// How many operations are gone through from one that is stored to a condition.

@@ -1,6 +1,7 @@
 -- Distinct operations have distinct signatures, and expected residues are residues.
-use Rattle.std.proofs.Common.{◌≡◌, ℕ, ◌≤◌, ◌+◌, ◌*◌, ◌%◌, ◌/◌, ◌<◌, ◌^◌, arith}
-use Rattle.std.proofs.Math.Nat.{mul-le-mul}
+use Rattle.std.proofs.Common.{◌≡◌, ℕ, ◌≤◌, ◌+◌, ◌*◌, ◌%◌, ◌/◌, ◌<◌, ◌^◌, subst, arith}
+use Rattle.std.proofs.Math.Nat.{mul-le-mul, mul-suc}
+use Rattle.std.proofs.Math.Numerals.{suc-eq-add-one}
 use Rattle.vcp_base.specs.declared.code.Profile.{Profile}
 use Rattle.vcp_base.specs.declared.code.Profile.TheVariants as profile
 use Rattle.vcp_base.specs.Code.{modulus}
@@ -30,6 +31,32 @@ signature_distinct profile.Narrow seed i j i_few j_few same =
 signature_distinct profile.Wide seed i j i_few j_few same =
     apart profile.Wide seed i j ((seed + 922337203685477581 * i) / 2 ^ 60) ((seed + 922337203685477581 * j) / 2 ^ 60)
     ((seed + 922337203685477581 * i) % 2 ^ 60) i_few j_few (omega arith) (omega arith)
+
+-- the same where the second signature is greater by the step: then the operations are 5 times the step apart
+apart_by : (p : Profile) (seed step i j m n r : ℕ) → step ≤ most_step → i < most_operations → j < most_operations → seed + growth p * i ≡ signatures p * m + r
+    → seed + growth p * j ≡ signatures p * n + (r + step) → j ≡ i + 5 * step
+apart_by profile.Narrow seed step i j m n r small i_few j_few at_i at_j = omega arith
+apart_by profile.Wide seed step i j m n r small i_few j_few at_i at_j = omega arith
+
+five_apart : (p : Profile) (seed step i j : ℕ) → step ≤ most_step → i < most_operations → j < most_operations
+    → signature p seed j ≡ signature p seed i + step → j ≡ i + 5 * step
+unfolding signature
+five_apart profile.Narrow seed step i j small i_few j_few same =
+    apart_by profile.Narrow seed step i j ((seed + 214748365 * i) / 2 ^ 30) ((seed + 214748365 * j) / 2 ^ 30) ((seed + 214748365 * i) % 2 ^ 30) small i_few
+    j_few (omega arith) (omega arith)
+five_apart profile.Wide seed step i j small i_few j_few same =
+    apart_by profile.Wide seed step i j ((seed + 922337203685477581 * i) / 2 ^ 60) ((seed + 922337203685477581 * j) / 2 ^ 60)
+    ((seed + 922337203685477581 * i) % 2 ^ 60) small i_few j_few (omega arith) (omega arith)
+
+-- the stamp grows by the step from cycle to cycle
+one_stamp_more : (p : Profile) (seed step i j n : ℕ) → expected p seed step j n ≡ expected p seed step i (n + 1)
+    → signature p seed j ≡ signature p seed i + step
+one_stamp_more p seed step i j n same =
+    let grows = subst (λ (m : ℕ). step * m ≡ step * (n + 1) + step) (suc-eq-add-one (n + 1)) (mul-suc step (n + 1)) in omega (arith, same, grows)
+
+pub residues_repeat : (p : Profile) (seed step i j n : ℕ) → step ≤ most_step → i < most_operations → j < most_operations
+    → expected p seed step j n ≡ expected p seed step i (n + 1) → j ≡ i + 5 * step
+residues_repeat p seed step i j n small i_few j_few same = five_apart p seed step i j small i_few j_few (one_stamp_more p seed step i j n same)
 
 pub signature_below : (p : Profile) (seed i : ℕ) → signature p seed i < signatures p
 unfolding signature

@@ -30,7 +30,7 @@ send_call id seed step n v = record {
   stamp = stamp step n;
 }
 
--- the residue of what sender `id` sends in cycle n: it names the sender and the cycle
+-- the residue of what sender `id` sends in cycle n: given the cycle, it names the sender
 abbrev pub telegram_residue : (id seed step n : ℕ) → ℕ
 telegram_residue id seed step n = expected profile.Narrow seed step id n
 

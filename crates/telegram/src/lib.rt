@@ -1,7 +1,7 @@
 //! Stamped telegrams: DINT values between controllers, in coded words.
 //!
 //! A telegram is the word of a value in the narrow code and the number of the cycle in which it was sent.
-//! The word's residue names the sender and that cycle. A network may lose, repeat, delay, reorder,
+//! Given the number, the word's residue names the sender. A network may lose, repeat, delay, reorder,
 //! misroute and alter telegrams: a receiver delivers a value exactly where the residue is that of the
 //! sender that it hears, the number is above all that it delivered, and the telegram is young enough.
 //! That all controllers count the same cycles is a premise.

@@ -1,6 +1,6 @@
 //! Reading whole files.
 
-ghost use Rattle.std.specs.Prelude.{◌≡◌, ◌+◌, ◌<◌, ◌≤◌, ◌^◌, ◌⊎◌, length, IfSome, IfOk, OnOk, IsErrOf};
+ghost use Rattle.std.specs.Prelude.{◌≡◌, ◌≢◌, ◌+◌, ◌<◌, ◌≤◌, ◌^◌, ◌⊎◌, length, Err, IfSome, IfOk, OnOk, IsErrOf};
 ghost use Rattle.std.specs.Io.{ReadsAtMost};
 ghost use Rattle.std.specs.Io.KnownBytes.{ReadConsumes, IsAtEnd};
 ghost use Rattle.vcp_outside.specs.Counts.{HasCause, Rose, last_count};
@@ -80,7 +80,7 @@ pub fn read_all_counting<F: Files, L: Ledger>(
     ensures reads { IfSome (F.seen files.old).held (λ h. ReadsAll h name.now limit (F.seen files.old).broken (F.seen files.new).broken result) }
     ensures within { IfOk result (λ text. length text ≤ limit) }
     ensures failed { IsErrOf result ReadAll.Failed → Rose (F.seen files.old).faults (F.seen files.new).faults }
-    ensures stayed { OnOk result ((F.seen files.new).faults ≡ (F.seen files.old).faults) }
+    ensures stayed { result ≢ Err cause.Failed → (F.seen files.new).faults ≡ (F.seen files.old).faults }
 
     // What was taken of the file, and in how many reads.
     ensures ended { OnOk result (IsAtEnd (F.seen files.new).rest) }
@@ -125,7 +125,7 @@ fn read_all_with<F: Files, L: Ledger>(
     ensures reads { IfSome (F.seen files.old).held (λ h. ReadsAll h name.now limit (F.seen files.old).broken (F.seen files.new).broken result) }
     ensures within { IfOk result (λ text. length text ≤ limit) }
     ensures failed { IsErrOf result ReadAll.Failed → Rose (F.seen files.old).faults (F.seen files.new).faults }
-    ensures stayed { OnOk result ((F.seen files.new).faults ≡ (F.seen files.old).faults) }
+    ensures stayed { result ≢ Err cause.Failed → (F.seen files.new).faults ≡ (F.seen files.old).faults }
     ensures ended { OnOk result (IsAtEnd (F.seen files.new).rest) }
     ensures taken { IfSome (F.seen files.old).held (λ h. Takes h name.now limit (F.seen files.new).rest result) }
     ensures held { (F.seen files.new).held ≡ (F.seen files.old).held }
@@ -145,8 +145,9 @@ fn read_all_with<F: Files, L: Ledger>(
 /// end. After a refusal what was taken stays taken: at most `limit` bytes after `Failed`, `limit + 1`
 /// after `TooLong`, and 1 to `limit + 1` after `Memory`.
 ///
-/// After `Ok` the count of faults is as before: no failure was passed over, and none was tried again. How
-/// many reads are made is said by `read_all_counting`, of which this is the call with a counter of its own.
+/// After `Failed` alone the count of faults rose, and else it is as before: no failure was passed over, and
+/// none was tried again. How many reads are made is said by `read_all_counting`, of which this is the call
+/// with a counter of its own.
 pub fn read_all<F: Files>(
     alloc: Global,
     files: &mut F,
@@ -159,7 +160,7 @@ pub fn read_all<F: Files>(
     ensures reads { IfSome (F.seen files.old).held (λ h. ReadsAll h name.now limit (F.seen files.old).broken (F.seen files.new).broken result) }
     ensures within { IfOk result (λ text. length text ≤ limit) }
     ensures failed { IsErrOf result ReadAll.Failed → Rose (F.seen files.old).faults (F.seen files.new).faults }
-    ensures stayed { OnOk result ((F.seen files.new).faults ≡ (F.seen files.old).faults) }
+    ensures stayed { result ≢ Err cause.Failed → (F.seen files.new).faults ≡ (F.seen files.old).faults }
 
     // What was taken of the file.
     ensures ended { OnOk result (IsAtEnd (F.seen files.new).rest) }

@@ -1,5 +1,5 @@
 -- ApartReaching: how far `sum` with rows comes, from what loading its image and reading its rows give.
-use Rattle.std.proofs.Common.{◌≡◌, ◌≤◌, ℕ, ℤ, List, length, map, Option, Result, Ok, Err, ap, Some}
+use Rattle.std.proofs.Common.{◌≡◌, ◌≤◌, ℕ, ℤ, List, length, map, Option, Result, Ok, Err, ap, Some, Bool}
 use Rattle.vcp_base.specs.Limits.{most_image_bytes}
 use Rattle.vcp_base.specs.declared.columns.Column.{Column}
 use Rattle.vcp_outside.specs.Held.{Held}
@@ -23,7 +23,7 @@ is_table t g e = (ap (λ (x : Numbers). x.profile) e, ap (λ (x : Numbers). x.co
 
 module _ (i : Image) (rows : Rows) (script name : List ℕ) (held : Held) (old new : Option (List ℕ)) (b m n : ℕ) (columns : List Column)
     (are : columns ≡ map (column i.graph.names) i.graph.inputs) where
-  pub rows_read : (list : List (List ℤ)) → ReadsRows (rows_outcome rows held columns) b m (Ok list) → b ≤ m → (r : Result ℕ Fault)
+  pub rows_read : (list : List (List ℤ)) → ReadsRows (rows_outcome rows held columns) b m (Ok list) → b ≤ m → (r : Result Bool Fault)
       → ReachesScript (AreTablesApart i.table list) i script name held old new m n r → ReachesApartRows i rows script name held old new b n r
   rows_read list reads le r reaches = in_all_rows list (rw are at reads) m le r reaches
 
@@ -32,7 +32,7 @@ module _ (i : Image) (rows : Rows) (script name : List ℕ) (held : Held) (old n
   rows_lost why lacks = lost_all_rows why (rw are at lacks) (appends-nothing old)
 
 module _ (m : List ℕ) (rows : Rows) (script name : List ℕ) (held : Held) (old new : Option (List ℕ)) (b k n : ℕ) where
-  pub image_read : (i : Image) → ((text : List ℕ) × (held m ≡ Some text) × (length text ≤ most_image_bytes) × ImageOf text i) → (r : Result ℕ Fault)
+  pub image_read : (i : Image) → ((text : List ℕ) × (held m ≡ Some text) × (length text ≤ most_image_bytes) × ImageOf text i) → (r : Result Bool Fault)
       → ReachesApartRows i rows script name held old new k n r → b ≤ k → ReachesApart m rows script name held old new b n r
   image_read i (text, holds, short, is) r reaches le = in_apart_image i (record { bytes = text; holds = holds; short = short; image = is }) k le r reaches
 

@@ -1,5 +1,5 @@
 -- FlipsReaching: how far `sites` comes for flips, from what loading its image and reading its rows give.
-use Rattle.std.proofs.Common.{◌≡◌, inl, inr, ◌≤◌, ℕ, ℤ, List, All, length, map, Option, Some, IfErr, Result, Ok, Err, arith}
+use Rattle.std.proofs.Common.{◌≡◌, inl, inr, ◌≤◌, ℕ, ℤ, List, All, length, map, Option, Some, IfErr, Result, Ok, Err, arith, Bool}
 use Rattle.std.specs.Prelude.{IfOk}
 use Rattle.std.proofs.lemmas.List.{length-map}
 use Rattle.vcp_base.specs.Limits.{most_image_bytes}
@@ -49,7 +49,7 @@ lacks_before o b m n le (input.Refused r) lacks = lacks
 lacks_before o b m n le input.Memory lacks = lacks
 
 rows_before : (i : Image) (rows : Rows) (which : Chosen) (held : Held) (old new : Option (List ℕ)) (b m n : ℕ) → b ≤ m
-    → (r : Result ℕ Fault) → ReachesRows i rows which held old new m n r → ReachesRows i rows which held old new b n r
+    → (r : Result Bool Fault) → ReachesRows i rows which held old new m n r → ReachesRows i rows which held old new b n r
 rows_before i rows which held old new b m n le _ (in_rows list are r writes) = in_rows list are r writes
 rows_before i rows which held old new b m n le _ (lost_rows why lacks none) =
     lost_rows why (lacks_before (rows_outcome rows held (graph_columns i.graph)) b m n le why lacks) none
@@ -59,7 +59,7 @@ rows_before i rows which held old new b m n le _ (no_columns none) = no_columns 
 
 module _ (i : Image) (rows : Rows) (which : Chosen) (held : Held) (old new : Option (List ℕ)) (b n : ℕ) (columns : List Column)
     (are : columns ≡ map (column i.graph.names) i.graph.inputs) where
-  pub rows_read : (list : List (List ℤ)) → ReadsRows (rows_outcome rows held columns) b n (Ok list) → (r : Result ℕ Fault) → WritesFlips i list which old new r
+  pub rows_read : (list : List (List ℤ)) → ReadsRows (rows_outcome rows held columns) b n (Ok list) → (r : Result Bool Fault) → WritesFlips i list which old new r
       → ReachesRows i rows which held old new b n r
   rows_read list reads r writes = in_rows list (rw are at reads) r writes
 
@@ -68,7 +68,7 @@ module _ (i : Image) (rows : Rows) (which : Chosen) (held : Held) (old new : Opt
   rows_lost why lacks = lost_rows why (rw are at lacks) (appends-nothing old)
 
 module _ (name : List ℕ) (rows : Rows) (which : Chosen) (held : Held) (old new : Option (List ℕ)) (b m n : ℕ) where
-  pub image_read : (i : Image) → ((text : List ℕ) × (held name ≡ Some text) × (length text ≤ most_image_bytes) × ImageOf text i) → (r : Result ℕ Fault)
+  pub image_read : (i : Image) → ((text : List ℕ) × (held name ≡ Some text) × (length text ≤ most_image_bytes) × ImageOf text i) → (r : Result Bool Fault)
       → ReachesRows i rows which held old new m n r → b ≤ m → ReachesFlips name rows which held old new b n r
   image_read i (text, holds, short, is) r reaches le =
       in_image i (record { bytes = text; holds = holds; short = short; image = is }) r (rows_before i rows which held old new b m n le r reaches)
@@ -78,9 +78,9 @@ module _ (name : List ℕ) (rows : Rows) (which : Chosen) (held : Held) (old new
   image_lost why lost = lost_image why lost (appends-nothing old)
 
 -- what is written isn't for want of a file
-pub never_unread : (i : Image) (rows : List (List ℤ)) (which : Chosen) (old new : Option (List ℕ)) (X : Type 0) (r : Result ℕ Fault)
+pub never_unread : (i : Image) (rows : List (List ℤ)) (which : Chosen) (old new : Option (List ℕ)) (X : Type 0) (r : Result Bool Fault)
     → WritesFlips i rows which old new r → IfErr r (λ e. IsUnread e → X)
-never_unread i rows which old new X (Ok status) w = tt
+never_unread i rows which old new X (Ok found) w = tt
 never_unread i rows which old new X (Err (fault.Source s)) w = absurd w
 never_unread i rows which old new X (Err (fault.Rows s)) w = absurd w
 never_unread i rows which old new X (Err (fault.Script s)) w = absurd w

@@ -1,5 +1,5 @@
 -- ScriptReaching: how far `script` comes, from what reading its files gives.
-use Rattle.std.proofs.Common.{◌≡◌, ℕ, ◌≤◌, ◌^◌, List, length, All, Option, Some, IfErr, Result, Ok, Err, ap, sym, subst, ◌∙◌, arith}
+use Rattle.std.proofs.Common.{◌≡◌, ℕ, ◌≤◌, ◌^◌, List, length, All, Option, Some, IfErr, Result, Ok, Err, ap, sym, subst, ◌∙◌, arith, Bool}
 use Rattle.vcp_base.specs.Limits.{most_image_bytes}
 use Rattle.vcp_outside.specs.Held.{Held}
 use Rattle.op_graph.specs.Rules.{IsGraph}
@@ -40,7 +40,7 @@ refused i named old digest r same is = script_refused r (ap (λ d. checked d i.g
 
 -- what is written of a text isn't for want of a file
 module _ (i : Image) (named : List ℕ) (old new : Option (List ℕ)) where
-  pub never_unread : (X : Type 0) (r : Result ℕ Fault) → TellsScript i named old new r → IfErr r (λ e. IsUnread e → X)
+  pub never_unread : (X : Type 0) (r : Result Bool Fault) → TellsScript i named old new r → IfErr r (λ e. IsUnread e → X)
   never_unread X _ (script_whole text is w) = tt
   never_unread X _ (script_part text is w) = λ unread. absurd unread
   never_unread X _ (script_refused f is none) = λ unread. absurd unread
@@ -48,14 +48,14 @@ module _ (i : Image) (named : List ℕ) (old new : Option (List ℕ)) where
 
 -- ---- the files
 
-named_before : (i : Image) (name : List ℕ) (held : Held) (old new : Option (List ℕ)) (b m n : ℕ) → b ≤ m → (r : Result ℕ Fault)
+named_before : (i : Image) (name : List ℕ) (held : Held) (old new : Option (List ℕ)) (b m n : ℕ) → b ≤ m → (r : Result Bool Fault)
     → ReachesNamed i name held old new m n r → ReachesNamed i name held old new b n r
 named_before i name held old new b m n le _ (in_named text holds short r tells) = in_named text holds short r tells
 named_before i name held old new b m n le _ (lost_named why lost none) =
     lost_named why (unloaded_before name held most_named_bytes b m n le why lost) none
 
 module _ (i : Image) (name : List ℕ) (held : Held) (old new : Option (List ℕ)) (b n : ℕ) where
-  pub named_read : (bytes : List ℕ) → FileRead held name most_named_bytes b n (Ok bytes) → (r : Result ℕ Fault) → TellsScript i bytes old new r
+  pub named_read : (bytes : List ℕ) → FileRead held name most_named_bytes b n (Ok bytes) → (r : Result Bool Fault) → TellsScript i bytes old new r
       → ReachesNamed i name held old new b n r
   named_read bytes (text, holds, short, same) r tells = in_named text holds short r (rw same at tells)
 
@@ -63,7 +63,7 @@ module _ (i : Image) (name : List ℕ) (held : Held) (old new : Option (List ℕ
   named_lost why lost = lost_named why lost (appends-nothing old)
 
 module _ (m name : List ℕ) (held : Held) (old new : Option (List ℕ)) (b k n : ℕ) where
-  pub image_read : (i : Image) → ((text : List ℕ) × (held m ≡ Some text) × (length text ≤ most_image_bytes) × ImageOf text i) → (r : Result ℕ Fault)
+  pub image_read : (i : Image) → ((text : List ℕ) × (held m ≡ Some text) × (length text ≤ most_image_bytes) × ImageOf text i) → (r : Result Bool Fault)
       → ReachesNamed i name held old new k n r → b ≤ k → ReachesNames m name held old new b n r
   image_read i (text, holds, short, is) r reaches le =
       in_named_image i (record { bytes = text; holds = holds; short = short; image = is }) r (named_before i name held old new b k n le r reaches)

@@ -14,7 +14,7 @@ use Rattle.verdict_tables.specs.declared.fault.VerdictsFault.{VerdictsFault}
 use Rattle.verdict_tables.specs.declared.fault.VerdictsFault.TheVariants as verdicts
 use Rattle.verdict_tables.specs.Reading.{verdicts_in}
 use Rattle.verdict_tables.specs.Remark.{is_for}
-use Rattle.verdict_tables.specs.SumText.{status_of}
+use Rattle.verdict_tables.specs.SumText.{shows_unseen}
 use Rattle.fault_sites.specs.Digest.{digest_of}
 use Rattle.vcp_inputs.specs.declared.images.Image.{Image}
 use Rattle.vcp_inputs.specs.declared.refusal.NoInput.{NoInput}
@@ -44,19 +44,19 @@ unloaded_before name held limit b m n le (input.Refused r) h = h
 unloaded_before name held limit b m n le input.Memory h = h
 
 verdicts_before : (T : Telling) (g : Lists) (groups : List (List FaultOf)) (name : List ℕ) (held : Held) (old new : Option (List ℕ)) (b m n : ℕ) → b ≤ m
-    → (r : Result ℕ Fault) → ReachesVerdicts T g groups name held old new m n r → ReachesVerdicts T g groups name held old new b n r
+    → (r : Result Bool Fault) → ReachesVerdicts T g groups name held old new m n r → ReachesVerdicts T g groups name held old new b n r
 verdicts_before T g groups name held old new b m n le _ (in_verdicts text holds short r tells) = in_verdicts text holds short r tells
 verdicts_before T g groups name held old new b m n le _ (lost_verdicts why lost none) =
     lost_verdicts why (unloaded_before name held most_rows_bytes b m n le why lost) none
 
 text_before : (T : Telling) (i : Image) (text name : List ℕ) (held : Held) (old new : Option (List ℕ)) (b m n : ℕ) → b ≤ m
-    → (r : Result ℕ Fault) → ReachesText T i text name held old new m n r → ReachesText T i text name held old new b n r
+    → (r : Result Bool Fault) → ReachesText T i text name held old new m n r → ReachesText T i text name held old new b n r
 text_before T i text name held old new b m n le _ (in_script groups reads r reaches) =
     in_script groups reads r (verdicts_before T i.graph groups name held old new b m n le r reaches)
 text_before T i text name held old new b m n le _ (lost_script e reads none) = lost_script e reads none
 
 script_before : (T : Telling) (i : Image) (s name : List ℕ) (held : Held) (old new : Option (List ℕ)) (b m n : ℕ) → b ≤ m
-    → (r : Result ℕ Fault) → ReachesScript T i s name held old new m n r → ReachesScript T i s name held old new b n r
+    → (r : Result Bool Fault) → ReachesScript T i s name held old new m n r → ReachesScript T i s name held old new b n r
 script_before T i s name held old new b m n le _ (in_script_file text holds short r reaches) =
     in_script_file text holds short r (text_before T i text name held old new b m n le r reaches)
 script_before T i s name held old new b m n le _ (lost_script_file why lost none) =
@@ -64,9 +64,9 @@ script_before T i s name held old new b m n le _ (lost_script_file why lost none
 
 -- ---- what is written
 module _ (T : Telling) (g : Lists) (groups : List (List FaultOf)) (vs : List Verdict) (old new : Option (List ℕ)) where
-  pub writes_status : (status : ℕ) → status ≡ status_of (totals_of vs) → ((text : List ℕ) × T g groups vs text × Appends old new text)
-      → WritesTold T g groups vs old new (Ok status)
-  writes_status status is (text, tells, written) = written_whole status is text tells written
+  pub writes_whole : (found : Bool) → found ≡ shows_unseen (totals_of vs) → ((text : List ℕ) × T g groups vs text × Appends old new text)
+      → WritesTold T g groups vs old new (Ok found)
+  writes_whole found is (text, tells, written) = written_whole found is text tells written
 
   pub writes_fault : (e : Fault) → WritesText (T g groups vs) old new (Err e) → WritesTold T g groups vs old new (Err e)
   writes_fault (fault.Source i) h = absurd h
@@ -83,8 +83,8 @@ module _ (T : Telling) (g : Lists) (groups : List (List FaultOf)) (vs : List Ver
 
 -- ---- what is written isn't for want of a file
 module _ (T : Telling) (g : Lists) (groups : List (List FaultOf)) (X : Type 0) (old new : Option (List ℕ)) where
-  of_writes : (vs : List Verdict) (r : Result ℕ Fault) → WritesTold T g groups vs old new r → IfErr r (λ e. IsUnread e → X)
-  of_writes vs _ (written_whole status is text tells written) = tt
+  of_writes : (vs : List Verdict) (r : Result Bool Fault) → WritesTold T g groups vs old new r → IfErr r (λ e. IsUnread e → X)
+  of_writes vs _ (written_whole found is text tells written) = tt
   of_writes vs _ (written_part text tells written) = λ is. absurd is
   of_writes vs _ (wants_memory none) = λ is. absurd is
 
@@ -92,7 +92,7 @@ module _ (T : Telling) (g : Lists) (groups : List (List FaultOf)) (X : Type 0) (
   of_reads text _ (are_refused f not_memory is) = λ is. absurd is
   of_reads text _ lack_memory = λ is. absurd is
 
-  pub never_unread : (text : List ℕ) (r : Result ℕ Fault) → TellsText T g groups text old new r → IfErr r (λ e. IsUnread e → X)
+  pub never_unread : (text : List ℕ) (r : Result Bool Fault) → TellsText T g groups text old new r → IfErr r (λ e. IsUnread e → X)
   never_unread text _ (of_told vs told r writes) = of_writes vs r writes
   never_unread text _ (of_untold e reads none) = of_reads text e reads
 
@@ -139,7 +139,7 @@ module _ (g : Lists) (groups : List (List FaultOf)) (text : List ℕ) where
 
 -- ---- the files
 module _ (T : Telling) (g : Lists) (groups : List (List FaultOf)) (name : List ℕ) (held : Held) (old new : Option (List ℕ)) (b n : ℕ) where
-  pub verdicts_read : (bytes : List ℕ) → FileRead held name most_rows_bytes b n (Ok bytes) → (r : Result ℕ Fault) → TellsText T g groups bytes old new r
+  pub verdicts_read : (bytes : List ℕ) → FileRead held name most_rows_bytes b n (Ok bytes) → (r : Result Bool Fault) → TellsText T g groups bytes old new r
       → ReachesVerdicts T g groups name held old new b n r
   verdicts_read bytes (text, holds, short, same) r tells = in_verdicts text holds short r (rw same at tells)
 
@@ -148,7 +148,7 @@ module _ (T : Telling) (g : Lists) (groups : List (List FaultOf)) (name : List �
   verdicts_lost why lost = lost_verdicts why lost (appends-nothing old)
 
 module _ (T : Telling) (i : Image) (text name : List ℕ) (held : Held) (old new : Option (List ℕ)) (b n : ℕ) where
-  pub script_taken : (groups : List (List FaultOf)) → ReadsScript i text (Ok groups) → (r : Result ℕ Fault)
+  pub script_taken : (groups : List (List FaultOf)) → ReadsScript i text (Ok groups) → (r : Result Bool Fault)
       → ReachesVerdicts T i.graph groups name held old new b n r → ReachesText T i text name held old new b n r
   script_taken groups reads r reaches = in_script groups reads r reaches
 
@@ -156,7 +156,7 @@ module _ (T : Telling) (i : Image) (text name : List ℕ) (held : Held) (old new
   script_refused e reads = lost_script e reads (appends-nothing old)
 
 module _ (T : Telling) (i : Image) (s name : List ℕ) (held : Held) (old new : Option (List ℕ)) (b m n : ℕ) where
-  pub script_file_read : (bytes : List ℕ) → FileRead held s most_source_bytes b m (Ok bytes) → (r : Result ℕ Fault)
+  pub script_file_read : (bytes : List ℕ) → FileRead held s most_source_bytes b m (Ok bytes) → (r : Result Bool Fault)
       → ReachesText T i bytes name held old new m n r → b ≤ m → ReachesScript T i s name held old new b n r
   script_file_read bytes (text, holds, short, same) r reaches le =
       in_script_file text holds short r (text_before T i text name held old new b m n le r (rw same at reaches))
@@ -165,7 +165,7 @@ module _ (T : Telling) (i : Image) (s name : List ℕ) (held : Held) (old new : 
   script_file_lost why lost = lost_script_file why lost (appends-nothing old)
 
 module _ (T : Telling) (m s name : List ℕ) (held : Held) (old new : Option (List ℕ)) (b k n : ℕ) where
-  pub image_read : (i : Image) → ((text : List ℕ) × (held m ≡ Some text) × (length text ≤ most_image_bytes) × ImageOf text i) → (r : Result ℕ Fault)
+  pub image_read : (i : Image) → ((text : List ℕ) × (held m ≡ Some text) × (length text ≤ most_image_bytes) × ImageOf text i) → (r : Result Bool Fault)
       → ReachesScript T i s name held old new k n r → b ≤ k → ReachesTold T m s name held old new b n r
   image_read i (text, holds, short, is) r reaches le =
       in_image i (record { bytes = text; holds = holds; short = short; image = is }) r (script_before T i s name held old new b k n le r reaches)

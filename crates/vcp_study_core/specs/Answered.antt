@@ -1,5 +1,5 @@
 -- Answered: how the program ends.
-use Rattle.std.specs.Prelude.{ℕ, ◌≡◌, ◌≤◌, ◌⊎◌, List, [], Result, Ok, Err}
+use Rattle.std.specs.Prelude.{ℕ, ◌≡◌, ◌≤◌, ◌⊎◌, Bool, true, false, List, [], Result, Ok, Err}
 use Rattle.std.specs.Io.KnownBytes.{Appends, IsAtEnd}
 use Rattle.vcp_outside.specs.Counts.{Rose}
 use Rattle.vcp_outside.specs.Held.{Held}
@@ -17,17 +17,22 @@ use Rattle.vcp_study_core.specs.Seen.{Outside}
 use Rattle.vcp_study_core.specs.SitesReach.{ReachesSites}
 use Rattle.vcp_study_core.specs.ToldReach.{ReachesSum, ReachesFaults}
 
--- what a command that draws comes to, with its status: 0 where the picture is written
-abbrev pub as_status : Result (Unit {0}) Fault → Result ℕ Fault
-as_status (Ok _) = Ok 0
-as_status (Err e) = Err e
+-- a command that draws looks for nothing: where the picture is written, nothing is found
+abbrev pub with_nothing : Result (Unit {0}) Fault → Result Bool Fault
+with_nothing (Ok _) = Ok false
+with_nothing (Err e) = Err e
 
-abbrev pub IsDrawing : (Result (Unit {0}) Fault → Type 0) → Result ℕ Fault → Type 0
-IsDrawing Draws result = (drawn : Result (Unit {0}) Fault) × (result ≡ as_status drawn) × Draws drawn
+-- the status of a command that wrote all: 9 where it found what it looks for, and else 0
+abbrev pub status_of : Bool → ℕ
+status_of true = 9
+status_of false = 0
+
+abbrev pub IsDrawing : (Result (Unit {0}) Fault → Type 0) → Result Bool Fault → Type 0
+IsDrawing Draws result = (drawn : Result (Unit {0}) Fault) × (result ≡ with_nothing drawn) × Draws drawn
 
 -- How far a command comes before its fault's line, if there is one, is printed: where the files hold this, of the files and of the output.
--- Where no fault keeps it from its end, it has a status.
-abbrev pub Reaches : Form → Held → FilesSeen → FilesSeen → SinkSeen → SinkSeen → Result ℕ Fault → Type 0
+-- Where no fault keeps it from its end, it is told whether it found what it looks for.
+abbrev pub Reaches : Form → Held → FilesSeen → FilesSeen → SinkSeen → SinkSeen → Result Bool Fault → Type 0
 Reaches (graph m horizon) held files later out now result =
     IsDrawing (ReachesGraph m horizon held out.written now.written files.broken later.broken) result
 Reaches (dot m horizon) held files later out now result =
@@ -52,14 +57,14 @@ TellsLine line code before after status =
     ⊎ ((status ≡ 6) × Rose before.faults after.faults × AppendsPart before.written after.written line)
 
 -- how a command ends that came so far: with its status and no line, or with the line of its fault and the status of that
-abbrev pub Ends : Form → SinkSeen → SinkSeen → ℕ → Result ℕ Fault → Type 0
-Ends f before after status (Ok own) = (status ≡ own) × Appends before.written after.written []
+abbrev pub Ends : Form → SinkSeen → SinkSeen → ℕ → Result Bool Fault → Type 0
+Ends f before after status (Ok found) = (status ≡ status_of found) × Appends before.written after.written []
 Ends f before after status (Err e) = TellsLine (fault_text (file_of f e) e) (fault_status e) before after status
 
 -- how a command is answered, where the files hold this: it came so far, and it ends so
 abbrev pub Answered : Form → Held → Outside → Outside → ℕ → Type 0
 Answered f held before after status =
-    (result : Result ℕ Fault) × Reaches f held before.files after.files before.out after.out result × Ends f before.err after.err status result
+    (result : Result Bool Fault) × Reaches f held before.files after.files before.out after.out result × Ends f before.err after.err status result
 
 -- words that are none of the forms get the usage line, and nothing else is done
 pub record GetsUsage (before after : Outside) (status : ℕ) : Type 0 where
@@ -68,11 +73,12 @@ pub record GetsUsage (before after : Outside) (status : ℕ) : Type 0 where
   pub rest : after.files.rest ≡ before.files.rest
   pub faults : after.files.faults ≡ before.files.faults
 
--- What every command keeps, whatever the files tell: what they hold. Status 0 comes of a file that was read to its end, and a file
+-- What every command keeps, whatever the files tell: what they hold. Statuses 0 and 9 come of a file that was read to its end, and a file
 -- or a sink failed only where its count rose.
 pub record Keeps (before after : Outside) (status : ℕ) : Type 0 where
   pub held : after.files.held ≡ before.files.held
   pub ended : status ≡ 0 → IsAtEnd after.files.rest
+  pub found : status ≡ 9 → IsAtEnd after.files.rest
   pub read : status ≡ 5 → Rose before.files.faults after.files.faults
   pub write : status ≡ 6 → Rose before.out.faults after.out.faults ⊎ Rose before.err.faults after.err.faults
-  pub known : status ≤ 7
+  pub known : (status ≤ 7) ⊎ (status ≡ 9)

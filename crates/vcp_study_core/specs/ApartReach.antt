@@ -2,7 +2,7 @@
 -- `sum M SCRIPT VERDICTS ROWS`: the same with one table more, in which the groups whose verdict is `same` are
 -- told apart by their runs over all rows of ROWS: never reached, died out, or standing in a cell. ROWS is
 -- read behind M; it is lacking or refused by its own name.
-use Rattle.std.specs.Prelude.{ℕ, ℤ, ◌≡◌, ◌≤◌, List, [], length, All, Option, Result, Err}
+use Rattle.std.specs.Prelude.{ℕ, ℤ, ◌≡◌, ◌≤◌, Bool, List, [], length, All, Option, Result, Err}
 use Rattle.std.specs.Io.KnownBytes.{Appends}
 use Rattle.vcp_base.specs.Limits.{most_cycles, most_image_bytes}
 use Rattle.vcp_outside.specs.Held.{Held}
@@ -40,8 +40,8 @@ pub record BelongsTo (t : Numbers) (rows : List (List ℤ)) (g : Lists) : Type 0
 -- How far this comes of an image: so far of its script and its verdicts, with all rows of ROWS; or there is nothing of ROWS, or no memory, and nothing
 -- is written. The files' count of faults was b before, and m behind ROWS.
 pub data ReachesApartRows (i : Image) (rows : Rows) (script name : List ℕ) (held : Held) (old new : Option (List ℕ)) (b n : ℕ)
-    : Result ℕ Fault → Type 0 where
-  in_all_rows : (list : List (List ℤ)) → AllRead (rows_outcome rows held (graph_columns i.graph)) list → (m : ℕ) → b ≤ m → (r : Result ℕ Fault)
+    : Result Bool Fault → Type 0 where
+  in_all_rows : (list : List (List ℤ)) → AllRead (rows_outcome rows held (graph_columns i.graph)) list → (m : ℕ) → b ≤ m → (r : Result Bool Fault)
       → ReachesScript (AreTablesApart i.table list) i script name held old new m n r → ReachesApartRows i rows script name held old new b n r
   lost_all_rows : (why : NoInput) → LacksRows (rows_outcome rows held (graph_columns i.graph)) b n why → Appends old new []
       → ReachesApartRows i rows script name held old new b n (Err (fault.Rows why))
@@ -49,8 +49,8 @@ pub data ReachesApartRows (i : Image) (rows : Rows) (script name : List ℕ) (he
 
 -- How far `sum M SCRIPT VERDICTS ROWS` comes: so far as of the image that M holds, behind which the count was k; or there is nothing of the image, and
 -- nothing is written.
-pub data ReachesApart (m : List ℕ) (rows : Rows) (script name : List ℕ) (held : Held) (old new : Option (List ℕ)) (b n : ℕ) : Result ℕ Fault → Type 0 where
-  in_apart_image : (i : Image) → IsImage held m i → (k : ℕ) → b ≤ k → (r : Result ℕ Fault) → ReachesApartRows i rows script name held old new k n r
+pub data ReachesApart (m : List ℕ) (rows : Rows) (script name : List ℕ) (held : Held) (old new : Option (List ℕ)) (b n : ℕ) : Result Bool Fault → Type 0 where
+  in_apart_image : (i : Image) → IsImage held m i → (k : ℕ) → b ≤ k → (r : Result Bool Fault) → ReachesApartRows i rows script name held old new k n r
       → ReachesApart m rows script name held old new b n r
   lost_apart_image : (why : NoInput) → NotLoaded NotImage held m most_image_bytes b n why → Appends old new []
       → ReachesApart m rows script name held old new b n (Err (fault.Source why))

@@ -2,7 +2,7 @@
 -- `sites M ROWS flips`: the same of the flips in the run of the image's graph over all rows, or up to its
 -- stop. Or the line and status tell why nothing was written: M is lacking or no image; ROWS, by its own name,
 -- is lacking or refused; the script would have more than 10,000 faults (1), or memory was lacking.
-use Rattle.std.specs.Prelude.{ℕ, ℤ, ◌≡◌, ◌⊎◌, List, [], codes, Option, Result, Ok, Err}
+use Rattle.std.specs.Prelude.{ℕ, ℤ, ◌≡◌, ◌⊎◌, Bool, List, [], codes, Option, Result, Ok, Err}
 use Rattle.std.specs.Io.KnownBytes.{Appends}
 use Rattle.vcp_base.specs.Limits.{most_image_bytes}
 use Rattle.vcp_outside.specs.Counts.{Rose}
@@ -34,21 +34,21 @@ ReadsRows o b n (Ok rows) = AllRead o rows
 ReadsRows o b n (Err why) = LacksRows o b n why
 
 -- how far it is written of the flips of the run over these rows of an image's graph what is chosen
-abbrev pub WritesFlips : Image → List (List ℤ) → Chosen → Option (List ℕ) → Option (List ℕ) → Result ℕ Fault → Type 0
+abbrev pub WritesFlips : Image → List (List ℤ) → Chosen → Option (List ℕ) → Option (List ℕ) → Result Bool Fault → Type 0
 WritesFlips i rows which old new result = WritesOf i (codes "flips") (flips i.table i.graph rows) which old new result
 
 -- How far this comes of an image: of the flips of the run over ROWS it is written so far; or there is nothing of ROWS, or no memory, and nothing
 -- is written.
-pub data ReachesRows (i : Image) (rows : Rows) (which : Chosen) (held : Held) (old new : Option (List ℕ)) (b n : ℕ) : Result ℕ Fault → Type 0 where
-  in_rows : (list : List (List ℤ)) → AllRead (rows_outcome rows held (graph_columns i.graph)) list → (r : Result ℕ Fault) → WritesFlips i list which old new r
+pub data ReachesRows (i : Image) (rows : Rows) (which : Chosen) (held : Held) (old new : Option (List ℕ)) (b n : ℕ) : Result Bool Fault → Type 0 where
+  in_rows : (list : List (List ℤ)) → AllRead (rows_outcome rows held (graph_columns i.graph)) list → (r : Result Bool Fault) → WritesFlips i list which old new r
       → ReachesRows i rows which held old new b n r
   lost_rows : (why : NoInput) → LacksRows (rows_outcome rows held (graph_columns i.graph)) b n why → Appends old new []
       → ReachesRows i rows which held old new b n (Err (fault.Rows why))
   no_columns : Appends old new [] → ReachesRows i rows which held old new b n (Err fault.Memory)
 
 -- how far `sites M ROWS flips` comes: so far as of the image that M holds; or there is nothing of the image, and nothing is written
-pub data ReachesFlips (name : List ℕ) (rows : Rows) (which : Chosen) (held : Held) (old new : Option (List ℕ)) (b n : ℕ) : Result ℕ Fault → Type 0 where
-  in_image : (i : Image) → IsImage held name i → (r : Result ℕ Fault) → ReachesRows i rows which held old new b n r
+pub data ReachesFlips (name : List ℕ) (rows : Rows) (which : Chosen) (held : Held) (old new : Option (List ℕ)) (b n : ℕ) : Result Bool Fault → Type 0 where
+  in_image : (i : Image) → IsImage held name i → (r : Result Bool Fault) → ReachesRows i rows which held old new b n r
       → ReachesFlips name rows which held old new b n r
   lost_image : (why : NoInput) → NotLoaded NotImage held name most_image_bytes b n why → Appends old new []
       → ReachesFlips name rows which held old new b n (Err (fault.Source why))

@@ -1,6 +1,6 @@
 -- ToldReach: how far `sum M SCRIPT VERDICTS` and `faults M SCRIPT VERDICTS` come before their fault's line, if there is one, is printed.
 -- `sum M SCRIPT VERDICTS`: the tables of the verdicts that VERDICTS tells of the groups of SCRIPT over the
--- image M are written, and the status is 0 where none of these is `wrong` or `ran-on`, and else 1. Or nothing
+-- image M are written, and it is told whether one of these is `wrong` or `ran-on`, so that a fault is unseen. Or nothing
 -- is written, and the line and status tell why, by the first file of which there is nothing, in this order: M
 -- is lacking or no image; SCRIPT is lacking, names another image by its remark, or is no script for this one;
 -- VERDICTS is lacking, or a line of it is refused (1), the first one; or memory was lacking; or a proper part
@@ -24,7 +24,7 @@ use Rattle.verdict_tables.specs.declared.fault.VerdictsFault.{VerdictsFault}
 use Rattle.verdict_tables.specs.declared.fault.VerdictsFault.TheVariants as verdicts
 use Rattle.verdict_tables.specs.Reading.{verdicts_in}
 use Rattle.verdict_tables.specs.Remark.{is_for}
-use Rattle.verdict_tables.specs.SumText.{sum_text, status_of}
+use Rattle.verdict_tables.specs.SumText.{sum_text, shows_unseen}
 use Rattle.graph_picture.specs.FaultsText.{IsFaultsPicture}
 use Rattle.fault_sites.specs.Digest.{digest_of}
 use Rattle.vcp_inputs.specs.declared.images.Image.{Image}
@@ -89,56 +89,56 @@ WritesText Is old new (Err fault.Write) = (text : List ℕ) × Is text × Append
 WritesText Is old new (Err fault.Memory) = Appends old new []
 WritesText Is old new (Err _) = ⊥
 
--- how far a text that tells these verdicts is written, and the status is theirs
+-- how far a text that tells these verdicts is written, and whether they show a fault that is unseen
 pub data WritesTold (Tells : Telling) (g : Lists) (groups : List (List FaultOf)) (vs : List Verdict) (old new : Option (List ℕ))
-    : Result ℕ Fault → Type 0 where
-  written_whole : (status : ℕ) → status ≡ status_of (totals_of vs) → (text : List ℕ) → Tells g groups vs text → Appends old new text
-      → WritesTold Tells g groups vs old new (Ok status)
+    : Result Bool Fault → Type 0 where
+  written_whole : (found : Bool) → found ≡ shows_unseen (totals_of vs) → (text : List ℕ) → Tells g groups vs text → Appends old new text
+      → WritesTold Tells g groups vs old new (Ok found)
   written_part : (text : List ℕ) → Tells g groups vs text → AppendsPart old new text → WritesTold Tells g groups vs old new (Err fault.Write)
   wants_memory : Appends old new [] → WritesTold Tells g groups vs old new (Err fault.Memory)
 
 -- the same of the verdicts that a text tells: where it tells none, or memory was wanted, nothing is written
 pub data TellsText (Tells : Telling) (g : Lists) (groups : List (List FaultOf)) (text : List ℕ) (old new : Option (List ℕ))
-    : Result ℕ Fault → Type 0 where
-  of_told : (vs : List Verdict) → AreTold g groups text vs → (r : Result ℕ Fault) → WritesTold Tells g groups vs old new r
+    : Result Bool Fault → Type 0 where
+  of_told : (vs : List Verdict) → AreTold g groups text vs → (r : Result Bool Fault) → WritesTold Tells g groups vs old new r
       → TellsText Tells g groups text old new r
   of_untold : (e : Fault) → ReadsVerdicts g groups text (Err e) → Appends old new [] → TellsText Tells g groups text old new (Err e)
 
 -- the same of the file of verdicts under a name
 pub data ReachesVerdicts (Tells : Telling) (g : Lists) (groups : List (List FaultOf)) (name : List ℕ)
-    (held : Held) (old new : Option (List ℕ)) (b n : ℕ) : Result ℕ Fault → Type 0 where
-  in_verdicts : (text : List ℕ) → held name ≡ Some text → length text ≤ most_rows_bytes → (r : Result ℕ Fault) → TellsText Tells g groups text old new r
+    (held : Held) (old new : Option (List ℕ)) (b n : ℕ) : Result Bool Fault → Type 0 where
+  in_verdicts : (text : List ℕ) → held name ≡ Some text → length text ≤ most_rows_bytes → (r : Result Bool Fault) → TellsText Tells g groups text old new r
       → ReachesVerdicts Tells g groups name held old new b n r
   lost_verdicts : (why : NoInput) → NotLoaded Never held name most_rows_bytes b n why → Appends old new []
       → ReachesVerdicts Tells g groups name held old new b n (Err (fault.Verdicts why))
 
 -- the same of the text of a script
 pub data ReachesText (Tells : Telling) (i : Image) (text name : List ℕ) (held : Held)
-    (old new : Option (List ℕ)) (b n : ℕ) : Result ℕ Fault → Type 0 where
-  in_script : (groups : List (List FaultOf)) → ReadsScript i text (Ok groups) → (r : Result ℕ Fault)
+    (old new : Option (List ℕ)) (b n : ℕ) : Result Bool Fault → Type 0 where
+  in_script : (groups : List (List FaultOf)) → ReadsScript i text (Ok groups) → (r : Result Bool Fault)
       → ReachesVerdicts Tells i.graph groups name held old new b n r → ReachesText Tells i text name held old new b n r
   lost_script : (e : Fault) → ReadsScript i text (Err e) → Appends old new [] → ReachesText Tells i text name held old new b n (Err e)
 
 -- the same of the file of the script under a name, and of the file of verdicts
 pub data ReachesScript (Tells : Telling) (i : Image) (script name : List ℕ) (held : Held)
-    (old new : Option (List ℕ)) (b n : ℕ) : Result ℕ Fault → Type 0 where
-  in_script_file : (text : List ℕ) → held script ≡ Some text → length text ≤ most_source_bytes → (r : Result ℕ Fault)
+    (old new : Option (List ℕ)) (b n : ℕ) : Result Bool Fault → Type 0 where
+  in_script_file : (text : List ℕ) → held script ≡ Some text → length text ≤ most_source_bytes → (r : Result Bool Fault)
       → ReachesText Tells i text name held old new b n r → ReachesScript Tells i script name held old new b n r
   lost_script_file : (why : NoInput) → NotLoaded Never held script most_source_bytes b n why → Appends old new []
       → ReachesScript Tells i script name held old new b n (Err (fault.Script why))
 
 -- the same of an image, a script for it and its verdicts: there is nothing of the image, and nothing is written; or so far of the others
 pub data ReachesTold (Tells : Telling) (m script name : List ℕ) (held : Held)
-    (old new : Option (List ℕ)) (b n : ℕ) : Result ℕ Fault → Type 0 where
-  in_image : (i : Image) → IsImage held m i → (r : Result ℕ Fault) → ReachesScript Tells i script name held old new b n r
+    (old new : Option (List ℕ)) (b n : ℕ) : Result Bool Fault → Type 0 where
+  in_image : (i : Image) → IsImage held m i → (r : Result Bool Fault) → ReachesScript Tells i script name held old new b n r
       → ReachesTold Tells m script name held old new b n r
   lost_image : (why : NoInput) → NotLoaded NotImage held m most_image_bytes b n why → Appends old new []
       → ReachesTold Tells m script name held old new b n (Err (fault.Source why))
 
 -- How far `sum M SCRIPT VERDICTS` comes: the tables are written, or a part of them, or nothing.
-abbrev pub ReachesSum : List ℕ → List ℕ → List ℕ → Held → Option (List ℕ) → Option (List ℕ) → ℕ → ℕ → Result ℕ Fault → Type 0
+abbrev pub ReachesSum : List ℕ → List ℕ → List ℕ → Held → Option (List ℕ) → Option (List ℕ) → ℕ → ℕ → Result Bool Fault → Type 0
 ReachesSum m script name held old new b n result = ReachesTold AreTables m script name held old new b n result
 
 -- How far `faults M SCRIPT VERDICTS` comes: the picture is written, or a part of it, or nothing.
-abbrev pub ReachesFaults : List ℕ → List ℕ → List ℕ → Held → Option (List ℕ) → Option (List ℕ) → ℕ → ℕ → Result ℕ Fault → Type 0
+abbrev pub ReachesFaults : List ℕ → List ℕ → List ℕ → Held → Option (List ℕ) → Option (List ℕ) → ℕ → ℕ → Result Bool Fault → Type 0
 ReachesFaults m script name held old new b n result = ReachesTold IsFaultsPicture m script name held old new b n result

@@ -76,7 +76,7 @@ impl<'a> Telling for TablesApart<'a> {
     }
 }
 
-/// Reads ROWS for an image, then its script and its verdicts, and writes their tables; the status.
+/// Reads ROWS for an image, then its script and its verdicts, and writes their tables; whether a fault is unseen.
 fn apart_of_image<F: Files, O: Sink>(
     alloc: Global,
     image: &Image,
@@ -85,7 +85,7 @@ fn apart_of_image<F: Files, O: Sink>(
     verdicts: &Text,
     files: &mut F,
     out: &mut O,
-) -> Result<u8, Fault>
+) -> Result<bool, Fault>
     requires table { image.now.table ≡ table_of image.now.table.seed image.now.table.step image.now.graph }
     requires few { AreFew (rows_of rows) }
     ensures held { (F.seen files.new).held ≡ (F.seen files.old).held }
@@ -95,7 +95,6 @@ fn apart_of_image<F: Files, O: Sink>(
     ensures write { result ≡ Err fault.Write → Rose (O.seen out.old).faults (O.seen out.new).faults }
     ensures ended { OnOk result (IsAtEnd (F.seen files.new).rest) }
     ensures later { (F.seen files.old).faults ≤ (F.seen files.new).faults }
-    ensures known { IfOk result (λ s. s ≤ 1) }
 {
     let columns = match graph_columns(alloc, &image.graph) {
         Ok(columns) => columns,
@@ -115,7 +114,7 @@ fn apart_of_image<F: Files, O: Sink>(
 
 /// Does what the words `sum M SCRIPT VERDICTS ROWS` say, and writes to `out` alone: M is read whole and taken through its refusals, then ROWS with
 /// all rows, then SCRIPT and VERDICTS, and then the tables of the verdicts are written, in which those that are `same` are told apart by the
-/// runs over ROWS. Answers the status: 0 where no verdict is `wrong` or `ran-on`, and else 1.
+/// runs over ROWS. Answers whether a fault is unseen: whether a verdict is `wrong` or `ran-on`.
 pub fn apart_command<F: Files, O: Sink>(
     alloc: Global,
     image: &Text,
@@ -124,7 +123,7 @@ pub fn apart_command<F: Files, O: Sink>(
     verdicts: &Text,
     files: &mut F,
     out: &mut O,
-) -> Result<u8, Fault>
+) -> Result<bool, Fault>
     requires few { AreFew (rows_of rows) }
     ensures held { (F.seen files.new).held ≡ (F.seen files.old).held }
     ensures reaches { IfSome (F.seen files.old).held (λ h. ReachesApart image.now (rows_of rows.entry) script.now verdicts.now h (O.seen out.old).written
@@ -132,7 +131,6 @@ pub fn apart_command<F: Files, O: Sink>(
     ensures unread { IfErr result (λ e. IsUnread e → Rose (F.seen files.old).faults (F.seen files.new).faults) }
     ensures write { result ≡ Err fault.Write → Rose (O.seen out.old).faults (O.seen out.new).faults }
     ensures ended { OnOk result (IsAtEnd (F.seen files.new).rest) }
-    ensures known { IfOk result (λ s. s ≤ 1) }
 {
     match load_image(alloc, files, image) {
         Ok(image) => apart_of_image(alloc, &image, rows, script, verdicts, files, out),

@@ -66,7 +66,7 @@ impl Telling for Picture {
 
 /// Does what the words `faults M SCRIPT VERDICTS` say, and writes to `out` alone: M, SCRIPT and VERDICTS are read whole, in this order, and
 /// taken through their refusals, and then the picture of the graph is written, each operation in the colour of the worst verdict of the
-/// groups that have a fault there. Answers the status: 0 where no verdict is `wrong` or `ran-on`, and else 1.
+/// groups that have a fault there. Answers whether a fault is unseen: whether a verdict is `wrong` or `ran-on`.
 pub fn faults_command<F: Files, O: Sink>(
     alloc: Global,
     image: &Text,
@@ -74,14 +74,13 @@ pub fn faults_command<F: Files, O: Sink>(
     verdicts: &Text,
     files: &mut F,
     out: &mut O,
-) -> Result<u8, Fault>
+) -> Result<bool, Fault>
     ensures held { (F.seen files.new).held ≡ (F.seen files.old).held }
     ensures reaches { IfSome (F.seen files.old).held (λ h. ReachesFaults image.now script.now verdicts.now h (O.seen out.old).written
         (O.seen out.new).written (F.seen files.old).broken (F.seen files.new).broken result) }
     ensures unread { IfErr result (λ e. IsUnread e → Rose (F.seen files.old).faults (F.seen files.new).faults) }
     ensures write { result ≡ Err fault.Write → Rose (O.seen out.old).faults (O.seen out.new).faults }
     ensures ended { OnOk result (IsAtEnd (F.seen files.new).rest) }
-    ensures known { IfOk result (λ s. s ≤ 1) }
 {
     told_command(alloc, &Picture, image, script, verdicts, files, out)
 }

@@ -46,30 +46,29 @@ pub(crate) fn load_list<F: Files>(
     }
 }
 
-/// Writes of the flips of the run over rows of an image's graph what is chosen. Answers status 0.
+/// Writes of the flips of the run over rows of an image's graph what is chosen. It looks for nothing: `false`.
 fn write_chosen<O: Sink>(
     alloc: Global,
     image: &Image,
     rows: &RowList,
     chosen: &Chosen,
     out: &mut O,
-) -> Result<u8, Fault>
+) -> Result<bool, Fault>
     requires table { image.now.table ≡ table_of image.now.table.seed image.now.table.step image.now.graph }
     requires few { length rows.now ≤ most_cycles }
     requires width { All (λ r. length r ≡ length image.now.graph.inputs) rows.now }
     ensures writes { WritesFlips image.now rows.now chosen.now (O.seen out.old).written (O.seen out.new).written result }
     ensures write { result ≡ Err fault.Write → Rose (O.seen out.old).faults (O.seen out.new).faults }
-    ensures known { IfOk result (λ s. s ≤ 1) }
 {
     match write_chosen_flips(alloc, &image.graph, &image.table, rows, chosen, out) {
-        Ok(()) => Ok(0),
+        Ok(()) => Ok(false),
         Err(Unwritten::TooMany) => Err(Fault::Sites),
         Err(Unwritten::Memory) => Err(Fault::Memory),
         Err(Unwritten::Failed) => Err(Fault::Write),
     }
 }
 
-/// Writes of the flips of the run over ROWS of an image's graph what is chosen. Answers status 0.
+/// Writes of the flips of the run over ROWS of an image's graph what is chosen. It looks for nothing: `false`.
 fn flips_of_image<F: Files, O: Sink>(
     alloc: Global,
     image: &Image,
@@ -77,7 +76,7 @@ fn flips_of_image<F: Files, O: Sink>(
     chosen: &Chosen,
     files: &mut F,
     out: &mut O,
-) -> Result<u8, Fault>
+) -> Result<bool, Fault>
     requires table { image.now.table ≡ table_of image.now.table.seed image.now.table.step image.now.graph }
     requires few { AreFew (rows_of rows) }
     ensures held { (F.seen files.new).held ≡ (F.seen files.old).held }
@@ -87,7 +86,6 @@ fn flips_of_image<F: Files, O: Sink>(
     ensures write { result ≡ Err fault.Write → Rose (O.seen out.old).faults (O.seen out.new).faults }
     ensures later { (F.seen files.old).faults ≤ (F.seen files.new).faults }
     ensures ended { OnOk result (IsAtEnd (F.seen files.old).rest → IsAtEnd (F.seen files.new).rest) }
-    ensures known { IfOk result (λ s. s ≤ 1) }
 {
     let columns = match graph_columns(alloc, &image.graph) {
         Ok(columns) => columns,
@@ -101,7 +99,7 @@ fn flips_of_image<F: Files, O: Sink>(
 
 /// Does what the words `sites M ROWS flips` say, with a part behind them or `--count`, and writes to `out` alone: M is read whole and
 /// taken through its refusals, then ROWS with all rows, and then the script of the flips of their run is written, or how many there are.
-/// Answers status 0.
+/// It looks for nothing: `false`.
 pub fn flips_command<F: Files, O: Sink>(
     alloc: Global,
     image: &Text,
@@ -109,7 +107,7 @@ pub fn flips_command<F: Files, O: Sink>(
     chosen: &Chosen,
     files: &mut F,
     out: &mut O,
-) -> Result<u8, Fault>
+) -> Result<bool, Fault>
     requires few { AreFew (rows_of rows) }
     ensures held { (F.seen files.new).held ≡ (F.seen files.old).held }
     ensures reaches { IfSome (F.seen files.old).held (λ h. ReachesFlips image.now (rows_of rows.entry) chosen.now h (O.seen out.old).written
@@ -117,7 +115,6 @@ pub fn flips_command<F: Files, O: Sink>(
     ensures unread { IfErr result (λ e. IsUnread e → Rose (F.seen files.old).faults (F.seen files.new).faults) }
     ensures write { result ≡ Err fault.Write → Rose (O.seen out.old).faults (O.seen out.new).faults }
     ensures ended { OnOk result (IsAtEnd (F.seen files.new).rest) }
-    ensures known { IfOk result (λ s. s ≤ 1) }
 {
     match load_image(alloc, files, image) {
         Ok(image) => flips_of_image(alloc, &image, rows, chosen, files, out),

@@ -17,39 +17,42 @@ use vcp_base::Text;
 use vcp_inputs::{Image, load_image, read_file};
 use vcp_outside::{Failed, Files, Sink};
 
-/// Writes the script of a text for the image with this digest, unless a line is refused. Answers status 0.
-fn tell_script<O: Sink>(image: &Image, digest: &[u8], text: &[u8], out: &mut O) -> Result<u8, Fault>
+/// Writes the script of a text for the image with this digest, unless a line is refused. It looks for nothing: `false`.
+fn tell_script<O: Sink>(
+    image: &Image,
+    digest: &[u8],
+    text: &[u8],
+    out: &mut O,
+) -> Result<bool, Fault>
     requires short { length text.now ≤ most_named_bytes }
     requires same { digest.now ≡ digits image.now }
     requires plain { All (λ b. 32 ≤ b) digest.now }
     requires count { length digest.now ≡ 64 }
     ensures tells { TellsScript image.now text.now (O.seen out.old).written (O.seen out.new).written result }
     ensures write { result ≡ Err fault.Write → Rose (O.seen out.old).faults (O.seen out.new).faults }
-    ensures known { IfOk result (λ s. s ≤ 1) }
 {
     a_script_by_names_is_read_back();
     let _rules = image.graph.len();
     match check(&image.graph, digest, text) {
         Ok(()) => match write_script(out, digest, &image.graph, text) {
-            Ok(()) => Ok(0),
+            Ok(()) => Ok(false),
             Err(Failed) => Err(Fault::Write),
         },
         Err(refused) => Err(Fault::Named(refused)),
     }
 }
 
-/// Writes the script of a text for an image, unless a line is refused. Answers status 0.
+/// Writes the script of a text for an image, unless a line is refused. It looks for nothing: `false`.
 fn script_of_text<O: Sink>(
     alloc: Global,
     image: &Image,
     text: &[u8],
     out: &mut O,
-) -> Result<u8, Fault>
+) -> Result<bool, Fault>
     requires short { length text.now ≤ most_named_bytes }
     requires table { image.now.table ≡ table_of image.now.table.seed image.now.table.step image.now.graph }
     ensures tells { TellsScript image.now text.now (O.seen out.old).written (O.seen out.new).written result }
     ensures write { result ≡ Err fault.Write → Rose (O.seen out.old).faults (O.seen out.new).faults }
-    ensures known { IfOk result (λ s. s ≤ 1) }
 {
     match image_digest(alloc, &image.graph, &image.table) {
         Ok(digest) => tell_script(image, &digest, text, out),
@@ -57,14 +60,14 @@ fn script_of_text<O: Sink>(
     }
 }
 
-/// Reads a text of lines that name faults, and writes its script for an image. Answers status 0.
+/// Reads a text of lines that name faults, and writes its script for an image. It looks for nothing: `false`.
 fn script_of_image<F: Files, O: Sink>(
     alloc: Global,
     image: &Image,
     named: &Text,
     files: &mut F,
     out: &mut O,
-) -> Result<u8, Fault>
+) -> Result<bool, Fault>
     requires table { image.now.table ≡ table_of image.now.table.seed image.now.table.step image.now.graph }
     ensures held { (F.seen files.new).held ≡ (F.seen files.old).held }
     ensures reaches { IfSome (F.seen files.old).held (λ h. ReachesNamed image.now named.now h (O.seen out.old).written (O.seen out.new).written
@@ -74,7 +77,6 @@ fn script_of_image<F: Files, O: Sink>(
     ensures ended { OnOk result (IsAtEnd (F.seen files.new).rest) }
     ensures later { (F.seen files.old).faults ≤ (F.seen files.new).faults }
     ensures broken_later { (F.seen files.old).broken ≤ (F.seen files.new).broken }
-    ensures known { IfOk result (λ s. s ≤ 1) }
 {
     match read_file(alloc, files, named, MOST_NAMED_BYTES as u64) {
         Ok(text) => script_of_text(alloc, image, text.bytes(), out),
@@ -83,21 +85,20 @@ fn script_of_image<F: Files, O: Sink>(
 }
 
 /// Does what the words `script M NAMED` say, and writes to `out` alone: M and NAMED are read whole, in this order, and taken through their
-/// refusals, and then the script of NAMED's lines is written. Answers status 0.
+/// refusals, and then the script of NAMED's lines is written. It looks for nothing: `false`.
 pub fn script_command<F: Files, O: Sink>(
     alloc: Global,
     image: &Text,
     named: &Text,
     files: &mut F,
     out: &mut O,
-) -> Result<u8, Fault>
+) -> Result<bool, Fault>
     ensures held { (F.seen files.new).held ≡ (F.seen files.old).held }
     ensures reaches { IfSome (F.seen files.old).held (λ h. ReachesNames image.now named.now h (O.seen out.old).written (O.seen out.new).written
         (F.seen files.old).broken (F.seen files.new).broken result) }
     ensures unread { IfErr result (λ e. IsUnread e → Rose (F.seen files.old).faults (F.seen files.new).faults) }
     ensures write { result ≡ Err fault.Write → Rose (O.seen out.old).faults (O.seen out.new).faults }
     ensures ended { OnOk result (IsAtEnd (F.seen files.new).rest) }
-    ensures known { IfOk result (λ s. s ≤ 1) }
 {
     match load_image(alloc, files, image) {
         Ok(image) => script_of_image(alloc, &image, named, files, out),

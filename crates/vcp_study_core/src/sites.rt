@@ -16,7 +16,7 @@ use vcp_base::Text;
 use vcp_inputs::{Image, load_image};
 use vcp_outside::{Files, Sink};
 
-/// Writes of the sites of an image what is chosen. Answers status 0.
+/// Writes of the sites of an image what is chosen. It looks for nothing: `false`.
 fn write_chosen<O: Sink>(
     alloc: Global,
     image: &Image,
@@ -24,12 +24,11 @@ fn write_chosen<O: Sink>(
     cycles: u32,
     chosen: &Chosen,
     out: &mut O,
-) -> Result<u8, Fault>
+) -> Result<bool, Fault>
     requires table { image.now.table ≡ table_of image.now.table.seed image.now.table.step image.now.graph }
     requires few { cycles ≤ most_cycles }
     ensures writes { WritesSites image.now cycles classes chosen.now (O.seen out.old).written (O.seen out.new).written result }
     ensures write { result ≡ Err fault.Write → Rose (O.seen out.old).faults (O.seen out.new).faults }
-    ensures known { IfOk result (λ s. s ≤ 1) }
 {
     match write_chosen_sites(
         alloc,
@@ -40,7 +39,7 @@ fn write_chosen<O: Sink>(
         chosen,
         out,
     ) {
-        Ok(()) => Ok(0),
+        Ok(()) => Ok(false),
         Err(Unwritten::TooMany) => Err(Fault::Sites),
         Err(Unwritten::Memory) => Err(Fault::Memory),
         Err(Unwritten::Failed) => Err(Fault::Write),
@@ -48,7 +47,8 @@ fn write_chosen<O: Sink>(
 }
 
 /// Does what the words `sites M CYCLES CLASS` say, with a part behind them or `--count`, and writes to `out` alone: M is read whole and
-/// taken through its refusals, and then the script of these faults is written, or how many there are. Answers status 0.
+/// taken through its refusals, and then the script of these faults is written, or how many there are. It
+/// looks for nothing: `false`.
 pub fn sites_command<F: Files, O: Sink>(
     alloc: Global,
     image: &Text,
@@ -57,7 +57,7 @@ pub fn sites_command<F: Files, O: Sink>(
     chosen: &Chosen,
     files: &mut F,
     out: &mut O,
-) -> Result<u8, Fault>
+) -> Result<bool, Fault>
     requires few { cycles ≤ most_cycles }
     ensures held { (F.seen files.new).held ≡ (F.seen files.old).held }
     ensures reaches { IfSome (F.seen files.old).held (λ h. ReachesSites image.now cycles classes chosen.now h (O.seen out.old).written (O.seen out.new).written
@@ -65,7 +65,6 @@ pub fn sites_command<F: Files, O: Sink>(
     ensures unread { IfErr result (λ e. IsUnread e → Rose (F.seen files.old).faults (F.seen files.new).faults) }
     ensures write { result ≡ Err fault.Write → Rose (O.seen out.old).faults (O.seen out.new).faults }
     ensures ended { OnOk result (IsAtEnd (F.seen files.new).rest) }
-    ensures known { IfOk result (λ s. s ≤ 1) }
 {
     each_site_stands_once();
     match load_image(alloc, files, image) {

@@ -41,8 +41,8 @@ impl Telling for Tables {
 }
 
 /// Does what the words `sum M SCRIPT VERDICTS` say, and writes to `out` alone: M, SCRIPT and VERDICTS are read whole, in this order, and
-/// taken through their refusals, and then the tables of the verdicts are written. Answers the status: 0 where none of them is `wrong` or
-/// `ran-on`, and else 1.
+/// taken through their refusals, and then the tables of the verdicts are written. Answers whether a fault is unseen: whether one
+/// of them is `wrong` or `ran-on`.
 pub fn sum_command<F: Files, O: Sink>(
     alloc: Global,
     image: &Text,
@@ -50,14 +50,13 @@ pub fn sum_command<F: Files, O: Sink>(
     verdicts: &Text,
     files: &mut F,
     out: &mut O,
-) -> Result<u8, Fault>
+) -> Result<bool, Fault>
     ensures held { (F.seen files.new).held ≡ (F.seen files.old).held }
     ensures reaches { IfSome (F.seen files.old).held (λ h. ReachesSum image.now script.now verdicts.now h (O.seen out.old).written
         (O.seen out.new).written (F.seen files.old).broken (F.seen files.new).broken result) }
     ensures unread { IfErr result (λ e. IsUnread e → Rose (F.seen files.old).faults (F.seen files.new).faults) }
     ensures write { result ≡ Err fault.Write → Rose (O.seen out.old).faults (O.seen out.new).faults }
     ensures ended { OnOk result (IsAtEnd (F.seen files.new).rest) }
-    ensures known { IfOk result (λ s. s ≤ 1) }
 {
     told_command(alloc, &Tables, image, script, verdicts, files, out)
 }

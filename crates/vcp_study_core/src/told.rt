@@ -25,7 +25,7 @@ use std::alloc::Global;
 use vcp_base::{MOST_ROWS_BYTES, MOST_SOURCE_BYTES, Text};
 use vcp_inputs::{Image, NoInput, load_image, read_file};
 use vcp_outside::{Files, Sink};
-use verdict_tables::{Verdicts, VerdictsFault, is_for, read_verdicts, status, totals_of_all};
+use verdict_tables::{Verdicts, VerdictsFault, is_for, read_verdicts, shows_unseen, totals_of_all};
 
 /// Why a text is no script, as of a file.
 fn no_script(why: ScriptFault) -> NoInput
@@ -111,7 +111,7 @@ pub(crate) trait Telling {
         ensures write { result ≡ Err fault.Write → Rose (O.seen out.old).faults (O.seen out.new).faults };
 }
 
-/// Writes what is to be written of verdicts; the status.
+/// Writes what is to be written of verdicts; whether a fault is unseen.
 fn write_told<O: Sink, T: Telling>(
     alloc: Global,
     telling: &T,
@@ -119,7 +119,7 @@ fn write_told<O: Sink, T: Telling>(
     script: &Script,
     verdicts: &Verdicts,
     out: &mut O,
-) -> Result<u8, Fault>
+) -> Result<bool, Fault>
     requires belongs { T.Belongs telling.now graph.now }
     requires fits { All (GroupFits graph.now) script.now }
     requires few { length script.now ≤ most_faults }
@@ -127,16 +127,15 @@ fn write_told<O: Sink, T: Telling>(
     requires many { length verdicts.now ≡ length script.now }
     ensures writes { WritesTold (T.Tells telling.now) graph.now script.now verdicts.now (O.seen out.old).written (O.seen out.new).written result }
     ensures write { result ≡ Err fault.Write → Rose (O.seen out.old).faults (O.seen out.new).faults }
-    ensures known { IfOk result (λ s. s ≤ 1) }
 {
-    let status = status(&totals_of_all(verdicts));
+    let unseen = shows_unseen(&totals_of_all(verdicts));
     match telling.write(alloc, graph, script, verdicts, out) {
-        Ok(()) => Ok(status),
+        Ok(()) => Ok(unseen),
         Err(why) => Err(why),
     }
 }
 
-/// Writes what is to be written of the verdicts that a text tells of a script; the status.
+/// Writes what is to be written of the verdicts that a text tells of a script; whether a fault is unseen.
 fn tell<O: Sink, T: Telling>(
     alloc: Global,
     telling: &T,
@@ -144,13 +143,12 @@ fn tell<O: Sink, T: Telling>(
     script: &Script,
     text: &[u8],
     out: &mut O,
-) -> Result<u8, Fault>
+) -> Result<bool, Fault>
     requires belongs { T.Belongs telling.now graph.now }
     requires fits { All (GroupFits graph.now) script.now }
     requires few { length script.now ≤ most_faults }
     ensures tells { TellsText (T.Tells telling.now) graph.now script.now text.now (O.seen out.old).written (O.seen out.new).written result }
     ensures write { result ≡ Err fault.Write → Rose (O.seen out.old).faults (O.seen out.new).faults }
-    ensures known { IfOk result (λ s. s ≤ 1) }
 {
     match verdicts_in(alloc, graph, script, text) {
         Ok(verdicts) => write_told(alloc, telling, graph, script, &verdicts, out),
@@ -158,7 +156,7 @@ fn tell<O: Sink, T: Telling>(
     }
 }
 
-/// Reads the verdicts of a script, and writes what is to be written of them; the status.
+/// Reads the verdicts of a script, and writes what is to be written of them; whether a fault is unseen.
 fn told_of_script<F: Files, O: Sink, T: Telling>(
     alloc: Global,
     telling: &T,
@@ -167,7 +165,7 @@ fn told_of_script<F: Files, O: Sink, T: Telling>(
     verdicts: &Text,
     files: &mut F,
     out: &mut O,
-) -> Result<u8, Fault>
+) -> Result<bool, Fault>
     requires belongs { T.Belongs telling.now graph.now }
     requires fits { All (GroupFits graph.now) script.now }
     requires few { length script.now ≤ most_faults }
@@ -179,7 +177,6 @@ fn told_of_script<F: Files, O: Sink, T: Telling>(
     ensures ended { OnOk result (IsAtEnd (F.seen files.new).rest) }
     ensures later { (F.seen files.old).faults ≤ (F.seen files.new).faults }
     ensures broken_later { (F.seen files.old).broken ≤ (F.seen files.new).broken }
-    ensures known { IfOk result (λ s. s ≤ 1) }
 {
     match read_file(alloc, files, verdicts, MOST_ROWS_BYTES) {
         Ok(text) => tell(alloc, telling, graph, script, text.bytes(), out),
@@ -187,7 +184,7 @@ fn told_of_script<F: Files, O: Sink, T: Telling>(
     }
 }
 
-/// Takes the text of a script, reads its verdicts, and writes what is to be written of them; the status.
+/// Takes the text of a script, reads its verdicts, and writes what is to be written of them; whether a fault is unseen.
 fn told_of_text<F: Files, O: Sink, T: Telling>(
     alloc: Global,
     telling: &T,
@@ -196,7 +193,7 @@ fn told_of_text<F: Files, O: Sink, T: Telling>(
     verdicts: &Text,
     files: &mut F,
     out: &mut O,
-) -> Result<u8, Fault>
+) -> Result<bool, Fault>
     requires short { length text.now ≤ most_source_bytes }
     requires belongs { T.Belongs telling.now image.now.graph }
     requires table { image.now.table ≡ table_of image.now.table.seed image.now.table.step image.now.graph }
@@ -208,7 +205,6 @@ fn told_of_text<F: Files, O: Sink, T: Telling>(
     ensures ended { OnOk result (IsAtEnd (F.seen files.new).rest) }
     ensures later { (F.seen files.old).faults ≤ (F.seen files.new).faults }
     ensures broken_later { (F.seen files.old).broken ≤ (F.seen files.new).broken }
-    ensures known { IfOk result (λ s. s ≤ 1) }
 {
     match script_in(alloc, image, text) {
         Ok(script) => told_of_script(alloc, telling, &image.graph, &script, verdicts, files, out),
@@ -216,7 +212,7 @@ fn told_of_text<F: Files, O: Sink, T: Telling>(
     }
 }
 
-/// Reads the script for an image and its verdicts, and writes what is to be written of them; the status.
+/// Reads the script for an image and its verdicts, and writes what is to be written of them; whether a fault is unseen.
 pub(crate) fn told_of_image<F: Files, O: Sink, T: Telling>(
     alloc: Global,
     telling: &T,
@@ -225,7 +221,7 @@ pub(crate) fn told_of_image<F: Files, O: Sink, T: Telling>(
     verdicts: &Text,
     files: &mut F,
     out: &mut O,
-) -> Result<u8, Fault>
+) -> Result<bool, Fault>
     requires belongs { T.Belongs telling.now image.now.graph }
     requires table { image.now.table ≡ table_of image.now.table.seed image.now.table.step image.now.graph }
     ensures held { (F.seen files.new).held ≡ (F.seen files.old).held }
@@ -236,7 +232,6 @@ pub(crate) fn told_of_image<F: Files, O: Sink, T: Telling>(
     ensures ended { OnOk result (IsAtEnd (F.seen files.new).rest) }
     ensures later { (F.seen files.old).faults ≤ (F.seen files.new).faults }
     ensures broken_later { (F.seen files.old).broken ≤ (F.seen files.new).broken }
-    ensures known { IfOk result (λ s. s ≤ 1) }
 {
     match read_file(alloc, files, script, MOST_SOURCE_BYTES) {
         Ok(text) => told_of_text(alloc, telling, image, text.bytes(), verdicts, files, out),
@@ -245,7 +240,7 @@ pub(crate) fn told_of_image<F: Files, O: Sink, T: Telling>(
 }
 
 /// Reads an image, a script for it and its verdicts whole, in this order, takes them through their refusals, and writes what is to be written
-/// of the verdicts. Answers the status: 0 where none of them is `wrong` or `ran-on`, and else 1.
+/// of the verdicts. Answers whether a fault is unseen: whether one of them is `wrong` or `ran-on`.
 pub(crate) fn told_command<F: Files, O: Sink, T: Telling>(
     alloc: Global,
     telling: &T,
@@ -254,7 +249,7 @@ pub(crate) fn told_command<F: Files, O: Sink, T: Telling>(
     verdicts: &Text,
     files: &mut F,
     out: &mut O,
-) -> Result<u8, Fault>
+) -> Result<bool, Fault>
     requires { (g : Lists) → T.Belongs telling.now g }
     ensures held { (F.seen files.new).held ≡ (F.seen files.old).held }
     ensures reaches { IfSome (F.seen files.old).held (λ h. ReachesTold (T.Tells telling.now) image.now script.now verdicts.now h (O.seen out.old).written
@@ -262,7 +257,6 @@ pub(crate) fn told_command<F: Files, O: Sink, T: Telling>(
     ensures unread { IfErr result (λ e. IsUnread e → Rose (F.seen files.old).faults (F.seen files.new).faults) }
     ensures write { result ≡ Err fault.Write → Rose (O.seen out.old).faults (O.seen out.new).faults }
     ensures ended { OnOk result (IsAtEnd (F.seen files.new).rest) }
-    ensures known { IfOk result (λ s. s ≤ 1) }
 {
     match load_image(alloc, files, image) {
         Ok(image) => told_of_image(alloc, telling, &image, script, verdicts, files, out),

@@ -4,7 +4,7 @@ ghost use Rattle.std.specs.Prelude.{◌≡◌, ◌≢◌, ◌≤◌, IfSome, IfO
 ghost use Rattle.std.specs.Io.KnownBytes.{IsAtEnd};
 ghost use Rattle.vcp_outside.specs.Counts.{Rose};
 ghost use Rattle.vcp_study_core.specs.Forms.{form, form_of, IsSound};
-ghost use Rattle.vcp_study_core.specs.Answered.{Answered, GetsUsage, Keeps, Reaches, as_status};
+ghost use Rattle.vcp_study_core.specs.Answered.{Answered, GetsUsage, Keeps, Reaches, with_nothing};
 ghost use Rattle.vcp_study_core.specs.Reach.{IsUnread};
 ghost use Rattle.vcp_study_core.specs.Seen.{outside};
 ghost use Rattle.vcp_study_core.specs.declared.fault.Fault.TheVariants as fault;
@@ -32,16 +32,17 @@ use vcp_outside::{Failed, Files, Sink};
 /// | status | comes |
 /// |---|---|
 /// | 0 | the picture, the script or the number was written; or the ranges, and no operation may stop; or the tables, and no fault is unseen |
-/// | 1 | the ranges were written, and an operation may stop; or the tables, and a fault is unseen; or a file is refused |
+/// | 1 | a file is refused |
 /// | 4 | the words are none of the forms |
 /// | 5 | a file failed |
 /// | 6 | a sink failed |
-/// | 7 | memory was wanted |
+/// | 7 | memory was wanted, as far as is proved at any time; with words that are none of the forms never |
+/// | 9 | the ranges were written, and an operation may stop; or the tables, and a fault is unseen |
 ///
 /// By its clauses:
 /// - `answered`: For the command that the words are, how far it came, what it wrote and why it ended: a module `..Reach` for each command.
 /// - `usage`: Words that are none of the forms get the usage line and status 4, and nothing else is done; no other words get status 4.
-/// - `keeps`: Whatever the files tell: the status is at most 7, no file is written, status 0 comes after the file was read to its end, status 5 only
+/// - `keeps`: Whatever the files tell: the status is at most 7, or 9; no file is written; statuses 0 and 9 come after the file was read to its end, status 5 only
 ///   where the count of the files' faults rose, and status 6 only where that of a sink rose.
 pub fn vcp_study<F: Files, O: Sink, E: Sink>(
     alloc: Global,
@@ -86,7 +87,8 @@ fn serve<F: Files, O: Sink, E: Sink>(
     ensures keeps { Keeps (outside (F.seen files.old) (O.seen out.old) (E.seen err.old)) (outside (F.seen files.new) (O.seen out.new) (E.seen err.new)) result }
 {
     match study(alloc, command, files, out) {
-        Ok(status) => status,
+        Ok(true) => 9,
+        Ok(false) => 0,
         Err(fault) => match tell(err, command.file(&fault), &fault) {
             Ok(()) => fault_status(&fault),
             Err(Failed) => 6,
@@ -94,23 +96,23 @@ fn serve<F: Files, O: Sink, E: Sink>(
     }
 }
 
-/// The status of a command that draws.
-fn with_status(drawn: Result<(), Fault>) -> Result<u8, Fault>
-    ensures { result ≡ as_status drawn }
+/// A command that draws looks for nothing.
+fn looks_for_nothing(drawn: Result<(), Fault>) -> Result<bool, Fault>
+    ensures { result ≡ with_nothing drawn }
 {
     match drawn {
-        Ok(()) => Ok(0),
+        Ok(()) => Ok(false),
         Err(fault) => Err(fault),
     }
 }
 
-/// Does what a command says, and writes to `out` alone. Answers its status, where no fault keeps it from its end.
+/// Does what a command says, and writes to `out` alone. Answers whether it found what it looks for, where no fault keeps it from its end.
 fn study<F: Files, O: Sink>(
     alloc: Global,
     command: &StudyCommand<'_>,
     files: &mut F,
     out: &mut O,
-) -> Result<u8, Fault>
+) -> Result<bool, Fault>
     requires sound { IsSound (form command.now) }
     ensures held { (F.seen files.new).held ≡ (F.seen files.old).held }
     ensures reaches { IfSome (F.seen files.old).held (λ h. Reaches (form command.now) h (F.seen files.old) (F.seen files.new) (O.seen out.old)
@@ -118,16 +120,15 @@ fn study<F: Files, O: Sink>(
     ensures unread { IfErr result (λ e. IsUnread e → Rose (F.seen files.old).faults (F.seen files.new).faults) }
     ensures write { result ≡ Err fault.Write → Rose (O.seen out.old).faults (O.seen out.new).faults }
     ensures ended { OnOk result (IsAtEnd (F.seen files.new).rest) }
-    ensures known { IfOk result (λ status. status ≤ 1) }
 {
     match command {
-        StudyCommand::Graph { image, horizon } => with_status(graph_command(
+        StudyCommand::Graph { image, horizon } => looks_for_nothing(graph_command(
             alloc, image, *horizon, files, out,
         )),
-        StudyCommand::Dot { image, horizon } => with_status(dot_command(
+        StudyCommand::Dot { image, horizon } => looks_for_nothing(dot_command(
             alloc, image, *horizon, files, out,
         )),
-        StudyCommand::Waves { file } => with_status(waves_command(alloc, file, files, out)),
+        StudyCommand::Waves { file } => looks_for_nothing(waves_command(alloc, file, files, out)),
         StudyCommand::Ranges { image, all } => ranges_command(alloc, image, *all, files, out),
         StudyCommand::Sites {
             image,

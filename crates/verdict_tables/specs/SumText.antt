@@ -1,5 +1,5 @@
 -- SumText: the tables of a campaign's verdicts, as they are printed. Each line ends with LF.
-use Rattle.std.specs.Prelude.{ℕ, zero, suc, ◌==◌, ◌&&◌, Bool, true, false, cond, nat_lt, List, [], ◌++◌, length, slice_get, Option, Some, None, decimal, codes, flat_map}
+use Rattle.std.specs.Prelude.{ℕ, zero, suc, ◌==◌, ◌||◌, not, Bool, true, false, cond, nat_lt, List, [], ◌++◌, length, slice_get, Option, Some, None, decimal, codes, flat_map}
 use Rattle.op_graph.specs.Lists.{Lists}
 use Rattle.run_report.specs.Variables.{output_name}
 use Rattle.fault_script.specs.declared.act.Fault.{Fault}
@@ -123,6 +123,6 @@ tables_text g groups vs =
 abbrev pub sum_text : Lists → List (List Fault) → List Verdict → List ℕ
 sum_text g groups vs = tables_text g groups vs ++ (unseen_below g groups vs (length vs) ++ totals_text (totals_of vs))
 
--- the status: 0 where each fault is seen or shows nowhere, else 1
-abbrev pub status_of : Totals → ℕ
-status_of t = cond (t.wrong == 0 && t.ran_on == 0) 0 1
+-- a fault shows, and isn't seen
+abbrev pub shows_unseen : Totals → Bool
+shows_unseen t = not (t.wrong == 0) || not (t.ran_on == 0)

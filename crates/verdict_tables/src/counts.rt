@@ -4,7 +4,7 @@ ghost use Rattle.std.specs.Prelude.{◌≡◌, ◌<◌, ◌≤◌, cond, length}
 ghost use Rattle.fault_script.specs.ScriptOf.{most_faults};
 ghost use Rattle.fault_injector.specs.FaultLines.{faults as faults_of, counted, totals_of};
 ghost use Rattle.verdict_tables.specs.Tables.{totals_in as totals_in_of};
-ghost use Rattle.verdict_tables.specs.SumText.{status_of};
+ghost use Rattle.verdict_tables.specs.SumText.{shows_unseen as unseen_in};
 
 use crate::tables::{Table, is_in};
 use crate::verdicts::Verdicts;
@@ -48,15 +48,9 @@ pub fn totals_of_all(verdicts: &Verdicts) -> Totals
     totals
 }
 
-/// The status: 0 where each fault is seen or shows nowhere, and else 1. So it is 0 exactly where no verdict
-/// is `wrong` or `ran-on`.
-pub fn status(totals: &Totals) -> u8
-    ensures status { result ≡ status_of totals.now }
-    ensures known { result ≤ 1 }
+/// Whether a fault shows that isn't seen: whether a verdict is `wrong` or `ran-on`.
+pub fn shows_unseen(totals: &Totals) -> bool
+    ensures { result ≡ unseen_in totals.now }
 {
-    if totals.wrong == 0 && totals.ran_on == 0 {
-        0
-    } else {
-        1
-    }
+    totals.wrong != 0 || totals.ran_on != 0
 }

@@ -21,7 +21,7 @@ mod verdicts;
 mod words;
 mod writing;
 
-pub use counts::{status, totals_in, totals_of_all};
+pub use counts::{shows_unseen, totals_in, totals_of_all};
 pub use endings::{Endings, endings_of};
 pub use endless::{SameEnding, answers_over_rows_are_a_right_run, group_ending, words_left};
 pub use fault::VerdictsFault;

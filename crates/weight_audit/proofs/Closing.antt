@@ -75,11 +75,11 @@ by_kind kind.Xor from h x y z = omega (arith, ints)
 by_kind kind.Sel from h x y z = omega (arith, ints)
 
 -- what comes into operation i from outside the cycle: from its cell, and its own
-abbrev loaded : List ℤ → Option Op → ℤ
+abbrev pub loaded : List ℤ → Option Op → ℤ
 loaded held None = pos 0
 loaded held (Some op) = loaded_as op.kind (at held (unsigned_abs op.imm))
 
-abbrev entering : Lists → List ℤ → (ℕ → ℤ) → ℕ → ℤ
+abbrev pub entering : Lists → List ℤ → (ℕ → ℤ) → ℕ → ℤ
 entering g held own i = loaded held (slice_get g.operations i) +ℤ own i
 
 rest_is : (d w o l t : ℤ) → d ≡ w +ℤ o → w ≡ l +ℤ t → t ≡ d -ℤ (l +ℤ o)
@@ -126,7 +126,7 @@ split : (x e : ℤ) → x ≡ (x -ℤ e) +ℤ e
 split x e = omega (arith, ints)
 
 -- what leaves a cycle, times the differences, is what enters it, times the weights
-duality : (g : Lists) (leaving : ℕ → ℤ) (held : List ℤ) (own : ℕ → ℤ) (d : List ℤ) → ReadsBefore 0 g.operations → AreOfCycle g held own d
+pub duality : (g : Lists) (leaving : ℕ → ℤ) (held : List ℤ) (own : ℕ → ℤ) (d : List ℤ) → ReadsBefore 0 g.operations → AreOfCycle g held own d
     → along leaving 0 d ≡ along (entering g held own) 0 (weights_from leaving 0 g.operations)
 duality g leaving held own d before are =
     let ws = weights_from leaving 0 g.operations in
@@ -156,7 +156,7 @@ loaded_back g d i op rising is fits =
     (λ none. comes_none g.loads g.stores d i none) (λ e some. comes_back g.loads g.stores d i e rising is.all_stored some)
 
 -- what the cells bring into the next cycle, times its weights, is what leaves this one
-border : (g : Lists) (d ws : List ℤ) → Rising g.loads → IsGraph g → OpsFit g → length ws ≡ length g.operations
+pub border : (g : Lists) (d ws : List ℤ) → Rising g.loads → IsGraph g → OpsFit g → length ws ≡ length g.operations
     → along (λ i. loaded (held_after g d) (slice_get g.operations i)) 0 ws ≡ along (across (cells g) ws) 0 d
 border g d ws rising is fit many =
     along_same (λ i. loaded (held_after g d) (slice_get g.operations i)) (back (cells g) d) 0 ws (λ j le lt.
@@ -165,21 +165,21 @@ border g d ws rising is fit many =
     ∙ entering_is (cells g) ws d ∙ sym (leaving_is (cells g) ws d)
 
 -- the differences of the words that the cells have when cycle m begins
-abbrev held_at : Lists → (ℕ → List ℤ) → ℕ → List ℤ
+abbrev pub held_at : Lists → (ℕ → List ℤ) → ℕ → List ℤ
 held_at g given zero = held_after g []
 held_at g given (suc m) = held_after g (given m)
 
-cycle_at : (g : Lists) (own : ℕ → ℕ → ℤ) (given : ℕ → List ℤ) → AreDifferences g own given → (m : ℕ) → AreOfCycle g (held_at g given m) (own m) (given m)
+pub cycle_at : (g : Lists) (own : ℕ → ℕ → ℤ) (given : ℕ → List ℤ) → AreDifferences g own given → (m : ℕ) → AreOfCycle g (held_at g given m) (own m) (given m)
 cycle_at g own given are zero = are.first
 cycle_at g own given are (suc m) = are.later m
 
 ends : (z : ℤ) → z ≡ z +ℤ pos 0
 ends z = omega (arith, ints)
 
-once : (z : ℤ) → z ≡ z *ℤ pos 1
+pub once : (z : ℤ) → z ≡ z *ℤ pos 1
 once z = omega (arith, ints)
 
-length-sums : (g : Lists) (out borders : ℕ) → length (sums g out borders) ≡ length g.operations
+pub length-sums : (g : Lists) (out borders : ℕ) → length (sums g out borders) ≡ length g.operations
 length-sums g out zero = length-weights_from (at_out out) 0 g.operations
 length-sums g out (suc borders) = length-weights_from (across (cells g) (sums g out borders)) 0 g.operations
 
@@ -221,11 +221,11 @@ pub at_nothing : (j : ℕ) → at [] j ≡ pos 0
 at_nothing zero = refl
 at_nothing (suc j) = refl
 
-loaded_none : (held : List ℤ) (x : Option Op) → ((j : ℕ) → at held j ≡ pos 0) → loaded held x ≡ pos 0
+pub loaded_none : (held : List ℤ) (x : Option Op) → ((j : ℕ) → at held j ≡ pos 0) → loaded held x ≡ pos 0
 loaded_none held None none = refl
 loaded_none held (Some op) none = ap (loaded_as op.kind) (none (unsigned_abs op.imm)) ∙ loaded_zero op.kind
 
-no_more : (a b : ℤ) → a ≡ pos 0 → a +ℤ b ≡ b
+pub no_more : (a b : ℤ) → a ≡ pos 0 → a +ℤ b ≡ b
 no_more a b e = omega (arith, ints)
 
 -- the exact weight may be taken for its residue

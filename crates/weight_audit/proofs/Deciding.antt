@@ -80,7 +80,7 @@ takes op k = as_well
 abbrev pub ReadsSo : List Op → ℕ → ℕ → Type 0
 ReadsSo ops q k = (j : ℕ) × Reads ops q k j
 
-reads : (ops : List Op) (q k : ℕ) (o : Option Op) → slice_get ops q ≡ o → Decided (ReadsSo ops q k)
+pub reads : (ops : List Op) (q k : ℕ) (o : Option Op) → slice_get ops q ≡ o → Decided (ReadsSo ops q k)
 reads ops q k None e = inr (λ h. let there = h.1.there in absurd cc)
 reads ops q k (Some op) e = as_well
     (λ (t : Takes op k). (t.place, record { op = op; there = e; operand = t.operand; names = t.names }))

@@ -35,7 +35,7 @@ use Rattle.weight_audit.proofs.Places.{Earlier}
 -- ---- what an operation reads
 
 -- a cycle's differences so far
-abbrev frame_of : List ℤ → List ℤ → Frame
+abbrev pub frame_of : List ℤ → List ℤ → Frame
 frame_of held given = record { held = held; given = given }
 
 read_is : (held given : List ℤ) (op : Op) (j : ℕ) (k : Kind)
@@ -44,10 +44,10 @@ read_is held given op j kind.Load = refl
 read_is held given op j _ = refl
 
 -- what the operands bring, where each is read as h from a cell, and as x, y and z from operations
-abbrev brings : Kind → ℤ → ℤ → ℤ → ℤ → ℤ
+abbrev pub brings : Kind → ℤ → ℤ → ℤ → ℤ → ℤ
 brings k h x y z = weighed k (read_as k h x) (read_as k h y) (read_as k h z)
 
-brought_is : (held given : List ℤ) (op : Op)
+pub brought_is : (held given : List ℤ) (op : Op)
     → brought (frame_of held given) op op.kind
     ≡ brings op.kind (at held (unsigned_abs op.imm)) (at given (named op 0)) (at given (named op 1)) (at given (named op 2))
 brought_is held given op =
@@ -105,7 +105,7 @@ last_of : (before : List ℤ) (d : ℤ) → at (before ++ d ∷ []) (length befo
 last_of [] d = refl
 last_of (c ∷ before) d = last_of before d
 
-many_from : (t : Numbers) (g : Lists) (acts : ℕ → Option Act) (past : Frame) (held before : List ℤ) (k : ℕ) (ops : List Op)
+pub many_from : (t : Numbers) (g : Lists) (acts : ℕ → Option Act) (past : Frame) (held before : List ℤ) (k : ℕ) (ops : List Op)
     → length (given_from t g acts past held before k ops) ≡ length before + length ops
 many_from t g acts past held before k [] = omega arith
 many_from t g acts past held before k (op ∷ ops) =
@@ -140,6 +140,22 @@ made_from t g acts past held before k (o ∷ ops) zero n op many is there =
 made_from t g acts past held before k (o ∷ ops) (suc more) n op many is there =
     let d = difference t g past (frame_of held before) k o (acts k) in
     made_from t g acts past held (before ++ d ∷ []) (k + 1) ops more n op (length-append before (d ∷ []) ∙ ap (λ (x : ℕ). x + 1) many) (omega (arith, is)) there
+
+-- where no act stands, it is what the operands bring
+pub undisturbed : (t : Numbers) (g : Lists) (acts : ℕ → Option Act) (past : Frame) (held : List ℤ) (k : ℕ) (op : Op) → Earlier g
+    → slice_get g.operations k ≡ Some op → acts k ≡ None
+    → at (given_from t g acts past held [] 0 g.operations) k
+    ≡ brings op.kind (at held (unsigned_abs op.imm)) (at (given_from t g acts past held [] 0 g.operations) (named op 0))
+    (at (given_from t g acts past held [] 0 g.operations) (named op 1)) (at (given_from t g acts past held [] 0 g.operations) (named op 2))
+undisturbed t g acts past held k op earlier there none =
+    let whole = given_from t g acts past held [] 0 g.operations in
+    let m = made_from t g acts past held [] 0 g.operations k k op refl (omega arith) there in
+    let before_k : (j : ℕ) → is_some (reads_as op.kind op.from j) ≡ true → named op j < k =
+    λ j reads. earlier k (named op j) j (record { op = op; there = there; operand = reads; names = refl }) in
+    m.value ∙ ap (difference t g past (frame_of held m.front) k op) none ∙ brought_is held m.front op
+    ∙ same_brought op.kind op.from (at held (unsigned_abs op.imm)) (at m.front (named op 0)) (at m.front (named op 1)) (at m.front (named op 2))
+    (at whole (named op 0)) (at whole (named op 1)) (at whole (named op 2))
+    (λ reads. m.agrees (named op 0) (before_k 0 reads)) (λ reads. m.agrees (named op 1) (before_k 1 reads)) (λ reads. m.agrees (named op 2) (before_k 2 reads))
 
 -- ---- the cycles of a run with one fault
 
@@ -187,15 +203,8 @@ module _ (t : Numbers) (g : Lists) (f : Fault) (o : Op) (earlier : Earlier g) (t
 
       without_act : acts_of (f ∷ []) n k ≡ None → own_at n k ≡ pos 0 → at (whole_after n past) k ≡ brings_here (whole_after n past) +ℤ own_at n k
       without_act none no_own =
-          let m = made_from t g (acts_of (f ∷ []) n) past (held_after g past.given) [] 0 g.operations k k op refl (omega arith) there_k in
           without_own (at (whole_after n past) k) (brings_here (whole_after n past)) (own_at n k)
-          (m.value ∙ ap (difference t g past (frame_of (held_after g past.given) m.front) k op) none ∙ brought_is (held_after g past.given) m.front op
-          ∙ same_brought op.kind op.from (at (held_after g past.given) (unsigned_abs op.imm)) (at m.front (named op 0)) (at m.front (named op 1))
-          (at m.front (named op 2))
-          (at (whole_after n past) (named op 0)) (at (whole_after n past) (named op 1)) (at (whole_after n past) (named op 2))
-          (λ reads. m.agrees (named op 0) (before_k 0 reads)) (λ reads. m.agrees (named op 1) (before_k 1 reads))
-          (λ reads. m.agrees (named op 2) (before_k 2 reads)))
-          no_own
+          (undisturbed t g (acts_of (f ∷ []) n) past (held_after g past.given) k op earlier there_k none) no_own
 
       at_fault : f.cycle ≡ n → f.op ≡ k → at (whole_after n past) k ≡ brings_here (whole_after n past) +ℤ own_at n k
       at_fault cycle place =

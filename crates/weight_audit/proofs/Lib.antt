@@ -10,7 +10,9 @@ mod Loads
 mod Marking
 mod Places
 mod Residues
+mod Superposing
 mod Sweep
+mod Unreached
 mod Worked
 mod KeptMarks
 pub mod Joined

@@ -1,6 +1,7 @@
 pub mod Audit
 pub mod ClosedForm
 pub mod Paths
+pub mod Superposition
 pub mod Sweeping
 pub mod Weights
 pub mod AuditLines

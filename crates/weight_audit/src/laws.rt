@@ -6,6 +6,7 @@ ghost use Rattle.op_graph.specs.Rules.{IsGraph};
 ghost use Rattle.signature_table.specs.Signatures.{Numbers};
 ghost use Rattle.weight_audit.specs.Audit.{Audit, IsAudit};
 ghost use Rattle.weight_audit.specs.ClosedForm.{ClosedForm, StaleForm};
+ghost use Rattle.weight_audit.specs.Superposition.{Superposition, OwnIsOfActs, WeightsAreOfPaths};
 
 use coded_unit::words_split_in_one_way;
 use fault_script::one_fault_makes_its_difference;
@@ -24,6 +25,21 @@ pub fn differences_come_as_weights()
     entries_keep_their_rules();
     words_split_in_one_way();
     one_fault_makes_its_difference();
+}
+
+/// Whatever acts stand at whatever operations, the difference of an operation is the sum, over all operations and numbers of
+/// cycle borders, of what an act adds there so many cycles before, times the weight. Where no act stands nothing is added, and
+/// from an operation that isn't reached nothing comes. The sum is one of integers, and modulo the constant of the graph's code one
+/// by weights.
+pub fn differences_are_superposed()
+    ensures sum { (t : Numbers) (g : Lists) → IsGraph g → Superposition t g }
+    ensures own { (t : Numbers) (g : Lists) → IsGraph g → OwnIsOfActs t g }
+    ensures unreached { (g : Lists) → IsGraph g → WeightsAreOfPaths g }
+{
+    // What an operation reads is an earlier one, and LOADs name their cells.
+    operands_are_there();
+    entries_keep_their_rules();
+    words_split_in_one_way();
 }
 
 /// A graph has an audit up to each number of cycle borders.

@@ -16,5 +16,5 @@ mod report;
 pub mod weigh;
 
 pub use kept::{AuditFault, Weights};
-pub use laws::{differences_come_as_weights, each_graph_has_an_audit};
+pub use laws::{differences_are_superposed, differences_come_as_weights, each_graph_has_an_audit};
 pub use report::{an_audit_has_one_text, blind_line, is_blind, reached_line, write_audit};

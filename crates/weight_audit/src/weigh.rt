@@ -5,13 +5,14 @@ ghost use Rattle.signature_table.specs.Signatures.{IsTableOf};
 ghost use Rattle.fault_script.specs.Sums.{DifferencesAddUp};
 ghost use Rattle.op_graph.specs.Rules.{IsGraph};
 ghost use Rattle.weight_audit.specs.ClosedForm.{ClosedForm, StaleForm};
+ghost use Rattle.weight_audit.specs.Superposition.{Superposition};
 ghost use Rattle.vcp_base.specs.Limits.{most_horizon};
 ghost use Rattle.weight_audit.specs.Audit.{most_weights, weights_up_to as weights_of, IsAudit};
 ghost use Rattle.weight_audit.specs.Sweeping.{IsDistance, AreDistances};
 ghost use Rattle.weight_audit.specs.declared.kept.AuditFault.TheVariants as fault;
 
 use crate::kept::{AuditFault, Distance, Distances, Weights};
-use crate::laws::differences_come_as_weights;
+use crate::laws::{differences_are_superposed, differences_come_as_weights};
 use crate::marks::{marks_at, marks_before};
 use crate::numbers::{weights_at, weights_before};
 use fault_script::differences_add_up;
@@ -30,8 +31,9 @@ const MOST_WEIGHTS: u64 = 16777216;
 /// before any memory is taken. The difference that a fault of a script makes at its operation comes to
 /// each OUT, so many cycle borders later, as the weight times that difference, as `closed` says; of a
 /// stale operand `stale` says where that is none. The differences of several faults that add numbers to words
-/// add up, as `sums` says. The time is linear in the number of weights, and so
-/// is the memory: eight bytes for each, and one for its mark.
+/// add up, as `sums` says; and of whatever acts at whatever operations, `superposition` says what comes of them
+/// together. The time is linear in the number of weights, and so is the memory: eight bytes for each, and one
+/// for its mark.
 ///
 /// `TooLarge` comes exactly there, with that number; else want of memory is the only refusal. Of a fault
 /// alone the difference at an OUT is 0 before the fault's cycle; it comes as an integer over the unreduced
@@ -49,11 +51,13 @@ pub fn weights(
     ensures closed { ClosedForm table.now graph.now }
     ensures stale { StaleForm table.now graph.now }
     ensures sums { DifferencesAddUp table.now graph.now }
+    ensures superposition { Superposition table.now graph.now }
     ensures too_large { most_weights < weights_of graph.now horizon → result ≡ Err (fault.TooLarge (weights_of graph.now horizon)) }
     ensures not_too_large { weights_of graph.now horizon ≤ most_weights → IfErr result (λ why. why ≡ fault.Memory) }
 {
     differences_come_as_weights();
     differences_add_up();
+    differences_are_superposed();
     let cells = weights_up_to(graph, horizon);
     if cells > MOST_WEIGHTS {
         return Err(AuditFault::TooLarge { cells });

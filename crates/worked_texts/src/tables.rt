@@ -1,4 +1,4 @@
-//! Tables as texts: a row in each line, and a row's cells before and behind ` =>`.
+//! What stands in rows: cells before and behind ` =>`, spelled bytes, names and numbers.
 
 use std::alloc::Global;
 use std::test::Fail;
@@ -11,11 +11,6 @@ pub fn same(found: &str, wanted: &str) -> Result<(), Fail> {
     } else {
         Err(Fail::new(found))
     }
-}
-
-/// Fails with what is said of it, where it doesn't hold.
-pub fn holds(is: bool, said: &str) -> Result<(), Fail> {
-    if is { Ok(()) } else { Err(Fail::new(said)) }
 }
 
 /// A row's two cells, without the blanks around the ` =>` between them; the whole row and nothing where it has none.

@@ -2,28 +2,31 @@
 from __future__ import annotations
 
 import argparse
-import hashlib
 import os
 import shutil
 import signal
 import sys
 from concurrent.futures import ProcessPoolExecutor
-from dataclasses import dataclass
-from functools import partial
+from dataclasses import dataclass, replace
+from itertools import repeat
 from pathlib import Path
 from typing import Sequence
 
+from vcp_tools.campaign.dormant import Dormant, pairs_of
 from vcp_tools.campaign.engine import judge
-from vcp_tools.campaign.folder import FORM, Folder, Manifest, copies_of
-from vcp_tools.campaign.interval import clopper_pearson
+from vcp_tools.campaign.folder import FORM, Folder, Manifest, PartOf, copies_of, digest
+from vcp_tools.campaign.interval import share
 from vcp_tools.campaign.parts import Judged, judged
 from vcp_tools.campaign.shown import Shown
-from vcp_tools.campaign.sites import CLASSES, Class, cycles_of
+from vcp_tools.campaign.sites import CLASSES, Faults, cycles_of
 from vcp_tools.campaign.store import Store
-from vcp_tools.campaign.words import USAGE, Words, read_words
+from vcp_tools.campaign.traced import BITS, TOLD_BY_WORDS, faults_of
+from vcp_tools.campaign.words import USAGE, Words, check_words, read_words
 from vcp_tools.files import read_bytes
 from vcp_tools.program import Program
 from vcp_tools.read import script as script_form
+from vcp_tools.read.assigned import Assigned
+from vcp_tools.read.given import source_of
 from vcp_tools.read.image import read_image
 from vcp_tools.read.script import Part, cut, digest_of_remark
 from vcp_tools.read.sum_tables import Sum, add, sum_text, totals_line
@@ -39,45 +42,65 @@ def add_words(parser: argparse.ArgumentParser) -> None:
 
 
 def run(given: argparse.Namespace) -> int:
-    """Does what the words ask for; the status is 1 where a part wasn't judged."""
-    for number in (signal.SIGTERM, signal.SIGHUP):
+    """Does what the words ask for; the status is 9 where a fault isn't seen, and 2 where a part wasn't judged."""
+    for number in (signal.SIGTERM, signal.SIGHUP, signal.SIGINT):
         signal.signal(number, lambda which, _: sys.exit(128 + which))
     words = read_words(given.words[1:] if given.words[:1] == ["--"] else given.words)
-    if words.faults in CLASSES and words.faults == "flips" and len(words.rows) > 1:
-        raise Refusal("campaign: the faults of `flips` are told by the words of one run: give one rows file, or a script")
-    if words.draw is not None and words.faults not in CLASSES:
-        raise Refusal("campaign: `--draw` draws of a class, and this is a script")
+    check_words(words)
     programs = Program.found("vcp"), Program.found("vcp_study")
+    assigned = assigned_of(words, programs[0])
     shown = Shown()
     store = Store(words.store) if words.store else None
     cycles = _most_cycles(programs[0], words)
     runs: list[str | None] = [*words.rows] or [None]
+    unseen = 0
     for rows in runs:
         done = Campaign(words, programs, rows, cycles).run()
-        if done is None:
-            return FOUND
+        unseen += done.unseen
         sys.stdout.write(done.tables)
-        for line in shown.add(rows or f"--cycles {words.cycles}", done.verdicts):
-            if len(words.rows) > 1:
-                print(line)
-        if words.draw is not None:
-            print(_share(done, words))
+        if len(runs) > 1:
+            print(shown.add(str(rows), done.verdicts))
+        if words.then:
+            unseen += _pairs(words, done).unseen
+        elif words.draw is not None:
+            print(share(done.totals, f"{done.of} faults of `{words.faults}`", "class", words.seed))
         if store is not None:
-            store.add(rows or "", done.script, done.verdicts, done.image)
-        if len(words.rows) > 1 and rows == words.rows[-1]:
+            store.add(rows or "", done.script, done.verdicts, done.image, assigned)
+        if len(runs) > 1 and rows == runs[-1]:
             done.folder.write("unshown", shown.listed(done.script, done.verdicts))
             print(f"{done.folder.at}/unshown names those that no run shows")
     if store is not None:
         store.close()
-    return FINE
+    return FOUND if unseen else FINE
+
+
+def _pairs(words: Words, first: "Done") -> "Done":
+    """The campaign of pairs: a fault that stands in a cell when the rows end, and a later one of another class; all over the copies of the first one."""
+    folder = first.folder
+    copies = {name: str(folder.at / name) for name in ("image", "rows", "pairs")}
+    vcp, study = Program(folder.at / "vcp"), Program(folder.at / "study", "vcp_study")
+    dormant = Dormant(folder, first.script).found()
+    print(f"dormant: {len(dormant)} of the {first.totals[0]} faults stand in a cell when the rows end")
+    cycles = cycles_of(vcp, copies["image"], [copies["rows"]])
+    behind = faults_of(words.then, (vcp, study), folder.at / "image", [copies["rows"]], cycles, words.bits)
+    script, number = pairs_of(dormant, behind, words.draw or 0, words.seed, digest(first.image))
+    folder.write("pairs", script)
+    asked = replace(words, image=copies["image"], faults=copies["pairs"], draw=None, then="", out=str(folder.at / "then") if words.out else "")
+    paired = Campaign(asked, (vcp, study), copies["rows"], 0).run()
+    sys.stdout.write(paired.tables)
+    print(share(paired.totals, f"{number} pairs of a dormant fault of `{words.faults}` and a later one of `{words.then}`", "pairs", words.seed))
+    return paired
+
+
+def assigned_of(words: Words, vcp: Program) -> Assigned | None:
+    """What stands at each place of the source, where it is given; a refusal where it isn't that of the image."""
+    return Assigned(source_of(vcp, words.source, read_image(read_bytes(words.image), words.image))) if words.source else None
 
 
 def _most_cycles(vcp: Program, words: Words) -> int:
-    """The cycles of the longest run, over which the faults of a class are told."""
-    if words.faults not in CLASSES or words.faults == "flips":
+    """The cycles of the longest of several runs, over which the faults of a class are told; 0 where there is one."""
+    if words.faults not in CLASSES or len(words.rows) < 2:
         return 0
-    if words.cycles is not None:
-        return cycles_of(vcp, words.image, ["--cycles", str(words.cycles)])
     return max(cycles_of(vcp, words.image, [rows]) for rows in words.rows)
 
 
@@ -93,6 +116,11 @@ class Done:
     image: bytes
     of: int
 
+    @property
+    def unseen(self) -> int:
+        """How many groups are `wrong` or `ran-on`."""
+        return self.totals[2] + self.totals[3]
+
 
 class Campaign:
     """One campaign: an image, a script or class, and one rows file or a number of cycles."""
@@ -103,28 +131,28 @@ class Campaign:
         self.is_class = words.faults in CLASSES
         self.of = 0
 
-    def run(self) -> Done | None:
-        """The campaign; None where parts weren't judged, which are named then."""
+    def run(self) -> Done:
+        """The campaign; a refusal where parts weren't judged, which are named then."""
         files = {"vcp": self.programs[0].file, "study": self.programs[1].file, "image": Path(self.words.image)}
         if self.rows is not None:
             files["rows"] = Path(self.rows)
         if not self.is_class:
             files["script"] = Path(self.words.faults)
-        copies, digests = copies_of(files)
-        asked = self.asked(digests)
-        folder = Folder(Path(self.words.out or f"campaign.{hashlib.sha256(asked.encode()).hexdigest()[:12]}"))
+        copies, digests = copies_of(files, Path(self.words.out).absolute().parent)
         try:
-            folder.hold()
-            manifest = self.prepared(folder, asked, copies, digests["image"])
-            parts = self.judged(folder, manifest)
-            return None if parts is None else self.joined(folder, manifest, parts)
+            self.take_cycles(copies)
+            asked = self.asked(digests)
+            folder = Folder(Path(self.words.out or f"campaign.{digest(asked.encode())[:12]}"))
+            with folder:
+                manifest = self.prepared(folder, asked, copies, digests["image"])
+                return self.joined(folder, manifest, self.judged(folder, manifest))
         finally:
-            folder.release()
             shutil.rmtree(copies, ignore_errors=True)
 
     def asked(self, digests: dict[str, str]) -> str:
         """What a campaign is named by: all that its answer may rest on."""
-        of_class = f"{self.words.faults} {self.cycles} {self.words.draw} {self.words.seed}" if self.is_class else ""
+        bits = f"{self.words.bits} " if self.words.bits != BITS else ""
+        of_class = f"{self.words.faults} {bits}{self.cycles} {self.words.draw} {self.words.seed}" if self.is_class else ""
         return f"{FORM} {self.words.cycles} {of_class} " + " ".join(f"{name}={digests[name]}" for name in sorted(digests))
 
     def prepared(self, folder: Folder, asked: str, copies: Path, image_digest: str) -> Manifest:
@@ -141,13 +169,27 @@ class Campaign:
             return found
         script, parts = self.cut(copies, image_digest)
         (copies / "script").unlink(missing_ok=True)
-        rows_words = "rows" if self.rows is not None else f"--cycles {self.words.cycles}"
-        return folder.lay_out(copies, asked, script, parts, self.rows is not None, rows_words)
+        over = "rows" if self.rows is not None else f"--cycles {self.words.cycles}"
+        return folder.lay_out(copies, asked, over, script, parts)
 
-    def class_of(self, copies: Path) -> Class:
+    def take_cycles(self, copies: Path) -> None:
+        """Takes the cycles over which the faults of a class are told: those of the copied rows, of several runs those of the longest."""
+        if not self.is_class or self.words.faults in TOLD_BY_WORDS:
+            return
+        own = cycles_of(Program(copies / "vcp"), str(copies / "image"), self.over(copies), (self.words.image, self.rows or "--cycles"))
+        if own > self.cycles > 0:
+            raise Refusal(f"{self.rows}: the file has changed while the campaign began")
+        self.cycles = self.cycles or own
+
+    def over(self, copies: Path) -> list[str]:
+        """The words for the rows, of the copies."""
+        return ["--cycles", str(self.words.cycles)] if self.rows is None else [str(copies / "rows")]
+
+    def class_of(self, copies: Path) -> Faults:
         """The class of faults, over the copies."""
-        over = str(copies / "rows") if self.words.faults == "flips" else str(self.cycles)
-        return Class(self.programs[1], str(copies / "image"), over, self.words.faults)
+        programs = Program(copies / "vcp"), Program(copies / "study", "vcp_study")
+        shown = self.words.image, self.rows if self.rows is not None and self.words.faults in TOLD_BY_WORDS else str(self.cycles)
+        return faults_of(self.words.faults, programs, copies / "image", self.over(copies), self.cycles, self.words.bits, shown)
 
     def cut(self, copies: Path, image_digest: str) -> tuple[bytes, list[Part]]:
         """The whole script and its parts."""
@@ -159,11 +201,13 @@ class Campaign:
             return script, cut(script, self.words.faults, script_form.MOST)
         faults = self.class_of(copies)
         self.of = faults.count
-        return faults.parts(os.cpu_count() or 1) if self.words.draw is None else faults.drawn(self.words.draw, self.words.seed)
+        is_whole = self.words.draw is None or bool(self.words.then)
+        return faults.parts() if is_whole else faults.drawn(self.words.draw or 0, self.words.seed)
 
-    def judged(self, folder: Folder, manifest: Manifest) -> list[Judged] | None:
-        """All parts; None where some weren't judged, which are named then."""
+    def judged(self, folder: Folder, manifest: Manifest) -> list[Judged]:
+        """All parts; a refusal where some weren't judged, which are named then."""
         found: list[Judged | None] = [None] * len(manifest.parts)
+        folder.write_judge(manifest)
         for is_last in (False, True):
             left = []
             missing = [number for number, it in enumerate(found) if it is None]
@@ -174,23 +218,23 @@ class Campaign:
                 left.append((number, it))
                 if not is_last:
                     self.clear(folder, manifest, number, it)
-            if not is_last:
+            if not is_last and left:
+                folder.forget_answer()
                 scripts = [folder.name(number, "faults") for number, _ in left]
                 judge(folder.at, scripts, self.words.jobs, _in_folder(self.words.parallel), self.words.quiet, folder.held())
         for number, why in left:
             print(f"campaign: {folder.at}/{folder.name(number, 'faults')} isn't judged: {why}", file=sys.stderr)
-        if left:
-            print(f"campaign: {len(left)} of {len(found)} parts aren't judged; the same call tries them again", file=sys.stderr)
         whole = [it for it in found if it is not None]
-        return whole if len(whole) == len(found) else None
+        if len(whole) < len(found):
+            raise Refusal(f"{len(found) - len(whole)} of {len(found)} parts aren't judged; the same call tries them again")
+        return whole
 
     def look(self, folder: Folder, manifest: Manifest, numbers: Sequence[int]) -> list[Judged | str]:
         """Each part, or why it is none."""
-        task = partial(_look, folder.at, manifest)
         if len(numbers) < 8:
-            return [task(number) for number in numbers]
+            return [_look(folder.at, number, manifest.parts[number]) for number in numbers]
         with ProcessPoolExecutor(os.cpu_count()) as pool:
-            return list(pool.map(task, numbers, chunksize=4))
+            return list(pool.map(_look, repeat(folder.at), numbers, [manifest.parts[number] for number in numbers], chunksize=4))
 
     def clear(self, folder: Folder, manifest: Manifest, number: int, why: str) -> None:
         """Removes what is left of a part that is to be judged, and names it where it was judged before."""
@@ -200,15 +244,16 @@ class Campaign:
         for end in ("done", "verdicts", "sums", "done.now", "verdicts.now", "sums.now"):
             base.with_suffix("." + end).unlink(missing_ok=True)
         script = base.with_suffix(".faults")
-        if not script.is_file() or hashlib.sha256(script.read_bytes()).hexdigest() != manifest.parts[number].digest:
-            whole = folder.read("faults")
-            parts = cut(whole, "faults", script_form.MOST) if not self.is_class else []
-            if self.is_class:
-                lines = whole.split(b"\n")
-                part = manifest.parts[number]
-                script.write_bytes(b"\n".join([lines[0], *lines[part.first + 1 : part.first + 1 + part.faults], b""]))
-            else:
-                script.write_bytes(parts[number].text)
+        if not script.is_file() or digest(script.read_bytes()) != manifest.parts[number].digest:
+            script.write_bytes(self.part_again(folder, manifest.parts[number], number))
+
+    def part_again(self, folder: Folder, part: PartOf, number: int) -> bytes:
+        """The script of a part, from the whole script."""
+        whole = folder.read("faults")
+        if not self.is_class:
+            return cut(whole, "faults", script_form.MOST)[number].text
+        lines = whole.split(b"\n")
+        return b"\n".join([lines[0], *lines[part.first + 1 : part.first + 1 + part.faults], b""])
 
     def joined(self, folder: Folder, manifest: Manifest, parts: list[Judged]) -> Done:
         """The verdicts and the tables of all parts, which have to be as many as the manifest says."""
@@ -221,15 +266,17 @@ class Campaign:
         image = folder.read("image")
         outputs = [slot.name for slot in read_image(image, self.words.image).outputs]
         tables = sum_text(total, outputs)
+        assigned = assigned_of(self.words, self.programs[0])
+        tables = assigned.named(tables) if assigned else tables
         folder.write("verdicts", verdicts + totals_line(total.totals).encode("ascii") + b"\n")
         folder.write("tables", tables.encode("utf-8"))
         return Done(folder, tables, verdicts, total.totals, folder.read("faults"), image, self.of)
 
 
-def _look(folder: Path, manifest: Manifest, number: int) -> Judged | str:
+def _look(folder: Path, number: int, part: PartOf) -> Judged | str:
     """A part, or why it is none."""
     try:
-        return judged(folder, number, manifest.parts[number])
+        return judged(folder, number, part)
     except Refusal as refusal:
         return str(refusal)
 
@@ -237,12 +284,3 @@ def _look(folder: Path, manifest: Manifest, number: int) -> Judged | str:
 def _in_folder(words: Sequence[str]) -> list[str]:
     """The words for parallel: a file that one names stands in the caller's folder."""
     return [str(Path(word).absolute()) if not word.startswith("-") and Path(word).is_file() else word for word in words]
-
-
-def _share(done: Done, words: Words) -> str:
-    """The share of a class that is wrong, by the faults that were drawn of it."""
-    wrong, tried = done.totals[2], done.totals[0]
-    low, high = clopper_pearson(wrong, tried)
-    share = f"wrong: {wrong}, a share between {low:.6f} and {high:.6f} of the class, with 95 % confidence (Clopper and Pearson)"
-    return (f"drawn: {tried} of the {done.of} faults of `{words.faults}`, seed {words.seed}; {share}\n"
-            "it is a share of faults tried on these rows, each as likely as each other, and no coverage")

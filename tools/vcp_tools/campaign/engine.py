@@ -1,9 +1,12 @@
 """What judges the parts that are left, side by side: GNU parallel, here and on other machines, or a pool where it isn't installed."""
 from __future__ import annotations
 
+import contextlib
+import hashlib
 import os
 import shutil
 import signal
+import socket
 import subprocess
 import sys
 import threading
@@ -30,32 +33,64 @@ def judge(folder: Path, parts: Sequence[str], jobs: int | None, words: Sequence[
         else:
             number = jobs or os.cpu_count() or 1
             print(f"campaign: GNU parallel isn't installed: the parts run in a pool of {number}", file=sys.stderr)
-            with ThreadPoolExecutor(number) as pool:
-                list(pool.map(lambda part: _tried(folder, part, lock), parts))
+            Pool(folder, lock).judge(parts, number)
     finally:
         if clock is not None:
             clock.end()
 
 
 def _parallel(folder: Path, parts: Sequence[str], jobs: int | None, words: Sequence[str], lock: int) -> None:
-    call = ["parallel", "--retries", str(TRIES)]
+    call = ["parallel", "--retries", str(TRIES), "--termseq", "KILL,100"]
     if jobs is not None:
         call += ["--jobs", str(jobs)]
-    if any(word.startswith(_SENDING) for word in words):
-        call += ["--workdir", str(folder.name), "--cleanup", "--transferfile", "{}"]
-        for name in _SENT:
-            call += ["--basefile", name] if (folder / name).exists() else []
-        for end in ("verdicts", "sums", "done"):
-            call += ["--return", "{.}." + end]
+    if not any(word.startswith(_SENDING) for word in words):
+        _run([*call, *words, "./judge", "{}"], folder, parts, lock)
+        return
+    name = _remote_name(folder)
+    call += ["--workdir", name, "--cleanup", "--transferfile", "{}"]
+    for file in _SENT:
+        call += ["--basefile", file] if (folder / file).exists() else []
+    for end in ("verdicts", "sums", "done"):
+        call += ["--return", "{.}." + end]
+    here = folder / name
+    try:
+        # What runs here, where `:` stands among the hosts, goes to a folder of that name, too.
+        here.unlink(missing_ok=True)
+        here.symlink_to(".")
+        _run([*call, *words, "./judge", "{}"], folder, parts, lock)
+    finally:
+        here.unlink(missing_ok=True)
+
+
+def _run(call: Sequence[str], folder: Path, parts: Sequence[str], lock: int) -> None:
+    """Runs parallel on the names of parts, and ends it with the tool."""
     given = "".join(f"{part}\n" for part in parts).encode("ascii")
     out = sys.stderr.fileno() if _has_file(sys.stderr) else subprocess.DEVNULL
-    running = subprocess.Popen([*call, *words, "./judge", "{}"], cwd=folder, stdin=subprocess.PIPE, stdout=out, pass_fds=(lock,), start_new_session=True)
+    running = subprocess.Popen(call, cwd=folder, stdin=subprocess.PIPE, stdout=out, pass_fds=(lock,), start_new_session=True)
     try:
         running.communicate(given)
     except BaseException:
+        _end(running)
+        raise
+
+
+def _remote_name(folder: Path) -> str:
+    """The name that a campaign's folder has on other machines: one of its own, since files of another campaign may be left there."""
+    named = f"{socket.gethostname()} {folder.resolve()}".encode("utf-8", "surrogateescape")
+    return f"campaign.{hashlib.sha256(named + (folder / 'manifest').read_bytes()).hexdigest()[:12]}"
+
+
+def _end(running: subprocess.Popen[bytes]) -> None:
+    """Ends parallel and what it runs: it begins no more at its first signal, and kills what runs at its second."""
+    for _ in range(2):
+        with contextlib.suppress(ProcessLookupError, subprocess.TimeoutExpired):
+            running.terminate()
+            running.wait(0.5)
+    try:
+        running.wait(5)
+    except subprocess.TimeoutExpired:
         os.killpg(running.pid, signal.SIGKILL)
         running.wait()
-        raise
 
 
 def _has_file(stream: object) -> bool:
@@ -67,11 +102,38 @@ def _has_file(stream: object) -> bool:
         return False
 
 
-def _tried(folder: Path, part: str, lock: int) -> None:
-    """Judges a part, up to so many times."""
-    for _ in range(TRIES):
-        if subprocess.run(["./judge", part], cwd=folder, stdin=subprocess.DEVNULL, pass_fds=(lock,), check=False).returncode == 0:
-            return
+class Pool:
+    """Judges parts in threads, where GNU parallel isn't installed; what runs is ended with the tool."""
+
+    def __init__(self, folder: Path, lock: int) -> None:
+        self.folder, self.lock = folder, lock
+        self.running: set[subprocess.Popen[bytes]] = set()
+        self.ended = False
+
+    def judge(self, parts: Sequence[str], number: int) -> None:
+        """Judges parts, so many at once."""
+        pool = ThreadPoolExecutor(number)
+        try:
+            list(pool.map(self._tried, parts))
+        except BaseException:
+            self.ended = True
+            for it in list(self.running):
+                os.killpg(it.pid, signal.SIGKILL)
+            raise
+        finally:
+            pool.shutdown(cancel_futures=True)
+
+    def _tried(self, part: str) -> None:
+        """Judges a part, up to so many times."""
+        for _ in range(TRIES):
+            if self.ended:
+                return
+            it = subprocess.Popen(["./judge", part], cwd=self.folder, stdin=subprocess.DEVNULL, pass_fds=(self.lock,), start_new_session=True)
+            self.running.add(it)
+            status = it.wait()
+            self.running.discard(it)
+            if status == 0:
+                return
 
 
 class Clock:

@@ -2,6 +2,7 @@
 from __future__ import annotations
 
 from math import exp, lgamma, log
+from typing import Sequence
 
 
 def clopper_pearson(found: int, tried: int, confidence: float = 0.95) -> tuple[float, float]:
@@ -10,6 +11,15 @@ def clopper_pearson(found: int, tried: int, confidence: float = 0.95) -> tuple[f
     low = 0.0 if found == 0 else _quantile(half, found, tried - found + 1)
     high = 1.0 if found == tried else _quantile(1 - half, found + 1, tried - found)
     return low, high
+
+
+def share(totals: Sequence[int], of: str, whole: str, seed: int) -> str:
+    """The share of a whole that is wrong, told by the totals of what was drawn of it: all groups, `same`, `wrong` and so on."""
+    tried, wrong = totals[0], totals[2]
+    low, high = clopper_pearson(wrong, tried)
+    told = f"wrong: {wrong}, a share between {low:.6f} and {high:.6f} of the {whole}, with 95 % confidence (Clopper and Pearson)"
+    return (f"drawn: {tried} of the {of}, seed {seed}; {told}\n"
+            "it is a share of faults tried on these rows, each as likely as each other, and no coverage")
 
 
 def _quantile(wanted: float, a: float, b: float) -> float:

@@ -44,11 +44,11 @@ def _moved(verdicts: bytes, part: PartOf) -> tuple[bytes, list[int]]:
     if lines.pop() != b"" or not lines:
         raise Refusal("its verdicts break off")
     totals = read_totals(lines.pop().decode("ascii", "replace"))
-    if len(lines) != len(part.groups):
-        raise Refusal(f"it has {len(lines)} verdicts, and {len(part.groups)} groups of faults")
+    if len(lines) != part.count:
+        raise Refusal(f"it has {len(lines)} verdicts, and {part.count} groups of faults")
     counts = dict.fromkeys((name.encode() for name in VERDICTS), 0)
     moved = []
-    for line, group in zip(lines, part.groups):
+    for line, group in zip(lines, part.lines()):
         number, _, rest = line.partition(b" ")
         word = rest.partition(b" ")[0]
         if number != b"%d" % group or word not in counts:

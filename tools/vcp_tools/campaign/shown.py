@@ -1,8 +1,6 @@
 """Which faults no recorded run shows, run by run."""
 from __future__ import annotations
 
-from typing import Iterator
-
 
 class Shown:
     """The groups of a script, by their lines, that some run has refused or stopped."""
@@ -12,7 +10,7 @@ class Shown:
         self.before = 0
         self.runs = 0
 
-    def add(self, rows: str, verdicts: bytes) -> Iterator[str]:
+    def add(self, rows: str, verdicts: bytes) -> str:
         """Adds the verdicts of a run, and says by how much the list gets shorter."""
         lines = verdicts.split(b"\n")[:-1]
         for line in lines:
@@ -23,7 +21,7 @@ class Shown:
         self.runs += 1
         fewer = f", {self.before - left} fewer" if self.runs > 1 else ""
         self.before = left
-        yield f"{rows}: behind {self.runs} run{'s' if self.runs > 1 else ''}, {left} of {len(lines)} faults are shown by none{fewer}"
+        return f"{rows}: behind {self.runs} run{'s' if self.runs > 1 else ''}, {left} of {len(lines)} faults are shown by none{fewer}"
 
     def listed(self, script: bytes, verdicts: bytes) -> bytes:
         """A line for each fault that no run shows: the number of its line in the script, and the fault."""

@@ -9,6 +9,7 @@ from __future__ import annotations
 import sqlite3
 from typing import Iterator
 
+from vcp_tools.read.assigned import Assigned
 from vcp_tools.read.image import Image, read_image
 from vcp_tools.refusal import Refusal
 
@@ -33,10 +34,10 @@ class Store:
         except sqlite3.Error as error:
             raise Refusal(f"{file}: it can't be used as a database: {error}") from None
 
-    def add(self, rows: str, script: bytes, verdicts: bytes, image: bytes) -> None:
-        """Adds the verdicts of a run, and of the first run the faults."""
+    def add(self, rows: str, script: bytes, verdicts: bytes, image: bytes, assigned: Assigned | None = None) -> None:
+        """Adds the verdicts of a run, and of the first run the faults; where the source is known with what stands at the places of operations."""
         try:
-            faults = list(_faults(script.decode("latin-1").split("\n"), read_image(image, "image")))
+            faults = list(_faults(script.decode("latin-1").split("\n"), read_image(image, "image"), assigned))
             began: dict[int, int] = {}
             for fault in faults:
                 began.setdefault(fault[1], fault[3])
@@ -56,7 +57,7 @@ class Store:
 _Fault = tuple[int, int, str, int, int, str, str, str, "int | None", str]
 
 
-def _faults(lines: list[str], image: Image) -> Iterator[_Fault]:
+def _faults(lines: list[str], image: Image, assigned: Assigned | None) -> Iterator[_Fault]:
     """The faults of a script; the group of a fault that stands alone is its own line."""
     group = 0
     grouped = False
@@ -71,7 +72,8 @@ def _faults(lines: list[str], image: Image) -> Iterator[_Fault]:
         has_operand = words[0] == "operand"
         operation = image.operations[int(words[2])]
         change = " ".join(words[3 + has_operand :])
-        yield (number, group, words[0], int(words[1]), operation.number, operation.kind, image.name_of(operation), operation.place,
+        name = image.name_of(operation) or (assigned.of(operation) if assigned else "")
+        yield (number, group, words[0], int(words[1]), operation.number, operation.kind, name, operation.place,
                int(words[3]) if has_operand else None, change)
 
 

@@ -4,24 +4,29 @@ from __future__ import annotations
 from dataclasses import dataclass, field
 from typing import Sequence
 
+from vcp_tools.campaign.sites import CLASSES
+from vcp_tools.campaign.traced import BITS, MOST_BIT, TOLD_BY_WORDS
 from vcp_tools.refusal import Refusal
 
 USAGE = """usage: vcp_tools campaign M (SCRIPT | CLASS) (--rows ROWS [--rows ROWS].. | --cycles N) [OPTION]..
        vcp_tools campaign M ROWS (SCRIPT | CLASS) [OPTION]..
 
 judges each fault of a class, or of a script of any length, over the image M and the rows; docs/CAMPAIGNS.md shows it
-  CLASS           bits, stale, skip, from, operator, all or flips; a script that has such a name is given as ./bits
+  CLASS           bits, stale, skip, from, operator, all, flips or late; a script that has such a name is given as ./bits
+  --bits 0..62    the bits that flips turns, else 0..31
   --rows ROWS     the rows file; several of them tell which faults no run shows
   --cycles N      in the place of rows, for a program without inputs
   --draw N        N faults of the class, drawn without bias; --seed S draws others
+  --then CLASS    pairs of a fault that stands in a cell when the rows end, and a later one of CLASS; --draw says how many
   --jobs N        so many parts side by side, else as many as there are processors
   --hosts FILE    judge on the machines that FILE names for GNU parallel, too
   --out FOLDER    what is kept of the campaign stands there, else in campaign.DIGEST
   --store FILE    keep each fault with its verdict in a database of SQLite
+  --source P      the source of M, by which operations are told with the variables of their statements
   --quiet         say nothing of progress
   other options, and what stands behind them, go to GNU parallel
-statuses: 0 all parts were judged, 1 a part wasn't, 2 the words or a file can't be used"""
-_VALUED = ("--rows", "--cycles", "--draw", "--seed", "--jobs", "-j", "--hosts", "--out", "--store")
+statuses: 0 all faults were judged and each is seen, 9 one isn't (wrong or ran-on), 2 a part wasn't judged, or the words or a file can't be used"""
+_VALUED = ("--bits", "--rows", "--cycles", "--draw", "--seed", "--then", "--jobs", "-j", "--hosts", "--out", "--store", "--source")
 
 
 @dataclass
@@ -32,11 +37,14 @@ class Words:
     faults: str = ""
     rows: list[str] = field(default_factory=list)
     cycles: int | None = None
+    bits: tuple[int, int] = BITS
     draw: int | None = None
     seed: int = 0
+    then: str = ""
     jobs: int | None = None
     out: str = ""
     store: str = ""
+    source: str = ""
     quiet: bool = False
     parallel: list[str] = field(default_factory=list)
 
@@ -75,13 +83,36 @@ def read_words(words: Sequence[str]) -> Words:
     return found
 
 
+def check_words(found: Words) -> None:
+    """Refuses what can't be asked for together."""
+    if found.faults in TOLD_BY_WORDS and len(found.rows) > 1:
+        raise Refusal(f"campaign: the faults of `{found.faults}` are told by the words of one run: give one rows file, or a script")
+    if found.bits != BITS and "flips" not in (found.faults, found.then):
+        raise Refusal("campaign: `--bits` are those that the class `flips` turns")
+    if not found.then:
+        if found.draw is not None and found.faults not in CLASSES:
+            raise Refusal("campaign: `--draw` draws of a class, and this is a script")
+        return
+    if found.then not in CLASSES or found.then == "all":
+        raise Refusal(f"campaign: `--then {found.then}`: a class is wanted that goes by cycles: {', '.join(it for it in CLASSES if it != 'all')}")
+    if found.draw is None:
+        raise Refusal("campaign: `--then` wants `--draw N`: so many pairs are drawn")
+    if len(found.rows) != 1 or found.store:
+        raise Refusal("campaign: `--then` wants one rows file, behind which a fault may stand in a cell, and no `--store`")
+
+
 def _take(found: Words, word: str, value: str) -> None:
     """Takes an option with its value."""
     if word == "--rows":
         found.rows.append(value)
+    elif word == "--bits":
+        low, _, high = value.partition("..")
+        if not (low.isdigit() and high.isdigit() and len(value) < 7 and int(low) <= int(high) <= MOST_BIT):
+            raise Refusal(f"campaign: `{value}` stands behind `--bits`, and two numbers of 0 to {MOST_BIT} are wanted, as 0..{MOST_BIT}")
+        found.bits = int(low), int(high)
     elif word == "--hosts":
         found.parallel = ["--sshloginfile", value, *found.parallel]
-    elif word in ("--out", "--store"):
+    elif word in ("--out", "--store", "--source", "--then"):
         setattr(found, word[2:], value)
     else:
         least = 0 if word == "--seed" else 1

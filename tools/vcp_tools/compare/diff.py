@@ -29,7 +29,7 @@ def add_words(parser: argparse.ArgumentParser) -> None:
 
 
 def run(given: argparse.Namespace) -> int:
-    """Prints whether both have the same operations; the status is 1 where they haven't."""
+    """Prints whether both have the same operations; the status is 9 where they haven't."""
     program = Program.found()
     comparison = Comparison(load(program, given.first), load(program, given.second))
     differences = list(comparison.differences())

@@ -5,12 +5,13 @@ import argparse
 import sys
 from dataclasses import dataclass
 
+from vcp_tools.cycle_time import CycleTime, cycle_told
 from vcp_tools.pictures.observe import Column, Observation, chosen, observe, rows_words, warnings
 from vcp_tools.files import read_bytes
 from vcp_tools.program import Program
 from vcp_tools.refusal import FINE, FOUND, Refusal
 from vcp_tools.read.rows_file import Record, cell_value, read_rows
-from vcp_tools.pictures.table import add_run_words
+from vcp_tools.pictures.table import add_run_words, period_of
 
 _ENDINGS = ("end ", "stop ", "refused ")
 
@@ -39,16 +40,17 @@ def add_words(parser: argparse.ArgumentParser) -> None:
 
 
 def run(given: argparse.Namespace) -> int:
-    """Compares; the status is 1 where something differs."""
+    """Compares; the status is 9 where something differs."""
     rows, rest = rows_words(given.rest, given.cycles)
     if len(rest) != 1:
         raise Refusal("WANTED is missing: a file of wanted rows" if not rest else f"`{rest[1]}` is left over behind WANTED")
+    period = period_of(given)
     found = observe(Program.found(), given.program, rows, given.trace)
     for line in warnings(rows):
         print(line, file=sys.stderr)
     file = rest[0]
     wanted = read_wanted(file, found)
-    differences = compare(found, wanted)
+    differences = compare(found, wanted, period)
     if not differences:
         print(f"{file}: as wanted: {len(wanted.records)} rows of {len(wanted.columns)} columns; {found.ending}")
         return FINE
@@ -59,8 +61,9 @@ def run(given: argparse.Namespace) -> int:
 
 
 def read_wanted(file: str, found: Observation) -> Wanted:
-    """The wanted rows of a file: a head of `cycle`, where it stands, and names; rows; and a last line as a run prints it, where it stands."""
-    records = read_rows(read_bytes(file)).records
+    """The wanted rows of a file: a head of `cycle`, where it stands, and names; rows; and a last line as a run prints it, where it stands. A column of
+    times, as `table` writes it, is left aside."""
+    records = _without_times(read_rows(read_bytes(file)))
     if not records:
         raise Refusal(f"{file}: there is no record: the first line has the names of what is compared")
     head = records[0].cells
@@ -79,18 +82,26 @@ def read_wanted(file: str, found: Observation) -> Wanted:
     return Wanted(columns, body, has_cycles, ending)
 
 
-def compare(found: Observation, wanted: Wanted) -> list[Difference]:
+def _without_times(records: list[Record]) -> list[Record]:
+    """Records without the fields of `time/s` or `time/ms`; a last line, as of a run, stays."""
+    times = [at for at, cell in enumerate(records[0].cells) if cell.startswith("time/")] if records else []
+    width = len(records[0].fields) if records else 0
+    return [it._replace(fields=tuple(field for at, field in enumerate(it.fields) if at not in times)) if len(it.fields) == width else it
+            for it in records] if times else records
+
+
+def compare(found: Observation, wanted: Wanted, period: CycleTime | None = None) -> list[Difference]:
     """All differences, in order."""
     differences = []
     for number, record in enumerate(wanted.records):
         cycle = int(record.cells[0]) if wanted.has_cycles else number
         if cycle >= found.cycles:
-            differences.append(Difference(record.line, f"cycle {cycle} is wanted, and the run ends before it: {found.ending}"))
+            differences.append(Difference(record.line, f"{cycle_told(cycle, period)} is wanted, and the run ends before it: {found.ending}"))
             break
         for column, cell in zip(wanted.columns, record.cells[wanted.has_cycles :]):
             value = cell_value(cell, column.declaration.type)
             if cell != "" and value != column.values[cycle]:
-                differences.append(Difference(record.line, f"cycle {cycle}: {column.name} is {column.values[cycle]}, and {cell} is wanted"))
+                differences.append(Difference(record.line, f"{cycle_told(cycle, period)}: {column.name} is {column.values[cycle]}, and {cell} is wanted"))
     return differences or _ending_differences(found, wanted)
 
 

@@ -12,7 +12,7 @@ from vcp_tools.explain.hints_source import source_hint
 from vcp_tools.explain.hints_types import Typed, step_over
 from vcp_tools.files import read_bytes
 from vcp_tools.program import Program
-from vcp_tools.read.source import Source
+from vcp_tools.read.source import Source, Token
 from vcp_tools.explain.stuck import Stuck
 from vcp_tools.read.structured_text import parse
 
@@ -30,6 +30,8 @@ class Patched:
 
     def change(self, repair: Repair) -> None:
         """Puts a text in the place of some bytes."""
+        if repair.behind is not None:
+            self.change(repair.behind)
         put = repair.text.encode("latin-1")
         origin = self.origins[repair.start]
         self.data = self.data[: repair.start] + put + self.data[repair.end :]
@@ -47,8 +49,8 @@ class Patched:
 
 @dataclass
 class AllHints:
-    """The faults that are told, each with the program's line, the first text and the hint on it; how many more may follow from
-    these; and what wasn't looked at, in words, empty where all was."""
+    """The faults that are told, each with the program's line, the first text and the hint on it, the line empty where the tokens alone told it; how many
+    more may follow from these; and what wasn't looked at, in words, empty where all was."""
 
     hints: list[tuple[str, Source, Hint]] = field(default_factory=list)
     suspected: int = 0
@@ -64,7 +66,7 @@ def all_hints(program: Program, file: str) -> AllHints:
     doubtful = set(lacking.doubtful)
     seen: set[tuple[str, int]] = set()
     for hint in told(lacking.hints):
-        found.hints.append((f"{file}:{first.told(hint.start)} S4 Syntax", first, hint))
+        found.hints.append(("", first, hint))
     for hint in sorted(lacking.hints, key=lambda it: -it.repair.start if it.repair else 0):
         if hint.repair is not None:
             patched.change(hint.repair)
@@ -76,7 +78,7 @@ def all_hints(program: Program, file: str) -> AllHints:
         source = Source(patched.data)
         at = source.offset(fault.first or 1, fault.second or 1)
         hint = source_hint(source, fault.code, at)
-        if not _tell(found, fault, file, first, patched, hint, doubtful, seen) and fault.code[0] == "T":
+        if not _tell(found, fault, file, first, source, patched, hint, doubtful, seen) and fault.code[0] == "T":
             hint = replace(hint, repair=step_over(Typed(source, parse(source)), at) or hint.repair)
         _doubt(doubtful, source, fault, hint, first)
         if hint.repair is None or (hint.repair.text.encode("latin-1") == patched.data[hint.repair.start : hint.repair.end]):
@@ -105,27 +107,45 @@ def _next_fault(program: Program, data: bytes) -> FaultLine | None:
     return fault if fault is not None and fault.code[0] in "STL" else None
 
 
-def _tell(found: AllHints, fault: FaultLine, file: str, first: Source, patched: Patched, hint: Hint, doubtful: set[str], seen: set[tuple[str, int]]) -> bool:
-    """Adds a fault to those that are told, unless it may follow from one before; whether it was added."""
+def _tell(
+    found: AllHints, fault: FaultLine, file: str, first: Source, source: Source, patched: Patched, hint: Hint, doubtful: set[str], seen: set[tuple[str, int]]
+) -> bool:
+    """Adds a fault of the patched text `source` to those that are told, unless it may follow from one before, or its message may quote what a change has
+    made; whether it was added."""
     start = patched.origin(hint.start)
     end = max(start, patched.origin(max(hint.start, hint.end - 1)) + (hint.end > hint.start))
-    statement_end = _statement_end(patched.data, hint.end)
-    names = {token.upper for token in Source(patched.data[hint.start : statement_end]).tokens if token.kind == "name"}
-    follows = fault.code[0] == "T" and (names & doubtful or patched.is_made(hint.start, statement_end))
-    if follows or patched.is_made(hint.start, hint.end) or (fault.code, start) in seen:
+    first_token, last_token = _quoted(source, fault.code, hint)
+    names = {token.upper for token in source.tokens[first_token : last_token + 1] if token.kind == "name"}
+    follows = fault.code[0] == "T" and names & doubtful
+    quoted = source.tokens[first_token].start, source.tokens[last_token].end
+    if follows or patched.is_made(*quoted) or patched.is_made(hint.start, hint.end) or (fault.code, start) in seen:
         found.suspected += 1
         return False
     seen.add((fault.code, start))
-    at = patched.origin(Source(patched.data).offset(fault.first or 1, fault.second or 1))
+    at = patched.origin(source.offset(fault.first or 1, fault.second or 1))
     place = f"{file}:{first.told(at)}" if fault.first else file
     found.hints.append((f"{place} {fault.code} {fault.word}", first, Hint(hint.message, start, end, hint.more)))
     return True
 
 
-def _statement_end(data: bytes, at: int) -> int:
-    """The byte of the next `;` or end of a line."""
-    ends = [it for it in (data.find(b"\n", at), data.find(b";", at)) if it >= 0]
-    return min(ends, default=len(data))
+def _quoted(source: Source, code: str, hint: Hint) -> tuple[int, int]:
+    """The first and the last token from which the message of a fault may quote: of a fault of types all of its statement or condition, else the token
+    before the place and the one at it."""
+    at = source.index_at(hint.start)
+    last = max(at, source.index_at(max(hint.start, hint.end - 1)))
+    if code[0] != "T":
+        return max(0, at - 1), last
+    start = at
+    while start > 0 and not _parts(source.tokens[start - 1]):
+        start -= 1
+    while last + 1 < len(source.tokens) and not _parts(source.tokens[last + 1]):
+        last += 1
+    return start, last
+
+
+def _parts(token: Token) -> bool:
+    """Whether statements, conditions and declarations end before this token or behind it."""
+    return token.is_symbol(";") or token.kind == "end" or token.is_word("THEN", "ELSE", "DO", "OF", "END_VAR", "IF", "ELSIF", "CASE", "FOR")
 
 
 def _doubt(doubtful: set[str], source: Source, fault: FaultLine, hint: Hint, first: Source) -> None:

@@ -14,22 +14,26 @@ from vcp_tools.read.fault_line import Disagreement, FaultLine, RefusedOutput, St
 from vcp_tools.explain.hint import Hint
 from vcp_tools.explain.hints_files import FORMS, group_hint, image_hint, reading_hint, script_hint, wire_hint, words_hint
 from vcp_tools.explain.hints_il import il_hint
+from vcp_tools.read.assigned import Assigned
 from vcp_tools.read.declarations import inputs_of
 from vcp_tools.read.instruction_list import declarations_of, head_of
 from vcp_tools.explain.hints_rows import RowsHint, cell_hint, encoding_of, form_hint, header_hint, silent_faults, width_hint
 from vcp_tools.explain.hints_source import source_hint
+from vcp_tools.read.given import Given, source_of
 from vcp_tools.read.image import MAGIC, Image, read_image
 from vcp_tools.program import Program
 from vcp_tools.read.verdict_lines import faults_of_group, never_reached, read_verdicts
-from vcp_tools.refusal import FINE, FOUND, Refusal
-from vcp_tools.read.rows_file import read_rows
+from vcp_tools.refusal import FINE, FOUND, REFUSED, Refusal
+from vcp_tools.read.rows_file import line_of, record_of
 from vcp_tools.read.source import Source
 from vcp_tools.read.syntax import Declaration
 
 WIDTH = 110
 """The most characters of a source line that are shown; a longer one is cut round the caret."""
-MOST_BYTES_LOOKED_AT = 8_000_000
-"""A rows file that was accepted is looked through up to this size."""
+MOST_UNSEEN = 20
+"""So many faults that aren't seen are named at most."""
+MOST_SILENT = 3
+"""So many things that are read in silence are told at most of an accepted rows file."""
 STATUS_LINES = {
     "memory": "the machine had no memory left for this run: end other programs, or take fewer rows",
     "write": "standard output couldn't be written: the disk is full, or the reader of the pipe has ended",
@@ -85,7 +89,7 @@ def of_source(file: str, source: Source, hint: Hint) -> Explanation:
 
 
 def _of_rows(file: str, data: bytes, hint: RowsHint) -> Explanation:
-    line = Source(data).line(hint.line)
+    line = line_of(data, hint.line)
     end = hint.end or len(line)
     return Explanation(f"{file}:{hint.line}:{hint.start + 1}", hint.message, hint.line, line[:400], hint.start, end)
 
@@ -171,21 +175,18 @@ class Explainer:
             if script and self.words[0] in ("inject", "pairs"):
                 return Explanation(fault.file, "a script of faults stands in the place of the rows: they stand before it, as in `vcp inject M ROWS F`")
             return _of_rows(fault.file, data, header_hint(data, inputs))
-        rows = read_rows(data)
-        record = fault.first or 1
-        if record > len(rows.records):
-            return Explanation(f"{fault.file}:{record}", "the file has changed since: it has no such record")
+        header, record = record_of(data, 1), record_of(data, fault.first or 1)
+        if header is None or record is None or fault.code == "R3" and (fault.second or 1) > len(record.fields):
+            return Explanation(f"{fault.file}:{fault.first or 1}", "the file has changed since: it has no such record")
         if fault.code == "R2":
-            return _of_rows(fault.file, data, width_hint(rows, record))
-        return _of_rows(fault.file, data, cell_hint(rows, record, fault.second or 1, inputs))
+            return _of_rows(fault.file, data, width_hint(header, record))
+        return _of_rows(fault.file, data, cell_hint(header, record, fault.second or 1, inputs))
 
     def silent_rows(self) -> list[Explanation]:
         """What the rows file of an accepted call holds that is read in silence."""
         takes_rows = len(self.words) > 2 and self.words[0] in ("plain", "run", "il", "exec", "trace", "inject", "pair", "pairs") and self.words[2] != "--cycles"
         data = _bytes(self.words[2]) if takes_rows else b""
-        if not 0 < len(data) <= MOST_BYTES_LOOKED_AT:
-            return []
-        return [_of_rows(self.words[2], data, hint) for hint in silent_faults(data, None)[:3]]
+        return [_of_rows(self.words[2], data, hint) for hint in silent_faults(data, MOST_SILENT)] if data else []
 
     def unreached(self, printed: str) -> list[Explanation]:
         """The groups of an accepted campaign whose verdict is `same` since no cycle of the run comes to them."""
@@ -201,6 +202,24 @@ class Explainer:
                 line = script[verdict.line - 1].encode()
                 message = f"this fault is never reached: the run has the cycles 0 to {begun - 1}, and so its verdict is `same`"
                 found.append(Explanation(f"{self.words[-1]}:{verdict.line}:1", message, verdict.line, line, 0, len(line)))
+        return found
+
+    def unseen(self, printed: str, source: str | None) -> list[Explanation]:
+        """The groups of an accepted campaign that aren't seen, each with its operations in words; where the source is known, with their variables."""
+        if self.words[:1] != ["inject"] or len(self.words) < 4:
+            return []
+        image = _image(self.words[1])
+        given = Given(self.words[1], image, b"", None if source is None else source_of(Program.found(), source, image))
+        script = _bytes(self.words[-1]).decode("utf-8", "replace").split("\n")
+        unseen = [it for it in read_verdicts(printed)[0] if it.verdict in ("wrong", "ran-on")]
+        found = []
+        for verdict in unseen[:MOST_UNSEEN]:
+            operations = [image.operations[int(fault.split()[2])] for fault in faults_of_group(script, verdict.line)]
+            message = f"this fault isn't seen (`{verdict.verdict}`): " + "; ".join(given.told(it) for it in operations)
+            line = script[verdict.line - 1].encode()
+            found.append(Explanation(f"{self.words[-1]}:{verdict.line}:1", message, verdict.line, line, 0, len(line)))
+        if len(unseen) > MOST_UNSEEN:
+            found.append(Explanation(self.words[-1], f"{len(unseen) - MOST_UNSEEN} more faults aren't seen"))
         return found
 
     def _script(self, fault: FaultLine) -> Explanation:
@@ -238,18 +257,19 @@ class Explainer:
             message = (f"cycle {ending.cycle}: the word of `{ending.name}` has the residue {ending.found} and not {ending.expected}: a word on its way "
                        "was changed, or is that of another operation or cycle")
             return Explanation(ending.name, message)
-        turns = f" (in the turn {ending.turns})" if ending.turns else ""
+        file = self.words[1] if len(self.words) > 1 else "source"
+        data = b"" if len(self.words) < 2 else _bytes(file)
+        source = Source(data) if data and not data.startswith(MAGIC) else None
+        assigned = Assigned(source).at(ending.line, ending.column) if source is not None and self.words[0] != "il" else ""
+        where = (f" (in the turn {ending.turns})" if ending.turns else "") + (f", {assigned}" if assigned else "")
         what = {
             "RANGE": "the value is outside its type, and nothing wraps round",
             "DIVZERO": "this is a division by 0",
             "OPERAND": "the unit answered that an operand was outside its type, as an honest one never does",
         }[ending.kind]
-        message = f"the run stops in cycle {ending.cycle}{turns}: {what}"
-        file = self.words[1] if len(self.words) > 1 else "source"
-        data = b"" if len(self.words) < 2 else _bytes(file)
-        if not data or data.startswith(b"VCPANBD\n"):
+        message = f"the run stops in cycle {ending.cycle}{where}: {what}"
+        if source is None:
             return Explanation(f"{file}:{ending.line}:{ending.column}", message)
-        source = Source(data)
         token = source.tokens[source.index_at(source.offset(ending.line, ending.column))]
         guard = {"RANGE": "Limit the operands before, as by MIN, MAX or LIMIT, or take a wider type.",
                  "DIVZERO": "Put the division into `IF divisor <> 0 THEN .. END_IF`."}.get(ending.kind, "")
@@ -291,8 +311,8 @@ def said_by_program(line: str, code: str) -> list[str]:
     return [f"vcp:  {line}", *wrapped]
 
 
-def explain_call(words: Sequence[str]) -> int:
-    """Runs the program with these words, and explains what it says. The status is the program's own."""
+def explain_call(words: Sequence[str], of: str | None = None) -> int:
+    """Runs the program with these words, and explains what it says; `of` is the source of the image, where it is given. The status is the program's own."""
     outcome = Program.found().call(*words)
     explainer = Explainer(words)
     fault = read_fault(outcome.fault) if outcome.fault else None
@@ -303,7 +323,7 @@ def explain_call(words: Sequence[str]) -> int:
     elif ending is not None and outcome.status in (2, 3):
         _print(explainer.ending(ending).lines() + [f"vcp:  {ending.text}"])
     else:
-        accepted = explainer.unreached(outcome.text) if outcome.status == 0 else []
+        accepted = [*explainer.unreached(outcome.text), *explainer.unseen(outcome.text, of)] if outcome.status == 0 else []
         for warning in [*explainer.silent_rows(), *accepted]:
             _print(warning.lines())
         sys.stdout.flush()
@@ -317,7 +337,7 @@ def explain_call(words: Sequence[str]) -> int:
 
 
 def explain_lines() -> int:
-    """Explains each line of error that stands on standard input; other lines are printed as they are."""
+    """Explains each line of error that stands on standard input; other lines are printed as they are. The status is 9 where there is one."""
     status = FINE
     for line in sys.stdin:
         line = line.rstrip("\n")
@@ -334,7 +354,7 @@ def explain_lines() -> int:
 
 
 def explain_all(words: Sequence[str]) -> int:
-    """Explains each fault of the source that the words name, stepping over those that it can."""
+    """Explains each fault of the source that the words name, stepping over those that it can. The status is the program's own."""
     if len(words) < 2:
         raise Refusal("explain --all: it looks at a source: give words as `check P`")
     file = words[1]
@@ -345,14 +365,14 @@ def explain_all(words: Sequence[str]) -> int:
     for line, source, hint in sorted(found.hints, key=lambda it: it[2].start):
         lines = of_source(file, source, hint).lines()
         kind = re.sub(r"`[^`]*`|[0-9]+:[0-9]+", "", hint.message)
-        _print(lines[:1] if kind in told else lines + [f"vcp:  {line}"])
+        _print(lines[:1] if kind in told else lines + [f"vcp:  {line}"] * bool(line))
         told.add(kind)
     if not found.hints:
         return explain_call(words)
     tail = f"; {found.left_out}" if found.left_out else ""
     left = f"; {found.suspected} more may follow from these" if found.suspected else ""
     print(f"{file}: {len(found.hints)} to mend{left}{tail}")
-    return FOUND
+    return REFUSED
 
 
 def _print(lines: Sequence[str]) -> None:
@@ -362,6 +382,7 @@ def _print(lines: Sequence[str]) -> None:
 def add_words(parser: argparse.ArgumentParser) -> None:
     """The words of `explain`."""
     parser.add_argument("--all", action="store_true", help="go on behind each fault of a source that can be stepped over, but of none of an instruction list")
+    parser.add_argument("--source", metavar="P", help="the source of the image, by which faults that aren't seen are told with their variables")
     parser.add_argument("words", nargs=argparse.REMAINDER, help="words of vcp, as `check P`; without any, lines of error are read from standard input")
 
 
@@ -370,4 +391,4 @@ def run(given: argparse.Namespace) -> int:
     words = given.words[1:] if given.words[:1] == ["--"] else given.words
     if not words:
         return explain_lines()
-    return explain_all(words) if given.all else explain_call(words)
+    return explain_all(words) if given.all else explain_call(words, given.source)

@@ -1,184 +1,184 @@
-"""Constructs of IEC 61131-3 that this profile lacks, read as what they are there: arrays, function blocks, enumerations, addresses, `S=` and `R=`.
+"""What IEC 61131-3 has and this profile lacks, read as what it is there, by tokens alone, so that it is told in a text with other faults, too.
 
-They are found by tokens alone, so that they are told in a text with other faults, too; each is one thing to mend.
+Each is one thing to mend: arrays, function blocks with their calls and members, enumerations, direct addresses, literals of time, `S=` and `R=`.
 """
 from __future__ import annotations
 
-from dataclasses import dataclass, field
 from typing import Iterator
 
+from vcp_tools.explain import lacking
+from vcp_tools.explain.foreign_parts import Foreign, Tokens
 from vcp_tools.explain.hint import Hint, Repair
-from vcp_tools.explain.hints_bytes import NO_BLOCKS
 from vcp_tools.read.source import TYPES, Source, Token
 
-BLOCKS = frozenset("TON TOF TP R_TRIG F_TRIG RS SR CTU CTD CTUD BLINK RTC SEMA".split())
-"""Function blocks of the standard, and common ones."""
-_ARRAYS = "there are no arrays: declare a variable for each element"
-_PORTING = "(docs/PORTING.md)"
-_CLOSING = {"(": ")", "[": "]"}
+_OPENERS = frozenset("VAR_GLOBAL VAR_IN_OUT VAR_TEMP VAR_STAT VAR_INST VAR_EXTERNAL VAR_ACCESS VAR_CONFIG".split())
+"""Blocks of declarations that the profile hasn't."""
+_ATTRIBUTES = frozenset("CONSTANT RETAIN PERSISTENT NON_RETAIN".split())
 
 
-@dataclass
-class Foreign:
-    """The hints on what the profile lacks, in the order of the text, and the names whose declarations are changed by their repairs."""
-
-    hints: list[Hint] = field(default_factory=list)
-    doubtful: set[str] = field(default_factory=set)
-
-
-def foreign(source: Source) -> Foreign:
-    """All such constructs of a text."""
-    return _Scan(source).found
-
-
-class _Scan:
+class _Scan(Tokens):
     """Goes through the tokens from the first to the last."""
 
-    def __init__(self, source: Source) -> None:
-        self.source = source
-        self.tokens = source.tokens
-        self.found = Foreign()
-        self.kinds: dict[str, str] = {}
+    def whole(self) -> Foreign:
+        """All that the text has."""
         at = 0
-        while self.tokens[at].kind != "end":
-            at = self.block(at) if self.tokens[at].is_word("VAR", "VAR_INPUT", "VAR_OUTPUT") else self.body(at)
+        while self.token(at).kind != "end":
+            if self.opens(at):
+                at = self.block(at)
+            elif self.token(at).upper == "TYPE" and self.token(at + 1).kind == "name" and self.is_mark(at + 2, ":"):
+                at = self.types(at)
+            else:
+                at = self.statement(at) if self.begins(at) else self.operand(at)
+        return self.found
 
-    def is_mark(self, at: int, mark: str) -> bool:
-        """Whether a token is this symbol, or this character that begins no token of the profile."""
-        token = self.tokens[min(at, len(self.tokens) - 1)]
-        return token.kind in ("symbol", "bad") and token.text == mark
+    def opens(self, at: int) -> bool:
+        """Whether a block of declarations begins here."""
+        token = self.token(at)
+        behind = self.token(at + 1)
+        return token.is_word("VAR", "VAR_INPUT", "VAR_OUTPUT") or token.upper in _OPENERS and behind.kind in ("name", "word")
 
-    def behind(self, at: int) -> int:
-        """The index behind the bracket that closes the one at this index; this index where none does before a `;`."""
-        depth = 0
-        for index in range(at, len(self.tokens)):
-            text = self.tokens[index].text
-            depth += (text in "([" and text != "") - (text in ")]" and text != "")
-            if depth == 0:
-                return index + 1
-            if text == ";" or self.tokens[index].kind == "end":
-                break
-        return at
-
-    def say(self, start: int, end: int, message: str, repair: Repair | None) -> None:
-        """Adds a hint on the bytes from one token through the one before another."""
-        self.found.hints.append(Hint(message, self.tokens[start].start, self.tokens[end - 1].end, repair=repair))
-
-    def text(self, start: int, end: int) -> str:
-        """The text of some tokens, on one line."""
-        return " ".join(self.source.text[self.tokens[start].start : self.tokens[end - 1].end].split())
+    def begins(self, at: int) -> bool:
+        """Whether a statement may begin with this token."""
+        before = self.token(at - 1) if at > 0 else self.token(len(self.tokens))
+        if before.is_symbol(";", ":") or before.is_word("THEN", "ELSE", "DO", "OF", "END_VAR", "END_IF", "END_CASE", "END_FOR", "REPEAT"):
+            return True
+        return at == 2 and self.token(0).is_word("PROGRAM")
 
     def block(self, at: int) -> int:
         """A block of declarations, and the index behind it."""
-        opener = self.tokens[at]
+        opener = self.token(at)
         at += 1
-        while self.tokens[at].kind != "end" and not self.tokens[at].is_word("END_VAR", "END_PROGRAM"):
+        while self.token(at).upper in _ATTRIBUTES:
+            at += 1
+        while self.token(at).kind != "end" and not self.token(at).is_word("END_VAR", "END_PROGRAM"):
             end = at
-            while self.tokens[end].kind != "end" and not self.tokens[end].is_symbol(";") and not self.tokens[end].is_word("END_VAR"):
+            while self.token(end).kind != "end" and not self.token(end).is_symbol(";") and not self.token(end).is_word("END_VAR"):
                 end += 1
-            self.declaration(at, end, opener)
-            at = end + self.tokens[end].is_symbol(";")
+            if end > at:
+                self.declaration(at, end, opener)
+            at = end + self.token(end).is_symbol(";")
         return at
 
     def declaration(self, at: int, end: int, opener: Token) -> None:
         """One declaration, up to its `;`."""
-        colon = next((it for it in range(at, end) if self.tokens[it].is_symbol(":")), end)
-        address = next((it for it in range(at, colon) if self.tokens[it].is_word("AT")), None)
-        names = [token.text for token in self.tokens[at : address or colon] if token.kind == "name"]
-        if address is not None and address > at and colon < end:
-            stop = next(it for it in range(address, colon + 1) if it == colon or self.tokens[it].is_symbol(","))
-            where = self.text(address, stop)
-            message = f"`{names[-1] if names else ''} {where}`: there are no direct addresses: declare the name alone; inputs come from the rows"
-            self.say(address - 1, stop, message, Repair(self.tokens[address].start, self.tokens[stop].start, ""))
+        colon = next((it for it in range(at, end) if self.token(it).is_symbol(":")), end)
+        address = next((it for it in range(at, colon) if self.token(it).is_word("AT") and self.is_mark(it + 1, "%")), None)
+        names = [token.text for token in self.tokens[at : colon if address is None else address] if token.kind == "name"]
+        if address is not None and colon < end:
+            stop = next(it for it in range(address, colon + 1) if it == colon or self.token(it).is_symbol(","))
+            begin = address - bool(names)
+            put = "" if names else f"at_{self.tokens[address].start}"
+            self.say(begin, stop, f"`{self.text(begin, stop)}`: {lacking.NO_ADDRESSES}", Repair(self.tokens[address].start, self.tokens[stop].start, put))
         if colon + 1 < end:
             self.type_of(colon + 1, end, names, opener)
 
     def type_of(self, at: int, end: int, names: list[str], opener: Token) -> None:
         """The type of a declaration, with its initial value."""
-        first = self.tokens[at]
+        first = self.token(at)
+        initial = next((it for it in range(at, end) if self.token(it).is_symbol(":=")), end)
         if first.is_symbol("("):
-            self.enumeration(at, end, opener)
+            self.enumeration(at, end, names, opener)
         elif first.is_word("ARRAY"):
-            of = next((it for it in range(at, end) if self.tokens[it].is_word("OF")), None)
-            behind = next((it for it in range(at, end) if self.tokens[it].is_symbol(":=")), end)
-            element = self.tokens[of + 1] if of is not None and of + 1 < end else first
-            is_block = element.upper in BLOCKS
-            message = f"`{self.text(at, behind)}`: {_ARRAYS}" + (f"; and {NO_BLOCKS} {_PORTING}" if is_block else "")
-            put = element.upper if element.upper in TYPES else "BOOL" if is_block else "INT"
-            self.changed(names, "array" if not is_block else "array of blocks")
-            self.say(at, behind, message, Repair(first.start, self.tokens[end - 1].end, put))
-        elif first.kind == "name" and first.upper in BLOCKS and at + 1 < end:
-            self.changed(names, "block")
-            self.say(at, at + 1, f"`{first.text}` is no type of the language, which has BOOL, INT, DINT and LINT: {NO_BLOCKS} {_PORTING}",
-                     Repair(first.start, self.tokens[end - 1].end, "BOOL"))
-        elif first.kind == "name" and first.upper in BLOCKS:
-            self.kinds.update(dict.fromkeys(map(str.upper, names), "block"))
+            self.array(at, end, initial, names)
+        elif first.kind == "name" and self.kinds.get(first.upper) == "enumeration type":
+            self.kinds.update(dict.fromkeys(map(str.upper, names), "enumeration"))
+            self.say(at, at + 1, f"`{first.text}`: {lacking.no_enumeration(self.blocks[first.upper])}", self.put(at, at + 1, "INT"))
+            self.expression(initial, end)
+        elif first.kind == "name" and lacking.is_block(first.text):
+            self.changed(names, "block", first.upper)
+            message = f"`{first.text}` is no type of the language, which has BOOL, INT, DINT and LINT: {lacking.no_block(first.text)}"
+            self.say(at, at + 1, message, self.put(at, end, "BOOL"))
+        elif first.upper in lacking.TYPE_WAYS:
+            self.changed(names, "other type")
+            message = f"`{first.text}` is no type of the language, which has BOOL, INT, DINT and LINT: {lacking.TYPE_WAYS[first.upper]}"
+            self.say(at, at + 1, message, self.put(at, end, "INT"))
+        elif first.is_word(*TYPES):
+            self.expression(initial, end)
 
-    def changed(self, names: list[str], kind: str) -> None:
-        """Notes names whose declaration a repair changes."""
-        self.kinds.update(dict.fromkeys(map(str.upper, names), kind))
-        self.found.doubtful.update(map(str.upper, names))
+    def array(self, at: int, end: int, initial: int, names: list[str]) -> None:
+        """`ARRAY[1..3] OF INT`, and of blocks."""
+        of = max((it for it in range(at, initial) if self.token(it).is_word("OF")), default=None)
+        element = self.token(of + 1) if of is not None and of + 1 < initial else self.token(at)
+        blocks = lacking.is_block(element.text)
+        message = f"`{self.text(at, initial)}`: {lacking.NO_ARRAYS}" + (f"; and {lacking.no_block(element.text)}" if blocks else "")
+        self.changed(names, "blocks" if blocks else "array", element.upper if blocks else "")
+        put = element.upper if element.is_word(*TYPES) else "BOOL" if blocks else "INT"
+        self.say(at, initial, message, self.put(at, end, put))
 
-    def enumeration(self, at: int, end: int, opener: Token) -> None:
-        """`(OPEN, WARN, LOWER)`: constants are put before the block."""
+    def enumeration(self, at: int, end: int, names: list[str], opener: Token) -> None:
+        """`(OPEN, WARN, LOWER)`, where it is declared in place: its values are put before the block as constants."""
         behind = self.behind(at)
-        values = [token.text for token in self.tokens[at + 1 : behind] if token.kind == "name"]
-        if behind == at or not values:
+        values = self.values_of(at, behind) if behind > at else []
+        if not values:
             return
-        constants = " ".join(f"{name} : INT := {number};" for number, name in enumerate(values))
-        example = f"VAR CONSTANT {values[0]} : INT := 0; .. END_VAR"
-        message = f"`{self.text(at, behind)}`: there are no enumerations: the variable is an INT, and each value a constant, as `{example}` {_PORTING}"
-        self.say(at, behind, message, Repair(self.tokens[at].start, self.tokens[behind - 1].end, "INT"))
-        self.found.hints.append(Hint("", opener.start, opener.start, repair=Repair(opener.start, opener.start, f"VAR CONSTANT {constants} END_VAR ")))
+        self.kinds.update(dict.fromkeys(map(str.upper, names), "enumeration"))
+        typed = behind < end and self.token(behind).kind in ("name", "word")
+        self.say(at, behind, f"`{self.text(at, behind)}`: {lacking.no_enumeration(values[0][0])}", self.put(at, behind + typed, "INT"))
+        self.constants_of(values, opener)
+        self.expression(behind, end)
 
-    def body(self, at: int) -> int:
-        """What begins at a token of the statements, and the index behind it."""
-        token = self.tokens[at]
-        if token.kind != "name":
+    def types(self, at: int) -> int:
+        """`TYPE .. END_TYPE`, which is left out; the values of its enumerations are put before the first block as constants."""
+        end = next((it for it in range(at, len(self.tokens)) if self.token(it).upper == "END_TYPE"), None)
+        opener = next((token for token in self.tokens[end or at :] if token.is_word("VAR", "VAR_INPUT", "VAR_OUTPUT")), None)
+        if end is None or opener is None:
             return at + 1
-        word = self.tokens[at + 1]
-        if word.kind == "name" and word.upper in ("S", "R") and self.is_mark(at + 2, "="):
-            self.set_or_reset(at)
-            return at + 3
-        end = at + 1
-        while self.is_mark(end, "[") or (self.is_mark(end, ".") and self.tokens[end].start == self.tokens[end - 1].end):
-            following = self.behind(end) if self.is_mark(end, "[") else end + 2
-            if following == end:
-                break
-            end = following
-        if end > at + 1 and (self.is_mark(at + 1, "[") or self.kinds.get(token.upper) == "array of blocks"):
-            return self.element(at, end)
-        return at + 1
+        repair: Repair | None = self.put(at, end + 1, "")
+        for name in range(at + 1, end):
+            if self.token(name).kind != "name" or not self.is_mark(name + 1, ":") or self.is_mark(name + 1, ":="):
+                continue
+            behind = self.behind(name + 2) if self.is_mark(name + 2, "(") else name + 2
+            values = self.values_of(name + 2, behind) if behind > name + 2 else []
+            is_struct = self.token(name + 2).is_word("STRUCT")
+            if not values and not is_struct:
+                continue
+            stop = behind if values else name + 3
+            self.kinds[self.token(name).upper] = "enumeration type" if values else "structure"
+            self.blocks[self.token(name).upper] = values[0][0] if values else ""
+            begin = at if repair else name
+            self.say(begin, stop, f"`{self.text(begin, stop)}`: {lacking.no_enumeration(values[0][0]) if values else lacking.NO_STRUCTURES}", repair)
+            repair = None
+            self.constants_of(values, opener)
+        return end + 1
 
-    def set_or_reset(self, at: int) -> None:
+    def statement(self, at: int) -> int:
+        """What begins at a token with which a statement may begin, and the index behind it."""
+        token = self.token(at)
+        if token.kind != "name":
+            return self.operand(at)
+        chain = self.chain(at)
+        if self.token(chain.end).upper in ("S", "R") and self.token(chain.end).kind == "name" and self.is_mark(chain.end + 1, "="):
+            return self.set_or_reset(at, chain.end)
+        if self.is_mark(chain.end, "(") and self.behind(chain.end) > chain.end:
+            return self.call(at, chain)
+        if not chain.is_plain and self.is_mark(chain.end, ":=") and self.is_of_block(token, chain):
+            end = self.statement_end(chain.end)
+            self.say(at, chain.end, f"`{self.text(at, chain.end)}`: {self.told(token, chain)}", self.put(at, end, ""))
+            return end
+        return self.operand(at)
+
+    def set_or_reset(self, at: int, word: int) -> int:
         """`q S= x` and `q R= x`."""
-        name, word = self.tokens[at].text, self.tokens[at + 1].upper
-        value = next((it for it in range(at + 3, len(self.tokens)) if self.tokens[it].is_symbol(";") or self.tokens[it].kind == "end"), at + 3)
-        given = self.text(at + 3, value) if value > at + 3 else ".."
+        self.operand(at)
+        end = self.statement_end(word)
+        name, given = self.text(at, word), self.text(word + 2, end) if end > word + 2 else ".."
         if not given.replace("_", "a").isalnum():
             given = f"({given})"
-        way = f"{name} := {name} OR {given};" if word == "S" else f"{name} := {name} AND NOT {given};"
-        operator = "OR" if word == "S" else "AND NOT"
-        self.say(at, at + 3, f"there is no `{word}=`: write `{way}` {_PORTING}",
-                 Repair(self.tokens[at + 1].start, self.tokens[at + 2].end, f":= {name} {operator}"))
+        operator = "OR" if self.token(word).upper == "S" else "AND NOT"
+        message = f"there is no `{self.token(word).upper}=`: write `{name} := {name} {operator} {given};` (docs/PORTING.md)"
+        self.say(at, word + 2, message, self.put(word, word + 2, f":= {self.token(at).text} {operator} ("))
+        self.found.hints.append(Hint("", self.token(end).start, self.token(end).start, repair=Repair(self.token(end - 1).end, self.token(end - 1).end, ")")))
+        return word + 2
 
-    def element(self, at: int, end: int) -> int:
-        """`x[i]`, `x[i].Q`, and the call `x[i](CLK := a)` as a statement."""
-        name = self.tokens[at].text
-        blocks = self.kinds.get(name.upper()) == "array of blocks" or any(self.is_mark(it, ".") for it in range(at, end))
-        called = self.tokens[end].is_symbol("(") and self.behind(end) > end
-        stop = self.behind(end) if called else end
-        what = self.text(at, end) + ("(..)" if called else "")
-        message = f"`{what}`: {_ARRAYS}" + (f"; and {NO_BLOCKS} {_PORTING}" if blocks or called else "")
-        begin = self.tokens[at].start
-        last = self.tokens[stop - 1].end
-        self.say(at, end, message, Repair(begin, last, "" if called else name))
-        return stop
+
+def foreign(source: Source) -> Foreign:
+    """All such constructs of a text."""
+    return _Scan(source).whole()
 
 
 def hint_at(source: Source, at: int) -> Hint | None:
     """The hint on the construct that holds a byte; None where none does."""
-    return next((it for it in foreign(source).hints if it.message and it.start <= at < it.end), None)
+    return next((it for it in told(foreign(source).hints) if it.start <= at < max(it.end, it.repair.end if it.repair else 0)), None)
 
 
 def told(hints: list[Hint]) -> Iterator[Hint]:

@@ -6,11 +6,13 @@ from dataclasses import dataclass
 
 @dataclass(frozen=True)
 class Repair:
-    """Bytes `start` to `end` of a text, and what is put in their place so that reading can go on behind a fault. It is no advice."""
+    """Bytes `start` to `end` of a text, and what is put in their place so that reading can go on behind a fault. It is no advice. `behind` is another such
+    change further on."""
 
     start: int
     end: int
     text: str
+    behind: "Repair | None" = None
 
 
 @dataclass(frozen=True)

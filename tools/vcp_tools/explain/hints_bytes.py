@@ -4,25 +4,22 @@ from __future__ import annotations
 import re
 import unicodedata
 
+from vcp_tools.explain import lacking
 from vcp_tools.explain.hint import Hint, Repair
 from vcp_tools.read.source import GREATEST_NUMBER, Source, Token
 
-NO_REAL = "there is no REAL: count in a fixed point, as thousandths in a DINT (1.5 becomes 1500)"
-NO_TIME = "there is no TIME: count cycles in an INT, as 10 for 5 s where a cycle takes 500 ms, and 11 for a TON (docs/PORTING.md, 'Time, counted in cycles')"
-NO_BLOCKS = "there are no function blocks: keep a timer or an edge in variables of your own, counted by cycles"
 _SPACES = ("\u00a0", "\u2007", "\u202f", "\u2009", "\u3000", "\u200b", "\ufeff")
 _QUOTES = "\u201c\u201d\u201e\u2018\u2019\u201a\u00ab\u00bb"
 _DASHES = "\u2010\u2011\u2012\u2013\u2014\u2212"
 _TIME_PREFIXES = ("T", "TIME", "LTIME", "LT", "D", "DATE", "TOD", "TIME_OF_DAY", "DT", "DATE_AND_TIME")
-_BLOCK_MEMBERS = ("Q", "ET", "PT", "IN", "CV", "PV", "QU", "QD", "Q1", "CLK", "ELAPSED")
 _BYTES = {
-    "[": "there are no arrays: declare a variable for each element",
-    "]": "there are no arrays: declare a variable for each element",
+    "[": lacking.NO_ARRAYS,
+    "]": lacking.NO_ARRAYS,
     "{": "there are no pragmas: leave `{ .. }` out",
     "}": "there are no pragmas: leave `{ .. }` out",
     "'": "there are no strings: leave the text out, or use a number in its place",
     '"': "there are no strings: leave the text out, or use a number in its place",
-    "%": "there are no direct addresses such as %IX0.0, and a remainder is `MOD`: declare a VAR_INPUT or VAR_OUTPUT",
+    "%": f"a remainder is `MOD`; and {lacking.NO_ADDRESSES}",
     "^": "there are no pointers, and no power: use plain variables and products",
     "|": "`|` is no operator here: write OR",
     "?": "`?` is no operator here: write SEL(condition, value if FALSE, value if TRUE)",
@@ -114,7 +111,7 @@ def _time(source: Source, at: int) -> Hint | None:
     whole = before[0] + match[0]
     repair = Repair(before.start(), match.end(), "0")
     if before[0].upper() in _TIME_PREFIXES:
-        return Hint(f"`{whole}`: {NO_TIME}", before.start(), match.end(), repair=repair)
+        return Hint(f"`{whole}`: {lacking.NO_TIME}", before.start(), match.end(), repair=repair)
     return Hint(
         f"`{whole}`: a number names BOOL, INT, DINT or LINT before `#`, or the base 2, 8 or 16; there are no other types and no enumerations",
         before.start(), match.end(), repair=repair,
@@ -131,11 +128,12 @@ def _dot(source: Source, at: int) -> Hint | None:
     start, end = at - len(front), behind.end() if behind else at + 1
     whole = source.text[start:end]
     if not front or front[0].isdigit():
-        return Hint(f"`{whole}`: {NO_REAL}", start, end, repair=Repair(start, end, front or "0"))
+        return Hint(f"`{whole}`: {lacking.NO_REAL}", start, end, repair=Repair(start, end, front or "0"))
     if whole[len(front) + 1 :].isdigit():
-        return Hint(f"`{whole}`: there are no bits of a number: declare a BOOL for each", start, end, repair=Repair(start, end, front))
-    if whole[len(front) + 1 :].upper() in _BLOCK_MEMBERS:
-        return Hint(f"`{whole}`: {NO_BLOCKS}", start, end, repair=Repair(at, at + 1, "_"))
+        return Hint(f"`{whole}`: {lacking.NO_BITS}", start, end, repair=Repair(start, end, front))
+    member = whole[len(front) + 1 :]
+    if lacking.is_part_of_block(member):
+        return Hint(f"`{whole}`: {lacking.no_block('', (member,))}", start, end, repair=Repair(at, at + 1, "_"))
     own = f"{front}_{whole[len(front) + 1 :]}"
     message = f"`{whole}`: there are no structures, blocks or enumerations, and so no members: declare a constant or variable `{own}`"
     return Hint(message, start, end, repair=Repair(at, at + 1, "_"))
@@ -167,9 +165,9 @@ def number_hint(token: Token) -> Hint:
     if re.match(r"0[bB][01]+\Z", text):
         return say(f"a number in base 2 is written `2#{text[2:]}`")
     if re.match(r"[0-9]+[eE][0-9]*\Z", text):
-        return say(NO_REAL)
+        return say(lacking.NO_REAL)
     if re.match(r"[0-9]+(ms|s|m|h|d)\Z", text, re.I):
-        return say(NO_TIME)
+        return say(lacking.NO_TIME)
     if "__" in text or text.endswith("_") or "#_" in text:
         return say("a single `_` may stand between two digits, and nowhere else")
     if re.match(r"[0-9_]+\Z", text):

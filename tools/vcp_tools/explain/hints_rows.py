@@ -2,11 +2,12 @@
 from __future__ import annotations
 
 import re
-import sys
 from dataclasses import dataclass
+from itertools import islice
+from typing import Callable, Iterator
 
 from vcp_tools.wording import article, listed, nearest
-from vcp_tools.read.rows_file import Record, RowsFile, cell_value, read_rows
+from vcp_tools.read.rows_file import Record, cell_value, record_of, stream_rows
 from vcp_tools.read.source import GREATEST, LEAST
 from vcp_tools.read.syntax import Declaration
 
@@ -14,6 +15,8 @@ MOST_RECORDS = 1_000_000
 """So many records a rows file may have behind its header."""
 PROGRESS = 250_000
 """Behind so many records of a large file it is said how far reading has come."""
+MOST_KEPT = 100_000
+"""So many different records without a fault are kept at most, to be known again."""
 _SEPARATORS = {";": "semicolons", "\t": "tabs", "|": "bars"}
 
 
@@ -38,12 +41,11 @@ def header_hint(data: bytes, inputs: list[Declaration]) -> RowsHint:
     """R1: which names are missing, left over or misspelt, or why no name is read at all."""
     if encoding_of(data):
         return RowsHint("the file is in UTF-16: save it in UTF-8 (or ASCII), as `CSV UTF-8` of a spreadsheet", 1)
-    rows = read_rows(data)
+    header = record_of(data, 1)
     names = [it.name for it in inputs]
     first = f"its first line is to be `{','.join(names)}`" if names else "its first line is to be the name of each input, between commas"
-    if not rows.records:
+    if header is None:
         return RowsHint(f"the file has no record: {first}", 1)
-    header = rows.records[0]
     shown = header.line
     if header.cells[0].startswith(("#", "//", "(*")):
         return RowsHint(f"the file begins with a remark, and rows have none: {first}", shown)
@@ -79,11 +81,9 @@ def _names_hint(header: Record, names: list[str]) -> RowsHint:
     return RowsHint("the header isn't each input once: " + "; ".join(said or ["the names differ"]), header.line)
 
 
-def width_hint(rows: RowsFile, number: int) -> RowsHint:
+def width_hint(header: Record, record: Record) -> RowsHint:
     """R2: a record with too few or too many fields, with the line in which it stands."""
-    record = rows.records[number - 1]
-    header = rows.records[0]
-    here = f"record {number} stands in line {record.line} and has {len(record.fields)} fields, and the header {len(header.fields)}"
+    here = f"record {record.number} stands in line {record.line} and has {len(record.fields)} fields, and the header {len(header.fields)}"
     if record.cells[-1] == "" and len(record.cells) == len(header.fields) + 1:
         return RowsHint(f"a comma too many at the line's end: {here}", record.line)
     for mark, word in _SEPARATORS.items():
@@ -98,15 +98,14 @@ def width_hint(rows: RowsFile, number: int) -> RowsHint:
     return RowsHint(f"a field too many: {here}", record.line)
 
 
-def cell_hint(rows: RowsFile, number: int, column: int, inputs: list[Declaration]) -> RowsHint:
+def cell_hint(header: Record, record: Record, column: int, inputs: list[Declaration]) -> RowsHint:
     """R3: a cell that is no value of its input."""
-    record, header = rows.records[number - 1], rows.records[0]
     name = header.cells[column - 1] if column <= len(header.cells) else f"column {column}"
     cell = record.cells[column - 1] if column <= len(record.cells) else ""
     declaration = next((it for it in inputs if it.name.upper() == name.upper()), None)
     type_name = declaration.type if declaration else None
     start = sum(len(field.encode()) + 1 for field in record.fields[: column - 1])
-    where = f"record {number}, line {record.line}, column {column}"
+    where = f"record {record.number}, line {record.line}, column {column}"
     message = f"`{cell}` is no value of `{name}` ({where}): {_cell_reason(cell, type_name)}"
     return RowsHint(message, record.line, start, start + max(1, len(record.fields[column - 1].encode())))
 
@@ -137,51 +136,84 @@ def form_hint(has_rows: bool, inputs: list[Declaration]) -> str:
     return f"the program has inputs ({listed(it.name for it in inputs)}): give a rows file in place of `--cycles N`"
 
 
-def silent_faults(data: bytes, inputs: list[Declaration] | None) -> list[RowsHint]:
-    """What is wrong with a rows file, the first of each kind that the program refuses and all that it reads in silence."""
-    if encoding_of(data):
-        return [RowsHint("the file is in UTF-16: save it in UTF-8 (or ASCII)", 1)]
-    rows = read_rows(data)
-    found = [_empty_line(rows, line) for line in rows.empty_lines if line <= rows.line_count]
-    if not rows.records:
-        return found + [RowsHint("the file has no record", 1)]
-    if inputs is not None:
-        found += _header_faults(data, rows, inputs)
-    width = len(rows.records[0].fields)
-    found += [width_hint(rows, it.number) for it in rows.records[1:] if len(it.fields) != width]
-    if inputs is not None:
-        found += _cell_faults(rows, inputs, width)
-    if len(rows.records) - 1 > MOST_RECORDS:
-        line = rows.records[MOST_RECORDS + 1].line
-        found.append(RowsHint(f"there are {len(rows.records) - 1} rows, and {MOST_RECORDS} are the most: run them in parts", line))
-    if len(rows.records) == 1:
-        found.append(RowsHint("there is no record behind the header: a run has no cycle", rows.records[0].line))
-    return sorted(found, key=lambda it: it.line)
+class Looked:
+    """A rows file that is looked through: what is wrong with it, in the order of its lines, and how many records there were when all was told."""
 
+    def __init__(self, data: bytes, inputs: list[Declaration] | None) -> None:
+        self.data = data
+        self.inputs = inputs
+        self.header: Record | None = None
+        self.last: Record | None = None
+        self._types: list[str | None] = []
+        self._good: set[tuple[str, ...]] = set()
+        self._empty: list[int] = []
 
-def _empty_line(rows: RowsFile, line: int) -> RowsHint:
-    """A line that is skipped in silence; of a single column it may be a blank cell."""
-    last = max((record.line for record in rows.records), default=0)
-    first = min((record.line for record in rows.records), default=line + 1)
-    if rows.records and len(rows.records[0].fields) == 1 and first < line < last:
-        return RowsHint("the line is empty: a blank cell of the one column is skipped in silence, and all later rows move up a cycle", line)
-    where = "in the midst" if first < line < last else "at the end" if line > last else "before the header"
-    return RowsHint(f"an empty line {where} is skipped in silence: records are no lines behind it", line)
+    @property
+    def rows(self) -> int:
+        """How many records were read behind the header."""
+        return self.last.number - 1 if self.last else 0
 
+    def faults(self, progress: Callable[[int], None] | None = None) -> Iterator[RowsHint]:
+        """What the program refuses, and what it reads in silence, while the file is read; `progress` is told how many records were read."""
+        if encoding_of(self.data):
+            yield RowsHint("the file is in UTF-16: save it in UTF-8 (or ASCII)", 1)
+            return
+        beyond = 0
+        for it in stream_rows(self.data):
+            if isinstance(it, int):
+                self._empty.append(it)
+                continue
+            yield from self._passed("in the midst" if self.header else "before the header")
+            self.last = it
+            yield from self._record(it) if self.header else self._head(it)
+            beyond = it.line if it.number == MOST_RECORDS + 2 else beyond
+            if progress and it.number % PROGRESS == 0:
+                progress(it.number)
+        yield from self._passed("at the end" if self.header else "before the header")
+        if self.header is None:
+            yield RowsHint("the file has no record", 1)
+        elif self.rows == 0:
+            yield RowsHint("there is no record behind the header: a run has no cycle", self.header.line)
+        elif beyond:
+            yield RowsHint(f"there are {self.rows} rows, and {MOST_RECORDS} are the most: run them in parts", beyond)
 
-def _header_faults(data: bytes, rows: RowsFile, inputs: list[Declaration]) -> list[RowsHint]:
-    given = sorted(cell.upper() for cell in rows.records[0].cells)
-    return [] if given == sorted(it.name.upper() for it in inputs) else [header_hint(data, inputs)]
+    def _passed(self, where: str) -> Iterator[RowsHint]:
+        """The empty lines since the record before; of a single column one in the midst may be a blank cell."""
+        alone = self.header is not None and len(self.header.fields) == 1 and where == "in the midst"
+        for line in self._empty:
+            if alone:
+                yield RowsHint("the line is empty: a blank cell of the one column is skipped in silence, and all later rows move up a cycle", line)
+            else:
+                yield RowsHint(f"an empty line {where} is skipped in silence: records are no lines behind it", line)
+        self._empty.clear()
 
+    def _head(self, header: Record) -> Iterator[RowsHint]:
+        """The names of a header."""
+        self.header = header
+        if self.inputs is None:
+            return
+        types = {it.name.upper(): it.type for it in self.inputs}
+        self._types = [types.get(cell.upper()) for cell in header.cells]
+        if sorted(cell.upper() for cell in header.cells) != sorted(types):
+            yield header_hint(self.data, self.inputs)
 
-def _cell_faults(rows: RowsFile, inputs: list[Declaration], width: int) -> list[RowsHint]:
-    types = {it.name.upper(): it.type for it in inputs}
-    found = []
-    for record in rows.records[1:]:
-        if record.number % PROGRESS == 0:
-            print(f"rows: {record.number} of {len(rows.records)} records", file=sys.stderr)
-        for column, cell in enumerate(record.cells[:width], 1):
-            type_name = types.get(rows.records[0].cells[column - 1].upper())
+    def _record(self, record: Record) -> Iterator[RowsHint]:
+        """The width and the cells of a record."""
+        assert self.header is not None
+        if record.fields in self._good:
+            return
+        is_good = True
+        if len(record.fields) != len(self.header.fields):
+            is_good = False
+            yield width_hint(self.header, record)
+        for column, (cell, type_name) in enumerate(zip(record.cells, self._types), 1):
             if type_name and cell_value(cell, type_name) is None:
-                found.append(cell_hint(rows, record.number, column, inputs))
-    return found
+                is_good = False
+                yield cell_hint(self.header, record, column, self.inputs or [])
+        if is_good and len(self._good) < MOST_KEPT:
+            self._good.add(record.fields)
+
+
+def silent_faults(data: bytes, most: int) -> list[RowsHint]:
+    """The first so many faults of a rows file whose inputs aren't known."""
+    return list(islice(Looked(data, None).faults(), most))

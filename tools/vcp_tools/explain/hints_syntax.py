@@ -9,7 +9,7 @@ from typing import Callable
 
 from vcp_tools.explain.hint import Hint, Repair
 from vcp_tools.wording import nearest
-from vcp_tools.explain.hints_bytes import NO_BLOCKS, NO_REAL, NO_TIME
+from vcp_tools.explain.lacking import TYPE_WAYS, is_block, no_block
 from vcp_tools.explain.hints_wanted import wanted_hint
 from vcp_tools.read.source import GRAMMAR_WORDS, RESERVED, TYPES, UNUSED_WORDS, Source, Token
 from vcp_tools.explain.stuck import Stuck, ends_operand
@@ -19,24 +19,13 @@ CLOSERS = {
 }
 STATEMENT_WORDS = frozenset("IF CASE FOR ELSIF ELSE END_IF END_CASE END_FOR END_PROGRAM END_VAR".split())
 _ELSIF_MISSPELT = frozenset("ELSEIF ELSE_IF ELIF ELSIFF ELSEF".split())
-_BLOCKS = frozenset("TON TOF TP R_TRIG F_TRIG RS SR CTU CTD CTUD BLINK".split())
-_TYPE_WAYS = {
-    "REAL": NO_REAL, "LREAL": NO_REAL, "TIME": NO_TIME, "DATE": NO_TIME, "LTIME": NO_TIME, "TOD": NO_TIME, "DT": NO_TIME,
-    "ARRAY": "there are no arrays: declare a variable for each element",
-    "STRING": "there are no strings: use a number in its place", "WSTRING": "there are no strings: use a number in its place",
-    "STRUCT": "there are no structures: declare a variable for each part",
-    "SINT": "an INT holds its values", "USINT": "an INT holds its values", "BYTE": "an INT holds its values (there are no bit strings)",
-    "UINT": "a DINT holds its values", "WORD": "a DINT holds its values (there are no bit strings)",
-    "UDINT": "a LINT holds its values", "DWORD": "a LINT holds its values (there are no bit strings)",
-    "ULINT": "the largest type is LINT, up to 2^63 - 1", "LWORD": "the largest type is LINT, up to 2^63 - 1",
-}
 _STATEMENT_WAYS = {
-    "WHILE": "there is no WHILE: write FOR with constant bounds, and an IF in its body",
-    "REPEAT": "there is no REPEAT: write FOR with constant bounds, and an IF in its body",
-    "UNTIL": "there is no REPEAT .. UNTIL: write FOR with constant bounds, and an IF in its body",
-    "EXIT": "there is no EXIT: a FOR does all its turns; put what is left out into an IF in its body",
-    "CONTINUE": "there is no CONTINUE: put what is left out into an IF",
-    "RETURN": "there is no RETURN: put what is left out into an IF",
+    "WHILE": "there is no WHILE: write FOR with constant bounds, and an IF in its body (docs/PORTING.md)",
+    "REPEAT": "there is no REPEAT: write FOR with constant bounds, and an IF in its body (docs/PORTING.md)",
+    "UNTIL": "there is no REPEAT .. UNTIL: write FOR with constant bounds, and an IF in its body (docs/PORTING.md)",
+    "EXIT": "there is no EXIT: a FOR does all its turns; put what is left out into an IF in its body (docs/PORTING.md)",
+    "CONTINUE": "there is no CONTINUE: put what is left out into an IF (docs/PORTING.md)",
+    "RETURN": "there is no RETURN: put what is left out into an IF (docs/PORTING.md)",
     "FUNCTION": "a file is one PROGRAM: there are no functions of one's own",
     "FUNCTION_BLOCK": "a file is one PROGRAM: there are no function blocks",
 }
@@ -183,14 +172,21 @@ def _power(stuck: Stuck) -> Hint | None:
     return None
 
 
+def _plus_sign(stuck: Stuck) -> Hint | None:
+    """`m := +n`."""
+    if stuck.here.is_symbol("+") and not ends_operand(stuck.before) and stuck.index > stuck.statement_start:
+        return _on(stuck.here, "there is no sign `+`: leave it out", " ")
+    return None
+
+
 def _type(stuck: Stuck) -> Hint | None:
     """A word where the type of a declaration is wanted."""
     here = stuck.here
     if not stuck.in_declaration or not stuck.before.is_symbol(":") or here.kind not in ("name", "word"):
         return None
-    way = _TYPE_WAYS.get(here.upper)
-    if here.upper in _BLOCKS:
-        way = NO_BLOCKS
+    way = TYPE_WAYS.get(here.upper)
+    if is_block(here.text):
+        way = no_block(here.text)
     near = nearest(here.text, TYPES) if way is None else None
     if near:
         way = f"did you mean {near}?"
@@ -225,7 +221,7 @@ def _reserved_name(stuck: Stuck) -> Hint | None:
     if here.upper in _STATEMENT_WAYS:
         return Hint(_STATEMENT_WAYS[here.upper], here.start, here.end, repair=_leave_out(stuck))
     if here.upper in UNUSED_WORDS:
-        return _on(here, f"`{here.text}` is a reserved word which no form uses: {_TYPE_WAYS.get(here.upper, 'it stands nowhere')}", here.text + "_")
+        return _on(here, f"`{here.text}` is a reserved word which no form uses: {TYPE_WAYS.get(here.upper, 'it stands nowhere')}", here.text + "_")
     return None
 
 
@@ -265,7 +261,7 @@ def _unknown_block(stuck: Stuck) -> Hint | None:
 
 def _call_statement(stuck: Stuck) -> Hint | None:
     if stuck.here.is_symbol("(") and stuck.before.kind == "name" and stuck.index - 1 == stuck.statement_start:
-        message = f"`{stuck.before.text}(..)` is no statement: {NO_BLOCKS}"
+        message = f"`{stuck.before.text}(..)` is no statement: {no_block('')}"
         end = _declaration_end(stuck)
         return Hint(message, stuck.before.start, stuck.here.end, repair=Repair(stuck.before.start, end, ""))
     return None
@@ -390,6 +386,6 @@ def _too_many_brackets(stuck: Stuck) -> Hint | None:
 
 RULES: tuple[Callable[[Stuck], Hint | None], ...] = (
     _empty, _not_first, _behind_the_end, _elsif, _comment_end, _missing_behind_end, _too_many_brackets, _outside_a_block, _sum_and_set,
-    _equals_for_assignment, _assignment_in_condition, _power, _type, _unknown_block, _reserved_name, _late_declarations, _call_statement,
+    _equals_for_assignment, _assignment_in_condition, _power, _plus_sign, _type, _unknown_block, _reserved_name, _late_declarations, _call_statement,
     _second_else, _else_if, _wrong_end, _missing_word, _missing_semicolon, _operator_word, _statement_word,
 )

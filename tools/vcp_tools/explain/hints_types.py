@@ -3,11 +3,10 @@ from __future__ import annotations
 
 from vcp_tools.explain.hint import Hint, Repair
 from vcp_tools.wording import article, listed, nearest
-from vcp_tools.explain.hints_bytes import NO_BLOCKS
+from vcp_tools.explain.lacking import is_block, no_block
 from vcp_tools.read.source import GREATEST, LEAST, TYPES, Source, literal_value
 from vcp_tools.read.syntax import ARGUMENTS, ARITHMETIC, BOOLEAN, COMPARISONS, Assign, Choice, Declaration, Expr, Loop, Statement, Tree, Types, expressions
 
-_BLOCK_CALLS = frozenset("TON TOF TP R_TRIG F_TRIG RS SR CTU CTD CTUD".split())
 _SHIFTS = frozenset("SHL SHR ROL ROR".split())
 _MORE_ARGUMENTS = {"MIN", "MAX"}
 
@@ -69,7 +68,7 @@ def step_over(typed: Typed, at: int) -> Repair | None:
     if isinstance(statement, Assign):
         return Repair(statement.at, statement.value.end, "")
     if isinstance(statement, Loop):
-        return Repair(expr.start, expr.end, "1") if expr else None
+        return Repair(expr.start, expr.end, "1") if expr else _without_loop(typed.source, statement)
     if expr is None:
         branch = next((branch for branch in statement.branches if branch.at == at), None)
         expr = statement.selector if statement.at == at and statement.selector else branch.condition if branch else None
@@ -78,6 +77,19 @@ def step_over(typed: Typed, at: int) -> Repair | None:
     if any(expr is part for branch in statement.branches for pair in branch.labels for part in pair):
         return Repair(expr.start, expr.end, "9999")
     return Repair(expr.start, expr.end, "0" if expr is statement.selector else "TRUE")
+
+
+def _without_loop(source: Source, loop: Loop) -> Repair | None:
+    """Makes a FOR an IF, which keeps its body."""
+    first = source.index_at(loop.at)
+    depth = 0
+    for index in range(first, len(source.tokens)):
+        depth += source.tokens[index].is_word("FOR") - source.tokens[index].is_word("END_FOR")
+        if depth == 0:
+            head = next(token for token in source.tokens[first:] if token.is_word("DO"))
+            end = source.tokens[index]
+            return Repair(loop.at, head.end, "IF TRUE THEN", Repair(end.start, end.end, "END_IF"))
+    return None
 
 
 def _name_at(typed: Typed, at: int) -> str:
@@ -306,8 +318,8 @@ def _call(typed: Typed, at: int) -> Hint:
             nested = f": write {capitals}({inner}, {', '.join(texts[2:])})"
         plural = "argument" if ARGUMENTS[capitals] == 1 else "arguments"
         return Hint(f"{capitals} takes {ARGUMENTS[capitals]} {plural}, and here are {given}{nested}", at, end)
-    if capitals in _BLOCK_CALLS:
-        return Hint(f"there is no function {name}: {NO_BLOCKS}", at, end)
+    if is_block(name):
+        return Hint(f"there is no function {name}: {no_block(name)}", at, end)
     if capitals in _SHIFTS:
         return Hint(f"there is no function {name}, nor any on bits: multiply or divide by a power of 2", at, end)
     if capitals in typed.types.declared:

@@ -28,8 +28,7 @@ def _wanted(stuck: Stuck) -> str:
     if stuck.in_declaration:
         return _wanted_in_declaration(stuck)
     if before.is_symbol(*_WANT_VALUE) or before.is_word(*_WANT_VALUE_WORDS):
-        sign = "; there is no sign `+`" if stuck.here.is_symbol("+") else ""
-        return f"a value is missing behind `{before.text}`: a name, a literal, a function, or brackets{sign}"
+        return f"a value is missing behind `{before.text}`: a name, a literal, a function, or brackets"
     if ends_operand(before) and stuck.index - 1 > stuck.statement_start:
         return _wanted_behind_operand(stuck)
     if before.kind == "name":

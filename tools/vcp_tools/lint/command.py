@@ -32,7 +32,7 @@ def add_words(parser: argparse.ArgumentParser) -> None:
 
 
 def run(given: argparse.Namespace) -> int:
-    """Prints each finding with its place; the status is 1 where there is one."""
+    """Prints each finding with its place; the status is 9 where there is one."""
     unknown = [kind for kind in given.allow if kind not in KINDS]
     if unknown:
         raise Refusal(f"--allow: `{unknown[0]}` is no kind: there are {listed(KINDS)}")

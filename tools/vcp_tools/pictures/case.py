@@ -12,8 +12,10 @@ from vcp_tools.files import write_bytes
 from vcp_tools.lint.command import findings
 from vcp_tools.lint.tree_findings import Finding
 from vcp_tools.needs import find_module
+from vcp_tools.cycle_time import CycleTime
 from vcp_tools.pictures.observe import Observation
 from vcp_tools.program import Outcome, Program, find_program
+from vcp_tools.read.assigned import Assigned
 from vcp_tools.read.audit_lines import Audited, read_audit
 from vcp_tools.read.given import Given
 from vcp_tools.read.image import Image
@@ -36,6 +38,7 @@ class Case:
     image_bytes: bytes
     image: Image
     run: Observation
+    period: CycleTime | None = None
     found_something: bool = False
     commands: list[str] = field(default_factory=list)
 
@@ -56,6 +59,17 @@ class Case:
             except Refusal as refusal:
                 made = f"; `vcp compile {self.file} >{self.image_name}` makes that image" if self.image_name in words else ""
                 raise Refusal(f"{refusal}{made}") from None
+
+    def made(self, command: str, file: str, statuses: Sequence[int] = (0, 2, 3)) -> bytes:
+        """What a command printed that was made beside the run, over the rows; the command is noted."""
+        words = (command, file, *self.rows)
+        self.note(*words)
+        return self.program.taken(self.run.outcomes[command], words, statuses).output
+
+    @cached_property
+    def assigned(self) -> Assigned:
+        """What stands at each place of the source."""
+        return Assigned(self.source)
 
     @cached_property
     def audit(self) -> list[Audited]:

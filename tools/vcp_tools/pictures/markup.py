@@ -12,7 +12,9 @@ th { border-bottom: 1px solid #888; font-weight: 600; } td.n, th.n { text-align:
 code, pre, .m { font: 13px/1.4 ui-monospace, Consolas, monospace; } pre { margin: 0; white-space: pre-wrap; }
 .scroll td code { white-space: nowrap; }
 .good { color: #1b6e2b; } .bad { color: #a31515; font-weight: 600; } .dim { color: #666; }
-.scroll { overflow-x: auto; } a { color: #174ea6; text-decoration: none; } :target { background: #fff3b0; }
+.scroll { overflow-x: auto; }
+.scroll td:first-child, .scroll th:first-child { position: sticky; left: 0; background: #fff; }
+a { color: #174ea6; text-decoration: none; } :target { background: #fff3b0; }
 @media print { body { max-width: none; } .scroll { overflow: visible; } section { break-inside: auto; } }
 """
 
@@ -24,8 +26,8 @@ def text(words: object) -> str:
 
 
 def element(name: str, inside: str, **attributes: str) -> str:
-    """An element round escaped content; `_` at an attribute's end is left out."""
-    given = "".join(f' {key.rstrip("_")}="{html.escape(value)}"' for key, value in attributes.items())
+    """An element round escaped content; `_` at an attribute's end is left out, and stands for `-` elsewhere."""
+    given = "".join(f' {key.rstrip("_").replace("_", "-")}="{html.escape(value)}"' for key, value in attributes.items())
     return f"<{name}{given}>{inside}</{name}>"
 
 
@@ -49,7 +51,7 @@ def section(name: str, title: str, inside: str) -> str:
     return f'<section id="{name}">\n<h2>{text(title)}</h2>\n{inside}\n</section>\n'
 
 
-def page(title: str, sections: Iterable[str]) -> str:
-    """A whole document that needs no other file."""
-    head = f'<meta charset="utf-8">\n<title>{text(title)}</title>\n<style>{STYLE}</style>'
+def page(title: str, sections: Iterable[str], style: str = "") -> str:
+    """A whole document that needs no other file; `style` is that of its pictures."""
+    head = f'<meta charset="utf-8">\n<title>{text(title)}</title>\n<style>{STYLE}{style}</style>'
     return f'<!DOCTYPE html>\n<html lang="en">\n<head>\n{head}\n</head>\n<body>\n<h1>{text(title)}</h1>\n{"".join(sections)}</body>\n</html>\n'

@@ -7,22 +7,29 @@ for both, and the second run has to release the same outputs and come to the sam
 from __future__ import annotations
 
 import tempfile
-from dataclasses import dataclass
+from array import array
+from dataclasses import dataclass, field
+from itertools import islice
 from pathlib import Path
-from typing import Sequence
+from typing import Mapping, Sequence
 
 from vcp_tools.wording import listed, nearest
 from vcp_tools.explain.hints_rows import silent_faults
 from vcp_tools.read.image import Image, read_image
 from vcp_tools.files import read_bytes
-from vcp_tools.program import Program
+from vcp_tools.pictures.runs import side_by_side
+from vcp_tools.program import Outcome, Program
 from vcp_tools.refusal import Refusal
-from vcp_tools.read.rows_file import cell_value, read_rows
+from vcp_tools.read.rows_file import Record, cell_value, stream_rows
 from vcp_tools.read.run_lines import PrintedRun, read_run, read_trace
 from vcp_tools.read.source import Source
 from vcp_tools.read.declarations import head_of_program
 from vcp_tools.read.syntax import Declaration
 
+MOST_WARNED = 3
+"""So many things that are read in silence are told at most."""
+MOST_KNOWN = 100_000
+"""So many different cells of a column are kept with their values, to be known again."""
 MOST_TRACED = 5000
 """So many cycles are traced at most: the work grows by the square of them."""
 
@@ -32,7 +39,7 @@ class Column:
     """A name that is seen: its declaration, and its value in each cycle."""
 
     declaration: Declaration
-    values: list[int]
+    values: Sequence[int]
 
     @property
     def name(self) -> str:
@@ -47,30 +54,39 @@ class Column:
 
 @dataclass(frozen=True)
 class Observation:
-    """A run: the program's name, its columns, how many cycles were released, and the last line of `run`."""
+    """A run: the program's name, its columns, how many cycles were released, the last line of `run`, and what it and the calls beside it gave."""
 
     name: str
     columns: list[Column]
     cycles: int
     ending: str
     is_whole: bool
+    outcomes: dict[str, Outcome] = field(default_factory=dict)
 
 
-def observe(program: Program, file: str, rows: Sequence[str], traced: bool = False) -> Observation:
-    """The run of a source on rows, which are a file or `--cycles` and a number; all inputs, outputs and variables, as declared."""
-    run = read_run(program.must("run", file, *rows, statuses=(0, 2, 3)).text)
+def observe(program: Program, file: str, rows: Sequence[str], traced: bool = False, also: Mapping[str, Sequence[str]] | None = None) -> Observation:
+    """The run of a source on rows, which are a file or `--cycles` and a number; all inputs, outputs and variables, as declared. `also` has more calls that
+    are made beside it, each with a name."""
     source = Source(read_bytes(file))
+    with tempfile.TemporaryDirectory() as folder:
+        at = Path(folder) / "opened.st"
+        at.write_bytes(opened(source))
+        calls: dict[str, Sequence[str]] = {"run": ("run", file, *rows), "run with variables": ("run", str(at), *rows), **(also or {})}
+        outcomes = side_by_side(program, calls, rows)
+        run = read_run(program.taken(outcomes["run"], calls["run"], (0, 2, 3)).text)
+        seen = outcomes.pop("run with variables")
+        if seen.status not in (0, 2, 3):
+            raise Refusal(f"the run with each VAR as a VAR_OUTPUT, by which variables are seen, isn't made: {_without_file(seen.fault, at)}")
     name, declarations = head_of_program(source, file)
-    opened = _opened_run(program, source, rows, run)
-    inputs = _inputs(declarations, rows, len(run.rows))
+    shown = _same_run(run, read_run(seen.text))
+    inputs = _inputs(declarations, rows, run.cycles)
     columns = []
     for declaration in declarations:
         if declaration.section == "VAR_INPUT":
             columns.append(Column(declaration, inputs[declaration.name.upper()]))
         elif declaration.section != "VAR CONSTANT":
-            at = opened.names.index(declaration.name)
-            columns.append(Column(declaration, [row[at] for row in opened.rows]))
-    found = Observation(name, columns, len(run.rows), run.ending, run.is_whole)
+            columns.append(Column(declaration, shown.columns[shown.names.index(declaration.name)]))
+    found = Observation(name, columns, run.cycles, run.ending, run.is_whole, outcomes)
     if traced:
         _compare_with_trace(program, file, rows, found)
     return found
@@ -86,18 +102,10 @@ def opened(source: Source) -> bytes:
     return bytes(data)
 
 
-def _opened_run(program: Program, source: Source, rows: Sequence[str], run: PrintedRun) -> PrintedRun:
+def _same_run(run: PrintedRun, found: PrintedRun) -> PrintedRun:
     """The run of the opened text; a refusal where it isn't the same run."""
-    with tempfile.TemporaryDirectory() as folder:
-        at = Path(folder) / "opened.st"
-        at.write_bytes(opened(source))
-        outcome = program.call("run", at, *rows)
-        if outcome.status not in (0, 2, 3):
-            raise Refusal(f"the run with each VAR as a VAR_OUTPUT, by which variables are seen, isn't made: {_without_file(outcome.fault, at)}")
-        found = read_run(outcome.text)
-    places = [found.names.index(name) for name in run.names]
-    same_rows = [[row[at] for at in places] for row in found.rows] == run.rows
-    if not same_rows or found.ending.split(" ")[:2] != run.ending.split(" ")[:2]:
+    same = all(found.columns[found.names.index(name)] == column for name, column in zip(run.names, run.columns)) and found.cycles == run.cycles
+    if not same or found.ending.split(" ")[:2] != run.ending.split(" ")[:2]:
         raise Refusal(f"the run with all variables as outputs isn't the same run: `{found.ending}`, and not `{run.ending}`")
     return found
 
@@ -107,19 +115,24 @@ def _without_file(fault: str, file: Path) -> str:
     return fault.replace(f"{file}:", "").replace(str(file), "").strip()
 
 
-def _inputs(declarations: Sequence[Declaration], rows: Sequence[str], cycles: int) -> dict[str, list[int]]:
+def _inputs(declarations: Sequence[Declaration], rows: Sequence[str], cycles: int) -> dict[str, Sequence[int]]:
     """The values of each input, by its name in capitals, for so many cycles."""
     if rows[0] == "--cycles":
         return {}
-    file = read_rows(read_bytes(rows[0]))
-    columns = [name.upper() for name in file.records[0].cells]
-    found: dict[str, list[int]] = {}
-    for declaration in declarations:
-        if declaration.section == "VAR_INPUT":
-            at = columns.index(declaration.name.upper())
-            cells = [record.cells[at] for record in file.records[1 : cycles + 1]]
-            found[declaration.name.upper()] = [cell_value(cell, declaration.type) or 0 for cell in cells]
-    return found
+    records = islice((it for it in stream_rows(read_bytes(rows[0])) if isinstance(it, Record)), cycles + 1)
+    header = next(records, None)
+    wanted = {it.name.upper(): it.type for it in declarations if it.section == "VAR_INPUT"}
+    names = [cell.upper() for cell in header.cells] if header else []
+    columns = [(array("q"), wanted[name], dict[str, int]()) for name in names]
+    for record in records:
+        for cell, (values, type_name, known) in zip(record.fields, columns):
+            value = known.get(cell)
+            if value is None:
+                value = cell_value(cell.strip(" \t"), type_name) or 0
+                if len(known) < MOST_KNOWN:
+                    known[cell] = value
+            values.append(value)
+    return {name: values for name, (values, _, _) in zip(names, columns)}
 
 
 def _compare_with_trace(program: Program, file: str, rows: Sequence[str], found: Observation) -> None:
@@ -175,4 +188,4 @@ def warnings(rows: Sequence[str]) -> list[str]:
     """What the rows file holds that is read in silence, a line each."""
     if rows[0] == "--cycles":
         return []
-    return [f"{rows[0]}:{hint.line}: {hint.message}" for hint in silent_faults(read_bytes(rows[0]), None)[:3]]
+    return [f"{rows[0]}:{hint.line}: {hint.message}" for hint in silent_faults(read_bytes(rows[0]), MOST_WARNED)]

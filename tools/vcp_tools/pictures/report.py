@@ -4,20 +4,22 @@ from __future__ import annotations
 import argparse
 import re
 import sys
+import tempfile
+from pathlib import Path
 
 from vcp_tools.pictures.case import Case
-from vcp_tools.read.image import read_image
+from vcp_tools.cycle_time import CycleTime
 from vcp_tools.pictures.markup import page
 from vcp_tools.pictures.observe import observe, rows_words
 from vcp_tools.files import read_bytes, write_bytes
 from vcp_tools.program import Program
+from vcp_tools.read.image import read_image
 from vcp_tools.refusal import FINE, FOUND, Refusal
 from vcp_tools.pictures.report_parts import SECTIONS
 from vcp_tools.read.source import Source
-from vcp_tools.pictures.table import add_run_words
+from vcp_tools.pictures.table import add_run_words, period_of
+from vcp_tools.pictures.waves import STYLE
 
-REPORTED = 9
-"""The status of a report that tells something: an early end, runs that differ, an unseen fault, a blind operation, a likely mistake, what may stop."""
 HORIZON = 2
 """The cycle borders of the audit, where none are given."""
 
@@ -32,11 +34,12 @@ def add_words(parser: argparse.ArgumentParser) -> None:
 
 
 def run(given: argparse.Namespace) -> int:
-    """Writes the report, or compares it."""
+    """Writes the report, or compares it. A report finds something where it tells an early end, runs that differ, an unseen fault, a blind operation, a
+    likely mistake, or what may stop."""
     rows, rest = rows_words(given.rest, given.cycles)
     if rest:
         raise Refusal(f"`{rest[0]}` is left over behind ROWS")
-    made, found_something = make(given.program, rows, given.horizon, given.faults, given.trace)
+    made, found_something = make(given.program, rows, given.horizon, given.faults, given.trace, period_of(given))
     if given.check:
         return check(given.check, read_bytes(given.check).decode("utf-8", "replace"), made)
     if given.output:
@@ -44,20 +47,25 @@ def run(given: argparse.Namespace) -> int:
         print(f"{given.output}: {len(made.encode())} bytes, {len(sections_of(made))} sections")
     else:
         sys.stdout.write(made)
-    return REPORTED if found_something else FINE
+    return FOUND if found_something else FINE
 
 
-def make(file: str, rows: list[str], horizon: int, faults: str | None, traced: bool = False) -> tuple[str, bool]:
+def make(
+    file: str, rows: list[str], horizon: int, faults: str | None, traced: bool = False, period: CycleTime | None = None
+) -> tuple[str, bool]:
     """The report, as one document, and whether it found something."""
     program = Program.found()
-    found = observe(program, file, rows, traced)
     source = Source(read_bytes(file))
     image_bytes = program.must("compile", file).output
-    case = Case(program, file, rows, horizon, faults, source, image_bytes, read_image(image_bytes, file), found)
+    with tempfile.TemporaryDirectory() as folder:
+        image = Path(folder) / "image"
+        image.write_bytes(image_bytes)
+        found = observe(program, file, rows, traced, {"plain": ("plain", file, *rows), "exec": ("exec", str(image), *rows)})
+    case = Case(program, file, rows, horizon, faults, source, image_bytes, read_image(image_bytes, file), found, period)
     case.note("check", file)
     case.note("compile", file, into=case.image_name)
     parts = [part(case) for part in SECTIONS]
-    return page(f"{found.name}: program, run and audit", [part for part in parts if part]), case.found_something
+    return page(f"{found.name}: program, run and audit", [part for part in parts if part], STYLE), case.found_something
 
 
 def sections_of(document: str) -> dict[str, tuple[str, str]]:
@@ -67,7 +75,7 @@ def sections_of(document: str) -> dict[str, tuple[str, str]]:
 
 
 def check(file: str, filed: str, made: str) -> int:
-    """Compares a filed report with one that was made now, section by section; the status is 1 where they differ."""
+    """Compares a filed report with one that was made now, section by section; the status is 9 where they differ."""
     if filed == made:
         print(f"{file}: the report is made again as it is filed")
         return FINE

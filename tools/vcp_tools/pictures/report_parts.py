@@ -9,12 +9,12 @@ from typing import Callable
 from vcp_tools.read.audit_lines import Audited, reached_from
 from vcp_tools.pictures.case import Case
 from vcp_tools.read.image import Operation
+from vcp_tools.cycle_time import CycleTime
 from vcp_tools.pictures.markup import code, element, section, table, text
 from vcp_tools.files import read_bytes
 from vcp_tools.needs import find_module
 from vcp_tools.program import is_built_here, present_toolchain, promised_toolchain
-from vcp_tools.read.given import assigned_at
-from vcp_tools.read.verdict_lines import faults_of_group, never_reached
+from vcp_tools.read.verdict_lines import Verdict, faults_of_group, never_reached
 from vcp_tools.pictures.waves import waves
 
 MOST_ROWS = 500
@@ -51,9 +51,9 @@ def toolchain_told(promised: str | None, present: str | None) -> str:
 def _verdict_on(case: Case) -> str:
     """What is told first: whether all agrees, and the counts of what follows."""
     size = case.program.must("check", case.file).text.strip()
-    plain = case.call("plain", case.file, *case.rows, statuses=(0, 2)).output
-    coded = case.call("run", case.file, *case.rows, statuses=(0, 2, 3)).output
-    image = case.call("exec", case.image_name, *case.rows, statuses=(0, 2, 3)).output
+    plain = case.made("plain", case.file, statuses=(0, 2))
+    coded = case.made("run", case.file)
+    image = case.made("exec", case.image_name)
     agree = plain == coded == image
     same = element("span", "the same, byte for byte", class_="good") if agree else element("span", "DIFFERENT", class_="bad")
     rows = [
@@ -61,6 +61,7 @@ def _verdict_on(case: Case) -> str:
         ("operations", text(len(case.image.operations))),
         ("code", "narrow" if case.image.version == 1 else "wide"),
         ("cycles", text(case.run.cycles)),
+        *_times(case.period, case.run.cycles),
         ("end of the run", element("span", text(case.run.ending), class_="good" if case.run.is_whole else "bad")),
         ("plain, run and exec", same),
         *_found(case),
@@ -68,6 +69,11 @@ def _verdict_on(case: Case) -> str:
     ]
     case.found_something = case.found_something or not agree or not case.run.is_whole
     return section("summary", "Summary", table(("what", "found"), rows))
+
+
+def _times(period: CycleTime | None, cycles: int) -> list[tuple[str, str]]:
+    """How long a cycle and the run take, where that is given."""
+    return [("cycle time", text(f"{period.number} {period.unit}")), ("time of the run", text(period.told(cycles)))] if period else []
 
 
 def program_told(file: Path) -> str:
@@ -125,24 +131,26 @@ def _tool(case: Case) -> str:
 
 
 def _picture(case: Case) -> str:
-    return section("run", "The run", element("div", waves(case.run), class_="scroll"))
+    return section("run", "The run", waves(case.run, case.period))
 
 
 def _rows(case: Case) -> str:
     """The cycles in which something changes."""
     columns = case.run.columns
     told: list[list[str]] = []
-    before: list[int] = []
+    before: tuple[int, ...] = ()
     left = 0
-    for cycle in range(case.run.cycles):
-        row = [column.values[cycle] for column in columns]
+    period = case.period
+    unit = period.unit_for(case.run.cycles) if period else ""
+    for cycle, row in enumerate(zip(*(column.values for column in columns))):
         if row != before:
             left += len(told) >= MOST_ROWS
             if len(told) < MOST_ROWS:
-                told.append([str(cycle), *map(str, row)])
+                told.append([str(cycle), *([period.at(cycle, unit)] if period else []), *map(str, row)])
         before = row
     note = element("p", f"Cycles in which nothing changes are left out{f', and {left} more at the end' if left else ''}.", class_="dim")
-    inside = table(["cycle", *(text(column.name) for column in columns)], told, range(len(columns) + 1))
+    head = ["cycle", *([f"time/{unit}"] if period else []), *(text(column.name) for column in columns)]
+    inside = table(head, told, range(len(head)))
     return section("values", "Values, cycle by cycle", note + inside + element("p", code(case.run.ending)))
 
 
@@ -213,9 +221,8 @@ def _unreached(case: Case) -> str:
 
 
 def _name_of(case: Case, operation: Operation) -> str:
-    """An operation's name or value, or the variable that its statement assigns."""
-    assigned = assigned_at(case.source, operation)
-    return case.image.name_of(operation) or (f"for {assigned}" if assigned else "")
+    """An operation's name or value, or the variables that its statement is for."""
+    return case.image.name_of(operation) or case.assigned.of(operation)
 
 
 def _operation_cells(case: Case, operation: Operation) -> tuple[str, str, str, str, str]:
@@ -232,17 +239,51 @@ def _campaign(case: Case) -> str:
     rows = []
     for it in verdicts:
         mark = "good" if it.verdict in ("refused", "stopped", "same") else "bad"
-        faults = code("; ".join(faults_of_group(script, it.line)))
-        details = code(it.rest or _unreached_note(case, script, it.line))
-        rows.append((str(it.line), faults, element("span", it.verdict, class_=mark), details, text(_remark(script, it.line))))
+        group = faults_of_group(script, it.line)
+        faults = code("; ".join(group))
+        details = _details(case, it) or code(_unreached_note(case, script, it.line))
+        where = "; ".join(_where(case, fault) for fault in group)
+        rows.append((str(it.line), faults, where, element("span", it.verdict, class_=mark), details, text(_remark(script, it.line))))
     meanings = "; ".join(f"<b>{name}</b>: {said}" for name, said in _MEANINGS.items())
-    told = table(("line", "fault", "verdict", "details", "remark above it"), rows, (0,))
+    told = table(("line", "fault", "operation", "verdict", "details", "remark above it"), rows, (0,))
     return section("campaign", "Faults and their verdicts", told + element("p", code(totals)) + element("p", meanings + ".", class_="dim"))
+
+
+def _details(case: Case, verdict: Verdict) -> str:
+    """The rest of a verdict's line; of a stop with what stands at its place, and where it is known how long a cycle takes with the time."""
+    words = verdict.rest.split()
+    place = re.fullmatch(r"(\d+):(\d+)", words[3]) if verdict.verdict == "stopped" and len(words) > 3 else None
+    assigned = case.assigned.at(int(place[1]), int(place[2])) if place else ""
+    time = case.period.told(int(words[0])) if case.period and words else ""
+    return code(verdict.rest) * bool(words) + "".join(f", {text(it)}" for it in (assigned, time) if it)
+
+
+def _where(case: Case, fault: str) -> str:
+    """The operation of a fault, as a line of a script: its kind, its name or the variables that its statement is for, and its place."""
+    words = fault.split()
+    if len(words) < 3 or not words[2].isdigit() or int(words[2]) >= len(case.image.operations):
+        return ""
+    operation = case.image.operations[int(words[2])]
+    name = _name_of(case, operation)
+    return " ".join(it for it in (code(operation.kind), code(name) if name else "", _place(operation)) if it)
 
 
 def _unreached_note(case: Case, script: list[str], line: int) -> str:
     """Said of a group that no cycle of the run comes to; else empty."""
     return "never reached: the run ends before" if never_reached(faults_of_group(script, line), case.run.cycles + (not case.run.is_whole)) else ""
+
+
+def _may_stop(case: Case) -> str:
+    """The operations that may stop with any rows, each with the ranges of what it reads; no section where there is none, or where they weren't looked for."""
+    if case.ranges is None or not case.ranges.lines:
+        return ""
+    rows = []
+    for line in case.ranges.lines:
+        number, _, stop, rest = line.split(" ", 3)
+        cells = _operation_cells(case, case.image.operations[int(number)])
+        rows.append((*cells, code(stop), code(rest.partition(" at ")[0])))
+    note = element("p", "As far as the ranges of all values tell: that an operation is named doesn't say that it can stop.", class_="dim")
+    return section("ranges", "What may stop, whatever the rows", note + table(("no.", "kind", "name", "place", "line", "stop", "reads values"), rows, (0,)))
 
 
 def _remark(script: list[str], line: int) -> str:
@@ -284,6 +325,6 @@ def _commands(case: Case) -> str:
 
 
 SECTIONS: tuple[Callable[[Case], str], ...] = (
-    _verdict_on, _files, _tool, _picture, _audit, _campaign, _lint, _listing, _rows, _source, _commands,
+    _verdict_on, _files, _tool, _picture, _audit, _may_stop, _campaign, _lint, _listing, _rows, _source, _commands,
 )
 """What makes the sections, in order; the commands stand last, since the others note theirs."""

@@ -3,8 +3,9 @@ from __future__ import annotations
 
 import argparse
 import sys
-from typing import Sequence
+from typing import Iterator, Sequence
 
+from vcp_tools.cycle_time import CycleTime, read_cycle_time
 from vcp_tools.pictures.observe import Column, Observation, chosen, observe, rows_words, warnings
 from vcp_tools.program import Program
 from vcp_tools.refusal import FINE, FOUND
@@ -16,6 +17,12 @@ def add_run_words(parser: argparse.ArgumentParser, rest: str) -> None:
     parser.add_argument("rest", metavar="ROWS", nargs="*", help=rest)
     parser.add_argument("--cycles", type=int, metavar="N", help="so many cycles, in the place of ROWS, for a program without inputs")
     parser.add_argument("--trace", action="store_true", help="compare each value that the image has an operation for with `trace`, cycle by cycle")
+    parser.add_argument("--cycle-time", metavar="TIME", help="how long a cycle takes, as 500ms or 20us: times are told in s or ms, too")
+
+
+def period_of(given: argparse.Namespace) -> CycleTime | None:
+    """How long a cycle takes; None where it isn't given."""
+    return read_cycle_time(given.cycle_time) if given.cycle_time else None
 
 
 def add_words(parser: argparse.ArgumentParser) -> None:
@@ -28,27 +35,41 @@ def add_words(parser: argparse.ArgumentParser) -> None:
 
 
 def run(given: argparse.Namespace) -> int:
-    """Prints the table; the status is 1 where the run ends early."""
+    """Prints the table; the status is 9 where the run ends early."""
     rows, names = rows_words(given.rest, given.cycles)
+    period = period_of(given)
     found = observe(Program.found(), given.program, rows, given.trace)
     for line in warnings(rows):
         print(line, file=sys.stderr)
     columns = found.columns if given.all and not names else chosen(found, names)
     watched = chosen(found, given.changes_of.split(",")) if given.changes_of else columns if given.changes else None
-    print("\n".join(_lines(found, columns, given.csv, watched)))
+    sys.stdout.writelines(f"{line}\n" for line in _lines(found, columns, given.csv, watched, period))
     return FINE if found.is_whole else FOUND
 
 
-def _lines(found: Observation, columns: Sequence[Column], with_commas: bool, watched: Sequence[Column] | None) -> list[str]:
+def _lines(
+    found: Observation, columns: Sequence[Column], with_commas: bool, watched: Sequence[Column] | None, period: CycleTime | None
+) -> Iterator[str]:
     """The head, a line a cycle, or one for each cycle in which a watched column changes, and the last line of the run."""
-    cells = [["cycle", *(column.name for column in columns)]]
+    unit = period.unit_for(found.cycles) if period else ""
+    head = ["cycle", *([f"time/{unit}"] if period else []), *(column.name for column in columns)]
+    last = max(0, found.cycles - 1)
+    widest = [str(last), *([period.at(last, unit)] if period else []), *(_widest(column.values) for column in columns)]
+    widths = [max(len(name), len(cell)) for name, cell in zip(head, widest)]
     before: list[int] | None = None
+
+    def line(cells: Sequence[str]) -> str:
+        return ",".join(cells) if with_commas else "  ".join(cell.rjust(width) for cell, width in zip(cells, widths))
+
+    yield line(head)
     for cycle in range(found.cycles):
         seen = [column.values[cycle] for column in watched or ()]
         if watched is None or seen != before:
-            cells.append([str(cycle), *(str(column.values[cycle]) for column in columns)])
+            yield line([str(cycle), *([period.at(cycle, unit)] if period else []), *(str(column.values[cycle]) for column in columns)])
         before = seen
-    if with_commas:
-        return [",".join(row) for row in cells] + [found.ending]
-    widths = [max(len(row[at]) for row in cells) for at in range(len(cells[0]))]
-    return ["  ".join(cell.rjust(width) for cell, width in zip(row, widths)) for row in cells] + [found.ending]
+    yield found.ending
+
+
+def _widest(values: Sequence[int]) -> str:
+    """The value that takes the most room."""
+    return max(str(min(values)), str(max(values)), key=len) if values else ""

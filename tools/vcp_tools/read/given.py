@@ -1,12 +1,15 @@
 """A source or an image that a tool is given: its graph, and its text where it is a source."""
 from __future__ import annotations
 
-from dataclasses import dataclass
+from dataclasses import dataclass, replace
+from functools import cached_property
 
+from vcp_tools.read.assigned import Assigned
 from vcp_tools.read.image import MAGIC, Image, Operation, read_image
 from vcp_tools.files import read_bytes
 from vcp_tools.program import Program
 from vcp_tools.read.source import Source
+from vcp_tools.refusal import Refusal
 
 
 @dataclass(frozen=True)
@@ -18,6 +21,11 @@ class Given:
     image_bytes: bytes
     source: Source | None
 
+    @cached_property
+    def assigned(self) -> Assigned | None:
+        """What stands at each place of the source; None of an image."""
+        return None if self.source is None else Assigned(self.source)
+
     def told(self, operation: Operation) -> str:
         """An operation in words: its number, kind, name or value, and its place."""
         name = self.image.name_of(operation)
@@ -26,8 +34,8 @@ class Given:
             name += f" ({token.text})" if token.kind == "name" else ""
         turns = "".join(f" {turn}={value}" for turn, value in operation.turns)
         place = f" at {operation.place}{turns}" if operation.line else ""
-        assigned = assigned_at(self.source, operation) if self.source is not None and not name else ""
-        place += f" for {assigned}" if assigned else ""
+        assigned = self.assigned.of(operation) if self.assigned is not None else ""
+        place += f" {assigned}" if assigned else ""
         return f"operation {operation.number}, {operation.kind}{' ' + name if name else ''}{place}"
 
     def line_of(self, operation: Operation) -> str:
@@ -37,17 +45,12 @@ class Given:
         return self.source.line(operation.line).decode("utf-8", "replace").strip()
 
 
-def assigned_at(source: Source, operation: Operation) -> str:
-    """The variable that the statement at an operation's place assigns; empty where that is no assignment."""
-    if not operation.line:
-        return ""
-    tokens = source.tokens
-    at = source.index_at(source.offset(operation.line, operation.column))
-    while at > 0 and not (tokens[at].is_symbol(":=") and tokens[at - 1].kind == "name"):
-        if tokens[at].is_symbol(";") or tokens[at].is_word("THEN", "ELSE", "DO", "OF", "IF", "ELSIF", "CASE", "FOR", "TO", "BY", "END_VAR"):
-            return ""
-        at -= 1
-    return tokens[at - 1].text if at > 0 else ""
+def source_of(program: Program, file: str, image: Image) -> Source:
+    """The source of an image; a refusal where another image is made of this file. Seed, step and code are left aside."""
+    made = read_image(program.must("compile", file).output, file)
+    if [replace(it, correction=0) for it in made.operations] != [replace(it, correction=0) for it in image.operations]:
+        raise Refusal(f"{file} isn't the source of this image: other operations are made of it")
+    return Source(read_bytes(file))
 
 
 def load(program: Program, file: str) -> Given:

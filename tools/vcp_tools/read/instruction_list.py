@@ -59,7 +59,8 @@ def declarations_of(source: Source) -> list[Declaration]:
 class Lines:
     """Puts a LINE_END between tokens that begin in different lines, and tells operators from names: an operator stands first in its line."""
 
-    always_accept = ()
+    always_accept = ("AMPERSAND",)
+    """`&` is an operator, though no rule names its terminal."""
 
     def process(self, stream: Iterable[Any]) -> Iterator[Any]:
         """The tokens with their ends of lines."""

@@ -38,4 +38,8 @@ def ranges_of(image: bytes) -> Ranges:
     with tempfile.TemporaryDirectory() as folder:
         at = Path(folder) / "image"
         at.write_bytes(image)
-        return read_ranges(Program.found("vcp_study").must("ranges", at, statuses=(0, 1)).text)
+        outcome = Program.found("vcp_study").must("ranges", at, or_found=True, shown=("ranges", "M"))
+        found = read_ranges(outcome.text)
+        if outcome.has_found != (found.named > 0):
+            raise Refusal(f"vcp_study ranges: it ends with status {outcome.status}, and {found.named} operations are named")
+        return found

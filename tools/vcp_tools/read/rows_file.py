@@ -1,19 +1,17 @@
-"""Rows files, after docs/FORMATS.md, 'The rows file': records with the lines in which they stand."""
+"""Rows files, after docs/FORMATS.md, 'The rows file': records with the lines in which they stand, read as a stream."""
 from __future__ import annotations
 
-import codecs
+import io
 import re
-from dataclasses import dataclass
+from typing import Iterator, NamedTuple
 
 from vcp_tools.read.source import GREATEST, LEAST
 
 _NUMBER = re.compile(r"[+-]?[0-9]+\Z")
-_QUOTED = re.compile(r'"((?:[^"]|"")*)"?')
-_PLAIN = re.compile(r"[^,\r\n]*")
+_FIELD = re.compile(r'"((?:[^"]|"")*)(?P<closing>"?)([^,]*)|([^,]*)')
 
 
-@dataclass(frozen=True)
-class Record:
+class Record(NamedTuple):
     """A record of a rows file: its number from 1, the header's; the line in which it begins; its fields as they stand."""
 
     number: int
@@ -26,75 +24,63 @@ class Record:
         return [field.strip(" \t") for field in self.fields]
 
 
-@dataclass(frozen=True)
-class RowsFile:
-    """The records of a rows file, and the numbers of the empty lines, which a reader skips."""
-
-    records: list[Record]
-    empty_lines: list[int]
-    line_count: int
-
-
-def read_rows(data: bytes) -> RowsFile:
-    """The records of a file: fields between commas, in double quotes where they begin with one; empty lines are skipped."""
-    text = data.removeprefix(codecs.BOM_UTF8).decode("utf-8", "replace")
-    if '"' not in text:
-        return _unquoted(text)
-    records: list[Record] = []
-    empty: list[int] = []
-    at, line = 0, 1
-    while at < len(text):
-        start_line = line
-        fields, at, line = _record(text, at, line)
-        if fields == [""] and text[at - 1 : at] in ("\n", "\r", ""):
-            empty.append(start_line)
-        else:
-            records.append(Record(len(records) + 1, start_line, tuple(fields)))
-    return RowsFile(records, empty, line)
-
-
-def _unquoted(text: str) -> RowsFile:
-    """The records of a text without quotes: each line is one, split at its commas."""
-    lines = text.replace("\r\n", "\n").replace("\r", "\n").split("\n")
-    count = len(lines)
-    if lines[-1] == "":
-        lines.pop()
-    records: list[Record] = []
-    empty: list[int] = []
-    for number, line in enumerate(lines, 1):
-        if line:
-            records.append(Record(len(records) + 1, number, tuple(line.split(","))))
-        else:
-            empty.append(number)
-    return RowsFile(records, empty, count)
-
-
-def _record(text: str, at: int, line: int) -> tuple[list[str], int, int]:
-    """The fields of the record at a place, and the place and line behind it."""
-    fields: list[str] = []
-    while True:
-        field, at, line = _field(text, at, line)
-        fields.append(field)
-        if at >= len(text):
-            return fields, at, line
-        if text[at] == ",":
-            at += 1
+def stream_rows(data: bytes) -> Iterator[Record | int]:
+    """The records of a file in order, and of each empty line, which a reader skips, its number: fields stand between commas, in double quotes where they
+    begin with one. CR, LF and CR LF end a line."""
+    lines = enumerate(io.TextIOWrapper(io.BytesIO(data), "utf-8-sig", "replace", newline=None), 1)
+    number = 0
+    for at, line in lines:
+        text = line.rstrip("\n")
+        if not text:
+            yield at
             continue
-        at += 2 if text.startswith("\r\n", at) else 1
-        return fields, at, line + 1
+        number += 1
+        yield Record(number, at, tuple(text.split(",")) if '"' not in text else _quoted(text, line, lines))
 
 
-def _field(text: str, at: int, line: int) -> tuple[str, int, int]:
-    """The field at a place, up to a comma or a line's end."""
-    if text.startswith('"', at):
-        closing = _QUOTED.match(text, at)
-        assert closing is not None
-        rest = _PLAIN.match(text, closing.end())
-        assert rest is not None
-        return closing[1].replace('""', '"') + rest[0], rest.end(), line + closing[0].count("\n")
-    plain = _PLAIN.match(text, at)
-    assert plain is not None
-    return plain[0], plain.end(), line
+def _quoted(text: str, line: str, lines: Iterator[tuple[int, str]]) -> tuple[str, ...]:
+    """The fields of a record that has quotes, in which it may go on over more lines."""
+    while True:
+        fields, is_closed = _fields(text)
+        if is_closed:
+            return fields
+        more = [line[len(line.rstrip("\n")):]]
+        for _, line in lines:
+            more.append(line)
+            if '"' in line:
+                break
+        else:
+            return _fields(text + "".join(more))[0]
+        text = (text + "".join(more)).rstrip("\n")
+
+
+def _fields(text: str) -> tuple[tuple[str, ...], bool]:
+    """The fields of a record, and whether the last quote is closed."""
+    fields: list[str] = []
+    at = 0
+    while True:
+        match = _FIELD.match(text, at)
+        assert match is not None
+        quoted = match[1] is not None
+        fields.append(match[1].replace('""', '"') + match[3] if quoted else match[4])
+        at = match.end() + 1
+        if at > len(text):
+            return tuple(fields), not quoted or bool(match["closing"])
+
+
+def read_rows(data: bytes) -> list[Record]:
+    """All records of a file."""
+    return [it for it in stream_rows(data) if isinstance(it, Record)]
+
+
+def record_of(data: bytes, number: int) -> Record | None:
+    """The record of this number, the header's 1; None where there are fewer."""
+    return next((it for it in stream_rows(data) if isinstance(it, Record) and it.number == number), None)
+
+
+def line_of(data: bytes, number: int) -> bytes:
+    """A line of a file by its number, without its end; CR, LF and CR LF end one."""
+    return next((match[1] for at, match in enumerate(re.finditer(rb"([^\r\n]*)(?:\r\n|\r|\n|\Z)", data), 1) if at == number), b"")
 
 
 def cell_value(cell: str, type_name: str) -> int | None:

@@ -8,7 +8,8 @@ from vcp_tools.read.verdict_lines import VERDICTS
 from vcp_tools.refusal import Refusal
 
 ACTS = ("operand add", "operand from", "operand stale", "result add", "operator", "skip")
-ENDS = ("never reached", "died out", "stands in a cell")
+STANDS = "stands in a cell"
+ENDS = ("never reached", "died out", STANDS)
 SHOWS, DELAY, NOWHERE = "by where it shows", "by how many cycles later it shows", "by how it ends where it shows nowhere"
 _HEADING = re.compile(r"  faults    same   wrong  ran-on refused stopped  (by .*)")
 _ROW = re.compile(r" *(\d+) +(\d+) +(\d+) +(\d+) +(\d+) +(\d+)  (\S.*)")

@@ -4,16 +4,21 @@ from __future__ import annotations
 import argparse
 import sys
 
-from vcp_tools.explain.hints_rows import encoding_of, silent_faults
+from vcp_tools.explain.hints_rows import Looked, encoding_of
 from vcp_tools.files import read_bytes
+from vcp_tools.cycle_time import CycleTime, read_cycle_time
 from vcp_tools.refusal import FINE, FOUND, Refusal
 from vcp_tools.read.declarations import inputs_of
-from vcp_tools.read.rows_file import RowsFile, read_rows
-from vcp_tools.rows.stimuli import read_stimuli, rows_of, stimuli_text
+from vcp_tools.read.rows_file import Record, record_of, stream_rows
+from vcp_tools.rows.stimuli import read_stimuli, rows_of, stimuli_lines
+
+MOST_TOLD = 200
+"""So many faults of a rows file are told at most, one by one."""
 
 
 def add_words(parser: argparse.ArgumentParser) -> None:
     """The words of `rows`."""
+    parser.add_argument("--cycle-time", metavar="TIME", help="of `make`: how long a cycle takes, as 500ms, where lines have times, as `3s approach=1`")
     below = parser.add_subparsers(dest="what", required=True, metavar="WHAT")
     make = below.add_parser("make", help="the rows file of stimuli, on standard output")
     make.add_argument("stimuli", help="lines as `6 approach=1`: for six cycles, from the first on with approach 1")
@@ -28,45 +33,52 @@ def add_words(parser: argparse.ArgumentParser) -> None:
 def run(given: argparse.Namespace) -> int:
     """Does what the words of `rows` ask for."""
     if given.what == "make":
-        return _make(given.stimuli, given.program)
+        return _make(given.stimuli, given.program, read_cycle_time(given.cycle_time) if given.cycle_time else None)
     return _back(given.rows) if given.what == "stimuli" else _check(given.rows, given.program)
 
 
-def _make(file: str, program: str | None) -> int:
-    stimuli = read_stimuli(read_bytes(file).decode("utf-8", "replace"), file)
-    names, rows = rows_of(stimuli, inputs_of(program) if program else None, file)
-    sys.stdout.write("".join(",".join(row) + "\n" for row in [names, *rows]))
+def _make(file: str, program: str | None, period: CycleTime | None) -> int:
+    stimuli = read_stimuli(read_bytes(file).decode("utf-8", "replace"), file, period)
+    names, steps = rows_of(stimuli, inputs_of(program) if program else None, file)
+    print(",".join(names))
+    for row, cycles in steps:
+        sys.stdout.write((",".join(row) + "\n") * cycles)
     return FINE
 
 
 def _back(file: str) -> int:
-    rows = whole_rows(file)
-    sys.stdout.write(stimuli_text(rows.records[0].cells, [record.cells for record in rows.records[1:]]))
+    data = read_bytes(file)
+    header = header_of(data, file)
+    records = (it.cells for it in stream_rows(data) if isinstance(it, Record) and it.number > 1)
+    for line in stimuli_lines(header.cells, records):
+        print(line)
     return FINE
 
 
-def whole_rows(file: str) -> RowsFile:
-    """The records of a rows file that has a header and as many cells in each record; else a refusal."""
-    data = read_bytes(file)
+def header_of(data: bytes, file: str) -> Record:
+    """The header of a rows file that has as many cells in each record; else a refusal."""
     if encoding_of(data):
         raise Refusal(f"{file}: the file is in UTF-16: save it in UTF-8")
-    rows = read_rows(data)
-    if not rows.records:
+    header = record_of(data, 1)
+    if header is None:
         raise Refusal(f"{file}: there is no record")
-    width = len(rows.records[0].fields)
-    wrong = next((record for record in rows.records if len(record.fields) != width), None)
-    if wrong is not None:
-        raise Refusal(f"{file}:{wrong.line}: {len(wrong.fields)} fields, and the header has {width} (`vcp_tools rows check {file}` says more)")
-    return rows
+    for it in stream_rows(data):
+        if isinstance(it, Record) and len(it.fields) != len(header.fields):
+            raise Refusal(f"{file}:{it.line}: {len(it.fields)} fields, and the header has {len(header.fields)} (`vcp_tools rows check {file}` says more)")
+    return header
 
 
 def _check(file: str, program: str | None) -> int:
     data = read_bytes(file)
-    found = silent_faults(data, inputs_of(program) if program else None)
-    for hint in found:
-        print(f"{file}:{hint.line}:{hint.start + 1}: {hint.message}")
-    if found:
-        return FOUND
-    rows = read_rows(data)
-    print(f"{file}: {len(rows.records) - 1} rows of {len(rows.records[0].fields)} inputs, and nothing that is read in silence")
-    return FINE
+    looked = Looked(data, inputs_of(program) if program else None)
+    lines = data.count(b"\n")
+    told = 0
+    for hint in looked.faults(lambda record: print(f"rows: {record} of {lines} records", file=sys.stderr)):
+        told += 1
+        if told <= MOST_TOLD:
+            print(f"{file}:{hint.line}:{hint.start + 1}: {hint.message}")
+    if told > MOST_TOLD:
+        print(f"{file}: and {told - MOST_TOLD} more")
+    elif not told and looked.header is not None:
+        print(f"{file}: {looked.rows} rows of {len(looked.header.fields)} inputs, and nothing that is read in silence")
+    return FOUND if told else FINE

@@ -1,14 +1,16 @@
 """Stimuli: rows told by what changes. docs/TOOLS.md, 'rows', has the form.
 
 The first line that is no remark has the names of the inputs with blanks between them, unless the program is given. Each later one has a number of
-cycles and `NAME=VALUE` for what changes in the first of them; what isn't named keeps its value, and begins with 0. A remark begins with `#`.
+cycles, or a time, and `NAME=VALUE` for what changes in the first of them; what isn't named keeps its value, and begins with 0. A remark begins with `#`.
 """
 from __future__ import annotations
 
 import re
 from dataclasses import dataclass
-from typing import Iterable, Sequence
+from itertools import groupby
+from typing import Iterable, Iterator, Sequence
 
+from vcp_tools.cycle_time import CycleTime
 from vcp_tools.wording import listed, nearest
 from vcp_tools.refusal import Refusal
 from vcp_tools.read.rows_file import cell_value
@@ -37,8 +39,8 @@ class Stimuli:
     steps: list[Step]
 
 
-def read_stimuli(text: str, file: str) -> Stimuli:
-    """The stimuli of a text; a refusal names the line."""
+def read_stimuli(text: str, file: str, period: CycleTime | None = None) -> Stimuli:
+    """The stimuli of a text, in which times may stand for cycles where it is known how long one takes; a refusal names the line."""
     names: tuple[str, ...] = ()
     steps: list[Step] = []
     for number, line in enumerate(text.removeprefix("\ufeff").splitlines(), 1):
@@ -48,15 +50,14 @@ def read_stimuli(text: str, file: str) -> Stimuli:
         if not steps and not names and all(_NAME.match(word) for word in words):
             names = tuple(words)
             continue
-        steps.append(_step(words, number, file))
+        steps.append(_step(words, number, file, period))
     return Stimuli(names, steps)
 
 
-def _step(words: Sequence[str], number: int, file: str) -> Step:
+def _step(words: Sequence[str], number: int, file: str, period: CycleTime | None) -> Step:
     """The step of a line's words."""
     where = f"{file}:{number}"
-    if not re.fullmatch(r"[0-9]{1,7}", words[0]) or not 1 <= int(words[0]) <= MOST_CYCLES:
-        raise Refusal(f"{where}: `{words[0]}` stands where the number of cycles is wanted, 1 to {MOST_CYCLES}: a line is `6 approach=1`")
+    cycles = _cycles(words[0], where, period)
     changes: list[tuple[str, str]] = []
     for word in words[1:]:
         name, equals, value = word.partition("=")
@@ -65,11 +66,27 @@ def _step(words: Sequence[str], number: int, file: str) -> Step:
         if any(name.upper() == before.upper() for before, _ in changes):
             raise Refusal(f"{where}: `{name}` stands twice in the line: which value is meant?")
         changes.append((name, value))
-    return Step(number, int(words[0]), tuple(changes))
+    return Step(number, cycles, tuple(changes))
 
 
-def rows_of(stimuli: Stimuli, inputs: Sequence[Declaration] | None, file: str) -> tuple[list[str], list[list[str]]]:
-    """The names and the rows that stimuli tell; with the inputs of a program, in their order and with values of their types."""
+def _cycles(word: str, where: str, period: CycleTime | None) -> int:
+    """For how many cycles a line holds: a number, or a time."""
+    if re.fullmatch(r"[0-9.]+(s|ms|us|ns|ps)", word):
+        if period is None:
+            raise Refusal(f"{where}: `{word}` is a time: give `--cycle-time TIME` too, or a number of cycles")
+        cycles = period.cycles_in(word)
+        if cycles is None:
+            raise Refusal(f"{where}: `{word}` is no whole number of cycles of {period.number} {period.unit}")
+    else:
+        cycles = int(word) if re.fullmatch(r"[0-9]{1,7}", word) else 0
+    if not 1 <= cycles <= MOST_CYCLES:
+        raise Refusal(f"{where}: `{word}` stands where the number of cycles is wanted, 1 to {MOST_CYCLES}: a line is `6 approach=1`")
+    return cycles
+
+
+def rows_of(stimuli: Stimuli, inputs: Sequence[Declaration] | None, file: str) -> tuple[list[str], list[tuple[list[str], int]]]:
+    """The names and the rows that stimuli tell, each with how many cycles it holds; with the inputs of a program, in their order and with values of their
+    types."""
     names = [it.name for it in inputs] if inputs is not None else list(stimuli.names)
     if not names:
         raise Refusal(f"{file}: the names of the inputs are missing: the first line has them, or the program is given")
@@ -78,13 +95,15 @@ def rows_of(stimuli: Stimuli, inputs: Sequence[Declaration] | None, file: str) -
     types = {it.name.upper(): it.type for it in inputs or ()}
     column = {name.upper(): index for index, name in enumerate(names)}
     now = ["0"] * len(names)
-    rows: list[list[str]] = []
+    rows: list[tuple[list[str], int]] = []
+    cycles = 0
     for step in stimuli.steps:
         for name, value in step.changes:
             now[_column(name, column, names, f"{file}:{step.line}")] = _checked(name, value, types.get(name.upper()), f"{file}:{step.line}")
-        if len(rows) + step.cycles > MOST_CYCLES:
+        cycles += step.cycles
+        if cycles > MOST_CYCLES:
             raise Refusal(f"{file}:{step.line}: more than {MOST_CYCLES} cycles")
-        rows += [list(now) for _ in range(step.cycles)]
+        rows.append((list(now), step.cycles))
     if not rows:
         raise Refusal(f"{file}: no line has a number of cycles")
     return names, rows
@@ -119,17 +138,11 @@ def _checked(name: str, value: str, type_name: str | None, where: str) -> str:
     raise Refusal(f"{where}: `{value}` isn't {kind}: {words}")
 
 
-def stimuli_text(names: Sequence[str], rows: Sequence[Sequence[str]]) -> str:
-    """The stimuli that tell these rows: a line for each run of equal rows, with what changes."""
-    lines = [" ".join(names)]
+def stimuli_lines(names: Sequence[str], rows: Iterable[Sequence[str]]) -> Iterator[str]:
+    """The lines of stimuli that tell these rows: a line for each run of equal rows, with what changes."""
+    yield " ".join(names)
     before: Sequence[str] = ["0"] * len(names)
-    at = 0
-    while at < len(rows):
-        end = at + 1
-        while end < len(rows) and list(rows[end]) == list(rows[at]):
-            end += 1
-        changes = [f"{name}={value}" for name, value, old in zip(names, rows[at], before) if value != old]
-        lines.append(" ".join([str(end - at), *changes]))
-        before = rows[at]
-        at = end
-    return "\n".join(lines) + "\n"
+    for row, equal in groupby(rows):
+        changes = [f"{name}={value}" for name, value, old in zip(names, row, before) if value != old]
+        yield " ".join([str(sum(1 for _ in equal)), *changes])
+        before = row

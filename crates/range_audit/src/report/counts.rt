@@ -1,12 +1,12 @@
 //! How many operations may stop, and how many can by their kinds and types.
 
 ghost use Rattle.std.specs.Prelude.{◌≡◌, ◌<◌, Some, cond, length, slice_get};
-ghost use Rattle.range_audit.specs.Audit.{is_any_named, named_below};
+ghost use Rattle.range_audit.specs.Audit.{named_below};
 ghost use Rattle.range_audit.specs.RangeText.{is_able as is_able_of, able_below};
 
-use crate::{Ranges, Stops};
 use graph_passes::can_stop;
 use op_graph::{Graph, Op};
+use range_walk::{Ranges, Stops};
 use vcp_base::Kind;
 
 /// One where it holds.
@@ -25,13 +25,6 @@ pub(crate) fn stops_of(ranges: &Ranges, i: u32) -> Stops
     stops[i as usize]
 }
 
-/// Whether an operation may stop, however it may.
-fn is_named(stops: Stops) -> bool
-    ensures { result ≡ is_any_named (Some stops) }
-{
-    stops.range || stops.div_zero
-}
-
 /// How many operations of a graph may stop.
 pub fn count_named(graph: &Graph, ranges: &Ranges) -> u32
     requires { length ranges.now.stops ≡ length graph.now.operations }
@@ -39,7 +32,7 @@ pub fn count_named(graph: &Graph, ranges: &Ranges) -> u32
 {
     let mut named = 0;
     'operations: for i in 0..graph.len() {
-        named += one_if(is_named(stops_of(ranges, i)));
+        named += one_if(stops_of(ranges, i).are_any());
     }
     named
 }

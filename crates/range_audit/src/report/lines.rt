@@ -5,8 +5,8 @@ ghost use Rattle.run_report.specs.OperationLines.{source_text};
 ghost use Rattle.vcp_outside.specs.Gathering.{GathersTo};
 ghost use Rattle.range_audit.specs.RangeText.{ends_text, range_text, there_text, operand_text, operands_text, front_text, named_text, known_text};
 
-use crate::Range;
 use op_graph::{Graph, Op};
+use range_walk::Range;
 use run_report::then_source;
 use vcp_base::{Kind, StopKind, kind_name, operands, stop_name};
 use vcp_outside::{Line, Sink};

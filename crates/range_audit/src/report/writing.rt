@@ -7,8 +7,8 @@ ghost use Rattle.range_audit.specs.RangeText.{named_text, known_text, lines_of, 
 
 use crate::report::counts::{count_able, count_named, stops_of};
 use crate::report::lines::{then_known, then_named};
-use crate::{Range, Ranges};
 use op_graph::{Graph, Op};
+use range_walk::{Range, Ranges};
 use vcp_base::StopKind;
 use vcp_outside::{Failed, Line, Sink};
 

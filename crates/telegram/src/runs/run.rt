@@ -1,11 +1,12 @@
 //! The loop over the events of a script.
 
-ghost use Rattle.std.specs.Prelude.{◌≡◌, ◌≤◌, ◌<◌, ◌+◌, ◌*◌, [], Some, IfOk, length, slice_get, vec_len, vec_capacity};
+ghost use Rattle.std.specs.Prelude.{◌≡◌, ◌≢◌, ◌≤◌, ◌<◌, ◌+◌, ◌*◌, [], Some, Err, IfOk, length, slice_get, vec_len, vec_capacity};
 ghost use Rattle.vcp_base.specs.Limits.{most_cycles};
 ghost use Rattle.telegram.specs.Sendings.{most_senders};
 ghost use Rattle.telegram.specs.WireRun.{sent_in};
 ghost use Rattle.telegram.specs.ScriptOf.{ScriptFits};
 ghost use Rattle.telegram.specs.Runs.{RunsWire, is_cycle, one_of};
+ghost use Rattle.telegram.specs.declared.runs.wire_end.WireRunFault.TheVariants as fault;
 
 use crate::runs::lines::{end_line, receipt_line, unsent_line};
 use crate::runs::sends::send_all;
@@ -77,8 +78,9 @@ fn delivered_by(receipt: &Receipt) -> u64
 /// telegrams as the script says, and writes a line for each; then the totals. It ends at the first
 /// sending to which the unit answers no word, with a line that says so.
 ///
-/// All memory is taken before the first call: after `Memory` nothing was sent or written. After `Write` a
-/// part of the text is written, in which the lines before the one that failed are whole.
+/// All memory is taken before the first call: after `Memory` nothing was sent or written. After `Write`, and
+/// only then, the sink's count rose, and a part of the text is written, in which the lines before the one that
+/// failed are whole.
 ///
 /// In each cycle each sender's value is sent, in order, up to the first that is answered by no word, which
 /// comes only where the count of wrong answers rose, or up to where a write failed. A kept log grew by
@@ -95,6 +97,7 @@ pub fn run_wire<U: Unit, O: Sink>(
     requires { ScriptFits script.now }
     ensures runs { RunsWire script.now.wire script.now.events (U.seen unit.old) (U.seen unit.new) (O.seen out.old) (O.seen out.new) result }
     ensures later { (O.seen out.old).faults ≤ (O.seen out.new).faults }
+    ensures stayed { result ≢ Err fault.Write → (O.seen out.new).faults ≡ (O.seen out.old).faults }
 {
     receipts_follow_the_equation();
     let mut words = room(alloc, script.wire.senders, cycles_of(&script.events))?;

@@ -1,4 +1,5 @@
-use Rattle.std.proofs.Common.{List, ℤ, IfOk, ◌≡◌, ◌≤◌, length, arith}
+use Rattle.std.proofs.Common.{List, [], ◌∷◌, ℤ, IfOk, inl, inr, ◌≡◌, ◌≤◌, ap, sym, subst, length, arith}
+use Rattle.std.proofs.lemmas.Result.{on_err_weaker}
 use Rattle.coded_unit.specs.Seen.{UnitSeen}
 use Rattle.op_graph.specs.Lists.{Lists}
 use Rattle.signature_table.specs.Signatures.{Numbers}
@@ -6,10 +7,10 @@ use Rattle.fault_script.specs.Groups.{GroupFits}
 use Rattle.fault_injector.specs.Names.{Names}
 use Rattle.fault_injector.specs.Verdicts.{verdict_of}
 use Rattle.fault_injector.specs.declared.verdict.Verdict.{Verdict}
-use Rattle.fault_reruns.specs.Groups.{JudgedAlone}
+use Rattle.fault_reruns.specs.Groups.{GroupsJudged, JudgedAlone}
 use Rattle.fault_reruns.specs.References.{KeptRun}
 use Rattle.fault_reruns.specs.Reruns.{InCycles, IsReference, Reran}
-use Rattle.fault_reruns.proofs.Alone.{at_kept, if_ok, judged_alone, parted}
+use Rattle.fault_reruns.proofs.Alone.{at_kept, if_ok, judged_alone, on_err, parted}
 use Rattle.fault_reruns.proofs.rerun.verdict.Goals as goal
 
 pub returns-clause-verdict : goal.returns-clause-verdict
@@ -63,3 +64,22 @@ returns-clause-never_falls g c =
     let low : first.wrong ≤ mid.wrong = c.in_ok-reference.ensures.ran.carried.never_falls in
     let high : mid.wrong ≤ now.wrong = c.verdict.ensures.never_falls in
     omega (arith, low, high)
+
+pub returns-in_err-reference-clause-err : goal.returns-in_err-reference-clause-err
+returns-in_err-reference-clause-err g c = on_err _ c.from_residual.result (inl (ap g.U.Unit.seen c.in_err-reference.ensures.err))
+
+pub returns-clause-err : goal.returns-clause-err
+returns-clause-err g c =
+    let r : KeptRun = c.in_ok-reference.reference in
+    let new = c.in_ok-reference.ensures in
+    let t = c.args.table.now in
+    let h = c.args.graph.now in
+    let rows = c.args.rows.now in
+    let faults = c.args.group.now in
+    let first : UnitSeen = g.U.Unit.seen c.args.unit.now in
+    let mid : UnitSeen = g.U.Unit.seen c.new.new.unit in
+    let now : UnitSeen = g.U.Unit.seen c.verdict.new.unit in
+    let carried = c.groups_are_rerun_one_after_another.ensures.starts t h rows r.answers (faults ∷ []) r.end first mid new.ran in
+    on_err_weaker c.verdict.result
+    (λ same. inr (r.answers, subst (λ (u : UnitSeen). GroupsJudged t h rows r.answers (faults ∷ []) [] first u) (sym (ap g.U.Unit.seen same)) carried))
+    c.verdict.ensures.err

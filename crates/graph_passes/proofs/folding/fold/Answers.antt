@@ -1,5 +1,4 @@
 use Rattle.std.proofs.Common.{◌≡◌, [], ap, sym, subst, ◌∙◌}
-use Rattle.op_graph.specs.Lists.{Lists}
 use Rattle.op_graph.specs.Rules.{IsGraph}
 use Rattle.graph_passes.specs.Folding.{folded, folded_after, NoneFolds}
 use Rattle.graph_passes.specs.SameRun.{MeansAs}

@@ -1,5 +1,4 @@
-use Rattle.std.proofs.Common.{◌≡◌, [], map, ap, sym, subst, ◌∙◌}
-use Rattle.op_graph.specs.Lists.{Lists}
+use Rattle.std.proofs.Common.{map, ap, sym, subst, ◌∙◌}
 use Rattle.op_graph.specs.Rules.{IsGraph}
 use Rattle.graph_passes.specs.Part.{chosen, moved, moved_load, moved_output}
 use Rattle.graph_passes.specs.Tables.{marked, number_at, by_tables}

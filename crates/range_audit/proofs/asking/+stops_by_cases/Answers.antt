@@ -1,8 +1,8 @@
 use Rattle.std.proofs.Common.{◌≡◌, ◌⊎◌, true, inl, inr, sym, subst, ◌∙◌, arith}
 use Rattle.std.proofs.lemmas.Option.{slice_get_within}
 use Rattle.vcp_base.specs.Values.{at}
-use Rattle.range_audit.specs.Audit.{may_stop}
-use Rattle.range_audit.specs.Intervals.{Fit}
+use Rattle.range_walk.specs.Known.{may_stop}
+use Rattle.range_walk.specs.Intervals.{Fit}
 use Rattle.range_audit.proofs.asking.+stops_by_cases.Goals as goal
 
 pub returns-then-none : goal.returns-then-none
@@ -35,4 +35,4 @@ returns t c = λ held row vs op why hold given whole fit there own no e.
       | inl low ↦ inl (c.in_ok-first.ensures held row vs op why hold given whole (subst (λ rs. Fit rs vs) (sym c.deref.ensures.value) low) there own no e)
       | inr high ↦ inr (c.in_ok-second.ensures held row vs op why hold given whole (subst (λ rs. Fit rs vs) (sym c.deref-2.ensures.value) high) there own no e)
     ] in
-    c.joined_stops-either.ensures why one
+    c.joined_stops-either.ensures.holds why one

@@ -1,10 +1,10 @@
 use Rattle.std.proofs.Common.{◌≡◌, ◌+◌, ◌<◌, ℕ, true, length, slice_get, Some, refl, sym, ap, subst, ◌∙◌, arith}
 use Rattle.std.proofs.lemmas.List.{length_push}
 use Rattle.std.proofs.lemmas.Option.{slice_get_within}
-use Rattle.range_audit.specs.declared.range.Stops.{Stops}
-use Rattle.range_audit.specs.Audit.{is_named}
-use Rattle.range_audit.specs.Intervals.{Hold}
-use Rattle.range_audit.specs.Walking.{StopsFrom}
+use Rattle.range_walk.specs.declared.range.Stops.{Stops}
+use Rattle.range_walk.specs.Known.{is_named}
+use Rattle.range_walk.specs.Intervals.{Hold}
+use Rattle.range_audit.specs.Searching.{StopsFrom}
 use Rattle.range_audit.proofs.Steps.{all_more, get_there}
 use Rattle.range_audit.proofs.asking.closer_stops.Goals as goal
 

@@ -1,7 +1,7 @@
 use Rattle.std.proofs.Common.{◌≡◌, ℕ, length, slice_get, Some}
-use Rattle.range_audit.specs.declared.range.Stops.{Stops}
-use Rattle.range_audit.specs.Intervals.{Hold}
-use Rattle.range_audit.specs.Walking.{StopsFrom}
+use Rattle.range_walk.specs.declared.range.Stops.{Stops}
+use Rattle.range_walk.specs.Intervals.{Hold}
+use Rattle.range_audit.specs.Searching.{StopsFrom}
 use Rattle.range_audit.proofs.asking.closer_stops.Given as goal
 
 abbrev pub invariant-operations : goal.invariant-operations

@@ -1,5 +1,5 @@
 use Rattle.std.proofs.Common.{sym, subst}
-use Rattle.range_audit.specs.Intervals.{Fit}
+use Rattle.range_walk.specs.Intervals.{Fit}
 use Rattle.range_audit.proofs.asking.stops_after.Goals as goal
 
 pub returns : goal.returns

@@ -1,6 +1,6 @@
 use Rattle.std.proofs.Common.{◌≡◌, true, slice_get, Some, sym, ap, subst, ◌∙◌}
-use Rattle.range_audit.specs.Audit.{is_named}
-use Rattle.range_audit.specs.Intervals.{Fit}
+use Rattle.range_walk.specs.Known.{is_named}
+use Rattle.range_walk.specs.Intervals.{Fit}
 use Rattle.range_audit.proofs.asking.stops_of.Goals as goal
 
 pub returns-then-enough : goal.returns-then-enough

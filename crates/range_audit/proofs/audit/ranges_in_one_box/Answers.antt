@@ -1,4 +1,4 @@
-use Rattle.range_audit.specs.Intervals.{Hold}
+use Rattle.range_walk.specs.Intervals.{Hold}
 use Rattle.range_audit.proofs.Cycles.{holds, names, ends}
 use Rattle.range_audit.proofs.audit.ranges_in_one_box.Goals as goal
 
@@ -18,4 +18,6 @@ returns c =
       holds = holds g cells told walk settled laws graph;
       names = names g (Hold cells) told.stops walk.names settled laws rules graph;
       ends = ends g (Hold cells) told.stops walk.names settled laws rules graph;
+      able = walk.able;
+      types = walk.types;
     }

@@ -1,6 +1,6 @@
 use Rattle.std.proofs.Common.{length, sym, ap, subst, ◌∙◌}
-use Rattle.range_audit.specs.Intervals.{Hold}
-use Rattle.range_audit.specs.Walking.{AreSettled}
+use Rattle.range_walk.specs.Intervals.{Hold}
+use Rattle.range_audit.specs.Searching.{AreSettled}
 use Rattle.range_audit.proofs.NoneNamed.{never}
 use Rattle.range_audit.proofs.audit.ranges_of.Goals as goal
 
@@ -30,4 +30,4 @@ returns c =
     let g = c.args.graph.now in
     let told = c.in_ok-told.told in
     let is = c.in_ok-told.ensures in
-    record { known = is.known; stops = is.stops; holds = is.holds; names = is.names; ends = is.ends; never = never g told is }
+    record { known = is.known; stops = is.stops; holds = is.holds; names = is.names; ends = is.ends; able = is.able; types = is.types; never = never g told is }

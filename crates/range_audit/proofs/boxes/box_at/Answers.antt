@@ -1,7 +1,7 @@
 use Rattle.std.proofs.Common.{◌≡◌, ℕ, ◌+◌, List, length, slice_get, Some, ap, sym, subst, ◌∙◌, arith}
 use Rattle.std.proofs.lemmas.List.{length_push}
 use Rattle.std.proofs.lemmas.Option.{slice_get_within}
-use Rattle.range_audit.specs.declared.range.Range.{Range}
+use Rattle.range_walk.specs.declared.range.Range.{Range}
 use Rattle.range_audit.proofs.Steps.{all_more}
 use Rattle.range_audit.proofs.boxes.box_at.Goals as goal
 

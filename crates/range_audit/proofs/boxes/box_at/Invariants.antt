@@ -1,5 +1,5 @@
 use Rattle.std.proofs.Common.{◌≡◌, ℕ, ◌+◌, length, slice_get, Some}
-use Rattle.range_audit.specs.declared.range.Range.{Range}
+use Rattle.range_walk.specs.declared.range.Range.{Range}
 use Rattle.range_audit.proofs.boxes.box_at.Given as goal
 
 abbrev pub invariant-cells : goal.invariant-cells

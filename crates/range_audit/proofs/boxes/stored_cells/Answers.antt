@@ -1,6 +1,6 @@
 use Rattle.std.proofs.Common.{◌≡◌, ℕ, ◌+◌, List, length, slice_get, Some, ap, sym, subst, ◌∙◌, arith}
 use Rattle.std.proofs.lemmas.List.{length_push}
-use Rattle.range_audit.specs.declared.range.Range.{Range}
+use Rattle.range_walk.specs.declared.range.Range.{Range}
 use Rattle.range_audit.proofs.Boxed.{StoredAt, stored_hold}
 use Rattle.range_audit.proofs.Steps.{all_more}
 use Rattle.range_audit.proofs.boxes.stored_cells.Goals as goal

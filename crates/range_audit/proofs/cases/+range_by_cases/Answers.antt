@@ -1,7 +1,7 @@
 use Rattle.std.proofs.Common.{inl, inr, length, sym, ap, subst, ◌∙◌, arith}
 use Rattle.std.proofs.lemmas.Option.{slice_get_within}
 use Rattle.vcp_base.specs.Values.{at}
-use Rattle.range_audit.specs.Intervals.{Fit}
+use Rattle.range_walk.specs.Intervals.{Fit}
 use Rattle.range_audit.proofs.cases.+range_by_cases.Goals as goal
 
 pub returns-then-none : goal.returns-then-none

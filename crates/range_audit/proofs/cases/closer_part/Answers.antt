@@ -1,7 +1,7 @@
 use Rattle.std.proofs.Common.{◌≡◌, length, ap, sym, ◌∙◌, subst, arith}
 use Rattle.std.proofs.lemmas.List.{with_items_is}
-use Rattle.range_audit.specs.Intervals.{Fit}
-use Rattle.range_audit.specs.Walking.{NarrowsTo}
+use Rattle.range_walk.specs.Intervals.{Fit}
+use Rattle.range_audit.specs.Searching.{NarrowsTo}
 use Rattle.range_audit.proofs.cases.closer_part.Goals as goal
 
 pub returns-clause-fits : goal.returns-clause-fits

@@ -2,8 +2,8 @@ use Rattle.std.proofs.Common.{length, sym, subst, ◌∙◌, ap, arith}
 use Rattle.std.proofs.lemmas.Option.{slice_get_within}
 use Rattle.op_graph.specs.GraphRun.{stored}
 use Rattle.vcp_base.specs.Values.{at}
-use Rattle.range_audit.specs.Walking.{InBox}
-use Rattle.range_audit.specs.Intervals.{Hold}
+use Rattle.range_audit.specs.Searching.{InBox}
+use Rattle.range_walk.specs.Intervals.{Hold}
 use Rattle.range_audit.proofs.cases.ends.Goals as goal
 
 pub returns-then-none : goal.returns-then-none

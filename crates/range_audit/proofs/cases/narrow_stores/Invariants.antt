@@ -1,5 +1,5 @@
 use Rattle.std.proofs.Common.{◌≡◌, length}
-use Rattle.range_audit.specs.Walking.{Narrows}
+use Rattle.range_walk.specs.Walking.{Narrows}
 use Rattle.range_audit.proofs.cases.narrow_stores.Given as goal
 
 abbrev pub invariant-cells : goal.invariant-cells

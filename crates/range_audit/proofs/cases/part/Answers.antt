@@ -1,6 +1,6 @@
 use Rattle.std.proofs.Common.{◌≡◌, length, ap, sym, ◌∙◌, subst, arith}
 use Rattle.std.proofs.lemmas.List.{with_items_is}
-use Rattle.range_audit.specs.Walking.{NarrowsTo}
+use Rattle.range_audit.specs.Searching.{NarrowsTo}
 use Rattle.range_audit.proofs.cases.part.Goals as goal
 
 pub narrow_to-requires : goal.narrow_to-requires

@@ -1,5 +1,5 @@
 use Rattle.std.proofs.Common.{below_more, arith, rules}
-use Rattle.range_audit.specs.Walking.{KeptAt}
+use Rattle.range_audit.specs.Searching.{KeptAt}
 use Rattle.range_audit.proofs.Steps.{all_kept}
 use Rattle.range_audit.proofs.cells.are_kept.Goals as goal
 

@@ -1,5 +1,5 @@
 use Rattle.std.proofs.Common.{ℕ, ◌<◌}
-use Rattle.range_audit.specs.Walking.{KeptAt}
+use Rattle.range_audit.specs.Searching.{KeptAt}
 use Rattle.range_audit.proofs.cells.are_kept.Given as goal
 
 abbrev pub invariant-cells : goal.invariant-cells

@@ -1,5 +1,5 @@
 use Rattle.std.proofs.Common.{subst}
-use Rattle.range_audit.specs.Walking.{AreKept}
+use Rattle.range_audit.specs.Searching.{AreKept}
 use Rattle.range_audit.proofs.Cycles.{kept_settled}
 use Rattle.range_audit.proofs.cells.are_settled.Goals as goal
 

@@ -1,6 +1,6 @@
 use Rattle.std.proofs.Common.{subst}
-use Rattle.range_audit.specs.Intervals.{Hold}
-use Rattle.range_audit.specs.Walking.{AreSettled}
+use Rattle.range_walk.specs.Intervals.{Hold}
+use Rattle.range_audit.specs.Searching.{AreSettled}
 use Rattle.range_audit.proofs.cells.closer.Goals as goal
 
 pub returns-then-is-clause-settled : goal.returns-then-is-clause-settled

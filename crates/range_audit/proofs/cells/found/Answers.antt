@@ -1,5 +1,6 @@
 use Rattle.std.proofs.Common.{subst}
-use Rattle.range_audit.specs.Walking.{IsWalk, AreKept}
+use Rattle.range_audit.specs.Searching.{AreKept}
+use Rattle.range_walk.specs.Walking.{IsWalk}
 use Rattle.range_audit.proofs.Cycles.{kept_settled}
 use Rattle.range_audit.proofs.cells.found.Goals as goal
 

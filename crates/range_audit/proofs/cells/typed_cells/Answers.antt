@@ -1,7 +1,7 @@
 use Rattle.std.proofs.Common.{◌≡◌, ℕ, ◌+◌, true, List, length, slice_get, Some, ap, sym, subst, ◌∙◌, arith}
 use Rattle.std.proofs.lemmas.List.{length_push}
 use Rattle.vcp_base.specs.Types.{fits}
-use Rattle.range_audit.specs.declared.range.Range.{Range}
+use Rattle.range_walk.specs.declared.range.Range.{Range}
 use Rattle.range_audit.proofs.Steps.{Typed, all_more, typed_settled}
 use Rattle.range_audit.proofs.cells.typed_cells.Goals as goal
 

@@ -1,9 +1,6 @@
 use Rattle.std.proofs.Common.{◌≡◌, ℕ, ◌<◌, true, length}
-use Rattle.range_audit.specs.Walking.{start_of, EndsFrom}
+use Rattle.range_audit.specs.Searching.{start_of, EndsFrom}
 use Rattle.range_audit.proofs.families.are_boxes_kept.Given as goal
 
 abbrev pub invariant-boxes : goal.invariant-boxes
-invariant-boxes l = record {
-  start : l.start ≡ start_of (length l.graph.stores) l.k;
-  kept : l.all ≡ true → (j : ℕ) → j < l.k → EndsFrom l.graph l.boxes l.count (start_of (length l.graph.stores) j);
-}
+invariant-boxes l = l.all ≡ true → (j : ℕ) → j < l.k → EndsFrom l.graph l.boxes l.count (start_of (length l.graph.stores) j)

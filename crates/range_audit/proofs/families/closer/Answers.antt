@@ -1,5 +1,5 @@
 use Rattle.std.proofs.Common.{◌≡◌, ◌+◌, length, refl, arith}
-use Rattle.range_audit.specs.Walking.{start_of}
+use Rattle.range_audit.specs.Searching.{start_of}
 use Rattle.range_audit.proofs.Boxed.{one_box}
 use Rattle.range_audit.proofs.families.closer.Goals as goal
 

@@ -1,5 +1,5 @@
 use Rattle.std.proofs.Common.{length, subst}
-use Rattle.range_audit.specs.Walking.{AreSettled, InBox}
+use Rattle.range_audit.specs.Searching.{AreSettled, InBox}
 use Rattle.range_audit.proofs.families.family.Goals as goal
 
 pub returns-then-is-clause-settled : goal.returns-then-is-clause-settled

@@ -1,5 +1,5 @@
 use Rattle.std.proofs.Common.{◌≡◌, length}
-use Rattle.range_audit.specs.Walking.{start_of}
+use Rattle.range_audit.specs.Searching.{start_of}
 use Rattle.range_audit.proofs.families.family.Given as goal
 
 abbrev pub invariant-rounds : goal.invariant-rounds

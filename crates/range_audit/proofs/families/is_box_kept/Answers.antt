@@ -1,7 +1,7 @@
 use Rattle.std.proofs.Common.{sym, subst}
 use Rattle.vcp_base.specs.Values.{at}
-use Rattle.range_audit.specs.Intervals.{Fit, Hold}
-use Rattle.range_audit.specs.Walking.{HoldAt}
+use Rattle.range_walk.specs.Intervals.{Fit, Hold}
+use Rattle.range_audit.specs.Searching.{HoldAt}
 use Rattle.range_audit.proofs.families.is_box_kept.Goals as goal
 
 pub returns-then-none : goal.returns-then-none

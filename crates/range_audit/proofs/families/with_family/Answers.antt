@@ -1,8 +1,9 @@
-use Rattle.std.proofs.Common.{◌≡◌, ℕ, true, length, slice_get, sym, ap, subst, ◌∙◌}
+use Rattle.std.proofs.Common.{◌≡◌, ℕ, true, length, slice_get, refl, sym, ap, subst, ◌∙◌}
 use Rattle.vcp_base.specs.declared.kind.StopKind.{StopKind}
 use Rattle.op_graph.specs.GraphRun.{graph_run}
-use Rattle.range_audit.specs.Audit.{IsAudit, Holds, is_named, cycle_after}
-use Rattle.range_audit.specs.Walking.{InBox}
+use Rattle.range_audit.specs.Audit.{IsRangeAudit, Holds, cycle_after}
+use Rattle.range_walk.specs.Known.{is_named, LieInTypes}
+use Rattle.range_audit.specs.Searching.{InBox}
 use Rattle.range_audit.proofs.Cycles.{names, ends, both_end}
 use Rattle.range_audit.proofs.families.with_family.Goals as goal
 
@@ -33,11 +34,14 @@ returns c =
           (sym c.deref.ensures.value) q,
     ) in
     let same : known ≡ before.known = c.in_ok-known.ensures ∙ c.known-before.ensures in
-    subst (λ a. IsAudit g a) (sym c.new-told.ensures)
+    subst (λ a. IsRangeAudit g a) (sym c.new-told.ensures)
     (record {
       known = ap length same ∙ audit.known;
       stops = c.in_ok-stops.ensures.many ∙ ap length c.stops-named.ensures ∙ audit.stops;
       holds = subst (λ rs. Holds g rs) (sym same) audit.holds;
       names = λ rows row why fits is. both why (length (cycle_after g rows row).values) (audit.names rows row why fits is) (more rows row why fits is);
       ends = λ rows fits. both_end before.stops others stops (graph_run g rows).end both (audit.ends rows fits) (end rows fits);
+      able = λ i op why there may. audit.able i op why there
+          (subst (λ ss. is_named why (slice_get ss i) ≡ true) c.stops-named.ensures (c.in_ok-stops.ensures.first refl why i may));
+      types = subst (λ rs. LieInTypes g.operations rs) (sym same) audit.types;
     })

@@ -1,5 +1,5 @@
 use Rattle.std.proofs.Common.{◌≡◌, ℕ, length, slice_get, Some}
-use Rattle.range_audit.specs.declared.range.Stops.{Stops}
+use Rattle.range_walk.specs.declared.range.Stops.{Stops}
 use Rattle.range_audit.proofs.Joined.{JoinedAt}
 use Rattle.range_audit.proofs.naming.named_by.Given as goal
 

@@ -1,17 +1,12 @@
 use Rattle.std.proofs.Common.{length, subst, below_more, arith}
-use Rattle.range_audit.specs.Walking.{start_of, HoldAt, NamesFrom}
-use Rattle.range_audit.proofs.Boxed.{start_more, start_less}
+use Rattle.range_audit.specs.Searching.{start_of, HoldAt, NamesFrom}
 use Rattle.range_audit.proofs.naming.named_from.Goals as goal
 
-pub with_box-requires-clause-start : goal.with_box-requires-clause-start
-with_box-requires-clause-start c =
-    let less = start_less (length c.args.graph.now.stores) c.boxes.k c.args.count (omega (arith, c.boxes-test.true)) in
-    omega (arith, less, c.boxes.invariant.start, c.requires.boxes)
+pub box_start-start-requires-clause-boxes : goal.box_start-start-requires-clause-boxes
+box_start-start-requires-clause-boxes c = rw c.cell_count-many.ensures c.requires.boxes
 
-pub next_start-next-requires : goal.next_start-next-requires
-next_start-next-requires c =
-    let less = start_less (length c.args.graph.now.stores) c.boxes.k c.args.count (omega (arith, c.boxes-test.true)) in
-    omega (arith, less, c.boxes.invariant.start, c.requires.boxes, c.cell_count-many.ensures)
+pub with_box-requires-clause-start : goal.with_box-requires-clause-start
+with_box-requires-clause-start c = omega (arith, c.cell_count-many.ensures, c.box_start-start.ensures.room)
 
 pub boxes-preserved : goal.boxes-preserved
 boxes-preserved c =
@@ -19,15 +14,14 @@ boxes-preserved c =
     let boxes = c.args.boxes.now in
     let many = length g.stores in
     let i = c.boxes.invariant in
-    let further = start_more many c.boxes.k in
+    let start = rw c.cell_count-many.ensures at c.box_start-start.ensures.start in
     let new = c.in_ok-more.more.items in
     record {
-      start = omega (arith, further, i.start, c.cell_count-many.ensures, c.next_start-next.ensures);
       many = c.in_ok-more.ensures.many;
       named = below_more (λ j. NamesFrom g.operations (HoldAt boxes many (start_of many j)) new) c.boxes.k
           (λ j lt held row vs op why inside given there own no e.
           c.in_ok-more.ensures.kept why (length vs) (i.named j lt held row vs op why inside given there own no e))
-          (subst (λ s. NamesFrom g.operations (HoldAt boxes many s) new) i.start c.in_ok-more.ensures.named);
+          (subst (λ s. NamesFrom g.operations (HoldAt boxes many s) new) start c.in_ok-more.ensures.named);
     }
 
 pub returns-clause-named : goal.returns-clause-named

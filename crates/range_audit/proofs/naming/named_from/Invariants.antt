@@ -1,10 +1,9 @@
 use Rattle.std.proofs.Common.{◌≡◌, ℕ, ◌<◌, length}
-use Rattle.range_audit.specs.Walking.{start_of, HoldAt, NamesFrom}
+use Rattle.range_audit.specs.Searching.{start_of, HoldAt, NamesFrom}
 use Rattle.range_audit.proofs.naming.named_from.Given as goal
 
 abbrev pub invariant-boxes : goal.invariant-boxes
 invariant-boxes l = record {
-  start : l.start ≡ start_of (length l.graph.stores) l.k;
   many : length l.stops.items ≡ length l.graph.operations;
   named : (j : ℕ) → j < l.k → NamesFrom l.graph.operations (HoldAt l.boxes (length l.graph.stores) (start_of (length l.graph.stores) j)) l.stops.items;
 }

@@ -1,8 +1,8 @@
 use Rattle.std.proofs.Common.{◌≡◌, true, inl, inr, length, slice_get, sym, ap, subst, ◌∙◌}
 use Rattle.vcp_base.specs.Values.{at}
-use Rattle.range_audit.specs.Audit.{is_named}
-use Rattle.range_audit.specs.Intervals.{Hold}
-use Rattle.range_audit.specs.Walking.{HoldAt}
+use Rattle.range_walk.specs.Known.{is_named}
+use Rattle.range_walk.specs.Intervals.{Hold}
+use Rattle.range_audit.specs.Searching.{HoldAt}
 use Rattle.range_audit.proofs.naming.with_box.Goals as goal
 
 pub named_by-requires : goal.named_by-requires

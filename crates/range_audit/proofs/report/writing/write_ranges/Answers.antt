@@ -1,5 +1,4 @@
 use Rattle.std.proofs.Common.{◌≡◌, ℕ, List, ◌++◌, codes, append_assoc}
-use Rattle.vcp_outside.proofs.Gathering.{written_same}
 use Rattle.range_audit.proofs.report.writing.write_ranges.Goals as goal
 
 pieces : (lines named able : List ℕ)
@@ -11,4 +10,4 @@ returns g c =
     let lines = c.then_operations.ensures _ _ _ (c.new-line.ensures.begun _ _) in
     let named = rw c.count_named.ensures at (c.count.ensures.gathers _ _ _ (c.text.ensures.gathers _ _ _ lines)) in
     let able = rw c.count_able.ensures at (c.count-2.ensures.gathers _ _ _ (c.text-2.ensures.gathers _ _ _ named)) in
-    written_same (c.end.ensures.writes _ _ _ able) (pieces _ _ _)
+    rw pieces (c.end.ensures.writes _ _ _ able)

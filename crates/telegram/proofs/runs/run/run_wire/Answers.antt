@@ -1,4 +1,4 @@
-use Rattle.std.proofs.Common.{◌≤◌, ◌+◌, ◌*◌, ◌∙◌, ℕ, ℤ, ◌+ℤ◌, List, length, slice_get, Some, arith, ap, sym, subst}
+use Rattle.std.proofs.Common.{◌≤◌, ◌+◌, ◌*◌, ◌∙◌, ℕ, ℤ, ◌+ℤ◌, List, length, slice_get, Some, Err, arith, refl, ap, sym, subst}
 use Rattle.std.proofs.lemmas.List.{drop_all}
 use Rattle.std.proofs.lemmas.Result.{err_from_is_err_and}
 use Rattle.coded_unit.specs.Words.{nearest_word}
@@ -31,6 +31,7 @@ events-init g c =
           (subst (λ (l : List ℤ). SoFar w es before before old old 0 0 0 (nothing_heard w.listen w.age w.seed w.step) l) (sym c.in_ok-words.ensures.empty)
           (so_far_none w es before old c.requires.sent));
       faults = omega arith;
+      stayed = refl;
       room = c.in_ok-words.ensures.room ∙ ap (λ (n : ℕ). n * w.senders) c.cycles_of.ensures;
     }
 
@@ -197,6 +198,7 @@ events-preserved g c =
           record {
             so_far = rw (t.out-is, t.unit-is, t.words-is, t.receiver-is, t.begun-is, t.delivered-is, t.tick.ensures) next;
             faults = rw t.out-is invariant.faults;
+            stayed = rw t.out-is invariant.stayed;
             room = rw t.words-is (t.send_all.ensures.room ∙ invariant.room);
           }
       | in-Deliver+in_ok-receipt_line-in-Deliver t ↦
@@ -215,6 +217,7 @@ events-preserved g c =
           record {
             so_far = rw (t.out-is, t.unit-is, t.words-is, t.receiver-is, t.begun-is, t.delivered-is, t.take-receipt.ensures.receiver) next;
             faults = rw t.out-is (omega (arith, invariant.faults, later));
+            stayed = rw t.out-is (t.in_ok-receipt_line-in-Deliver.ensures.cause.stayed ∙ invariant.stayed);
             room = rw t.words-is invariant.room;
           }
     ]
@@ -242,3 +245,29 @@ returns-clause-runs g c =
     c.events.i c.events.begun c.events.delivered c.events.receiver c.events.words.items c.events.invariant.so_far c.events.invariant.faults
     (c.receipts_follow_the_equation.ensures.run w es c.requires.wire c.requires.events) (drop_all c.events.i es past) (g.O.Sink.seen c.end_line.new.out)
     c.in_ok-end_line.ensures.whole
+
+-- ---- the sink's count of faults
+
+pub returns-in_err-words-clause-stayed : goal.returns-in_err-words-clause-stayed
+returns-in_err-words-clause-stayed g c = λ other. refl
+
+pub returns-in_err-unsent_line-in-Cycle-clause-stayed : goal.returns-in_err-unsent_line-in-Cycle-clause-stayed
+returns-in_err-unsent_line-in-Cycle-clause-stayed g c = λ other.
+    let p = err_from_is_err_and c.from_residual-in_err-unsent_line-in-Cycle.result c.from_residual-in_err-unsent_line-in-Cycle.ensures.1 in
+    absurd (other (p.1 ∙ ap Err p.2))
+
+pub returns-in-Some-clause-stayed : goal.returns-in-Some-clause-stayed
+returns-in-Some-clause-stayed g c = λ other. c.in_ok-unsent_line-in-Cycle.ensures.cause.stayed ∙ c.events.invariant.stayed
+
+pub returns-in_err-receipt_line-in-Deliver-clause-stayed : goal.returns-in_err-receipt_line-in-Deliver-clause-stayed
+returns-in_err-receipt_line-in-Deliver-clause-stayed g c = λ other.
+    let p = err_from_is_err_and c.from_residual-in_err-receipt_line-in-Deliver.result c.from_residual-in_err-receipt_line-in-Deliver.ensures.1 in
+    absurd (other (p.1 ∙ ap Err p.2))
+
+pub returns-in_err-end_line-clause-stayed : goal.returns-in_err-end_line-clause-stayed
+returns-in_err-end_line-clause-stayed g c = λ other.
+    let p = err_from_is_err_and c.from_residual-in_err-end_line.result c.from_residual-in_err-end_line.ensures.1 in
+    absurd (other (p.1 ∙ ap Err p.2))
+
+pub returns-clause-stayed : goal.returns-clause-stayed
+returns-clause-stayed g c = λ other. c.in_ok-end_line.ensures.cause.stayed ∙ c.events.invariant.stayed

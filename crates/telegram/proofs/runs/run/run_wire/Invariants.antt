@@ -10,5 +10,6 @@ invariant-events g l =
     record {
       so_far : SoFar l.script.wire l.script.events (unit l.fn.unit) (unit l.unit) (out l.fn.out) (out l.out) l.i l.begun l.delivered l.receiver l.words.items;
       faults : (out l.fn.out).faults ≤ (out l.out).faults;
+      stayed : (out l.out).faults ≡ (out l.fn.out).faults;
       room : vec_capacity l.words ≡ length (sent_in l.script.events) * l.script.wire.senders;
     }

@@ -1,0 +1,51 @@
+//! The greatest number of operations that a builder takes.
+
+ghost use Rattle.std.specs.Prelude.{◌≡◌, length, IfOk};
+
+use op_graph::{Build, GraphBuilder, Op};
+use std::alloc::Global;
+use std::test::Fail;
+use vcp_base::{Kind, Profile, Spot, Ty};
+
+/// A constant of DINT outside every FOR.
+fn constant(imm: i64) -> Op
+    ensures { result
+        ≡ record { kind = Kind.Const; from = Ty.Dint; ty = Ty.Dint; a = 0; b = 0; c = 0; imm = imm; spot = record { line = 4; col = 8 }; turn = 0 } }
+{
+    Op {
+        kind: Kind::Const,
+        from: Ty::Dint,
+        ty: Ty::Dint,
+        a: 0,
+        b: 0,
+        c: 0,
+        imm,
+        spot: Spot { line: 4, col: 8 },
+        turn: 0,
+    }
+}
+
+/// A builder with 65,536 constants 5.
+fn filled(alloc: Global) -> Result<GraphBuilder, Build>
+    ensures { IfOk result (λ builder. length builder.stores ≡ length builder.loads) }
+{
+    let mut builder = GraphBuilder::new(alloc, Profile::Narrow);
+    'constants: for _ in 0..65536 {
+        builder.push(constant(5))?;
+    }
+    Ok(builder)
+}
+
+/// How many operations a filled builder has, what it answers to one more, how many its graph has, and whether the last is the constant 5.
+pub fn told(alloc: Global) -> Result<String, Fail> {
+    let mut builder = filled(alloc)?;
+    let count = builder.len();
+    let answer = builder.push(constant(6));
+    let graph = builder.finish();
+    let length = graph.len();
+    if length == 0 {
+        return Err("no operation".into());
+    }
+    let is_five = graph.operation(length - 1) == constant(5);
+    Ok(format!(in alloc; "{count} {answer:?} {length} {is_five}")?)
+}

@@ -1,0 +1,10 @@
+use Rattle.std.proofs.Common.{◌≡◌, ℕ, length, slice_get, Some}
+use Rattle.range_walk.specs.declared.range.Range.{Range}
+use Rattle.range_audit.proofs.Boxed.{LoadedAt}
+use Rattle.range_audit.proofs.cells.initial_cells.Given as goal
+
+abbrev pub invariant-cells : goal.invariant-cells
+invariant-cells l = record {
+  many : length l.cells.items ≡ l.k;
+  each : (j : ℕ) (r : Range) → slice_get l.cells.items j ≡ Some r → LoadedAt l.graph.loads j r;
+}

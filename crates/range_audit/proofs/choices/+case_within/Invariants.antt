@@ -1,4 +1,0 @@
-use Rattle.range_audit.proofs.choices.+case_within.Given as goal
-
-abbrev pub decreases-case_within : goal.decreases-case_within
-decreases-case_within l = l.depth

@@ -1,9 +1,0 @@
-use Rattle.std.proofs.Common.{◌≡◌, length}
-use Rattle.range_audit.specs.Walking.{Narrows}
-use Rattle.range_audit.proofs.narrowing.go_forth.Given as goal
-
-abbrev pub invariant-operations : goal.invariant-operations
-invariant-operations l = record {
-  many : length l.ranges ≡ length l.fn.ranges;
-  fits : Narrows l.graph.operations l.cells l.fn.ranges l.ranges;
-}

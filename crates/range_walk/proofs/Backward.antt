@@ -1,0 +1,85 @@
+-- Backward: what the value of a kind tells of its operands.
+use Rattle.std.proofs.Common.{◌≡◌, ◌≢◌, ℤ, pos, ◌-ℤ◌, ◌<ℤ◌, ◌≤ℤ◌, inl, inr, Bool, true, false, ◌&&◌, ◌||◌, cond, refl, subst, arith}
+use Rattle.std.specs.Prelude.{int_lt}
+use Rattle.std.proofs.lemmas.Int.{ints}
+use Rattle.vcp_base.specs.Kinds.{same, truth}
+use Rattle.range_walk.specs.declared.range.Range.{Range}
+use Rattle.range_walk.specs.Intervals.{IsIn}
+use Rattle.range_walk.proofs.Conditions.{said_true, said_false, and_parts, or_parts, chosen_no, chosen_yes}
+use Rattle.range_walk.proofs.ValueBounds.{is_true, same_is, is_same, true_false}
+
+-- a value that is in a range without 1 isn't 1
+pub not_there : (r : Range) (v k : ℤ) → (IsIn r k → ⊥) → IsIn r v → v ≢ k
+not_there r v k out i e = out (subst (λ w. IsIn r w) e i)
+
+pub twice_denied : (x : ℤ) → pos 1 -ℤ (pos 1 -ℤ x) ≡ x
+twice_denied x = omega (arith, ints)
+
+pub and_first : (x y : ℤ) → truth (same x (pos 1) && same y (pos 1)) ≡ pos 1 → x ≡ pos 1
+and_first x y h = (and_parts true x y h).0
+
+-- one of two that aren't both 1, where the other is 1
+pub and_rest : (x y : ℤ) → truth (same x (pos 1) && same y (pos 1)) ≢ pos 1 → y ≡ pos 1 → x ≢ pos 1
+and_rest x y h one = elim (and_parts false x y h) [ inl p ↦ p | inr p ↦ absurd (p one) ]
+
+pub or_first : (x y : ℤ) → truth (same x (pos 1) || same y (pos 1)) ≢ pos 1 → x ≢ pos 1
+or_first x y h = (or_parts false x y h).0
+
+pub or_rest : (x y : ℤ) → truth (same x (pos 1) || same y (pos 1)) ≡ pos 1 → y ≢ pos 1 → x ≡ pos 1
+or_rest x y h other = elim (or_parts true x y h) [ inl p ↦ p | inr p ↦ absurd (other p) ]
+
+pub equal_by : (x y : ℤ) → truth (same x y) ≡ pos 1 → x ≡ y
+equal_by x y h = same_is x y (said_true (same x y) h)
+
+pub unequal_by : (x y : ℤ) → truth (same x y) ≢ pos 1 → x ≢ y
+unequal_by x y h = λ e. true_false (same x y) (is_same x y e) (said_false (same x y) h)
+
+pub less_by : (x y : ℤ) → truth (int_lt x y) ≡ pos 1 → x <ℤ y
+less_by x y h = record { lt = is_true (int_lt x y) (said_true (int_lt x y) h) }
+
+not_less_is : (x y : ℤ) → int_lt x y ≡ false → y ≤ℤ x
+not_less_is x y h = grind (arith, ints)
+
+pub no_less_by : (x y : ℤ) → truth (int_lt x y) ≢ pos 1 → y ≤ℤ x
+no_less_by x y h = not_less_is x y (said_false (int_lt x y) h)
+
+pub and_swapped : (p q : Bool) → (p && q) ≡ (q && p)
+and_swapped true true = refl
+and_swapped true false = refl
+and_swapped false true = refl
+and_swapped false false = refl
+
+pub or_swapped : (p q : Bool) → (p || q) ≡ (q || p)
+or_swapped true true = refl
+or_swapped true false = refl
+or_swapped false true = refl
+or_swapped false false = refl
+
+pub no_taken : (r : Range) (x y z : ℤ) → IsIn r (cond (same x (pos 0)) y z) → x ≡ pos 0 → IsIn r y
+no_taken r x y z i zero = subst (λ v. IsIn r v) (chosen_no x y z (cond (same x (pos 0)) y z) refl zero) i
+
+pub yes_taken : (r : Range) (x y z : ℤ) → IsIn r (cond (same x (pos 0)) y z) → x ≢ pos 0 → IsIn r z
+yes_taken r x y z i other = subst (λ v. IsIn r v) (chosen_yes x y z (cond (same x (pos 0)) y z) refl other) i
+
+zero_by : (x y z : ℤ) (r : Range) (b : Bool) → same x (pos 0) ≡ b → IsIn r (cond b y z) → (IsIn r z → ⊥) → x ≡ pos 0
+zero_by x y z r true e i out = same_is x (pos 0) e
+zero_by x y z r false e i out = absurd (out i)
+
+-- what is taken can't be the second of the two, so the condition is 0
+pub must_be_zero : (x y z : ℤ) (r : Range) → IsIn r (cond (same x (pos 0)) y z) → (IsIn r z → ⊥) → x ≡ pos 0
+must_be_zero x y z r i out = zero_by x y z r (same x (pos 0)) refl i out
+
+chosen_from : (b : Bool) (y z v : ℤ) (r : Range) → v ≡ cond b y z → IsIn r v → (IsIn r y → ⊥) → (IsIn r z → ⊥) → ⊥
+chosen_from true y z v r e i out other = out (subst (λ w. IsIn r w) e i)
+chosen_from false y z v r e i out other = other (subst (λ w. IsIn r w) e i)
+
+-- a value that is one of two, neither of which can be
+pub taken_nowhere : (r : Range) (x y z v : ℤ) → v ≡ cond (same x (pos 0)) y z → IsIn r v → (IsIn r y → ⊥) → (IsIn r z → ⊥) → ⊥
+taken_nowhere r x y z v e i out other = chosen_from (same x (pos 0)) y z v r e i out other
+
+-- what is taken isn't the first of the two, so the condition isn't 0
+pub not_taken_first : (r : Range) (x y z v : ℤ) → v ≡ cond (same x (pos 0)) y z → IsIn r v → (IsIn r y → ⊥) → x ≢ pos 0
+not_taken_first r x y z v e i out zero = out (no_taken r x y z (subst (λ w. IsIn r w) e i) zero)
+
+pub not_taken_second : (r : Range) (x y z v : ℤ) → v ≡ cond (same x (pos 0)) y z → IsIn r v → (IsIn r z → ⊥) → x ≡ pos 0
+not_taken_second r x y z v e i out = must_be_zero x y z r (subst (λ w. IsIn r w) e i) out

@@ -1,0 +1,10 @@
+mod Allowed
+mod Backward
+mod Bits
+mod Conditions
+mod Integers
+mod Operands
+mod Outcomes
+mod Putting
+mod Steps
+mod ValueBounds

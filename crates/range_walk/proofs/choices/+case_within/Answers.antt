@@ -1,0 +1,96 @@
+use Rattle.std.proofs.Common.{◌<◌, length, not, arith, refl}
+use Rattle.vcp_base.specs.declared.kind.Kind.TheVariants as kind
+use Rattle.vcp_base.specs.Values.{at}
+use Rattle.range_walk.specs.Walking.{Said}
+use Rattle.range_walk.proofs.Conditions.{there, negation, conjunction, disjunction, parts_map}
+use Rattle.range_walk.proofs.Steps.{operands_are}
+use Rattle.range_walk.proofs.choices.+case_within.Goals as goal
+
+pub earlier_range-denied-requires : goal.earlier_range-denied-requires
+earlier_range-denied-requires t c =
+    let op = c.operation-op.result in
+    let are = operands_are c.args.graph.now c.args.c op _ c.entries_keep_their_rules.ensures c.operands_are_there.ensures c.requires.graph
+    c.operation-op.ensures refl in
+    let first : op.a < c.args.c = there _ c.args.c op.kind op.imm op.a 0 kind.Not c.in-Not.is refl are.first in
+    omega (arith, first, c.requires.condition)
+
+pub case_within-requires : goal.case_within-requires
+case_within-requires t c =
+    let op = c.operation-op.result in
+    let are = operands_are c.args.graph.now c.args.c op _ c.entries_keep_their_rules.ensures c.operands_are_there.ensures c.requires.graph
+    c.operation-op.ensures refl in
+    let first : op.a < c.args.c = there _ c.args.c op.kind op.imm op.a 0 kind.Not c.in-Not.is refl are.first in
+    (omega arith, (c.requires.graph, (omega (arith, first, c.requires.condition), (c.requires.there, c.requires.many))))
+
+pub returns-then-is_truth : goal.returns-then-is_truth
+returns-then-is_truth t c = λ held row vs given fit le said.
+    let op = c.operation-op.result in
+    let are = operands_are c.args.graph.now c.args.c op _ c.entries_keep_their_rules.ensures c.operands_are_there.ensures c.requires.graph
+    c.operation-op.ensures refl in
+    let first : op.a < c.args.c = there _ c.args.c op.kind op.imm op.a 0 kind.Not c.in-Not.is refl are.first in
+    let within : c.args.c < length vs = omega (arith, le, c.requires.condition) in
+    let value = fit op.a c.earlier_range-denied.result (omega (arith, first, within)) c.earlier_range-denied.ensures in
+    c.case_within.ensures held row vs given fit le
+    (negation held row vs op c.args.c (given.each c.args.c op within c.operation-op.ensures) c.args.truth c.in-Not.is first
+    (c.is_truth.ensures c.if-is_truth.true (at vs op.a) value) said)
+
+pub returns-else-is_truth : goal.returns-else-is_truth
+returns-else-is_truth t c = λ held row vs given fit le said. fit c.args.n c.earlier_range.result (omega (arith, le, c.requires.there)) c.earlier_range.ensures
+
+pub case_within-first-requires : goal.case_within-first-requires
+case_within-first-requires t c =
+    let op = c.operation-op.result in
+    let are = operands_are c.args.graph.now c.args.c op _ c.entries_keep_their_rules.ensures c.operands_are_there.ensures c.requires.graph
+    c.operation-op.ensures refl in
+    let first : op.a < c.args.c = there _ c.args.c op.kind op.imm op.a 0 kind.And c.in-And.is refl are.first in
+    (omega arith, (c.requires.graph, (omega (arith, first, c.requires.condition), (c.requires.there, c.requires.many))))
+
+pub case_within-second-requires : goal.case_within-second-requires
+case_within-second-requires t c =
+    let op = c.operation-op.result in
+    let are = operands_are c.args.graph.now c.args.c op _ c.entries_keep_their_rules.ensures c.operands_are_there.ensures c.requires.graph
+    c.operation-op.ensures refl in
+    let second : op.b < c.args.c = there _ c.args.c op.kind op.imm op.b 1 kind.And c.in-And.is refl are.second in
+    (omega arith, (c.requires.graph, (omega (arith, second, c.requires.condition), (c.requires.there, c.requires.many))))
+
+pub returns-in-And : goal.returns-in-And
+returns-in-And t c = λ held row vs given fit le said.
+    let op = c.operation-op.result in
+    let are = operands_are c.args.graph.now c.args.c op _ c.entries_keep_their_rules.ensures c.operands_are_there.ensures c.requires.graph
+    c.operation-op.ensures refl in
+    let first : op.a < c.args.c = there _ c.args.c op.kind op.imm op.a 0 kind.And c.in-And.is refl are.first in
+    let second : op.b < c.args.c = there _ c.args.c op.kind op.imm op.b 1 kind.And c.in-And.is refl are.second in
+    let within : c.args.c < length vs = omega (arith, le, c.requires.condition) in
+    c.connected.ensures (at vs c.args.n)
+    (parts_map {P = Said c.args.truth (at vs op.a)} {Q = Said c.args.truth (at vs op.b)} c.args.truth (c.case_within-first.ensures held row vs given fit le)
+    (c.case_within-second.ensures held row vs given fit le)
+    (conjunction held row vs op c.args.c (given.each c.args.c op within c.operation-op.ensures) c.args.truth c.in-And.is first second said))
+
+pub case_within-one-requires : goal.case_within-one-requires
+case_within-one-requires t c =
+    let op = c.operation-op.result in
+    let are = operands_are c.args.graph.now c.args.c op _ c.entries_keep_their_rules.ensures c.operands_are_there.ensures c.requires.graph
+    c.operation-op.ensures refl in
+    let first : op.a < c.args.c = there _ c.args.c op.kind op.imm op.a 0 kind.Or c.in-Or.is refl are.first in
+    (omega arith, (c.requires.graph, (omega (arith, first, c.requires.condition), (c.requires.there, c.requires.many))))
+
+pub case_within-other-requires : goal.case_within-other-requires
+case_within-other-requires t c =
+    let op = c.operation-op.result in
+    let are = operands_are c.args.graph.now c.args.c op _ c.entries_keep_their_rules.ensures c.operands_are_there.ensures c.requires.graph
+    c.operation-op.ensures refl in
+    let second : op.b < c.args.c = there _ c.args.c op.kind op.imm op.b 1 kind.Or c.in-Or.is refl are.second in
+    (omega arith, (c.requires.graph, (omega (arith, second, c.requires.condition), (c.requires.there, c.requires.many))))
+
+pub returns-in-Or : goal.returns-in-Or
+returns-in-Or t c = λ held row vs given fit le said.
+    let op = c.operation-op.result in
+    let are = operands_are c.args.graph.now c.args.c op _ c.entries_keep_their_rules.ensures c.operands_are_there.ensures c.requires.graph
+    c.operation-op.ensures refl in
+    let first : op.a < c.args.c = there _ c.args.c op.kind op.imm op.a 0 kind.Or c.in-Or.is refl are.first in
+    let second : op.b < c.args.c = there _ c.args.c op.kind op.imm op.b 1 kind.Or c.in-Or.is refl are.second in
+    let within : c.args.c < length vs = omega (arith, le, c.requires.condition) in
+    c.connected-in-Or.ensures (at vs c.args.n)
+    (parts_map {P = Said c.args.truth (at vs op.a)} {Q = Said c.args.truth (at vs op.b)} (not c.args.truth) (c.case_within-one.ensures held row vs given fit le)
+    (c.case_within-other.ensures held row vs given fit le)
+    (disjunction held row vs op c.args.c (given.each c.args.c op within c.operation-op.ensures) c.args.truth c.in-Or.is first second said))

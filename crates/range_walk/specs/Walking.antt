@@ -1,0 +1,79 @@
+-- Walking: what holds of a walk over the operations of a cycle, from cells in given ranges.
+use Rattle.std.specs.Prelude.{◌≡◌, ◌≢◌, ◌⊎◌, ℕ, ◌<◌, ◌≤◌, ℤ, true, List, length, slice_get, take, Ok, Err, Some, unsigned_abs, nat_lt, false, pos, Bool}
+use Rattle.vcp_base.specs.declared.kind.Kind.{Kind}
+use Rattle.vcp_base.specs.declared.kind.Kind.TheVariants as kind
+use Rattle.vcp_base.specs.declared.kind.StopKind.{StopKind}
+use Rattle.vcp_base.specs.declared.kind.StopKind.TheVariants as stop
+use Rattle.vcp_base.specs.Kinds.{operands}
+use Rattle.vcp_base.specs.Types.{fits}
+use Rattle.vcp_base.specs.Values.{at}
+use Rattle.op_graph.specs.declared.op.Op.{Op}
+use Rattle.op_graph.specs.GraphRun.{own, outcome_of}
+use Rattle.op_graph.specs.Rules.{is_input}
+use Rattle.range_walk.specs.declared.range.Range.{Range}
+use Rattle.range_walk.specs.declared.told.Told.{Told}
+use Rattle.range_walk.specs.Known.{KnownRanges, may_stop, is_named, NamesAble, LieInTypes}
+use Rattle.range_walk.specs.Intervals.{IsIn, Fit, Hold}
+
+-- the first values of a cycle, in which no operation has stopped yet: each is what its operation gives over those before it
+pub record Given (ops : List Op) (held row vs : List ℤ) : Type 0 where
+  pub few : length vs ≤ length ops
+  pub each : (i : ℕ) (op : Op) → i < length vs → slice_get ops i ≡ Some op → outcome_of held row (take i vs) op ≡ Ok (at vs i)
+
+-- an INPUT's value in the row is of its type
+abbrev pub OwnFits : List ℤ → Op → Type 0
+OwnFits row op = is_input op.kind ≡ true → fits op.ty (own row op.kind op.imm) ≡ true
+
+-- the kind reads a cell
+abbrev pub ReadsCell : Kind → Type 0
+ReadsCell k = k ≡ kind.Load
+
+-- a condition's value is what its truth says: 0 where it is false, and else another
+abbrev pub Taken : Bool → ℤ → Type 0
+Taken true v = v ≢ pos 0
+Taken false v = v ≡ pos 0
+
+-- a condition's value is what its truth says: 1 where it is true, and else another
+abbrev pub Said : Bool → ℤ → Type 0
+Said true v = v ≡ pos 1
+Said false v = v ≢ pos 1
+
+-- a kind compares the values of two operations
+abbrev pub Compares : Kind → Type 0
+Compares k = (k ≡ kind.Lt) ⊎ (k ≡ kind.Eq)
+
+-- both hold, or one of the two
+abbrev pub Parts : Bool → Type 0 → Type 0 → Type 0
+Parts true P Q = P × Q
+Parts false P Q = P ⊎ Q
+
+-- what is told of an operation holds of what it gives over these values
+pub record Tells (held row vs : List ℤ) (op : Op) (t : Told) : Type 0 where
+  pub value : (v : ℤ) → outcome_of held row vs op ≡ Ok v → IsIn t.range v
+  pub stop : (why : StopKind) → OwnFits row op → why ≢ stop.Operand → outcome_of held row vs op ≡ Err why → may_stop why t.stops ≡ true
+
+-- the operand that an operation reads is there: among so many cells for LOAD, and else among so many operations
+abbrev pub OperandIs : ℕ → ℕ → Kind → ℤ → ℕ → Type 0
+OperandIs cells count kind.Load imm n = unsigned_abs imm < cells
+OperandIs cells count _ imm n = n < count
+
+-- what an operation reads is there
+pub record OperandsAre (cells count : ℕ) (op : Op) : Type 0 where
+  pub first : nat_lt 0 (operands op.kind) ≡ true → OperandIs cells count op.kind op.imm op.a
+  pub second : nat_lt 1 (operands op.kind) ≡ true → OperandIs cells count op.kind op.imm op.b
+  pub third : nat_lt 2 (operands op.kind) ≡ true → OperandIs cells count op.kind op.imm op.c
+
+-- what a walk over the operations tells, from cells in these ranges
+pub record IsWalk (ops : List Op) (cells : List Range) (a : KnownRanges) : Type 0 where
+  pub known_many : length a.known ≡ length ops
+  pub stops_many : length a.stops ≡ length ops
+  pub fits : (held row vs : List ℤ) → Hold cells held → Given ops held row vs → Fit a.known vs
+  pub names : (held row vs : List ℤ) (op : Op) (why : StopKind) → Hold cells held → Given ops held row vs → slice_get ops (length vs) ≡ Some op
+      → OwnFits row op → why ≢ stop.Operand → outcome_of held row vs op ≡ Err why → is_named why (slice_get a.stops (length vs)) ≡ true
+  pub able : NamesAble ops a.stops
+  pub types : LieInTypes ops a.known
+
+-- where the cells are in these ranges, and the first operations of a cycle, as many as have ranges, in the old ones, they are in the new ones
+abbrev pub Narrows : List Op → List Range → List Range → List Range → Type 0
+Narrows ops cells old new =
+    (held row vs : List ℤ) → Hold cells held → Given ops held row vs → length vs ≡ length old → Fit old vs → Fit new vs

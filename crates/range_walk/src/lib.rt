@@ -1,0 +1,21 @@
+//! The ranges of the values that the operations of a cycle have, where each cell is in a range.
+//!
+//! A walk over the operations, in their order, tells the range of each from those of its operands, and why it may stop. The ranges are
+//! made narrower by one another: what an operation gives says what it read.
+#![tactic(auto)]
+
+mod choices;
+mod narrowing;
+mod operand_ranges;
+mod range;
+mod ranges;
+mod told;
+mod typed;
+mod values;
+mod walking;
+
+pub use narrowing::{count_of, first_ranges, narrow, put};
+pub use range::{Range, Stops, both_hold, earlier_range, either_holds, range_at};
+pub use ranges::Ranges;
+pub use told::{Told, tell};
+pub use walking::walk;
