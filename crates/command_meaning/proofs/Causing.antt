@@ -127,7 +127,7 @@ sink_six line a b status (inr t) = t.0
 -- ---- all
 
 pub endings_have_causes : EndingsHaveCauses
-endings_have_causes c task before after status few (ended x d out (inl (is, line))) =
+endings_have_causes c task before after status few (ended x d out (inl (is, line, same))) =
     came_causes task before after status few (record { answer = x; done = d; came = record { status_is = is; out = out; err = line } })
 endings_have_causes c task before after status few (ended x d out (inr (is, rose, part))) =
     kept_causes task before after status (by_sink is (λ nothing. nothing.err rose))
@@ -137,7 +137,7 @@ endings_have_causes c task before after status few (wanting late left told) =
     kept_causes task before after status (memory_kept before after status _ told)
 
 pub giving_up_has_causes : GivingUpHasCauses
-giving_up_has_causes c task before after status (unread word named rose u (inl (is, line))) = kept_causes task before after status (by_files is rose)
+giving_up_has_causes c task before after status (unread word named rose u (inl (is, line, same))) = kept_causes task before after status (by_files is rose)
 giving_up_has_causes c task before after status (unread word named rose u (inr (is, err, part))) =
     kept_causes task before after status (by_sink is (λ nothing. nothing.err err))
 giving_up_has_causes c task before after status (unmade u told) = kept_causes task before after status (memory_kept before after status _ told)

@@ -160,7 +160,7 @@ among_after x [] ys h = h
 among_after x (y ∷ xs) ys h = inr (among_after x xs ys h)
 
 told_too_long : (c : About) (found : Option Held) (rest : Option (List ℕ)) (line : List ℕ) (a b : SinkSeen) → Appends a.written b.written line
-    → IfSome found (λ h. IsAtEnd rest ⊎ IsTooLong c h line) → IfSome found (λ h. IsAtEnd rest ⊎ TellsTooLong c h a b)
+    → IfSome found (λ h. IsAtEnd rest ⊎ IsTooLong c h rest line) → IfSome found (λ h. IsAtEnd rest ⊎ TellsTooLong c h rest a b)
 told_too_long c None rest line a b w h = tt
 told_too_long c (Some held) rest line a b w (inl end) = inl end
 told_too_long c (Some held) rest line a b w (inr long) = inr (line, long, w)
@@ -174,9 +174,9 @@ not_six status six (inr (inr h)) = omega (arith, six, h)
 pub performed_keeps : (c : About) (Comes : Held → Task → Type 0) (before after : Outside) (line : List ℕ) (code status : ℕ) →
     Performs c Comes before.files after.files (moment_of before) (moment_of after) line code → TellsLine line code before.err after.err status →
     Keeps c before after status
-performed_keeps c Comes before after line code status p (inl (is, w)) = record {
+performed_keeps c Comes before after line code status p (inl (is, w, same)) = record {
   statuses = subst (λ (n : ℕ). Among n (c.ends ++ 5 ∷ 6 ∷ 7 ∷ [])) (sym is) p.statuses;
-  told = (code, line, p.statuses, p.told, p.write, inl (is, w));
+  told = (code, line, p.statuses, p.told, p.write, inl (is, w, same));
   held = p.held;
   unit = p.unit;
   files = p.stay;
@@ -187,6 +187,11 @@ performed_keeps c Comes before after line code status p (inl (is, w)) = record {
   read = λ five. p.read (sym is ∙ five);
   write = λ six.
       inl (p.write (sym is ∙ six), subst (λ (l : List ℕ). Appends before.err.written after.err.written l) (p.told.output (sym is ∙ six)) w);
+  faults = record {
+    files = λ five six. p.no_read_fault (λ e. five (is ∙ e));
+    out = λ six. p.no_write_fault (λ e. six (is ∙ e));
+    err = λ six. same;
+  };
 }
 performed_keeps c Comes before after line code status p (inr (is, rose, part)) = record {
   statuses = subst (λ (n : ℕ). Among n (c.ends ++ 5 ∷ 6 ∷ 7 ∷ [])) (sym is) (among_after 6 c.ends (5 ∷ 6 ∷ 7 ∷ []) (inr (inl refl)));
@@ -200,6 +205,7 @@ performed_keeps c Comes before after line code status p (inr (is, rose, part)) =
   refused = λ three. absurd (omega (arith, is, three));
   read = λ five. absurd (omega (arith, is, five));
   write = λ six. inr rose;
+  faults = record { files = λ five six. absurd (six is); out = λ six. absurd (six is); err = λ six. absurd (six is) };
 }
 
 -- ---- completeness, as one sentence

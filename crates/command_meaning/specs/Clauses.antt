@@ -19,6 +19,9 @@
 -- unless the status is 6 or 7.
 -- Status 6 comes only where a sink's count of faults rose: that of the output, and then `write fault` was
 -- told, or that of the errors.
+-- And a call that fails gives 5 or 6 each time: the files' count of faults is what it was unless the status is
+-- 5 or 6, and those of both sinks are unless it is 6. So none is passed over, or tried again until it doesn't
+-- fail.
 -- What stands on the errors after each status: nothing after 0, 2 and 3; after 1 a refusal of a file that the
 -- words name, of `--cycles` or, for `demo`, of what was made, and never `no memory`; after 5 the line of a
 -- file that the words name; after 6 `write fault`, and only where the count of the output rose; after 7 `no
@@ -26,8 +29,9 @@
 -- which the count of the errors' sink rose.
 -- In commands that read files, status 0, 2 and 3 come only where nothing is unread of the file that was begun
 -- last, if the files say it; and 1 too, unless the line tells that a file that the command reads has more
--- bytes than it may, and it has. The status is none but 0 to 7, and what is held stays.
-use Rattle.std.specs.Prelude.{ℕ, ◌≡◌, ◌≢◌, ◌⊎◌, ◌<◌, false, true, List, [], ◌∷◌, ◌++◌, length, Option, Some, IfSome}
+-- bytes than it may, and it has, of which exactly one more than it may was taken. The status is none but 0 to
+-- 7, and what is held stays.
+use Rattle.std.specs.Prelude.{ℕ, ◌≡◌, ◌≢◌, ◌⊎◌, ◌+◌, ◌<◌, false, true, List, [], ◌∷◌, ◌++◌, length, drop, Option, Some, IfSome}
 use Rattle.std.specs.Io.KnownBytes.{Appends, IsAtEnd}
 use Rattle.vcp_outside.specs.Counts.{Rose}
 use Rattle.vcp_outside.specs.Held.{Held}
@@ -40,7 +44,7 @@ use Rattle.command_meaning.specs.Answer.{Answer}
 use Rattle.command_meaning.specs.Abouts.{Among, About, FileWord, AllHeld, without_unit}
 use Rattle.command_meaning.specs.Endings.{Answered, Came, Causes, IsNoFault, NothingFailed, TellsLine}
 use Rattle.command_meaning.specs.Kinds.{Task, answers, Meant}
-use Rattle.machine_run.specs.Stops.{GrowsToStop}
+use Rattle.machine_run.specs.Stops.{GrowsToSomeStop}
 use Rattle.vcp_outside.specs.Seen.{SinkSeen}
 use Rattle.coded_unit.specs.Seen.{StaysHonest}
 use Rattle.command_meaning.specs.Seen.{Outside}
@@ -56,18 +60,19 @@ pub record GetsUsage (before after : Outside) (status : ℕ) : Type 0 where
 
 -- ---- what holds of a command whatever the objects tell
 
--- a file that the command reads has more bytes than it may have, and that is the line
-pub record IsTooLong (c : About) (held : Held) (line : List ℕ) : Type 0 where
+-- a file that the command reads has more bytes than it may have, of which one more than that was taken, and that is the line
+pub record IsTooLong (c : About) (held : Held) (rest : Option (List ℕ)) (line : List ℕ) : Type 0 where
   pub word : FileWord
   pub named : Among word c.files
   pub bytes : List ℕ
   pub found : held word.name ≡ Some bytes
   pub long : word.most < length bytes
+  pub left : rest ≡ Some (drop (word.most + 1) bytes)
   pub line_is : line ≡ refusal_text word.name refusal.Bytes
 
 -- and that is the line that was printed
-abbrev pub TellsTooLong : About → Held → SinkSeen → SinkSeen → Type 0
-TellsTooLong c held before after = (line : List ℕ) × IsTooLong c held line × Appends before.written after.written line
+abbrev pub TellsTooLong : About → Held → Option (List ℕ) → SinkSeen → SinkSeen → Type 0
+TellsTooLong c held rest before after = (line : List ℕ) × IsTooLong c held rest line × Appends before.written after.written line
 
 -- a command came to its end: the end of its rows, a stop or a refused output
 abbrev pub IsEnd : ℕ → Type 0
@@ -103,9 +108,15 @@ LosesOutput before after =
     (Rose before.out.faults after.out.faults × Appends before.err.written after.err.written write_fault_text)
     ⊎ Rose before.err.faults after.err.faults
 
+-- A call that failed shows in the status: the counts of both sinks are what they were unless it is 6, and that of the files unless it is 5 or 6.
+pub record FaultsShow (before after : Outside) (status : ℕ) : Type 0 where
+  pub files : status ≢ 5 → status ≢ 6 → after.files.faults ≡ before.files.faults
+  pub out : status ≢ 6 → after.out.faults ≡ before.out.faults
+  pub err : status ≢ 6 → after.err.faults ≡ before.err.faults
+
 -- What every command keeps. Its statuses are its own, or those of a fault, each with its line; what it isn't about stays; 0, 1, 2 and 3
--- come only where nothing is unread of the file that was begun last, but for one that is too long; and 2, 3, 5 and 6 come only by the
--- objects that were handed in.
+-- come only where nothing is unread of the file that was begun last, but for one that is too long; 2, 3, 5 and 6 come only by the objects
+-- that were handed in; and a failure of these comes to 5 or 6.
 pub record Keeps (c : About) (before after : Outside) (status : ℕ) : Type 0 where
   pub statuses : Among status (c.ends ++ 5 ∷ 6 ∷ 7 ∷ [])
   pub told : TellsItsLine c before after status
@@ -113,11 +124,12 @@ pub record Keeps (c : About) (before after : Outside) (status : ℕ) : Type 0 wh
   pub unit : c.calls ≡ false → after.unit ≡ before.unit
   pub files : c.files ≡ [] → after.files ≡ before.files
   pub ended : c.files ≢ [] → IsEnd status → IsAtEnd after.files.rest
-  pub taken : c.files ≢ [] → status ≡ 1 → IfSome before.files.held (λ h. IsAtEnd after.files.rest ⊎ TellsTooLong c h before.err after.err)
-  pub stopped : c.calls ≡ true → status ≡ 2 → GrowsToStop before.unit.log after.unit.log
+  pub taken : c.files ≢ [] → status ≡ 1 → IfSome before.files.held (λ h. IsAtEnd after.files.rest ⊎ TellsTooLong c h after.files.rest before.err after.err)
+  pub stopped : c.calls ≡ true → status ≡ 2 → GrowsToSomeStop before.unit.log after.unit.log
   pub refused : status ≡ 3 → Rose before.unit.wrong after.unit.wrong
   pub read : status ≡ 5 → Rose before.files.faults after.files.faults
   pub write : status ≡ 6 → LosesOutput before after
+  pub faults : FaultsShow before after status
 
 -- ---- what holds where it is told what is held
 

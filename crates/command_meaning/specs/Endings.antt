@@ -36,10 +36,10 @@ use Rattle.command_meaning.specs.Seen.{Outside, Still, moment_of}
 
 -- ---- how a command ends
 
--- the line was printed with this status, or the sink of the errors failed in it, with status 6
+-- the line was printed with this status, and its sink didn't fail; or the sink of the errors failed in it, with status 6
 abbrev pub TellsLine : List ℕ → ℕ → SinkSeen → SinkSeen → ℕ → Type 0
 TellsLine line code before after status =
-    ((status ≡ code) × Appends before.written after.written line)
+    ((status ≡ code) × Appends before.written after.written line × (after.faults ≡ before.faults))
     ⊎ ((status ≡ 6) × Rose before.faults after.faults × AppendsPart before.written after.written line)
 
 -- How a command ends, for its task. It is done: all of its answer's output was written, and the answer's line was told. Or it was cut off

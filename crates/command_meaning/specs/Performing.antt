@@ -9,7 +9,7 @@ use Rattle.command_meaning.specs.Answer.{Answer}
 use Rattle.command_meaning.specs.Abouts.{Among, About, FileWord}
 use Rattle.command_meaning.specs.Clauses.{IsEnd, IsLine, IsTooLong, MayHold}
 use Rattle.command_meaning.specs.Kinds.{Task, Done, Left}
-use Rattle.machine_run.specs.Stops.{GrowsToStop}
+use Rattle.machine_run.specs.Stops.{GrowsToSomeStop}
 use Rattle.vcp_outside.specs.Seen.{FilesSeen}
 use Rattle.machine_run.specs.Moments.{Moment}
 use Rattle.command_meaning.specs.Seen.{Still}
@@ -37,8 +37,10 @@ pub record Performs (c : About) (Comes : Held → Task → Type 0) (files files_
   pub unit : c.calls ≡ false → after.unit ≡ before.unit
   pub stay : c.files ≡ [] → files_after ≡ files
   pub ended : c.files ≢ [] → IsEnd code → IsAtEnd files_after.rest
-  pub taken : c.files ≢ [] → code ≡ 1 → IfSome files.held (λ h. IsAtEnd files_after.rest ⊎ IsTooLong c h line)
-  pub stopped : c.calls ≡ true → code ≡ 2 → GrowsToStop before.unit.log after.unit.log
+  pub taken : c.files ≢ [] → code ≡ 1 → IfSome files.held (λ h. IsAtEnd files_after.rest ⊎ IsTooLong c h files_after.rest line)
+  pub stopped : c.calls ≡ true → code ≡ 2 → GrowsToSomeStop before.unit.log after.unit.log
   pub refused : code ≡ 3 → Rose before.unit.wrong after.unit.wrong
   pub read : code ≡ 5 → Rose files.faults files_after.faults
   pub write : code ≡ 6 → Rose before.out.faults after.out.faults
+  pub no_read_fault : code ≢ 5 → files_after.faults ≡ files.faults
+  pub no_write_fault : code ≢ 6 → after.out.faults ≡ before.out.faults

@@ -15,16 +15,15 @@
 -- Where no answer was wrong, the run that the answers give is the meaning of the program; in `il` the run of
 -- the instruction list on the accumulator; in `exec` and `trace` the run of the image's graph on plain
 -- integers; and each word of `trace` has the value of its operation in that run, and the expected residue.
-use Rattle.std.specs.Prelude.{ℕ, ◌≡◌, List, ◌∷◌, [], ◌++◌, length, map, Option}
-use Rattle.std.specs.Io.KnownBytes.{Appends}
+use Rattle.std.specs.Prelude.{ℕ, ◌≡◌, List, length}
 use Rattle.input_rows.specs.RowsOf.{RowsLeft}
 use Rattle.coded_unit.specs.declared.call.Answer.{Answer as UnitAnswer}
 use Rattle.coded_unit.specs.Log.{Entry, GrowsBy}
 use Rattle.op_graph.specs.Lists.{Lists}
 use Rattle.signature_table.specs.Signatures.{Numbers, table_of}
-use Rattle.coded_machine.specs.CycleEnds.{initial_words, outputs_of}
+use Rattle.coded_machine.specs.CycleEnds.{initial_words}
 use Rattle.coded_machine.specs.Runs.{AllCycles, calls_over, outcome_over}
-use Rattle.machine_run.specs.RowRuns.{SomeCycles, texts_from}
+use Rattle.machine_run.specs.RowRuns.{EarlierPrinted, SomeCycles}
 use Rattle.vcp_words.specs.Forms.{Code}
 use Rattle.command_meaning.specs.Answer.{Answer, Subject}
 use Rattle.command_meaning.specs.GraphsOf.{MayRun}
@@ -90,12 +89,6 @@ pub record RunDone (j : Job) (before after : UnitSeen) (x : Answer) : Type 0 whe
 abbrev pub MayFollow : Job → List (List UnitAnswer) → Report → Type 0
 MayFollow j cycles later = length cycles ≡ length j.rows.rows → later ≡ no_report
 
--- what is printed first and of the rows of all cycles before the last was written, and maybe more
-abbrev pub EarlierPrinted : Printing → Lists → List (List UnitAnswer) → Option (List ℕ) → Option (List ℕ) → Type 0
-EarlierPrinted p g cycles old new =
-    (earlier : List (List UnitAnswer)) (last : List UnitAnswer) → cycles ≡ earlier ++ last ∷ [] →
-    (more : List ℕ) × Appends old new ((p.header ++ texts_from p.row 0 (map (outputs_of g) earlier)) ++ more)
-
 -- A run that was cut off between two of its cycles, where `Writes` says how much was written: so much of what is printed of it, whatever
 -- would have come later, with all that stands before the last cycle. The unit was asked nothing more than these cycles' calls. Where no
 -- answer was wrong, it is so much of what is printed of the run that is meant.
@@ -107,5 +100,5 @@ pub record RunLeft (j : Job) (Writes : Appending) (before after : Moment) : Type
   pub log : GrowsBy before.unit.log after.unit.log (calls_of j graph cycles)
   pub text : (later : Report) → MayFollow j cycles later
       → Writes before.out.written after.out.written (job_answer j (run_then (run_read j graph cycles) later)).out
-  pub earlier : EarlierPrinted j.printing graph cycles before.out.written after.out.written
+  pub earlier : EarlierPrinted graph j.printing.header j.printing.row cycles before.out.written after.out.written
   pub honest : StaysHonest before.unit after.unit → Writes before.out.written after.out.written (job_answer j (run_meant j)).out

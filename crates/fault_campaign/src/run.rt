@@ -1,6 +1,6 @@
 //! The loop over the groups of a script.
 
-ghost use Rattle.std.specs.Prelude.{◌≡◌, ◌≤◌, All, Err, length};
+ghost use Rattle.std.specs.Prelude.{◌≡◌, ◌≢◌, ◌≤◌, All, Err, length};
 ghost use Rattle.vcp_base.specs.Limits.{most_cycles};
 ghost use Rattle.vcp_outside.specs.Counts.{Rose};
 ghost use Rattle.signature_table.specs.Signatures.{IsTableOf};
@@ -32,8 +32,8 @@ use vcp_outside::Sink;
 /// campaign was given up, those of the first groups. Whatever it answers, a kept log grows by exactly the
 /// calls of the run without faults and then, group by group, of the reruns; each verdict is the one that is
 /// read off the answers of its rerun, and names an output or an operation of the graph. `Write` comes only
-/// where the sink's count rose. Where memory was lacking for the run without faults, no call was made and
-/// nothing is written.
+/// where the sink's count rose, which else is as it was. Where memory was lacking for the run without faults,
+/// no call was made and nothing is written.
 pub fn run_campaign<U: Unit, O: Sink>(
     alloc: Global,
     out: &mut O,
@@ -52,6 +52,7 @@ pub fn run_campaign<U: Unit, O: Sink>(
     ensures never_falls { (U.seen unit.old).wrong ≤ (U.seen unit.new).wrong }
     ensures write { result ≡ Err fault.Write → Rose (O.seen out.old).faults (O.seen out.new).faults }
     ensures later { (O.seen out.old).faults ≤ (O.seen out.new).faults }
+    ensures stayed { result ≢ Err fault.Write → (O.seen out.new).faults ≡ (O.seen out.old).faults }
 {
     // The calls are put together from those of the run without faults and of the reruns.
     groups_are_rerun_one_after_another();
@@ -73,6 +74,7 @@ fn judge_groups<U: Unit, O: Sink>(
     ensures never_falls { (U.seen unit.old).wrong ≤ (U.seen unit.new).wrong }
     ensures write { result ≡ Err fault.Write → Rose (O.seen out.old).faults (O.seen out.new).faults }
     ensures later { (O.seen out.old).faults ≤ (O.seen out.new).faults }
+    ensures stayed { result ≢ Err fault.Write → (O.seen out.new).faults ≡ (O.seen out.old).faults }
 {
     // The calls are put together from those of the run without faults and of the reruns.
     groups_are_rerun_one_after_another();

@@ -1,5 +1,5 @@
 -- Stopping: the calls of a cycle that stopped end in a stop.
-use Rattle.std.proofs.Common.{ℕ, ℤ, zero, suc, ◌<◌, ◌≤◌, ◌≡◌, ◌⊎◌, true, false, inl, inr, refl, ap, subst, sym, List, [], ◌∷◌, ◌++◌, append_assoc, length, slice_get, Option, Some, None, arith}
+use Rattle.std.proofs.Common.{ℕ, ℤ, zero, suc, ◌+◌, ◌<◌, ◌≤◌, ◌≡◌, ◌⊎◌, true, false, inl, inr, refl, ap, subst, sym, ◌∙◌, List, [], ◌∷◌, ◌++◌, append_assoc, length, length-append, slice_get, Option, Some, None, arith}
 use Rattle.std.proofs.lemmas.Option.{slice_get_within}
 use Rattle.vcp_base.specs.declared.kind.Kind.TheVariants as kind
 use Rattle.vcp_base.specs.declared.kind.StopKind.{StopKind}
@@ -18,26 +18,33 @@ use Rattle.signature_table.specs.Signatures.{Numbers}
 use Rattle.coded_machine.specs.declared.cycle_end.CycleEnd.{CycleEnd}
 use Rattle.coded_machine.specs.declared.cycle_end.CycleEnd.TheVariants as end
 use Rattle.coded_machine.specs.Calls.{Setting, CallsOf, calls_from, call_of, Whole, AllWords, word_of, word_at}
-use Rattle.coded_machine.specs.CycleEnds.{Cause, stop_of}
+use Rattle.coded_machine.specs.CycleEnds.{Cause, end_of, end_or, first_outside, first_refused, first_stop, stop_of, stop_or}
 use Rattle.coded_machine.specs.Runs.{Turn}
 use Rattle.coded_machine.specs.State.{State, setting}
 use Rattle.machine_run.specs.Stops.{AreWordsOf, EndInStop, answered, outside, GrowsToStop}
 use Rattle.machine_run.proofs.Outs.{IsOut, output_is_out}
 
--- entries that end in some stop
-record EndsInSome (entries : List Entry) : Type 0 where
-  at : ℕ
-  why : StopKind
-  ends : EndInStop entries at why
-
--- so do they with one before them
+-- entries end in a stop with one before them, too
 one_before : (e : Entry) (entries : List Entry) (k : ℕ) (why : StopKind) → EndInStop entries k why → EndInStop (e ∷ entries) k why
 one_before e entries k why (answered earlier call a is op stops) = answered (e ∷ earlier) call a (ap (λ (l : List Entry). e ∷ l) is) op stops
 one_before e entries k why (outside earlier later call a is op operand out beyond words) =
     outside (e ∷ earlier) later call a (ap (λ (l : List Entry). e ∷ l) is) op operand out beyond words
 
-some_before : (e : Entry) (entries : List Entry) → EndsInSome entries → EndsInSome (e ∷ entries)
-some_before e entries s = record { at = s.at; why = s.why; ends = one_before e entries s.at s.why s.ends }
+-- entries whose last call is answered by a stop, which is the first one among the answers, counted from n
+record EndsInFirst (entries : List Entry) (n : ℕ) (answers : List Answer) : Type 0 where
+  at : ℕ
+  why : StopKind
+  ends : EndInStop entries at why
+  first : first_stop n answers ≡ Some (end.Stopped at why)
+
+word_before : (e : Entry) (entries : List Entry) (n m : ℕ) (w : ℤ) (answers : List Answer) → m ≡ suc n → EndsInFirst entries m answers
+    → EndsInFirst (e ∷ entries) n (answer.Word w ∷ answers)
+word_before e entries n m w answers next h = record {
+  at = h.at;
+  why = h.why;
+  ends = one_before e entries h.at h.why h.ends;
+  first = subst (λ (i : ℕ). first_stop i answers ≡ Some (end.Stopped h.at h.why)) next h.first;
+}
 
 -- every operation is answered by a word
 record AllAnswered (ops : List Op) (answers : List Answer) : Type 0 where
@@ -47,25 +54,30 @@ record AllAnswered (ops : List Op) (answers : List Answer) : Type 0 where
 one_more_word : (op : Op) (ops : List Op) (w : ℤ) (answers : List Answer) → AllAnswered ops answers → AllAnswered (op ∷ ops) (answer.Word w ∷ answers)
 one_more_word op ops w answers h = record { words = (refl, h.words); all = ap suc h.all }
 
+one_longer : (before : List Answer) (a : Answer) → length (before ++ a ∷ []) ≡ suc (length before)
+one_longer before a = simp length-append (omega arith)
+
 module _ (s : Setting) where
   -- the last call is answered by a stop
   last_call : (before : List Answer) (op : Op) (ops : List Op) (a : Answer) (why : StopKind) (answers : List Answer) → stop_of a ≡ Some why → answers ≡ []
-      → EndsInSome (calls_from s before (op ∷ ops) (a ∷ answers))
+      → EndsInFirst (calls_from s before (op ∷ ops) (a ∷ answers)) (length before) (a ∷ answers)
   last_call before op ops a why answers stops none = record {
     at = length before;
     why = why;
     ends = answered [] (call_of s op before) a
         (ap (λ (l : List Answer). (call_of s op before, a) ∷ calls_from s (before ++ a ∷ []) ops l) none) refl stops;
+    first = ap (λ (o : Option StopKind). stop_or (length before) o (first_stop (suc (length before)) answers)) stops;
   }
 
   stop_or_words : (before : List Answer) (ops : List Op) (answers : List Answer) → Whole ops answers
-      → EndsInSome (calls_from s before ops answers) ⊎ AllAnswered ops answers
+      → EndsInFirst (calls_from s before ops answers) (length before) answers ⊎ AllAnswered ops answers
   stop_or_words before [] [] whole = inr (record { words = tt; all = refl })
   stop_or_words before [] (a ∷ answers) whole = absurd whole
   stop_or_words before (op ∷ ops) [] whole = absurd whole
   stop_or_words before (op ∷ ops) (answer.Word w ∷ answers) whole =
       elim (stop_or_words (before ++ answer.Word w ∷ []) ops answers whole) [
-        | inl h ↦ inl (some_before (call_of s op before, answer.Word w) (calls_from s (before ++ answer.Word w ∷ []) ops answers) h)
+        | inl h ↦ inl (word_before (call_of s op before, answer.Word w) (calls_from s (before ++ answer.Word w ∷ []) ops answers) (length before)
+            (length (before ++ answer.Word w ∷ [])) w answers (one_longer before (answer.Word w)) h)
         | inr h ↦ inr (one_more_word op ops w answers h)
       ]
   stop_or_words before (op ∷ ops) (answer.Range ∷ answers) whole = inl (last_call before op ops answer.Range stop.Range answers refl whole)
@@ -79,22 +91,22 @@ module _ (s : Setting) where
 
   -- the word of an OUT is outside its type
   out_stops : (before : List Answer) (ops : List Op) (answers : List Answer) (k : ℕ) (op : Op) → slice_get ops k ≡ Some op → op.kind ≡ kind.Out →
-      AllWords answers → k < length answers → fits op.ty (value_part s.graph.profile (word_at answers k)) ≡ false → EndsInSome (calls_from s before ops answers)
+      AllWords answers → k < length answers → fits op.ty (value_part s.graph.profile (word_at answers k)) ≡ false
+      → EndInStop (calls_from s before ops answers) (length before + k) stop.Operand
   out_stops before ops [] k op there is words few beyond = absurd (omega arith)
   out_stops before [] (a ∷ answers) k op there is words few beyond = absurd cc
   out_stops before (p ∷ ops) (a ∷ answers) zero op there is words few beyond =
       let same : op ≡ p = cc in
-      record {
-        at = length before;
-        why = stop.Operand;
-        ends = outside [] (calls_from s (before ++ a ∷ []) ops answers) (call_of s p before) a refl refl refl
-            (subst (λ (x : Op). x.kind ≡ kind.Out) same is)
-            (subst (λ (x : Op). fits x.ty (value_part s.graph.profile (word_of a)) ≡ false) same beyond)
-            (are_words before (p ∷ ops) (a ∷ answers) words);
-      }
+      outside [] (calls_from s (before ++ a ∷ []) ops answers) (call_of s p before) a refl (omega arith) refl
+      (subst (λ (x : Op). x.kind ≡ kind.Out) same is)
+      (subst (λ (x : Op). fits x.ty (value_part s.graph.profile (word_of a)) ≡ false) same beyond)
+      (are_words before (p ∷ ops) (a ∷ answers) words)
   out_stops before (p ∷ ops) (a ∷ answers) (suc k) op there is words few beyond =
-      some_before (call_of s p before, a) (calls_from s (before ++ a ∷ []) ops answers)
-      (out_stops (before ++ a ∷ []) ops answers k op there is words.1 (omega arith) beyond)
+      let mine : List Answer = before ++ a ∷ [] in
+      let place : length mine + k ≡ length before + suc k = omega (arith, one_longer before a) in
+      one_before (call_of s p before, a) (calls_from s mine ops answers) (length before + suc k) stop.Operand
+      (subst (λ (i : ℕ). EndInStop (calls_from s mine ops answers) i stop.Operand) place
+      (out_stops mine ops answers k op there is words.1 (omega arith) beyond))
 
 -- no word is a stop
 no_stop : (answers : List Answer) (k : ℕ) (a : Answer) (why : StopKind) → AllWords answers → slice_get answers k ≡ Some a → stop_of a ≡ Some why → ⊥
@@ -112,11 +124,20 @@ there_is [] k few = absurd (omega arith)
 there_is (x ∷ xs) zero few = (x, refl)
 there_is (x ∷ xs) (suc k) few = there_is xs k (omega arith)
 
+-- the calls of a cycle that stopped end in its stop
 cycle_ends : EntryLaws → (s : Setting) (t : Numbers) (n : ℕ) (answers : List Answer) (k : ℕ) (why : StopKind) → IsGraph s.graph
-    → Whole s.graph.operations answers → Cause s.graph t n answers (end.Stopped k why) → EndsInSome (CallsOf s answers)
-cycle_ends laws s t n answers k why graph whole cause =
+    → Whole s.graph.operations answers → Cause s.graph t n answers (end.Stopped k why) → end.Stopped k why ≡ end_of s.graph t n answers
+    → EndInStop (CallsOf s answers) k why
+cycle_ends laws s t n answers k why graph whole cause end_is =
     elim (stop_or_words s [] s.graph.operations answers whole) [
-      | inl h ↦ h
+      | inl h ↦
+          let g = s.graph in
+          let later : CycleEnd = end_or (first_outside g.profile answers g.outputs) (end_or (first_refused g.profile t n answers 0 g.outputs) end.Released) in
+          let same : end.Stopped k why ≡ end.Stopped h.at h.why = end_is ∙ ap (λ (o : Option CycleEnd). end_or o later) h.first in
+          let place : h.at ≡ k = cc in
+          let cause_is : h.why ≡ why = cc in
+          subst (λ (i : ℕ). EndInStop (CallsOf s answers) i why) place
+          (subst (λ (x : StopKind). EndInStop (CallsOf s answers) h.at x) cause_is h.ends)
       | inr h ↦ elim cause [
         | inl x ↦ absurd (no_stop answers k x.0 why h.words x.1 x.2)
         | inr x ↦
@@ -127,15 +148,19 @@ cycle_ends laws s t n answers k why graph whole cause =
             let out : IsOut here.0 o.ty = output_is_out laws g x.1.0 o here.0 graph x.1.2 here.1 in
             let beyond : fits here.0.ty (value_part g.profile (word_at answers o.op)) ≡ false =
             rw out.ty (subst (λ i. fits o.ty (value_part g.profile (word_at answers i)) ≡ false) (sym x.1.3) x.1.4) in
-            out_stops s [] g.operations answers o.op here.0 here.1 out.kind h.words (omega (arith, few, h.all)) beyond
+            let none : List Answer = [] in
+            let place : length none + o.op ≡ k = omega (arith, x.1.3) in
+            subst (λ (y : StopKind). EndInStop (CallsOf s answers) k y) (sym x.0)
+            (subst (λ (i : ℕ). EndInStop (CallsOf s answers) i stop.Operand) place
+            (out_stops s none g.operations answers o.op here.0 here.1 out.kind h.words (omega (arith, few, h.all)) beyond))
       ]
     ]
 
 -- ---- the log of a run whose last cycle stopped
 
-some_later : (entries more : List Entry) → EndsInSome more → EndsInSome (entries ++ more)
-some_later [] more h = h
-some_later (e ∷ entries) more h = some_before e (entries ++ more) (some_later entries more h)
+more_before : (entries more : List Entry) (k : ℕ) (why : StopKind) → EndInStop more k why → EndInStop (entries ++ more) k why
+more_before [] more k why h = h
+more_before (e ∷ entries) more k why h = one_before e (entries ++ more) k why (more_before entries more k why h)
 
 grows_on : (x y z : Option (List Entry)) (es fs : List Entry) → GrowsBy x y es → GrowsBy y z fs → GrowsBy x z (es ++ fs)
 grows_on (Some x) (Some y) (Some z) es fs h k = rw (k, h) (append_assoc x es fs)
@@ -148,13 +173,13 @@ grows_on (Some x) None (Some z) es fs h k = absurd k
 
 pub stopped_log : EntryLaws
     → (m o : State) (row : List ℤ) (e : CycleEnd) (k : ℕ) (why : StopKind) (x y z : Option (List Entry)) (earlier : List Entry) (i j : ℕ) → IsGraph m.graph
-    → Turn m o row e y z i j → Cause m.graph m.table m.cycles o.answers e → e ≡ end.Stopped k why → GrowsBy x y earlier → GrowsToStop x z
+    → Turn m o row e y z i j → Cause m.graph m.table m.cycles o.answers e → e ≡ end.Stopped k why → GrowsBy x y earlier → GrowsToStop x z k why
 stopped_log laws m o row e k why x y z earlier i j graph turn cause is h =
     let last = CallsOf (setting m row) o.answers in
-    let ends : EndsInSome last =
-    cycle_ends laws (setting m row) m.table m.cycles o.answers k why graph turn.whole (subst (Cause m.graph m.table m.cycles o.answers) is cause) in
-    let all : EndsInSome (earlier ++ last) = some_later earlier last ends in
-    (earlier ++ last, all.at, all.why, grows_on x y z earlier last h turn.carried.told, all.ends)
+    let ends : EndInStop last k why =
+    cycle_ends laws (setting m row) m.table m.cycles o.answers k why graph turn.whole (subst (Cause m.graph m.table m.cycles o.answers) is cause)
+    (sym is ∙ turn.end_is) in
+    (earlier ++ last, grows_on x y z earlier last h turn.carried.told, more_before earlier last k why ends)
 
 -- ---- where a cycle stopped, or was refused
 

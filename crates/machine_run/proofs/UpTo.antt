@@ -29,7 +29,7 @@ pub record UpTo (g : Lists) (t : Numbers) (left rest : RowsLeft) (text : ℕ →
   pub answers : m.answers ≡ last_answers cycles
   pub between : m.under_way ≡ false
   pub written : Appends before.out.written now.out.written (texts_from text 0 (map (outputs_of g) cycles))
-  pub faults : before.out.faults ≤ now.out.faults
+  pub faults : now.out.faults ≡ before.out.faults
   pub kept : (rows : List (List ℤ)) → kept_before rows → kept_now (rows ++ map (outputs_of g) cycles)
 
 -- before the first cycle
@@ -43,7 +43,7 @@ up_to_first laws left text b kept m is = record {
   answers = ap (λ (s : State). s.answers) is;
   between = ap (λ (s : State). s.under_way) is;
   written = appends_nothing b.out.written;
-  faults = omega arith;
+  faults = refl;
   kept = λ rows h. subst kept (sym (append-nil rows)) h;
 }
 
@@ -149,7 +149,7 @@ pub up_to_next : RunLaws
     → (g : Lists) (t : Numbers) (left rest now : RowsLeft) (text : ℕ → List ℤ → List ℕ) (b n a : Moment) (kept_before kept_now kept_after : List (List ℤ)
     → Type 0) (m o : State) (row : List ℤ) (e : CycleEnd) → UpTo g t left rest text b n kept_before kept_now m → e ≡ end.Released →
     rest ≡ record now { rows = row ∷ now.rows } → Turn m o row e n.unit.log a.unit.log n.unit.wrong a.unit.wrong → o.under_way ≡ false → Appends n.out.written a.out.written
-    (texts_from text m.cycles (row_if e (outputs_of m.graph o.answers))) → n.out.faults ≤ a.out.faults →
+    (texts_from text m.cycles (row_if e (outputs_of m.graph o.answers))) → a.out.faults ≡ n.out.faults →
     ((rows : List (List ℤ)) → kept_now rows → kept_after (rows ++ row_if e (outputs_of m.graph o.answers)))
     → UpTo g t left now text b a kept_before kept_after o
 up_to_next laws g t left rest now text b n a kept_before kept_now kept_after m o row end.Released u is one turn between written faults kept = record {
@@ -162,7 +162,7 @@ up_to_next laws g t left rest now text b n a kept_before kept_now kept_after m o
   written =
       subst (λ outs. Appends b.out.written a.out.written (texts_from text 0 outs)) (sym (map_more (outputs_of g) u.cycles o.answers))
       (written_on g t text u.cycles u.taken m o.answers end.Released b n a u.run u.written written);
-  faults = omega (arith, u.faults, faults);
+  faults = faults ∙ u.faults;
   kept = λ rows h.
       subst (λ outs. kept_after (rows ++ outs)) (sym (map_more (outputs_of g) u.cycles o.answers))
       (kept_on g u.cycles m o.answers end.Released kept_before kept_now kept_after u.run.graph u.kept kept rows h);

@@ -1,5 +1,5 @@
 -- RowRuns: what running a graph over the rows that are left leaves, on any unit.
-use Rattle.std.specs.Prelude.{ℕ, suc, ◌≡◌, ◌<◌, ◌-◌, ◌^◌, List, [], ◌∷◌, ◌++◌, map, None, Some, ℤ, Result, Ok, Err, OnErr}
+use Rattle.std.specs.Prelude.{ℕ, suc, ◌≡◌, ◌<◌, ◌-◌, ◌^◌, List, [], ◌∷◌, ◌++◌, map, Option, None, Some, ℤ, Result, Ok, Err, OnErr}
 use Rattle.std.specs.Io.KnownBytes.{Appends}
 use Rattle.vcp_outside.specs.Counts.{Rose}
 use Rattle.vcp_outside.specs.Written.{AppendsPart}
@@ -30,11 +30,15 @@ abbrev pub texts_from : (ℕ → List ℤ → List ℕ) → ℕ → List (List �
 texts_from text n [] = []
 texts_from text n (row ∷ rows) = text n row ++ texts_from text (suc n) rows
 
--- all that is written for the rows of the cycles before the last one was written, and maybe more
-abbrev pub EarlierWritten : Lists → (ℕ → List ℤ → List ℕ) → List (List Answer) → Moment → Moment → Type 0
-EarlierWritten g text cycles before after =
+-- a header and all that is written for the rows of the cycles before the last one were written, and maybe more
+abbrev pub EarlierPrinted : Lists → List ℕ → (ℕ → List ℤ → List ℕ) → List (List Answer) → Option (List ℕ) → Option (List ℕ) → Type 0
+EarlierPrinted g header text cycles old new =
     (earlier : List (List Answer)) (last : List Answer) → cycles ≡ earlier ++ last ∷ [] →
-    (more : List ℕ) × Appends before.out.written after.out.written (texts_from text 0 (map (outputs_of g) earlier) ++ more)
+    (more : List ℕ) × Appends old new ((header ++ texts_from text 0 (map (outputs_of g) earlier)) ++ more)
+
+-- the same without a header
+abbrev pub EarlierWritten : Lists → (ℕ → List ℤ → List ℕ) → List (List Answer) → Moment → Moment → Type 0
+EarlierWritten g text cycles before after = EarlierPrinted g [] text cycles before.out.written after.out.written
 
 -- a run came to its end on these rows: a cycle that wasn't released, or the last row
 pub record CameToEnd (g : Lists) (t : Numbers) (rows : List (List ℤ)) (cycles : List (List Answer)) (e : CycleEnd) : Type 0 where

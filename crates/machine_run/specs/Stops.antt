@@ -25,6 +25,10 @@ pub data EndInStop (entries : List Entry) (k : ℕ) (why : StopKind) : Type 0 wh
       → call.kind ≡ kind.Out → fits call.ty (value_part call.profile (word_of a)) ≡ false → AreWordsOf call.cycle ((call, a) ∷ later)
       → EndInStop entries k why
 
--- the log grew by entries that end in a stop; nothing is said where it is not told before and after
-abbrev pub GrowsToStop : Option (List Entry) → Option (List Entry) → Type 0
-GrowsToStop before now = (entries : List Entry) × (k : ℕ) × (why : StopKind) × GrowsBy before now entries × EndInStop entries k why
+-- the log grew by entries that end in this stop of operation k; nothing is said where it is not told before and after
+abbrev pub GrowsToStop : Option (List Entry) → Option (List Entry) → ℕ → StopKind → Type 0
+GrowsToStop before now k why = (entries : List Entry) × GrowsBy before now entries × EndInStop entries k why
+
+-- and so it did by a stop of some operation
+abbrev pub GrowsToSomeStop : Option (List Entry) → Option (List Entry) → Type 0
+GrowsToSomeStop before now = (k : ℕ) × (why : StopKind) × GrowsToStop before now k why

@@ -1,6 +1,6 @@
 //! The loop over the cycles of a run.
 
-ghost use Rattle.std.specs.Prelude.{◌≡◌, ◌<◌, ◌≤◌, ◌++◌, ℕ, ℤ, List, None, false, Ok, OnOk, length};
+ghost use Rattle.std.specs.Prelude.{◌≡◌, ◌≢◌, ◌<◌, ◌≤◌, ◌++◌, ℕ, ℤ, List, None, false, Ok, Err, OnOk, length};
 ghost use Rattle.vcp_base.specs.Limits.{most_cycles};
 ghost use Rattle.vcp_base.specs.declared.kind.StopKind.{StopKind};
 ghost use Rattle.vcp_outside.specs.Counts.{Rose};
@@ -14,6 +14,7 @@ ghost use Rattle.machine_run.specs.Leaves.{Leaves};
 ghost use Rattle.machine_run.specs.Moments.{moment};
 ghost use Rattle.machine_run.specs.RowRuns.{RunsRows, texts_from};
 ghost use Rattle.machine_run.specs.Stops.{GrowsToStop};
+ghost use Rattle.machine_run.specs.declared.fault.RunFault.TheVariants as fault;
 
 use crate::fault::RunFault;
 use crate::released::ReleasedRows;
@@ -68,8 +69,8 @@ fn run_cycle<U: Unit, O: Sink, R: ReleasedRows>(
 ///
 /// For every unit a kept log grew by exactly the calls of these cycles with the unit's answers, and the end
 /// that is answered and the rows that were handed on are those that the answers give. `Write` comes only
-/// where the sink's count rose, with all of the text of the cycles before the last one. Where no answer was
-/// wrong, the rows and the end are those of the graph's run on plain integers over the same rows, and of a
+/// where the sink's count rose, which else is as it was, with all of the text of the cycles before the last
+/// one. Where no answer was wrong, the rows and the end are those of the graph's run on plain integers over the same rows, and of a
 /// run that was given up a front of them. The machine has the same graph and table then, counts the cycles
 /// that were released, is between two cycles, and its answers are those of the last one. A stop is answered
 /// only where a kept log ends in that stop; a refused output only where the unit's count of wrong answers
@@ -93,7 +94,8 @@ pub fn run_rows<U: Unit, O: Sink, R: ReleasedRows>(
         (moment (U.seen unit.new) (O.seen out.new))
         (R.Keeps released.old) (R.Keeps released.new) machine.new result }
     ensures later { (O.seen out.old).faults ≤ (O.seen out.new).faults }
-    ensures stopped { (k : ℕ) (why : StopKind) → result ≡ Ok (end.Stopped k why) → GrowsToStop (U.seen unit.old).log (U.seen unit.new).log }
+    ensures stayed { result ≢ Err fault.Write → (O.seen out.new).faults ≡ (O.seen out.old).faults }
+    ensures stopped { (k : ℕ) (why : StopKind) → result ≡ Ok (end.Stopped k why) → GrowsToStop (U.seen unit.old).log (U.seen unit.new).log k why }
     ensures placed { (k : ℕ) (why : StopKind) → result ≡ Ok (end.Stopped k why) → k < length machine.old.graph.operations }
     ensures refused { (i found expected : ℕ) → result ≡ Ok (end.Refused i found expected) → Rose (U.seen unit.old).wrong (U.seen unit.new).wrong }
     ensures numbered { (i found expected : ℕ) → result ≡ Ok (end.Refused i found expected) → i < length machine.old.graph.outputs }

@@ -1,5 +1,5 @@
 -- Done: what a whole run of a pair leaves, and one that was cut off, from what its rows left.
-use Rattle.std.proofs.Common.{ℕ, ◌+◌, ◌≤◌, ◌≡◌, refl, ap, subst, sym, ◌∙◌, ℤ, List, [], ◌∷◌, ◌++◌, append-nil, append_assoc, length, length-append, arith, Option, Some, None, Result, Ok, Err}
+use Rattle.std.proofs.Common.{ℕ, ◌+◌, ◌≤◌, ◌≡◌, refl, ap, subst, sym, ◌∙◌, ℤ, List, [], ◌∷◌, ◌++◌, append-nil, append_assoc, length, length-append, map, arith, Option, Some, None, Result, Ok, Err}
 use Rattle.std.specs.Io.KnownBytes.{Appends}
 use Rattle.vcp_base.specs.Limits.{most_cycles}
 use Rattle.vcp_base.specs.declared.kind.StopKind.{StopKind}
@@ -14,19 +14,21 @@ use Rattle.op_graph.specs.Rules.{IsGraph}
 use Rattle.op_graph.specs.GraphRun.{Run, after_cycle, cycle, graph_run, initial, outputs, run_from, stored}
 use Rattle.signature_table.specs.Signatures.{Numbers, IsTable}
 use Rattle.run_report.specs.Lines.{row_text}
-use Rattle.machine_run.specs.RowRuns.{texts_from}
+use Rattle.coded_machine.specs.CycleEnds.{outputs_of}
+use Rattle.machine_run.specs.RowRuns.{EarlierPrinted, texts_from}
 use Rattle.machine_run.specs.declared.fault.RunFault.{RunFault}
 use Rattle.machine_run.specs.declared.fault.RunFault.TheVariants as fault
 use Rattle.machine_run.proofs.Writing.{appends_nothing, appends_on, texts_on}
 use Rattle.pair_channel.specs.declared.pair_end.PairEnd.{PairEnd}
 use Rattle.pair_channel.specs.declared.pair_end.PairEnd.TheVariants as pair
 use Rattle.pair_channel.specs.PairLaws.{PairCounts, PairRunLaws}
-use Rattle.pair_channel.specs.PairRuns.{PairOutcome, PairOver, FrontOfRun, pair_end_of_run, pair_outcome_for}
+use Rattle.pair_channel.specs.PairRuns.{AllPairs, PairOutcome, PairOver, pair_over, FrontOfRun, pair_end_of_run, pair_outcome_for}
 use Rattle.pair_channel.specs.PairStates.{PairState, fresh_pair}
-use Rattle.pair_channel.specs.PairDone.{AreFirst, EarlierPairs, OneStaysHonest, PairDone, PairRunsTo, nothing_later, outcome_then}
+use Rattle.pair_channel.specs.PairDone.{AreFirst, OneStaysHonest, PairDone, PairRunsTo, nothing_later, outcome_then}
 use Rattle.pair_channel.specs.PairLines.{pair_header, pair_last, pair_text}
 use Rattle.pair_channel.specs.PairMoments.{PairMoment}
-use Rattle.pair_channel.specs.PairRows.{EarlierRows, PairRows}
+use Rattle.pair_channel.specs.PairRows.{PairRows}
+use Rattle.pair_channel.proofs.Earlier.{front_rows, no_last}
 
 -- ---- bytes
 
@@ -140,25 +142,29 @@ outcome_stays outputs (pair.Stopped op why) later is = refl
 outcome_stays outputs (pair.Parted x y) later is = refl
 outcome_stays outputs (pair.Differ i x y) later is = refl
 
--- all rows were written, and maybe more
-earlier_all : (g : Lists) (outputs : List (List ℤ)) (before after : SinkSeen) (more : List ℕ) →
-    Appends before.written after.written (front_text g outputs ++ more) → EarlierPairs g outputs before after
-earlier_all g outputs before after more h earlier last is =
-    let first = texts_from row_text 0 earlier in
-    let one = texts_from row_text (0 + length earlier) (last ∷ []) in
-    let texts : texts_from row_text 0 outputs ≡ first ++ one = ap (texts_from row_text 0) is ∙ texts_on row_text 0 earlier (last ∷ []) in
-    let same : front_text g outputs ++ more ≡ (pair_header g ++ first) ++ (one ++ more) =
+-- the header and all rows were written, and maybe more
+earlier_all : (g : Lists) (t u : Numbers) (rows : List (List ℤ)) (ours theirs : List (List Answer)) (outputs : List (List ℤ)) (e : PairEnd)
+    (old new : Option (List ℕ)) (more : List ℕ) → AllPairs g t u 0 rows ours theirs → pair_over g t u 0 ours theirs ≡ record { rows = outputs; end = e } →
+    Appends old new (front_text g outputs ++ more) → EarlierPrinted g (pair_header g) row_text ours old new
+earlier_all g t u rows ours theirs outputs e old new more all outcome h earlier last is =
+    let p = front_rows g t u 0 rows ours theirs earlier last all is in
+    let mine = map (outputs_of g) earlier in
+    let outputs_are : outputs ≡ mine ++ p.0 = sym (ap (λ (o : PairOutcome). o.rows) outcome) ∙ p.1 in
+    let first = texts_from row_text 0 mine in
+    let rest = texts_from row_text (0 + length mine) p.0 in
+    let texts : texts_from row_text 0 outputs ≡ first ++ rest = ap (texts_from row_text 0) outputs_are ∙ texts_on row_text 0 mine p.0 in
+    let same : front_text g outputs ++ more ≡ (pair_header g ++ first) ++ (rest ++ more) =
     ap (λ bs. (pair_header g ++ bs) ++ more) texts
-    ∙ (ap (λ bs. bs ++ more) (sym (append_assoc (pair_header g) first one)) ∙ append_assoc (pair_header g ++ first) one more) in
-    (one ++ more, subst (Appends before.written after.written) same h)
+    ∙ (ap (λ bs. bs ++ more) (sym (append_assoc (pair_header g) first rest)) ∙ append_assoc (pair_header g ++ first) rest more) in
+    (rest ++ more, subst (Appends old new) same h)
 
-earlier_on : (g : Lists) (outputs : List (List ℤ)) (b h a : SinkSeen) → Appends b.written h.written (pair_header g) → EarlierRows outputs h a →
-    EarlierPairs g outputs b a
-earlier_on g outputs b h a header rows earlier last is =
-    let p = rows earlier last is in (
+earlier_on : (g : Lists) (ours : List (List Answer)) (old mid new : Option (List ℕ)) → Appends old mid (pair_header g) →
+    EarlierPrinted g [] row_text ours mid new → EarlierPrinted g (pair_header g) row_text ours old new
+earlier_on g ours old mid new header rows earlier last is =
+    let p = rows earlier last is in
+    let first = texts_from row_text 0 (map (outputs_of g) earlier) in (
       p.0,
-      subst (Appends b.written a.written) (sym (append_assoc (pair_header g) (texts_from row_text 0 earlier) p.0))
-          (appends_on b.written h.written a.written (pair_header g) (texts_from row_text 0 earlier ++ p.0) header p.1),
+      subst (Appends old new) (sym (append_assoc (pair_header g) first p.0)) (appends_on old mid new (pair_header g) (first ++ p.0) header p.1),
     )
 
 -- ---- a pair on the machine
@@ -215,10 +221,6 @@ over_nothing laws g t u b a one two =
     (subst (λ s. PairOver g t u [] [] [] [] pair.Released b.first b.first b.second s) (sym two)
     (laws.stands g t u [] [] [] (fresh_pair g t u) b.first b.first b.second b.second (laws.starts g t u b.first b.second)))
 
-no_earlier : {X : Type 0} (earlier : List X) (last : X) → [] ≡ earlier ++ last ∷ [] → ⊥
-no_earlier [] last is = cc
-no_earlier (x ∷ earlier) last is = cc
-
 -- want of memory
 pub nothing_done : PairRunLaws → (g : Lists) (t u : Numbers) (left : RowsLeft) (b : PairMoment) → PairRunsTo g t u left b b (Err fault.Memory)
 nothing_done laws g t u left b = record {
@@ -231,7 +233,7 @@ nothing_done laws g t u left b = record {
   end = pair.Released;
   over = over_nothing laws g t u b b refl refl;
   text = λ later whole. ([], pair_text g (outcome_then (record { rows = []; end = pair.Released }) later) left.refusal, refl, appends_nothing b.out.written);
-  earlier = λ earlier last is. absurd (no_earlier earlier last is);
+  earlier = λ earlier last is. absurd (no_last earlier last is);
   front = λ still. ((graph_run g left.rows).rows, refl);
 }
 
@@ -250,7 +252,7 @@ header_cut laws g t u left b a one two part rose = (
     over = over_nothing laws g t u b a one two;
     text = λ later whole. part_then b.out.written a.out.written (pair_header g)
         (texts_from row_text 0 later.rows ++ pair_last g (length later.rows) later.end left.refusal) part;
-    earlier = λ earlier last is. absurd (no_earlier earlier last is);
+    earlier = λ earlier last is. absurd (no_last earlier last is);
     front = λ still. ((graph_run g left.rows).rows, refl);
   },
   rose,
@@ -297,7 +299,7 @@ module _ (counts : PairCounts) (g : Lists) (t u : Numbers) (left : RowsLeft) (fa
           (subst (AppendsPart b.out.written a.out.written) (sym (text_later g r.outputs later left.refusal))
           (part_then b.out.written a.out.written (front_text g r.outputs) (later_bytes g r.outputs later left.refusal)
           (part_on b.out.written h.out.written a.out.written (pair_header g) (texts_from row_text 0 r.outputs) header r.ends.2)));
-      earlier = earlier_on g r.outputs b.out h.out a.out header r.ends.3;
+      earlier = earlier_on g r.ours b.out.written h.out.written a.out.written header r.ends.3;
       front = λ still. are_first g left.rows r.taken r.more (record { rows = r.outputs; end = r.end }) r.rows_are
           (over_front counts g t u left fair r.taken r.more r.rows_are r.ours r.theirs r.outputs r.end b a
           (over_from r.taken r.ours r.theirs r.outputs r.end r.over) still);
@@ -318,7 +320,7 @@ module _ (counts : PairCounts) (g : Lists) (t u : Numbers) (left : RowsLeft) (fa
         text = λ later whole. subst (λ e. AppendsFront b.out.written a.out.written (pair_text g (outcome_then (record { rows = r.outputs; end = e }) later)
             left.refusal)) (sym r.ends.0)
             (front_text g r.outputs, later_bytes g r.outputs later left.refusal, text_later g r.outputs later left.refusal, written);
-        earlier = earlier_all g r.outputs b.out a.out []
+        earlier = earlier_all g t u r.taken r.ours r.theirs r.outputs r.end b.out.written a.out.written [] r.over.all r.over.outcome
             (subst (Appends b.out.written a.out.written) (sym (append-nil (front_text g r.outputs))) written);
         front = λ still. are_first g left.rows r.taken r.more (record { rows = r.outputs; end = r.end }) r.rows_are
             (over_front counts g t u left fair r.taken r.more r.rows_are r.ours r.theirs r.outputs r.end b a
@@ -366,7 +368,8 @@ module _ (counts : PairCounts) (g : Lists) (t u : Numbers) (left : RowsLeft) (fa
                 subst (λ (o : PairOutcome). AppendsPart b.out.written z.written (pair_text g o left.refusal))
                 (sym (outcome_stays r.outputs e later (whole r.ends.0)))
                 (subst (AppendsPart b.out.written z.written) (sym (text_last g r.outputs e left.refusal)) part);
-            earlier = earlier_all g r.outputs b.out z k.0 (appends_on b.out.written a.out.written z.written (front_text g r.outputs) k.0 written k.4);
+            earlier = earlier_all g t u r.taken r.ours r.theirs r.outputs r.end b.out.written z.written k.0 r.over.all r.over.outcome
+                (appends_on b.out.written a.out.written z.written (front_text g r.outputs) k.0 written k.4);
             front = λ still. are_first g left.rows r.taken r.more (record { rows = r.outputs; end = e }) r.rows_are
                 (over_front counts g t u left fair r.taken r.more r.rows_are r.ours r.theirs r.outputs e b last over_here still);
           },

@@ -53,7 +53,8 @@ memory_exit laws g t u left rest b n p h = record {
   over = stands laws g t u left rest b n p h;
   count = so_many g t u left rest b n p h;
   ends = (refl, h.written);
-  faults = h.faults;
+  faults = omega (arith, h.faults);
+  stayed = λ other. h.faults;
 }
 
 -- the last row
@@ -70,7 +71,8 @@ last_exit laws g t u left rest b n p h none behind = record {
   over = stands laws g t u left rest b n p h;
   count = so_many g t u left rest b n p h;
   ends = (none, refl, λ _. ap (λ (r : RowsLeft). r.refusal) h.rows ∙ behind, h.written);
-  faults = h.faults;
+  faults = omega (arith, h.faults);
+  stayed = λ other. h.faults;
 }
 
 -- a row that is refused
@@ -87,7 +89,8 @@ refused_exit laws g t u left rest b n p why h k = record {
   over = stands laws g t u left rest b n p h;
   count = so_many g t u left rest b n p h;
   ends = (k.0, refl, ap (λ (r : RowsLeft). r.refusal) h.rows ∙ k.1, h.written);
-  faults = h.faults;
+  faults = omega (arith, h.faults);
+  stayed = λ other. h.faults;
 }
 
 -- a row that is refused, or want of memory for it
@@ -114,7 +117,7 @@ pub cycle_exit : PairRunLaws → (g : Lists) (t u : Numbers) (left rest now : Ro
     (row out_before out_now : List ℤ) (e : PairEnd) → UpTo g t u left rest b n p → e ≢ pair.Released → rest ≡ record now { rows = row ∷ now.rows } →
     PairTurn p q row e out_before out_now n.first a.first n.second a.second →
     Appends n.out.written a.out.written (texts_from row_text p.cycles (pair_row_if e (outputs_of p.first.graph q.first.answers))) →
-    n.out.faults ≤ a.out.faults → PairRows g t u left b a q.cycles (Ok e)
+    a.out.faults ≡ n.out.faults → PairRows g t u left b a q.cycles (Ok e)
 cycle_exit laws g t u left rest now b n a p q row out_before out_now e h not one turn written faults =
     let mine = map (outputs_of g) h.ours in
     let last = pair_row_if e (outputs_of g q.first.answers) in
@@ -135,6 +138,7 @@ cycle_exit laws g t u left rest now b n a p q row out_before out_now e h not one
           ∙ (ap (λ k. k + length last) (so_many g t u left rest b n p h) ∙ sym (length-append mine last)));
       ends = (refl, refl, (λ is. absurd (not is)), written_on g t u left rest b n a p q.first.answers e h written);
       faults = omega (arith, h.faults, faults);
+      stayed = λ other. faults ∙ h.faults;
     }
 
 -- ---- a write that failed
@@ -186,9 +190,10 @@ write_exit laws g t u left rest now b n a p q row out_before out_now h one turn 
             (part_written row_text b.out.written n.out.written a.out.written mine last h.written part_here),
         λ before final is. (
           part_here.0,
-          subst (λ rs. Appends b.out.written a.out.written (texts_from row_text 0 rs ++ part_here.0))
-              (snoc_front mine before (outputs_of g q.first.answers) final (sym outs ∙ is)) earlier,
+          subst (λ xs. Appends b.out.written a.out.written (texts_from row_text 0 (map (outputs_of g) xs) ++ part_here.0))
+              (snoc_front h.ours before q.first.answers final is) earlier,
         ),
       );
       faults = omega (arith, h.faults, later);
+      stayed = λ other. absurd (other refl);
     }

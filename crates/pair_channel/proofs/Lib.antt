@@ -6,6 +6,7 @@ pub mod Runs
 pub mod States
 pub mod Worked
 pub mod Done
+pub mod Earlier
 pub mod Exits
 pub mod Last
 pub mod Processor

@@ -20,7 +20,7 @@ use Rattle.pair_channel.specs.Beside.{AllBeside}
 use Rattle.pair_channel.specs.PairLaws.{OneChannelHonest}
 use Rattle.pair_channel.specs.PairRuns.{PairOutcome, PairOver, FrontOfRun, pair_outcome_for}
 use Rattle.pair_channel.specs.BesideDone.{BesideDone, BesideLeft, BesideRunsTo, beside_read}
-use Rattle.pair_channel.specs.PairDone.{AreFirst, EarlierPairs, PairDone, PairLeft, PairRunsTo, outcome_then}
+use Rattle.pair_channel.specs.PairDone.{AreFirst, PairDone, PairLeft, PairRunsTo, outcome_then}
 use Rattle.pair_channel.specs.PairLines.{pair_text}
 use Rattle.pair_channel.specs.PairMoments.{PairMoment}
 use Rattle.pair_channel.proofs.Done.{Fair, run_goes_on, taken_few}
@@ -94,7 +94,7 @@ module _ (honest : OneChannelHonest) (g : Lists) (t u : Numbers) (left : RowsLef
         log = d.over.first.told;
         text = λ later whole. subst (λ (o : PairOutcome). Writes out.written after.written (pair_text g (outcome_then o later) left.refusal)) is
             (d.text later whole);
-        earlier = subst (λ (o : PairOutcome). EarlierPairs g o.rows out after) is d.earlier;
+        earlier = d.earlier;
         front = subst (λ (o : PairOutcome). AreFirst g left.rows o.rows) is (d.front (inr still));
         honest = λ right.
             let p = run_goes_on g (initial g) d.taken d.more in

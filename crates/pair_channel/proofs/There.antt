@@ -52,7 +52,7 @@ is_there laws g p q row out_before out_now (pair.Differ i a b) x y z w graph one
 -- the calls of the first channel end in the stop that both channels have
 pub stops_log : EntryLaws → (g : Lists) (p q : PairState) (row out_before out_now : List ℤ) (e : PairEnd) (op : ℕ) (why : StopKind) (x y z w : UnitSeen)
     (start : Option (List Entry)) (earlier : List Entry) → IsGraph g → p.first.graph ≡ g → PairTurn p q row e out_before out_now x y z w →
-    e ≡ pair.Stopped op why → GrowsBy start x.log earlier → GrowsToStop start y.log
+    e ≡ pair.Stopped op why → GrowsBy start x.log earlier → GrowsToStop start y.log op why
 stops_log laws g p q row out_before out_now e op why x y z w start earlier graph one turn is h =
     let cause : PairCause turn.first_end turn.second_end (outputs_of p.first.graph q.first.answers) (outputs_of p.second.graph q.second.answers)
     (pair.Stopped op why) =

@@ -35,7 +35,7 @@ pub record UpTo (g : Lists) (t u : Numbers) (left rest : RowsLeft) (before now :
   pub run : PairSoFar g t u taken ours theirs p before.first now.first before.second now.second
   pub between : p.first.under_way ≡ false
   pub written : Appends before.out.written now.out.written (texts_from row_text 0 (map (outputs_of g) ours))
-  pub faults : before.out.faults ≤ now.out.faults
+  pub faults : now.out.faults ≡ before.out.faults
 
 -- before the first cycle
 pub up_to_first : PairRunLaws → (g : Lists) (t u : Numbers) (left : RowsLeft) (b : PairMoment) (p : PairState) → p ≡ fresh_pair g t u →
@@ -48,7 +48,7 @@ up_to_first laws g t u left b p is = record {
   run = subst (λ (q : PairState). PairSoFar g t u [] [] [] q b.first b.first b.second b.second) (sym is) (laws.starts g t u b.first b.second);
   between = ap (λ (q : PairState). q.first.under_way) is;
   written = appends_nothing b.out.written;
-  faults = omega arith;
+  faults = refl;
 }
 
 -- ---- one more cycle
@@ -78,7 +78,7 @@ pub up_to_next : PairRunLaws → (g : Lists) (t u : Numbers) (left rest now : Ro
     (row out_before out_now : List ℤ) (e : PairEnd) → UpTo g t u left rest b n p → e ≡ pair.Released → rest ≡ record now { rows = row ∷ now.rows } →
     PairTurn p q row e out_before out_now n.first a.first n.second a.second → q.first.under_way ≡ false →
     Appends n.out.written a.out.written (texts_from row_text p.cycles (pair_row_if e (outputs_of p.first.graph q.first.answers))) →
-    n.out.faults ≤ a.out.faults → UpTo g t u left now b a q
+    a.out.faults ≡ n.out.faults → UpTo g t u left now b a q
 up_to_next laws g t u left rest now b n a p q row out_before out_now e h is one turn between written faults =
     let released = subst (λ (z : PairEnd). PairTurn p q row z out_before out_now n.first a.first n.second a.second) is turn in
     let bytes = subst (λ (z : PairEnd).
@@ -92,7 +92,7 @@ up_to_next laws g t u left rest now b n a p q row out_before out_now e h is one 
       between = between;
       written = subst (λ outs. Appends b.out.written a.out.written (texts_from row_text 0 outs)) (sym (map_more (outputs_of g) h.ours q.first.answers))
           (written_on g t u left rest b n a p q.first.answers pair.Released h bytes);
-      faults = omega (arith, h.faults, faults);
+      faults = faults ∙ h.faults;
     }
 
 -- before a row the cycles are fewer than a run may have

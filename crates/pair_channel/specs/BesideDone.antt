@@ -12,7 +12,9 @@ use Rattle.op_graph.specs.GraphRun.{graph_run, initial}
 use Rattle.signature_table.specs.Signatures.{Numbers}
 use Rattle.coded_machine.specs.CycleEnds.{initial_words}
 use Rattle.coded_machine.specs.Runs.{calls_over}
+use Rattle.run_report.specs.Lines.{row_text}
 use Rattle.machine_run.specs.Moments.{Moment}
+use Rattle.machine_run.specs.RowRuns.{EarlierPrinted}
 use Rattle.machine_run.specs.declared.fault.RunFault.{RunFault}
 use Rattle.machine_run.specs.declared.fault.RunFault.TheVariants as fault
 use Rattle.pair_channel.specs.declared.pair_end.PairEnd.{PairEnd}
@@ -20,8 +22,8 @@ use Rattle.pair_channel.specs.declared.pair_end.PairEnd.TheVariants as pair
 use Rattle.pair_channel.specs.Beside.{AllBeside, beside}
 use Rattle.pair_channel.specs.PairRuns.{PairOutcome, FrontOfRun, Disagrees, pair_outcome_for}
 use Rattle.coded_unit.specs.Seen.{StaysHonest}
-use Rattle.pair_channel.specs.PairDone.{AreFirst, EarlierPairs, nothing_later, outcome_then}
-use Rattle.pair_channel.specs.PairLines.{pair_text}
+use Rattle.pair_channel.specs.PairDone.{AreFirst, nothing_later, outcome_then}
+use Rattle.pair_channel.specs.PairLines.{pair_header, pair_text}
 
 -- the calls of the first channel over these rows, in cycles with these answers
 abbrev pub beside_calls : Lists → Numbers → List (List ℤ) → List (List Answer) → List Entry
@@ -46,8 +48,8 @@ pub record BesideDone (g : Lists) (t : Numbers) (left : RowsLeft) (before after 
   pub honest : StaysHonest before.unit after.unit → beside_read g t left.rows cycles ≡ pair_outcome_for (graph_run g left.rows)
 
 -- A run that was cut off between two of its cycles, when `more` of its rows weren't taken: `Writes` says how much was written of what is
--- printed of it, whatever would have come later. The unit was asked nothing more than these cycles' calls. Where no answer was wrong, it is so
--- much of what is printed of the graph's run.
+-- printed of it, whatever would have come later, with all that stands before the last cycle. The unit was asked nothing more than these
+-- cycles' calls. Where no answer was wrong, it is so much of what is printed of the graph's run.
 pub record BesideLeft (g : Lists) (t : Numbers) (left : RowsLeft) (Writes : Option (List ℕ) → Option (List ℕ) → List ℕ → Type 0) (before after : Moment)
     : Type 0 where
   pub taken : List (List ℤ)
@@ -58,7 +60,7 @@ pub record BesideLeft (g : Lists) (t : Numbers) (left : RowsLeft) (Writes : Opti
   pub log : GrowsBy before.unit.log after.unit.log (beside_calls g t taken cycles)
   pub text : (later : PairOutcome) → (more ≡ [] → later ≡ nothing_later)
       → Writes before.out.written after.out.written (pair_text g (outcome_then (beside_read g t taken cycles) later) left.refusal)
-  pub earlier : EarlierPairs g (beside_read g t taken cycles).rows before.out after.out
+  pub earlier : EarlierPrinted g (pair_header g) row_text cycles before.out.written after.out.written
   pub front : AreFirst g left.rows (beside_read g t taken cycles).rows
   pub honest : StaysHonest before.unit after.unit
       → Writes before.out.written after.out.written (pair_text g (pair_outcome_for (graph_run g left.rows)) left.refusal)

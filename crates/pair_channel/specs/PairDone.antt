@@ -1,8 +1,7 @@
 -- PairDone: what stands after a pair's run, and where it was cut off.
-use Rattle.std.specs.Prelude.{ℕ, ◌≡◌, ◌<◌, ◌⊎◌, List, [], ◌∷◌, ◌++◌, length, Option, None, Some, Result, Ok, Err, ℤ}
+use Rattle.std.specs.Prelude.{ℕ, ◌≡◌, ◌<◌, ◌⊎◌, List, [], ◌++◌, length, Option, None, Some, Result, Ok, Err, ℤ}
 use Rattle.std.specs.Io.KnownBytes.{Appends}
 use Rattle.vcp_outside.specs.Counts.{Rose}
-use Rattle.vcp_outside.specs.Seen.{SinkSeen}
 use Rattle.vcp_outside.specs.Written.{AppendsFront, AppendsPart}
 use Rattle.input_rows.specs.RowsOf.{RowsLeft}
 use Rattle.coded_unit.specs.declared.call.Answer.{Answer}
@@ -12,7 +11,7 @@ use Rattle.signature_table.specs.Signatures.{Numbers}
 use Rattle.coded_machine.specs.declared.cycle_end.CycleEnd.{CycleEnd}
 use Rattle.coded_machine.specs.declared.cycle_end.CycleEnd.TheVariants as end
 use Rattle.run_report.specs.Lines.{row_text}
-use Rattle.machine_run.specs.RowRuns.{texts_from}
+use Rattle.machine_run.specs.RowRuns.{EarlierPrinted}
 use Rattle.machine_run.specs.declared.fault.RunFault.{RunFault}
 use Rattle.machine_run.specs.declared.fault.RunFault.TheVariants as fault
 use Rattle.pair_channel.specs.declared.pair_end.PairEnd.{PairEnd}
@@ -68,14 +67,9 @@ outcome_then o later = goes_on o.end o later
 abbrev pub nothing_later : PairOutcome
 nothing_later = record { rows = []; end = pair.Released }
 
--- the header and all that is written for the rows before the last one was written, and maybe more
-abbrev pub EarlierPairs : Lists → List (List ℤ) → SinkSeen → SinkSeen → Type 0
-EarlierPairs g outputs before after =
-    (earlier : List (List ℤ)) (last : List ℤ) → outputs ≡ earlier ++ last ∷ [] →
-    (more : List ℕ) × Appends before.written after.written ((pair_header g ++ texts_from row_text 0 earlier) ++ more)
-
 -- A run of a pair that was cut off between two of its cycles, when `more` of its rows weren't taken: `Writes` says how much was written of
--- what is printed of it, whatever would have come later. The units were asked nothing more than these cycles' calls.
+-- what is printed of it, whatever would have come later, with all that stands before the last cycle. The units were asked nothing more than
+-- these cycles' calls.
 pub record PairLeft (g : Lists) (t u : Numbers) (left : RowsLeft) (Writes : Option (List ℕ) → Option (List ℕ) → List ℕ → Type 0)
     (before after : PairMoment) : Type 0 where
   pub taken : List (List ℤ)
@@ -88,7 +82,7 @@ pub record PairLeft (g : Lists) (t u : Numbers) (left : RowsLeft) (Writes : Opti
   pub over : PairOver g t u taken ours theirs outputs end before.first after.first before.second after.second
   pub text : (later : PairOutcome) → (more ≡ [] → later ≡ nothing_later)
       → Writes before.out.written after.out.written (pair_text g (outcome_then (record { rows = outputs; end = end }) later) left.refusal)
-  pub earlier : EarlierPairs g outputs before.out after.out
+  pub earlier : EarlierPrinted g (pair_header g) row_text ours before.out.written after.out.written
   pub front : OneStaysHonest before after → AreFirst g left.rows outputs
 
 -- How far a pair's run came: to its end; to a row that is refused; or until writing failed, or memory was wanted, before it began or in it.

@@ -1,11 +1,12 @@
 //! The run of a pair whose second channel is on the processor itself.
 
-ghost use Rattle.std.specs.Prelude.{ℕ, ◌≡◌, ◌≢◌, ◌≤◌, Ok, length};
+ghost use Rattle.std.specs.Prelude.{ℕ, ◌≡◌, ◌≢◌, ◌≤◌, Ok, Err, length};
 ghost use Rattle.vcp_base.specs.Limits.{most_cycles};
 ghost use Rattle.vcp_base.specs.declared.kind.StopKind.{StopKind};
 ghost use Rattle.signature_table.specs.Signatures.{IsTableOf};
 ghost use Rattle.machine_run.specs.Moments.{moment};
 ghost use Rattle.machine_run.specs.Stops.{GrowsToStop};
+ghost use Rattle.machine_run.specs.declared.fault.RunFault.TheVariants as fault;
 ghost use Rattle.pair_channel.specs.declared.pair_end.PairEnd.TheVariants as ends;
 ghost use Rattle.pair_channel.specs.BesideDone.{BesideRunsTo};
 
@@ -42,7 +43,8 @@ pub fn run_beside<U: Unit, O: Sink>(
     requires few { length rows.old.rows ≤ most_cycles }
     requires width { length rows.old.types ≡ length graph.now.inputs }
     ensures ran { BesideRunsTo graph.now table.now rows.old (moment (U.seen unit.old) (O.seen out.old)) (moment (U.seen unit.new) (O.seen out.new)) result }
-    ensures stopped { (op : ℕ) (why : StopKind) → result ≡ Ok (ends.Stopped op why) → GrowsToStop (U.seen unit.old).log (U.seen unit.new).log }
+    ensures stayed { result ≢ Err fault.Write → (O.seen out.new).faults ≡ (O.seen out.old).faults }
+    ensures stopped { (op : ℕ) (why : StopKind) → result ≡ Ok (ends.Stopped op why) → GrowsToStop (U.seen unit.old).log (U.seen unit.new).log op why }
 {
     // What the law below and these calls ensure is known of the run.
     one_honest_channel_holds_the_pair();

@@ -1,6 +1,6 @@
 //! The run of a pair of channels over rows of inputs, and what is printed of it.
 
-ghost use Rattle.std.specs.Prelude.{ℕ, ◌≡◌, ◌≢◌, ◌<◌, ◌≤◌, None, false, Ok, length};
+ghost use Rattle.std.specs.Prelude.{ℕ, ◌≡◌, ◌≢◌, ◌<◌, ◌≤◌, None, false, Ok, Err, length};
 ghost use Rattle.vcp_base.specs.Limits.{most_cycles};
 ghost use Rattle.vcp_base.specs.declared.kind.StopKind.{StopKind};
 ghost use Rattle.vcp_outside.specs.Written.{WritesTo};
@@ -9,6 +9,7 @@ ghost use Rattle.coded_machine.specs.CycleEnds.{outputs_of};
 ghost use Rattle.run_report.specs.Lines.{row_text};
 ghost use Rattle.machine_run.specs.RowRuns.{texts_from};
 ghost use Rattle.machine_run.specs.Stops.{GrowsToStop};
+ghost use Rattle.machine_run.specs.declared.fault.RunFault.TheVariants as fault;
 ghost use Rattle.pair_channel.specs.declared.pair_end.PairEnd.{PairEnd as PairEndOf};
 ghost use Rattle.pair_channel.specs.declared.pair_end.PairEnd.TheVariants as ends;
 ghost use Rattle.pair_channel.specs.PairRuns.{pair_row_if};
@@ -81,7 +82,7 @@ fn run_rows<U: Unit, V: Unit, O: Sink>(
         (pair_moment (U.seen first.old) (V.seen second.old) (O.seen out.old))
         (pair_moment (U.seen first.new) (V.seen second.new) (O.seen out.new)) pair.new.cycles result }
     ensures there { (e : PairEndOf) → result ≡ Ok e → PairIsThere graph.now e }
-    ensures stopped { (op : ℕ) (why : StopKind) → result ≡ Ok (ends.Stopped op why) → GrowsToStop (U.seen first.old).log (U.seen first.new).log }
+    ensures stopped { (op : ℕ) (why : StopKind) → result ≡ Ok (ends.Stopped op why) → GrowsToStop (U.seen first.old).log (U.seen first.new).log op why }
 {
     // What the laws below and these calls ensure is known of each cycle.
     pairs_follow_their_answers();
@@ -127,8 +128,8 @@ fn print_end<O: Sink>(out: &mut O, graph: &Graph, cycles: u32, end: &PairEnd) ->
 /// answers stood still below its last value, the rows are the first of the graph's run on plain integers, all
 /// of them where the rows ended or the run stopped, and a stop is its stop; the channels disagree only where
 /// one of the counts rose. Where writing failed, which comes only where the sink's count rose, a proper part
-/// of all that may be printed was written, with all lines before that of the last row. A stop is answered
-/// only where a kept log of the first unit ends in that stop.
+/// of all that may be printed was written, with the lines of all cycles before the last one; else that count
+/// is as it was. A stop is answered only where a kept log of the first unit ends in that stop.
 pub fn run_pair<U: Unit, V: Unit, O: Sink>(
     alloc: Global,
     graph: &Graph,
@@ -147,7 +148,8 @@ pub fn run_pair<U: Unit, V: Unit, O: Sink>(
     ensures ran { PairRunsTo graph.now table.now other.now rows.old
         (pair_moment (U.seen first.old) (V.seen second.old) (O.seen out.old))
         (pair_moment (U.seen first.new) (V.seen second.new) (O.seen out.new)) result }
-    ensures stopped { (op : ℕ) (why : StopKind) → result ≡ Ok (ends.Stopped op why) → GrowsToStop (U.seen first.old).log (U.seen first.new).log }
+    ensures stayed { result ≢ Err fault.Write → (O.seen out.new).faults ≡ (O.seen out.old).faults }
+    ensures stopped { (op : ℕ) (why : StopKind) → result ≡ Ok (ends.Stopped op why) → GrowsToStop (U.seen first.old).log (U.seen first.new).log op why }
 {
     // What the laws below and these calls ensure is known of the run.
     pairs_follow_their_answers();

@@ -112,8 +112,8 @@ early number names n last sum (refused i f w) not = refl
 pub ended-early : (m : State) (names : List (List ℕ)) (number : ℕ) (last sum : ℤ) (e : CycleEnd) (a b : SinkSeen) (r : Result Ending Failed)
     → e ≢ cycle.Released → IsThere m.graph e → PrintsLast (last_text names m.cycles (end_read m.graph e) None) m.graph e a b r
     → PrintsLast (summed_text m names number last sum e) m.graph e a b r
-ended-early m names number last sum e a b (Ok end) not there (w, status) =
-    (rw (early number names m.cycles last sum (end_read m.graph e) (λ is. not (complete-is m.graph e there is))) at w, status)
+ended-early m names number last sum e a b (Ok end) not there (w, status, stayed) =
+    (rw (early number names m.cycles last sum (end_read m.graph e) (λ is. not (complete-is m.graph e there is))) at w, status, stayed)
 ended-early m names number last sum e a b (Err why) not there (rose, part) =
     (rose, rw (early number names m.cycles last sum (end_read m.graph e) (λ is. not (complete-is m.graph e there is))) at part)
 

@@ -18,9 +18,6 @@ use Rattle.vcp_core.specs.MachineRun.{CarriesOut}
 
 -- ---- an image
 
-pub image_not_bytes : (text : List ℕ) (r : Refusal) → NotImage text r → r ≢ refusal.Bytes
-image_not_bytes text _ (no_image f at) e = cc
-
 -- a table has a correction for each operation
 corrections-count : (p : Profile) (seed step : ℕ) (held : List Cell) (k : ℕ) (ops : List Op) → length (corrections_from p seed step held k ops) ≡ length ops
 corrections-count p seed step held k [] = refl

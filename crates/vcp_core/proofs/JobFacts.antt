@@ -1,5 +1,5 @@
 -- What the calls of a job's run give, as its lemmas take it.
-use Rattle.std.proofs.Common.{ℕ, suc, [], ◌∷◌, ◌≡◌, ◌<◌, refl, sym, ap, subst, ◌∙◌, List, length, map, slice_get, Option, None, Some, Result, Ok, Err, All, arith, ℤ}
+use Rattle.std.proofs.Common.{ℕ, suc, [], ◌∷◌, ◌≡◌, ◌≢◌, ◌<◌, refl, sym, ap, subst, ◌∙◌, List, length, map, slice_get, Option, None, Some, Result, Ok, Err, All, arith, ℤ}
 use Rattle.std.proofs.lemmas.List.{length-map}
 use Rattle.vcp_base.specs.Types.{AreIn}
 use Rattle.vcp_base.specs.declared.columns.Column.{Column}
@@ -74,8 +74,13 @@ leaves-shown n g t left text shown before after kept_before kept_after r is h =
 
 -- a run that failed has cause, where the count rose if a write failed
 pub failed-causes : (before after : Moment) (why : RunFault) → (why ≡ given_up.Write → Rose before.out.faults after.out.faults)
-    → HasCauses before after (Err why)
-failed-causes before after why rose = record { write = λ is. rose cc; refused = λ is. absurd cc; stopped = λ is. absurd cc }
+    → (why ≢ given_up.Write → after.out.faults ≡ before.out.faults) → HasCauses before after (Err why)
+failed-causes before after why rose stayed = record {
+  write = λ is. rose cc;
+  refused = λ is. absurd cc;
+  stopped = λ is. absurd cc;
+  stayed = λ no. stayed (λ is. no (ap Err is));
+}
 
 -- a row couldn't be written
 pub rows-rose : (g : Lists) (t : Numbers) (left : RowsLeft) (text : ℕ → List ℤ → List ℕ) (before after : Moment) (why : RunFault)

@@ -27,13 +27,14 @@ use Rattle.vcp_inputs.specs.declared.refusal.Refusal.{Refusal}
 use Rattle.vcp_inputs.specs.declared.refusal.Refusal.TheVariants as refusal
 use Rattle.vcp_inputs.specs.declared.refusal.NoInput.{NoInput}
 use Rattle.vcp_inputs.specs.declared.refusal.NoInput.TheVariants as input
-use Rattle.vcp_inputs.specs.Files.{Loads, NotLoaded as FileLost}
+use Rattle.vcp_inputs.specs.Files.{LeavesLong, Loads, NotLoaded as FileLost}
 use Rattle.vcp_inputs.specs.Images.{ImageOf, NotImage}
 use Rattle.vcp_inputs.specs.Lines.{input_status, input_text, refusal_text}
 use Rattle.vcp_inputs.specs.Refusals.{no_rows}
 use Rattle.vcp_inputs.specs.RowsOutcome.{RowsOutcome, opened, rows_outcome}
 use Rattle.vcp_inputs.specs.RowsRead.{AllRead, NoneRead, RowsBroken, at_header, at_row, graph_columns}
-use Rattle.vcp_inputs.specs.Scripts.{ScriptOf, NotScript, no_script}
+use Rattle.vcp_inputs.specs.Scripts.{ScriptOf, NotScript}
+use Rattle.vcp_inputs.proofs.NotBytes.{script_not_bytes}
 use Rattle.command_meaning.specs.Abouts.{About, about, FileWord, rows_words, script_word, Among}
 use Rattle.command_meaning.specs.Answer.{Campaign}
 use Rattle.command_meaning.specs.CampaignKind.{CampaignDone, CampaignLeft, verdicts_answer, verdicts_meant}
@@ -190,12 +191,11 @@ lost_for Why held name most b mid n input.Memory later h = tt
 
 -- where it is refused, it was read to its end, or it is too long
 pub script_taken : (m : List ℕ) (rows : Rows) (f : List ℕ) (held : Held) (g : Lists) (b n : ℕ) (i : NoInput) (rest : Option (List ℕ))
-    → ((r : Refusal) → i ≡ input.Refused r → r ≢ refusal.Bytes → IsAtEnd rest) → FileLost (NotScript g) held f most_source_bytes b n i
-    → input_status i ≡ 1 → IsAtEnd rest ⊎ IsTooLong (about (inject m rows f)) held (input_text f i)
-script_taken m rows f held g b n i rest ends h is =
-    file_taken (about (inject m rows f)) (NotScript g) f held b n (script_word f) (script_named m rows f) refl i rest ends not_bytes h is where
-      not_bytes : (text : List ℕ) (r : Refusal) → NotScript g text r → r ≢ refusal.Bytes
-      not_bytes text _ (no_script why known is) e = cc
+    → ((r : Refusal) → i ≡ input.Refused r → r ≢ refusal.Bytes → IsAtEnd rest)
+    → (i ≡ input.Refused refusal.Bytes → LeavesLong f most_source_bytes rest held) → FileLost (NotScript g) held f most_source_bytes b n i
+    → input_status i ≡ 1 → IsAtEnd rest ⊎ IsTooLong (about (inject m rows f)) held rest (input_text f i)
+script_taken m rows f held g b n i rest ends left h is =
+    file_taken (about (inject m rows f)) (NotScript g) f held b n (script_word f) (script_named m rows f) refl i rest ends (script_not_bytes g) left h is
 
 -- ---- the lines of verdicts
 
@@ -318,11 +318,11 @@ module _ (c : Campaign) (unit unit' : UnitSeen) (out out' : SinkSeen) where
 
 -- the groups weren't all judged, behind all files
 pub campaign_performs : (c : About) (Comes : Held → Task → Type 0) (files later : FilesSeen) → c.files ≢ [] → later.held ≡ files.held →
-    (before after : Moment) → IsAtEnd later.rest → (c.calls ≡ false → after.unit ≡ before.unit) → (e : CampaignFault) →
+    (before after : Moment) → IsAtEnd later.rest → later.faults ≡ files.faults → (c.calls ≡ false → after.unit ≡ before.unit) → (e : CampaignFault) →
     IfSome files.held (λ h. Reaches c (Comes h) files later before after (fault_text (of_campaign e)) (fault_status (of_campaign e))) →
-    (e ≡ campaign.Write → Rose before.out.faults after.out.faults) →
+    (e ≡ campaign.Write → Rose before.out.faults after.out.faults) → (e ≢ campaign.Write → after.out.faults ≡ before.out.faults) →
     Performs c Comes files later before after (fault_text (of_campaign e)) (fault_status (of_campaign e))
-campaign_performs c Comes files later reads held before after end unit campaign.Write far rose =
-    part_performs c Comes files later reads held before after end unit (rose refl) far
-campaign_performs c Comes files later reads held before after end unit campaign.Memory far rose =
-    short_performs c Comes files later reads held before after end unit far
+campaign_performs c Comes files later reads held before after end read unit campaign.Write far rose stayed =
+    part_performs c Comes files later reads held before after end read unit (rose refl) far
+campaign_performs c Comes files later reads held before after end read unit campaign.Memory far rose stayed =
+    short_performs c Comes files later reads held before after end read unit far (stayed (λ e. cc))

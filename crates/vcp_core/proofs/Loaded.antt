@@ -10,19 +10,6 @@ use Rattle.vcp_inputs.specs.Programs.{NoProgram, unlexed, unparsed, NotTyped, no
 use Rattle.vcp_inputs.specs.RowsOutcome.{source_outcome, Opens}
 use Rattle.vcp_inputs.specs.declared.rows.RowsSource.TheVariants as rows
 
--- ---- no text is refused for its bytes where it was looked at
-
-pub program_not_bytes : (text : List ℕ) (r : Refusal) → NoProgram text r → r ≢ refusal.Bytes
-program_not_bytes text _ (unlexed f known h) e = cc
-program_not_bytes text _ (unparsed ts f known reads h) e = cc
-
-pub typed_not_bytes : (text : List ℕ) (r : Refusal) → NotTyped text r → r ≢ refusal.Bytes
-typed_not_bytes text _ (no_program r h) e = program_not_bytes text r h e
-typed_not_bytes text _ (mistyped p f is known h) e = cc
-
-pub listing_not_bytes : (text : List ℕ) (r : Refusal) → NotListing text r → r ≢ refusal.Bytes
-listing_not_bytes text _ (no_listing f known h) e = cc
-
 -- ---- a program and its rows
 
 -- the bytes of a rows file come to the same as equal bytes, for equal columns

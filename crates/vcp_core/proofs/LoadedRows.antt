@@ -55,17 +55,18 @@ rows_may c (file name) more names =
 rows_may c (cycles n) more names = inr (names (rows_name (cycles n)) (inl refl))
 
 -- ROWS have too long a file
-long_rows : (c : About) (rows : Rows) (held : Held) → ((word : FileWord) → Among word (rows_words rows) → Among word c.files) → HasLongFile rows held
-    → IsTooLong c held (refusal_text (rows_name rows) refusal.Bytes)
-long_rows c (file name) held named (bytes, found, l) = record {
+long_rows : (c : About) (rows : Rows) (rest : Option (List ℕ)) (held : Held) → ((word : FileWord) → Among word (rows_words rows) → Among word c.files)
+    → HasLongFile rows rest held → IsTooLong c held rest (refusal_text (rows_name rows) refusal.Bytes)
+long_rows c (file name) rest held named (bytes, found, l, left) = record {
   word = record { name = name; most = most_rows_bytes };
   named = named (record { name = name; most = most_rows_bytes }) (inl refl);
   bytes = bytes;
   found = found;
   long = l;
+  left = left;
   line_is = refl;
 }
-long_rows c (cycles n) held named h = absurd h
+long_rows c (cycles n) rest held named h = absurd h
 
 -- why there are none, where the files that broke were so many before an earlier file
 opens_before : (o : RowsOutcome) (b mid n : ℕ) (i : NoInput) → b ≤ mid → Opens o mid n (Err i) → Opens o b n (Err i)
@@ -117,34 +118,36 @@ module _ {V : Type 0} (Is : List ℕ → V → Type 0) (Why : List ℕ → Refus
 
     -- where they are refused, their file was read to its end, or it is too long
     rows_taken : (i : NoInput) → ((r : Refusal) → i ≡ input.Refused r → r ≢ refusal.Bytes → IsAtEnd later.rest)
-        → (i ≡ input.Refused refusal.Bytes → IfSome mid.held (HasLongFile rows)) → input_status i ≡ 1
-        → IfSome files.held (λ h. IsAtEnd later.rest ⊎ IsTooLong c h (input_text (rows_name rows) i))
+        → (i ≡ input.Refused refusal.Bytes → IfSome mid.held (HasLongFile rows later.rest)) → input_status i ≡ 1
+        → IfSome files.held (λ h. IsAtEnd later.rest ⊎ IsTooLong c h later.rest (input_text (rows_name rows) i))
     rows_taken input.Unread whole long is = absurd (omega (arith, is))
     rows_taken (input.Refused r) whole long is =
         elim (bytes_or r) [
           | inl bytes ↦
               if_some_same files.held mid.held _ held_mid
-              (if_some_weaker mid.held (HasLongFile rows) _
-              (λ h l. inr (subst (λ (x : Refusal). IsTooLong c h (refusal_text (rows_name rows) x)) (sym bytes) (long_rows c rows h more l)))
+              (if_some_weaker mid.held (HasLongFile rows later.rest) _
+              (λ h l. inr (subst (λ (x : Refusal). IsTooLong c h later.rest (refusal_text (rows_name rows) x)) (sym bytes)
+              (long_rows c rows later.rest h more l)))
               (long (ap input.Refused bytes)))
           | inr other ↦ if_some_always files.held _ (λ h. inl (whole r refl other))
         ]
     rows_taken input.Memory whole long is = absurd (omega (arith, is))
 
     -- ROWS aren't loaded
-    pub rows_unloaded : (at : Moment) (i : NoInput) → files.faults ≤ mid.faults → files.broken ≤ mid.broken → IsAtEnd mid.rest
+    pub rows_unloaded : (at : Moment) (i : NoInput) → mid.faults ≡ files.faults → files.broken ≤ mid.broken → IsAtEnd mid.rest
         → IfSome mid.held (λ h. Opens (rows_outcome rows h columns) mid.broken later.broken (Err i)) → (i ≡ input.Unread → begins rows columns ≡ true)
-        → (i ≡ input.Unread → Rose mid.faults later.faults) → ((r : Refusal) → i ≡ input.Refused r → r ≢ refusal.Bytes → later.rest ≡ mid.rest)
-        → (i ≡ input.Refused refusal.Bytes → IfSome mid.held (HasLongFile rows)) → IsCaused i →
+        → (i ≡ input.Unread → Rose mid.faults later.faults) → (i ≢ input.Unread → later.faults ≡ mid.faults)
+        → ((r : Refusal) → i ≡ input.Refused r → r ≢ refusal.Bytes → later.rest ≡ mid.rest)
+        → (i ≡ input.Refused refusal.Bytes → IfSome mid.held (HasLongFile rows later.rest)) → IsCaused i →
         Performs c OnFile files later at at (input_text (rows_name rows) i) (input_status i)
-    rows_unloaded at i faults broken end opens begun rose rest long caused =
+    rows_unloaded at i faults broken end opens begun rose stayed rest long caused =
         files_lost c OnFile files later reads (held_later ∙ held_mid) one at (rows_name rows) i
         (if_some_both files.held mid.held _ _ _ held_mid
         (λ h l o. rows_lost h at (rows_outcome rows h columns) i l refl begun
         (opens_before (rows_outcome rows h columns) files.broken mid.broken later.broken i broken o))
         loads opens)
         (rows_taken i (λ r is other. stays_at_end mid.rest later.rest end (rest r is other)) long) (λ is. omega (arith, faults, rose is))
-        (λ is. let (w, among, name_is) = rows_file rows columns (begun is) in (w, more w among, sym name_is)) caused (rows_may c rows more names)
+        (λ no. stayed no ∙ faults) (λ is. let (w, among, name_is) = rows_file rows columns (begun is) in (w, more w among, sym name_is)) caused (rows_may c rows more names)
 
     -- they were, from this source
     module _ (s : RowsSource) (end : IsAtEnd later.rest) (source_is : IfSome mid.held (λ h. rows_outcome rows h columns ≡ source_outcome s columns)) where
@@ -162,10 +165,11 @@ module _ {V : Type 0} (Is : List ℕ → V → Type 0) (Why : List ℕ → Refus
           (λ h. subst (λ (x : RowsOutcome). OnRows (rows_name rows) (Then h v) x (task h)) (sym opens) (comes h))
 
       -- it wasn't opened
-      pub rows_unopened : (at : Moment) (i : NoInput) → (i ≡ input.Unread → ⊥) → Opens (source_outcome s columns) files.broken later.broken (Err i)
+      pub rows_unopened : later.faults ≡ files.faults → (at : Moment) (i : NoInput) → (i ≡ input.Unread → ⊥) → Opens (source_outcome s columns) files.broken later.broken (Err i)
           → IsCaused i → Performs c OnFile files later at at (input_text (rows_name rows) i) (input_status i)
-      rows_unopened at i read opens caused =
+      rows_unopened faults at i read opens caused =
           files_lost c OnFile files later reads (held_later ∙ held_mid) one at (rows_name rows) i
           (if_some_both files.held mid.held _ _ _ held_mid
           (λ h l is. rows_lost h at (source_outcome s columns) i l is (λ e. absurd (read e)) opens) loads source_is)
-          (λ is. if_some_always files.held _ (λ h. inl end)) (λ is. absurd (read is)) (λ is. absurd (read is)) caused (rows_may c rows more names)
+          (λ is. if_some_always files.held _ (λ h. inl end)) (λ is. absurd (read is)) (λ no. faults) (λ is. absurd (read is)) caused
+          (rows_may c rows more names)

@@ -240,46 +240,35 @@ module _ (laws : Laws) where
 
 -- ---- an image that was written is taken
 
-pub image_comes : (laws : ImageLaws) (g : Lists) (seed step : ℕ) (Then : Lists → Numbers → Task) (name : List ℕ) (held : Held) (task : Task) →
-    HasImage g seed step → length (image_of g seed step) ≤ most_image_bytes → held name ≡ Some (image_of g seed step) →
-    ImageFile (λ i x. x ≡ Then i.graph i.table) name held task → task ≡ Then g (table_of seed step g)
-image_comes laws g seed step Then name held task has less found comes =
-    let i : Image = record { graph = g; table = table_of seed step g } in
-    let is : ImageOf (image_of g seed step) i = record { has = has; bytes = refl; table = refl } in
-    image_file_once laws (λ j x. x ≡ Then j.graph j.table) name held (λ j c d. one_is (Then j.graph j.table) c d) task (Then i.graph i.table) comes
-    (taken (image_of g seed step) i (Then i.graph i.table) found less is refl)
-
--- and audited, where its graph has few enough weights
-audited_is : (horizon : ℕ) (name : List ℕ) (i : Image) (task : Task) → weights_up_to i.graph horizon ≤ most_weights → Audited horizon name i task →
-    (told : List ℕ) × AuditOf i.graph horizon told × (task ≡ prints told)
-audited_is horizon name i _ less (too_large more) = absurd (not_both most_weights (weights_up_to i.graph horizon) more less)
-audited_is horizon name i _ less (printed fine told is) = (told, is, refl)
-
 not_untaken : (laws : ImageLaws) (text : List ℕ) (i : Image) (r : Refusal) → ImageOf text i → length text ≤ most_image_bytes →
     IsRefused NotImage most_image_bytes text r → ⊥
 not_untaken laws text i _ is less (long more) = not_both most_image_bytes (length text) more less
 not_untaken laws text i _ is less (short r fine why) = image_or_none laws text i r is why
 
-audit_of : (laws : ImageLaws) (i : Image) (horizon : ℕ) (name text : List ℕ) (found : Option (List ℕ)) (task : Task) → ImageOf text i →
-    length text ≤ most_image_bytes → found ≡ Some text → weights_up_to i.graph horizon ≤ most_weights →
-    TakenFile ImageOf NotImage most_image_bytes (Audited horizon name) name found task →
-    (told : List ℕ) × AuditOf i.graph horizon told × (task ≡ prints told)
-audit_of laws i horizon name text found _ is less here weights (missing none) = absurd cc
-audit_of laws i horizon name text found _ is less here weights (untaken other r there why) =
+image_then : (laws : ImageLaws) (i : Image) (Then : Image → Task → Type 0) (name text : List ℕ) (found : Option (List ℕ)) (task : Task) → ImageOf text i →
+    length text ≤ most_image_bytes → found ≡ Some text → TakenFile ImageOf NotImage most_image_bytes Then name found task → Then i task
+image_then laws i Then name text found _ is less here (missing none) = absurd cc
+image_then laws i Then name text found _ is less here (untaken other r there why) =
     let same : other ≡ text = cc in
     absurd (not_untaken laws text i r is less (subst (λ (t : List ℕ). IsRefused NotImage most_image_bytes t r) same why))
-audit_of laws i horizon name text found _ is less here weights (taken other j task there fine also audited) =
+image_then laws i Then name text found task is less here (taken other j _ there fine also comes) =
     let same : other ≡ text = cc in
     let one : j ≡ i = image_same j i (image_once laws text j i (subst (λ (t : List ℕ). ImageOf t j) same also) is) in
-    audited_is horizon name i task weights (subst (λ (k : Image). Audited horizon name k task) one audited)
+    subst (λ (k : Image). Then k task) one comes
 
-pub audit_comes : (laws : ImageLaws) (g : Lists) (seed step horizon : ℕ) (name : List ℕ) (held : Held) (task : Task) →
+-- it comes to what is said of its graph and table
+pub image_comes : (laws : ImageLaws) (g : Lists) (seed step : ℕ) (Then : Image → Task → Type 0) (name : List ℕ) (held : Held) (task : Task) →
     HasImage g seed step → length (image_of g seed step) ≤ most_image_bytes → held name ≡ Some (image_of g seed step) →
-    weights_up_to g horizon ≤ most_weights → AuditTask name horizon held task → (told : List ℕ) × AuditOf g horizon told × (task ≡ prints told)
-audit_comes laws g seed step horizon name held task has less found weights comes =
+    ImageFile Then name held task → Then (record { graph = g; table = table_of seed step g }) task
+image_comes laws g seed step Then name held task has less found comes =
     let i : Image = record { graph = g; table = table_of seed step g } in
-    let is : ImageOf (image_of g seed step) i = record { has = has; bytes = refl; table = refl } in
-    audit_of laws i horizon name (image_of g seed step) (held name) task is less found weights comes
+    image_then laws i Then name (image_of g seed step) (held name) task (record { has = has; bytes = refl; table = refl }) less found comes
+
+-- and is audited, where its graph has few enough weights
+pub audited_is : (horizon : ℕ) (name : List ℕ) (i : Image) (task : Task) → weights_up_to i.graph horizon ≤ most_weights → Audited horizon name i task →
+    (told : List ℕ) × AuditOf i.graph horizon told × (task ≡ prints told)
+audited_is horizon name i _ less (too_large more) = absurd (not_both most_weights (weights_up_to i.graph horizon) more less)
+audited_is horizon name i _ less (printed fine told is) = (told, is, refl)
 
 -- ---- rows are lacking only where their file is
 

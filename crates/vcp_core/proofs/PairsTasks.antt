@@ -28,11 +28,12 @@ use Rattle.vcp_inputs.specs.declared.refusal.Refusal.{Refusal}
 use Rattle.vcp_inputs.specs.declared.refusal.Refusal.TheVariants as refusal
 use Rattle.vcp_inputs.specs.declared.refusal.NoInput.{NoInput}
 use Rattle.vcp_inputs.specs.declared.refusal.NoInput.TheVariants as input
-use Rattle.vcp_inputs.specs.Files.{Loads, NotLoaded as FileLost}
+use Rattle.vcp_inputs.specs.Files.{LeavesLong, Loads, NotLoaded as FileLost}
 use Rattle.vcp_inputs.specs.Images.{ImageOf, NotImage}
 use Rattle.vcp_inputs.specs.Lines.{input_status, input_text, refusal_text}
 use Rattle.vcp_inputs.specs.RowsOutcome.{RowsOutcome, rows_outcome}
-use Rattle.vcp_inputs.specs.Scripts.{ScriptOf, NotScript, no_script}
+use Rattle.vcp_inputs.specs.Scripts.{ScriptOf, NotScript}
+use Rattle.vcp_inputs.proofs.NotBytes.{script_not_bytes}
 use Rattle.command_meaning.specs.Abouts.{Among, FileWord, about, rows_words, script_word}
 use Rattle.command_meaning.specs.Answer.{Campaign}
 use Rattle.command_meaning.specs.Clauses.{IsTooLong}
@@ -125,12 +126,12 @@ module _ (m : List ℕ) (rows : Rows) (seed : ℕ) (f : List ℕ) (held : Held) 
 
 -- where the script is refused, it was read to its end, or it is too long
 pub script_taken : (m : List ℕ) (rows : Rows) (seed : ℕ) (f : List ℕ) (held : Held) (g : Lists) (b n : ℕ) (i : NoInput) (rest : Option (List ℕ))
-    → ((r : Refusal) → i ≡ input.Refused r → r ≢ refusal.Bytes → IsAtEnd rest) → FileLost (NotScript g) held f most_source_bytes b n i
-    → input_status i ≡ 1 → IsAtEnd rest ⊎ IsTooLong (about (pairs m rows seed f)) held (input_text f i)
-script_taken m rows seed f held g b n i rest ends h is =
-    file_taken (about (pairs m rows seed f)) (NotScript g) f held b n (script_word f) (script_named m rows seed f) refl i rest ends not_bytes h is where
-      not_bytes : (text : List ℕ) (r : Refusal) → NotScript g text r → r ≢ refusal.Bytes
-      not_bytes text _ (no_script why known is) e = cc
+    → ((r : Refusal) → i ≡ input.Refused r → r ≢ refusal.Bytes → IsAtEnd rest)
+    → (i ≡ input.Refused refusal.Bytes → LeavesLong f most_source_bytes rest held) → FileLost (NotScript g) held f most_source_bytes b n i
+    → input_status i ≡ 1 → IsAtEnd rest ⊎ IsTooLong (about (pairs m rows seed f)) held rest (input_text f i)
+script_taken m rows seed f held g b n i rest ends left h is =
+    file_taken (about (pairs m rows seed f)) (NotScript g) f held b n (script_word f) (script_named m rows seed f) refl i rest ends (script_not_bytes g)
+    left h is
 
 -- ---- the lines of verdicts
 

@@ -1,5 +1,5 @@
 -- How far a command comes and what it keeps, from what its calls answer.
-use Rattle.std.proofs.Common.{ℕ, ◌≡◌, ◌≢◌, ◌≤◌, ◌⊎◌, length, inl, inr, true, false, refl, sym, subst, ◌∙◌, List, [], ◌∷◌, ◌++◌, Option, Some, Result, Ok, Err, IfSome, arith}
+use Rattle.std.proofs.Common.{ℕ, ◌≡◌, ◌≢◌, ◌≤◌, ◌⊎◌, length, inl, inr, true, false, refl, sym, ap, subst, ◌∙◌, List, [], ◌∷◌, ◌++◌, Option, Some, Result, Ok, Err, IfSome, arith}
 use Rattle.std.specs.Io.KnownBytes.{Appends, IsAtEnd}
 use Rattle.vcp_outside.specs.Counts.{Rose}
 use Rattle.vcp_outside.specs.Held.{Held}
@@ -8,14 +8,14 @@ use Rattle.vcp_outside.specs.Written.{AppendsPart}
 use Rattle.input_rows.specs.declared.fault.RowFault.{RowFault}
 use Rattle.input_rows.specs.declared.fault.RowFault.TheVariants as row
 use Rattle.machine_run.specs.Moments.{Moment}
-use Rattle.machine_run.specs.Stops.{GrowsToStop}
+use Rattle.machine_run.specs.Stops.{GrowsToSomeStop}
 use Rattle.machine_run.specs.declared.fault.RunFault.{RunFault}
 use Rattle.machine_run.specs.declared.fault.RunFault.TheVariants as run
 use Rattle.vcp_inputs.specs.declared.refusal.Refusal.{Refusal}
 use Rattle.vcp_inputs.specs.declared.refusal.Refusal.TheVariants as refusal
 use Rattle.vcp_inputs.specs.declared.refusal.NoInput.{NoInput}
 use Rattle.vcp_inputs.specs.declared.refusal.NoInput.TheVariants as input
-use Rattle.vcp_inputs.specs.Files.{NotLoaded, long, short}
+use Rattle.vcp_inputs.specs.Files.{LeavesLong, NotLoaded, long, short}
 use Rattle.vcp_inputs.specs.Lines.{input_text, input_status, memory_text, refusal_text, rows_text, write_fault_text}
 use Rattle.vcp_inputs.specs.Refusals.{IsCaused, no_rows}
 use Rattle.vcp_inputs.proofs.Causes.{row_caused}
@@ -32,7 +32,7 @@ use Rattle.vcp_core.specs.declared.ending.Ending.{Ending}
 use Rattle.vcp_core.specs.declared.ending.Ending.TheVariants as end
 use Rattle.vcp_core.specs.MachineRun.{RunsTo}
 use Rattle.vcp_core.specs.Reach.{end_status, run_code, run_line}
-use Rattle.vcp_core.proofs.Facts.{if_some_always, if_some_weaker}
+use Rattle.vcp_core.proofs.Facts.{if_some_always, if_some_both, if_some_weaker, if_some_when}
 use Rattle.vcp_core.proofs.PlainTurns.{appends-nothing}
 
 -- ---- the statuses of inputs that aren't there
@@ -260,21 +260,23 @@ module _ (c : About) (files files_after : FilesSeen) (before after : Moment) whe
 -- where it is refused, it was read to its end, or it is too long
 pub file_taken : (c : About) (Why : List ℕ → Refusal → Type 0) (name : List ℕ) (held : Held) (b n : ℕ) (word : FileWord) (named : Among word c.files)
     (name_is : word.name ≡ name) (i : NoInput) (rest : Option (List ℕ)) → ((r : Refusal) → i ≡ input.Refused r → r ≢ refusal.Bytes → IsAtEnd rest)
-    → ((text : List ℕ) (r : Refusal) → Why text r → r ≢ refusal.Bytes) → NotLoaded Why held name word.most b n i → input_status i ≡ 1
-    → IsAtEnd rest ⊎ IsTooLong c held (input_text name i)
-file_taken c Why name held b n word named name_is input.Unread rest whole other h is = absurd (omega (arith, is))
-file_taken c Why name held b n word named name_is (input.Refused r) rest whole other (text, found, long l) is =
+    → ((text : List ℕ) (r : Refusal) → Why text r → r ≢ refusal.Bytes) → (i ≡ input.Refused refusal.Bytes → LeavesLong name word.most rest held)
+    → NotLoaded Why held name word.most b n i → input_status i ≡ 1 → IsAtEnd rest ⊎ IsTooLong c held rest (input_text name i)
+file_taken c Why name held b n word named name_is input.Unread rest whole other left h is = absurd (omega (arith, is))
+file_taken c Why name held b n word named name_is (input.Refused r) rest whole other left (text, found, long l) is =
+    let (bytes, here, more, rest_is) = left refl in
     inr (record {
       word = word;
       named = named;
-      bytes = text;
-      found = subst (λ (x : List ℕ). held x ≡ Some text) (sym name_is) found;
-      long = l;
+      bytes = bytes;
+      found = subst (λ (x : List ℕ). held x ≡ Some bytes) (sym name_is) here;
+      long = more;
+      left = rest_is;
       line_is = subst (λ (x : List ℕ). refusal_text name refusal.Bytes ≡ refusal_text x refusal.Bytes) (sym name_is) refl;
     })
-file_taken c Why name held b n word named name_is (input.Refused r) rest whole other (text, found, short _ l why) is =
+file_taken c Why name held b n word named name_is (input.Refused r) rest whole other left (text, found, short _ l why) is =
     inl (whole r refl (other text r why))
-file_taken c Why name held b n word named name_is input.Memory rest whole other h is = absurd (omega (arith, is))
+file_taken c Why name held b n word named name_is input.Memory rest whole other left h is = absurd (omega (arith, is))
 
 -- the file was taken
 pub file_takes : {V : Type 0} (Is : List ℕ → V → Type 0) (Why : List ℕ → Refusal → Type 0) (most : ℕ) (Then : V → Task → Type 0) (name : List ℕ)
@@ -286,8 +288,9 @@ file_takes Is Why most Then name held v task (text, found, few, is) then = taken
 
 module _ (c : About) (Comes : Held → Task → Type 0) (files later : FilesSeen) (held : later.held ≡ files.held) (stay : c.files ≡ [] → later ≡ files) where
   -- memory was wanted, and nothing was done
-  pub wanted_performs : (before after : Moment) → Still before after → Performs c Comes files later before after memory_text 7
-  wanted_performs before after s = record {
+  pub wanted_performs : (before after : Moment) → Still before after → later.faults ≡ files.faults → after.out.faults ≡ before.out.faults
+      → Performs c Comes files later before after memory_text 7
+  wanted_performs before after s read written = record {
     reaches = λ h may. unmade s refl refl;
     statuses = seven_among c.ends;
     told = memory_line c;
@@ -300,16 +303,18 @@ module _ (c : About) (Comes : Held → Task → Type 0) (files later : FilesSeen
     refused = λ is. absurd (omega (arith, is));
     read = λ is. absurd (omega (arith, is));
     write = λ is. absurd (omega (arith, is));
+    no_read_fault = λ no. read;
+    no_write_fault = λ no. written;
   }
 
   module _ (one : Among 1 c.ends) where
     -- there is nothing of an input, and nothing was done
     pub input_performs : (at : Moment) (name : List ℕ) (i : NoInput) →
         ((h : Held) → MayHold c files.held h → Reaches c (Comes h) files later at at (input_text name i) (input_status i)) →
-        (c.files ≢ [] → input_status i ≡ 1 → IfSome files.held (λ h. IsAtEnd later.rest ⊎ IsTooLong c h (input_text name i))) →
-        (i ≡ input.Unread → Rose files.faults later.faults) → (i ≡ input.Unread → NamesFile c name) → IsCaused i → MayName c name →
-        Performs c Comes files later at at (input_text name i) (input_status i)
-    input_performs at name i far all_taken rose named caused may = record {
+        (c.files ≢ [] → input_status i ≡ 1 → IfSome files.held (λ h. IsAtEnd later.rest ⊎ IsTooLong c h later.rest (input_text name i))) →
+        (i ≡ input.Unread → Rose files.faults later.faults) → (i ≢ input.Unread → later.faults ≡ files.faults) → (i ≡ input.Unread → NamesFile c name)
+        → IsCaused i → MayName c name → Performs c Comes files later at at (input_text name i) (input_status i)
+    input_performs at name i far all_taken rose stayed named caused may = record {
       reaches = far;
       statuses = input_among c.ends one i;
       told = input_line c name i caused may named;
@@ -322,16 +327,19 @@ module _ (c : About) (Comes : Held → Task → Type 0) (files later : FilesSeen
       refused = λ three. absurd (not_three i three);
       read = λ five. rose (unread_is i five);
       write = λ six. absurd (not_six i six);
+      no_read_fault = λ no. stayed (λ is. no (ap input_status is));
+      no_write_fault = λ no. refl;
     }
 
     -- a run was done, or given up, behind all files
     pub run_performs : (before after : Moment) (name : List ℕ) (r : Result Ending RunFault) → ((e : Ending) → r ≡ Ok e → Among (end_status e) c.ends) →
         ((h : Held) → MayHold c files.held h → Reaches c (Comes h) files later before after (run_line name r) (run_code r)) →
         (c.files ≢ [] → IsAtEnd later.rest) → (c.calls ≡ false → after.unit ≡ before.unit) →
-        (c.calls ≡ true → r ≡ Ok end.Stopped → GrowsToStop before.unit.log after.unit.log) →
+        (c.calls ≡ true → r ≡ Ok end.Stopped → GrowsToSomeStop before.unit.log after.unit.log) →
         (r ≡ Ok end.Refused → Rose before.unit.wrong after.unit.wrong) → (r ≡ Err run.Write → Rose before.out.faults after.out.faults) →
-        MayName c name → Performs c Comes files later before after (run_line name r) (run_code r)
-    run_performs before after name r own far end_is unit stopped refused write may = record {
+        later.faults ≡ files.faults → (r ≢ Err run.Write → after.out.faults ≡ before.out.faults) → MayName c name →
+        Performs c Comes files later before after (run_line name r) (run_code r)
+    run_performs before after name r own far end_is unit stopped refused write read written may = record {
       reaches = far;
       statuses = run_among c.ends one r own;
       told = run_lines c name may r;
@@ -344,6 +352,8 @@ module _ (c : About) (Comes : Held → Task → Type 0) (files later : FilesSeen
       refused = λ three. refused (three_refused r three);
       read = λ five. absurd (never_five r five);
       write = λ six. write (six_write r six);
+      no_read_fault = λ no. read;
+      no_write_fault = λ no. written (λ is. no (ap run_code is));
     }
 
 -- ---- of a command that reads files
@@ -353,35 +363,38 @@ module _ (c : About) (Comes : Held → Task → Type 0) (files later : FilesSeen
   on_held P told h may = of_told files.held P told h (held_is c files.held h reads may)
 
   -- memory was wanted, and nothing was done
-  pub files_wanted : (at : Moment) → Performs c Comes files later at at memory_text 7
-  files_wanted at = wanted_performs c Comes files later held (λ none. absurd (reads none)) at at (still at)
+  pub files_wanted : (at : Moment) → later.faults ≡ files.faults → Performs c Comes files later at at memory_text 7
+  files_wanted at read = wanted_performs c Comes files later held (λ none. absurd (reads none)) at at (still at) read refl
 
   -- there is nothing of one, or of ROWS, and nothing was done
   pub files_lost : Among 1 c.ends → (at : Moment) (name : List ℕ) (i : NoInput)
       → IfSome files.held (λ h. Reaches c (Comes h) files later at at (input_text name i) (input_status i)) →
-      (input_status i ≡ 1 → IfSome files.held (λ h. IsAtEnd later.rest ⊎ IsTooLong c h (input_text name i))) →
-      (i ≡ input.Unread → Rose files.faults later.faults) → (i ≡ input.Unread → NamesFile c name) → IsCaused i → MayName c name →
-      Performs c Comes files later at at (input_text name i) (input_status i)
-  files_lost one at name i far all_taken rose named caused may =
+      (input_status i ≡ 1 → IfSome files.held (λ h. IsAtEnd later.rest ⊎ IsTooLong c h later.rest (input_text name i))) →
+      (i ≡ input.Unread → Rose files.faults later.faults) → (i ≢ input.Unread → later.faults ≡ files.faults) → (i ≡ input.Unread → NamesFile c name) →
+      IsCaused i → MayName c name → Performs c Comes files later at at (input_text name i) (input_status i)
+  files_lost one at name i far all_taken rose stayed named caused may =
       input_performs c Comes files later held (λ none. absurd (reads none)) one at name i
-      (on_held (λ h. Reaches c (Comes h) files later at at (input_text name i) (input_status i)) far) (λ some. all_taken) rose named caused may
+      (on_held (λ h. Reaches c (Comes h) files later at at (input_text name i) (input_status i)) far) (λ some. all_taken) rose stayed named caused may
 
   -- a run was done, or given up
   pub files_run : Among 1 c.ends → (before after : Moment) (name : List ℕ) (r : Result Ending RunFault) →
       ((e : Ending) → r ≡ Ok e → Among (end_status e) c.ends)
       → IfSome files.held (λ h. Reaches c (Comes h) files later before after (run_line name r) (run_code r)) → IsAtEnd later.rest →
-      (c.calls ≡ false → after.unit ≡ before.unit) → (c.calls ≡ true → r ≡ Ok end.Stopped → GrowsToStop before.unit.log after.unit.log) →
+      (c.calls ≡ false → after.unit ≡ before.unit) → (c.calls ≡ true → r ≡ Ok end.Stopped → GrowsToSomeStop before.unit.log after.unit.log) →
       (r ≡ Ok end.Refused → Rose before.unit.wrong after.unit.wrong) → (r ≡ Err run.Write → Rose before.out.faults after.out.faults) →
-      MayName c name → Performs c Comes files later before after (run_line name r) (run_code r)
-  files_run one before after name r own far end_is unit stopped refused write may =
+      later.faults ≡ files.faults → (r ≢ Err run.Write → after.out.faults ≡ before.out.faults) → MayName c name →
+      Performs c Comes files later before after (run_line name r) (run_code r)
+  files_run one before after name r own far end_is unit stopped refused write read written may =
       run_performs c Comes files later held (λ none. absurd (reads none)) one before after name r own
-      (on_held (λ h. Reaches c (Comes h) files later before after (run_line name r) (run_code r)) far) (λ some. end_is) unit stopped refused write may
+      (on_held (λ h. Reaches c (Comes h) files later before after (run_line name r) (run_code r)) far) (λ some. end_is) unit stopped refused write read
+      written may
 
-  module _ (before after : Moment) (end_is : IsAtEnd later.rest) where
+  module _ (before after : Moment) (end_is : IsAtEnd later.rest) (read : later.faults ≡ files.faults) where
     -- all was written
     pub whole_performs : Among 0 c.ends → (c.calls ≡ false → after.unit ≡ before.unit)
-        → IfSome files.held (λ h. Reaches c (Comes h) files later before after [] 0) → Performs c Comes files later before after [] 0
-    whole_performs zero unit far = record {
+        → IfSome files.held (λ h. Reaches c (Comes h) files later before after [] 0) → after.out.faults ≡ before.out.faults
+        → Performs c Comes files later before after [] 0
+    whole_performs zero unit far written = record {
       reaches = on_held (λ h. Reaches c (Comes h) files later before after [] 0) far;
       statuses = among_front 0 c.ends (5 ∷ 6 ∷ 7 ∷ []) zero;
       told = no_line c 0 (inl refl);
@@ -394,6 +407,8 @@ module _ (c : About) (Comes : Held → Task → Type 0) (files later : FilesSeen
       refused = λ is. absurd (omega (arith, is));
       read = λ is. absurd (omega (arith, is));
       write = λ is. absurd (omega (arith, is));
+      no_read_fault = λ no. read;
+      no_write_fault = λ no. written;
     }
 
     -- a write failed
@@ -413,12 +428,15 @@ module _ (c : About) (Comes : Held → Task → Type 0) (files later : FilesSeen
       refused = λ is. absurd (omega (arith, is));
       read = λ is. absurd (omega (arith, is));
       write = λ is. rose;
+      no_read_fault = λ no. read;
+      no_write_fault = λ no. absurd (no refl);
     }
 
     -- memory was wanted when some was written
     pub short_performs : (c.calls ≡ false → after.unit ≡ before.unit)
-        → IfSome files.held (λ h. Reaches c (Comes h) files later before after memory_text 7) → Performs c Comes files later before after memory_text 7
-    short_performs unit far = record {
+        → IfSome files.held (λ h. Reaches c (Comes h) files later before after memory_text 7) → after.out.faults ≡ before.out.faults
+        → Performs c Comes files later before after memory_text 7
+    short_performs unit far written = record {
       reaches = on_held (λ h. Reaches c (Comes h) files later before after memory_text 7) far;
       statuses = seven_among c.ends;
       told = memory_line c;
@@ -431,15 +449,17 @@ module _ (c : About) (Comes : Held → Task → Type 0) (files later : FilesSeen
       refused = λ is. absurd (omega (arith, is));
       read = λ is. absurd (omega (arith, is));
       write = λ is. absurd (omega (arith, is));
+      no_read_fault = λ no. read;
+      no_write_fault = λ no. written;
     }
 
     -- of a command without a unit that prints
     module _ (unit : after.unit ≡ before.unit) where
       pub quiet_whole : Among 0 c.ends → (text : List ℕ)
           → IfSome files.held (λ h. (task : Task) × Comes h task × Done task before.unit after.unit (printed text))
-          → Appends before.out.written after.out.written text → Performs c Comes files later before after [] 0
-      quiet_whole zero text comes w =
-          whole_performs zero (λ no. unit) (if_some_weaker files.held _ _ (λ h (task, is, d). done task (printed text) is d w refl refl) comes)
+          → Appends before.out.written after.out.written text → after.out.faults ≡ before.out.faults → Performs c Comes files later before after [] 0
+      quiet_whole zero text comes w written =
+          whole_performs zero (λ no. unit) (if_some_weaker files.held _ _ (λ h (task, is, d). done task (printed text) is d w refl refl) comes) written
 
       pub quiet_part : IfSome files.held (λ h. (task : Task) × Comes h task × Left task AppendsPart before after)
           → Rose before.out.faults after.out.faults → Performs c Comes files later before after write_fault_text 6
@@ -451,10 +471,13 @@ pub quiet_lost : (c : About) {V : Type 0} (Is : List ℕ → V → Type 0) (Why 
     (files later : FilesSeen) (at : Moment) (i : NoInput) → Among word c.files → c.files ≢ [] → Among 1 c.ends → later.held ≡ files.held
     → IfSome files.held (λ h. NotLoaded Why h word.name word.most files.broken later.broken i)
     → ((r : Refusal) → i ≡ input.Refused r → r ≢ refusal.Bytes → IsAtEnd later.rest) → ((text : List ℕ) (r : Refusal) → Why text r → r ≢ refusal.Bytes)
-    → (i ≡ input.Unread → Rose files.faults later.faults) → IsCaused i →
+    → (i ≡ input.Refused refusal.Bytes → IfSome files.held (LeavesLong word.name word.most later.rest))
+    → (i ≡ input.Unread → Rose files.faults later.faults) → (i ≢ input.Unread → later.faults ≡ files.faults) → IsCaused i →
     Performs c (λ h task. TakenFile Is Why word.most (Then h) word.name (h word.name) task) files later at at (input_text word.name i) (input_status i)
-quiet_lost c Is Why Then word files later at i named reads one held lost whole other rose caused =
+quiet_lost c Is Why Then word files later at i named reads one held lost whole other left rose stayed caused =
     files_lost c (λ h task. TakenFile Is Why word.most (Then h) word.name (h word.name) task) files later reads held one at word.name i
     (if_some_weaker files.held _ _ (λ h l. file_lost c files later at at Is Why word.most (Then h) word.name h word named refl (still at) i l) lost)
-    (λ is. if_some_weaker files.held _ _ (λ h l. file_taken c Why word.name h files.broken later.broken word named refl i later.rest whole other l is) lost)
-    rose (λ is. (word, named, refl)) caused (inl (word, named, refl))
+    (λ is. if_some_both files.held files.held _ _ _ refl
+    (λ h l at_most. file_taken c Why word.name h files.broken later.broken word named refl i later.rest whole other at_most l is) lost
+    (if_some_when (i ≡ input.Refused refusal.Bytes) files.held files.held (LeavesLong word.name word.most later.rest) refl left))
+    rose stayed (λ is. (word, named, refl)) caused (inl (word, named, refl))

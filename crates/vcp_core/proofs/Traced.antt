@@ -70,10 +70,13 @@ module _ (m : State) (names : List (List ℕ)) (n : ℕ) (a b c : SinkSeen) wher
   -- the run's last line was written, or a part of it
   pub ended-on : (e : CycleEnd) (r : Result Ending Failed) → e ≢ cycle.Released → IsThere m.graph e → WritesTo {T = Unit {0}} {E = Failed} a b lines (Ok tt)
       → PrintsLast (last_text names m.cycles (end_read m.graph e) None) m.graph e b c r → PrintsLast (traced_text m names n e) m.graph e a c r
-  ended-on e (Ok end) not there before (w, status) =
+  ended-on e (Ok end) not there before (w, status, stayed) =
       let text : traced_text m names n e ≡ lines ++ last_text names m.cycles (end_read m.graph e) None =
-      then-last lines names m.cycles (end_read m.graph e) (λ is. not (complete-is m.graph e there is)) in
-      (rw text (Appends-trans a.written b.written c.written lines (last_text names m.cycles (end_read m.graph e) None) before.whole w), status)
+      then-last lines names m.cycles (end_read m.graph e) (λ is. not (complete-is m.graph e there is)) in (
+        rw text (Appends-trans a.written b.written c.written lines (last_text names m.cycles (end_read m.graph e) None) before.whole w),
+        status,
+        stayed ∙ before.cause.stayed,
+      )
   ended-on e (Err why) not there before (rose, (front, rest, is, some, taken)) =
       let text : traced_text m names n e ≡ lines ++ last_text names m.cycles (end_read m.graph e) None =
       then-last lines names m.cycles (end_read m.graph e) (λ is. not (complete-is m.graph e there is)) in

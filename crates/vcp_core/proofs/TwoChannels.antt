@@ -145,6 +145,8 @@ module _ (c : About) (Comes Other : Held → Task → Type 0) (weaker : (h : Hel
     refused = p.refused;
     read = p.read;
     write = p.write;
+    no_read_fault = p.no_read_fault;
+    no_write_fault = p.no_write_fault;
   }
 
 -- ---- two seeds

@@ -49,9 +49,6 @@ no_wire_once text _ _ (no_wire f known is) (no_wire e other also) = let same : f
 wire_or_none : (text : List ℕ) (x : WireScript) (r : Refusal) → WireOf text x → NotWire text r → ⊥
 wire_or_none text x _ h (no_wire f known is) = let one : script_of text ≡ Ok x = h in cc
 
-pub wire_not_bytes : (text : List ℕ) (r : Refusal) → NotWire text r → r ≢ refusal.Bytes
-wire_not_bytes text _ (no_wire why known is) e = cc
-
 -- a file comes to one task
 pub wire_task_once : (f : List ℕ) (held : Held) (a b : Task) → WireTask f held a → WireTask f held b → a ≡ b
 wire_task_once f held a b h k =
@@ -133,7 +130,8 @@ module _ (s : WireScript) (fits : ScriptFits s) (unit unit' : UnitSeen) (out out
 
 -- ---- how far the command came
 
-module _ (f : List ℕ) (files later : FilesSeen) (held : later.held ≡ files.held) (ended : IsAtEnd later.rest) (s : WireScript) (fits : ScriptFits s)
+module _ (f : List ℕ) (files later : FilesSeen) (held : later.held ≡ files.held) (ended : IsAtEnd later.rest) (read : later.faults ≡ files.faults)
+    (s : WireScript) (fits : ScriptFits s)
     (comes : IfSome files.held (λ h. WireTask f h (wires s))) (unit unit' : UnitSeen) (out out' : SinkSeen) where
   reads : (about (wire f)).files ≢ []
   reads none = cc
@@ -151,9 +149,9 @@ module _ (f : List ℕ) (files later : FilesSeen) (held : later.held ≡ files.h
   is_end (end.Unsent cycle id) = inr (inr refl)
 
   -- to its end, or to a sending that was answered by no word
-  pub wire_ended : (e : WireEnd) → RunsWire s.wire s.events unit unit' out out' (Ok e)
+  pub wire_ended : (e : WireEnd) → RunsWire s.wire s.events unit unit' out out' (Ok e) → out'.faults ≡ out.faults
       → Performs (about (wire f)) (WireTask f) files later (moment unit out) (moment unit' out') [] (end_status (wire_ending e))
-  wire_ended e r =
+  wire_ended e r kept =
       let (x, is, written, err, status) = wire_whole s fits unit unit' out out' e r in
       record {
         reaches = on_held (about (wire f)) (WireTask f) files later reads held
@@ -170,14 +168,17 @@ module _ (f : List ℕ) (files later : FilesSeen) (held : later.held ≡ files.h
         refused = λ three. wire_rose s fits unit unit' out out' e r three;
         read = λ five. absurd (only_these e 5 five (λ k. omega (arith, k)) (λ k. omega (arith, k)));
         write = λ six. absurd (only_these e 6 six (λ k. omega (arith, k)) (λ k. omega (arith, k)));
+        no_read_fault = λ no. read;
+        no_write_fault = λ no. kept;
       }
 
   -- or not
   pub wire_failed : (e : WireRunFault) → RunsWire s.wire s.events unit unit' out out' (Err e)
       → Performs (about (wire f)) (WireTask f) files later (moment unit out) (moment unit' out') (fault_text (of_wire e)) (fault_status (of_wire e))
   wire_failed fault.Write r =
-      part_performs (about (wire f)) (WireTask f) files later reads held (moment unit out) (moment unit' out') ended (λ no. absurd cc) r.ends.0
+      part_performs (about (wire f)) (WireTask f) files later reads held (moment unit out) (moment unit' out') ended read (λ no. absurd cc) r.ends.0
       (if_some_weaker files.held _ _ (λ h task. cut (wires s) task (wire_part s fits unit unit' out out' r) r.ends.0 refl refl) comes)
   wire_failed fault.Memory r =
       wanted_performs (about (wire f)) (WireTask f) files later held (λ none. absurd (reads none)) (moment unit out) (moment unit' out')
       (record { unit = r.still refl; out = subst (λ (o : SinkSeen). Appends out.written o.written []) (sym r.ends.0) (appends-nothing out.written) })
+      read (ap (λ (o : SinkSeen). o.faults) r.ends.0)

@@ -12,3 +12,4 @@ pub mod Shown
 pub mod StaleSeen
 pub mod Tasks
 pub mod TraceRun
+pub mod WrittenImages

@@ -1,5 +1,5 @@
 -- MachineRun: how far the run of a job came on the machine.
-use Rattle.std.specs.Prelude.{ℕ, ◌≡◌, ◌<◌, ◌⊎◌, List, [], length, map, None, Result, Ok, Err}
+use Rattle.std.specs.Prelude.{ℕ, ◌≡◌, ◌≢◌, ◌<◌, ◌⊎◌, List, [], length, map, None, Result, Ok, Err}
 use Rattle.std.specs.Io.KnownBytes.{Appends}
 use Rattle.vcp_outside.specs.Counts.{Rose}
 use Rattle.vcp_outside.specs.Seen.{SinkSeen}
@@ -23,7 +23,7 @@ use Rattle.command_meaning.specs.Seen.{Still}
 use Rattle.command_meaning.specs.Reports.{end_read, output_names, subject_outputs, run_status, told_of}
 use Rattle.command_meaning.specs.RunKind.{Job, RunDone, RunLeft}
 use Rattle.machine_run.specs.Moments.{Moment}
-use Rattle.machine_run.specs.Stops.{GrowsToStop}
+use Rattle.machine_run.specs.Stops.{GrowsToSomeStop}
 use Rattle.vcp_core.specs.declared.ending.Ending.{Ending}
 use Rattle.vcp_core.specs.declared.ending.Ending.TheVariants as end
 use Rattle.vcp_core.specs.Reach.{end_status}
@@ -64,11 +64,13 @@ IsThere g (cycle.Refused output found wanted) = output < length g.outputs
 
 -- this was printed last of a graph's run that ended so; or a part of it, where the sink failed
 abbrev pub PrintsLast : List ℕ → Lists → CycleEnd → SinkSeen → SinkSeen → Result Ending Failed → Type 0
-PrintsLast text g e before after (Ok end) = Appends before.written after.written text × (end_status end ≡ run_status (end_read g e) None)
+PrintsLast text g e before after (Ok end) =
+    Appends before.written after.written text × (end_status end ≡ run_status (end_read g e) None) × (after.faults ≡ before.faults)
 PrintsLast text g e before after (Err why) = Rose before.faults after.faults × AppendsPart before.written after.written text
 
--- a run that ended so had cause: a write failed, an answer was wrong, or the log grew to a stop
+-- a run that ended so had cause: a write failed, which comes to nothing else, an answer was wrong, or the log grew to a stop
 pub record HasCauses (before after : Moment) (result : Result Ending RunFault) : Type 0 where
   pub write : result ≡ Err run.Write → Rose before.out.faults after.out.faults
   pub refused : result ≡ Ok end.Refused → Rose before.unit.wrong after.unit.wrong
-  pub stopped : result ≡ Ok end.Stopped → GrowsToStop before.unit.log after.unit.log
+  pub stopped : result ≡ Ok end.Stopped → GrowsToSomeStop before.unit.log after.unit.log
+  pub stayed : result ≢ Err run.Write → after.out.faults ≡ before.out.faults

@@ -21,6 +21,7 @@ ghost use Rattle.vcp_core.specs.EachTask.{EachHasTask};
 ghost use Rattle.vcp_core.specs.Tasks.{AuditTask, TaskOf, widened};
 ghost use Rattle.command_meaning.specs.WireKind.{WiresDeliver};
 ghost use Rattle.vcp_core.specs.StaleSeen.{StaleShows};
+ghost use Rattle.vcp_core.specs.WrittenImages.{WrittenImagesAreTaken};
 
 use il_front::il_answers_are_one;
 use image_file::images_are_told_apart;
@@ -67,6 +68,7 @@ pub fn written_images_are_taken()
         HasImage g seed step → length (image_of g seed step) ≤ most_image_bytes →
         held name ≡ Some (image_of g seed step) → weights_up_to g horizon ≤ most_weights → AuditTask name horizon held task →
         (told : List ℕ) × AuditOf g horizon told × (task ≡ prints told) }
+    ensures commands { WrittenImagesAreTaken }
     ensures widened { (g : Lists) (seed step : ℕ) → HasImage g seed step → HasImage (widened g) seed step }
     ensures run { (g : Lists) (rows : List (List ℤ)) → graph_run (widened g) rows ≡ graph_run g rows }
     ensures wide { (g : Lists) → g.profile ≡ profile.Wide → widened g ≡ g }

@@ -1,6 +1,6 @@
 //! The printing of a program's own run, cycle by cycle, as the rows come.
 
-ghost use Rattle.std.specs.Prelude.{◌≡◌, ◌+◌, ◌≤◌, None, Ok, Err, IfOk, true, false, length, All};
+ghost use Rattle.std.specs.Prelude.{◌≡◌, ◌≢◌, ◌+◌, ◌≤◌, None, Ok, Err, IfOk, true, false, length, All};
 ghost use Rattle.vcp_base.specs.Limits.{most_cycles};
 ghost use Rattle.vcp_base.specs.Types.{AreIn};
 ghost use Rattle.vcp_outside.specs.Counts.{Rose};
@@ -102,6 +102,7 @@ fn print_cycles<O: Sink>(
     requires outputs { length outputs.old ≡ length (output_types plain.old.program.slots) }
     ensures prints { PrintsFrom plain.old.program 0 plain.old.values rows.old (O.seen out.old).written (O.seen out.new).written result }
     ensures write { result ≡ Err fault.Write → Rose (O.seen out.old).faults (O.seen out.new).faults }
+    ensures stayed { result ≢ Err fault.Write → (O.seen out.new).faults ≡ (O.seen out.old).faults }
 {
     let mut count: u32 = 0;
     'cycles: while rows.next(alloc, inputs)? {
@@ -128,6 +129,7 @@ pub fn print_run<O: Sink>(
     requires few { length rows.old.rows ≤ most_cycles }
     ensures prints { Prints program.now rows.old (O.seen out.old).written (O.seen out.new).written result }
     ensures write { result ≡ Err fault.Write → Rose (O.seen out.old).faults (O.seen out.new).faults }
+    ensures stayed { result ≢ Err fault.Write → (O.seen out.new).faults ≡ (O.seen out.old).faults }
 {
     let columns = program.output_columns(alloc)?;
     let names = slot_names(alloc, &program.slots().items)?;
@@ -151,6 +153,7 @@ fn print_named<O: Sink>(
     requires few { length rows.old.rows ≤ most_cycles }
     ensures prints { Prints program.now rows.old (O.seen out.old).written (O.seen out.new).written result }
     ensures write { result ≡ Err fault.Write → Rose (O.seen out.old).faults (O.seen out.new).faults }
+    ensures stayed { result ≢ Err fault.Write → (O.seen out.new).faults ≡ (O.seen out.old).faults }
 {
     values_fit();
     let mut inputs = zeros(alloc, &program.columns(alloc)?)?;

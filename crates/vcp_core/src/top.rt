@@ -15,6 +15,7 @@ ghost use Rattle.vcp_core.specs.EachTask.{EachHasTask};
 ghost use Rattle.vcp_core.specs.Tasks.{TaskOf};
 ghost use Rattle.vcp_core.specs.Reach.{told_line, told_status};
 ghost use Rattle.vcp_core.specs.StaleSeen.{StaleShows};
+ghost use Rattle.vcp_core.specs.WrittenImages.{WrittenImagesAreTaken};
 
 use crate::audit::audit_command;
 use crate::check::check_command;
@@ -26,7 +27,7 @@ use crate::fault::Fault;
 use crate::format::format_command;
 use crate::il::il_command;
 use crate::inject::inject_command;
-use crate::laws::{one_task, stale_operands_are_seen, wires_deliver};
+use crate::laws::{one_task, stale_operands_are_seen, wires_deliver, written_images_are_taken};
 use crate::listing::list_command;
 use crate::pair::pair_command;
 use crate::pairs::pairs_command;
@@ -70,8 +71,8 @@ use vcp_words::{Command, command_of};
 /// - `as_plain`: Where no answer was wrong, `run P ROWS CODE` writes the bytes that `plain P ROWS` is to write, with its status, unless the status is
 ///   5, 6 or 7.
 /// - `usage`: Status 4 comes only where the words are none of the forms; such words get the usage line, and nothing else that contracts see changes.
-/// - `keeps`: What every command keeps, and which cause each of the statuses 2, 3, 5 and 6 has, whatever unit, files and sinks are: `Keeps`, in
-///   `command_meaning`.
+/// - `keeps`: What every command keeps, and which cause each of the statuses 2, 3, 5 and 6 has, whatever unit, files and sinks are; and a call
+///   of these that fails gives 5 or 6 each time: `Keeps`, in `command_meaning`.
 /// - `known`: The status is none but 0 to 7.
 /// - `accepted`: Of each group of faults that fits, over any rows: in a cycle that the run under it reaches and ends without a stop, for the answers
 ///   of a unit that carries the faults out around an honest one, the outputs are released exactly where each is accepted, that is, where the
@@ -83,6 +84,9 @@ use vcp_words::{Command, command_of};
 /// - `delivers`: Of each script that fits: in what is told, whatever words are answered, the delivered numbers strictly rise, and nothing is
 ///   delivered before its sending nor more cycles after it than the age; and where all words are right, what is told is the wire run, in which what
 ///   is delivered of a telegram that wasn't altered was sent by the heard sender under its number.
+/// - `written`: An image that `compile` or `widen` wrote is never refused as none where it is read again and no longer than an image may be: `list`
+///   prints the operations of its graph, and `exec` runs that graph with the numbers of its code, unless ROWS are refused. The graph that `widen`
+///   writes has an image too, and the same run.
 pub fn vcp<F: Files, U: Unit, O: Sink, E: Sink>(
     alloc: Global,
     words: &Words,
@@ -136,12 +140,17 @@ pub fn vcp<F: Files, U: Unit, O: Sink, E: Sink>(
     // Of the scripts that `wire` runs: in what is told delivered numbers rise and nothing is delivered that is too old, and with right words
     // what is delivered unaltered is what the heard sender sent.
     ensures delivers { WiresDeliver }
+
+    // Of the images that `compile` and `widen` write: where one is read again it is never refused as none, `list` tells its graph and `exec`
+    // runs it; and the wide graph has the same run.
+    ensures written { WrittenImagesAreTaken }
 {
     one_task();
     accepted_outputs_are_released();
     stale_operands_are_seen();
     accumulator_runs();
     wires_deliver();
+    written_images_are_taken();
     match command_of(words) {
         Some(command) => serve(alloc, &command, files, unit, out, err),
         None => match tell_usage(err) {

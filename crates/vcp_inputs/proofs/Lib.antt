@@ -1,5 +1,6 @@
 pub mod Causes
 pub mod Lines
+pub mod NotBytes
 pub mod RowsRead
 pub mod RowsWorked
 pub mod Taken

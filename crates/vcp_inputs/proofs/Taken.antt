@@ -1,11 +1,16 @@
 -- Texts that are programs, and refusals of others.
-use Rattle.std.proofs.Common.{ℕ, ◌≤◌, ◌≡◌, refl, sym, List, length, Option, Some, None, Result, Ok, Err}
+use Rattle.std.proofs.Common.{ℕ, ◌+◌, ◌<◌, ◌≤◌, ◌≡◌, ◌≢◌, inl, inr, refl, sym, ap, ◌∙◌, Bool, true, cond, nat_lt, List, [], ◌∷◌, ◌++◌, length, length-append, drop, Option, Some, None, Result, Ok, Err, arith}
+use Rattle.std.proofs.lemmas.Bool.Decides.{nat_tests}
+use Rattle.std.proofs.Math.Seq.{drop-append_seam}
 use Rattle.std.specs.Prelude.{IfSome, IfOk, IfErr}
-use Rattle.vcp_outside.specs.ReadAll.{ReadsAll}
+use Rattle.vcp_outside.specs.ReadAll.{ReadsAll, Takes}
 use Rattle.vcp_outside.specs.declared.reading.ReadAll.{ReadAll}
 use Rattle.vcp_outside.specs.declared.reading.ReadAll.TheVariants as reading
 use Rattle.vcp_outside.specs.Held.{Held}
-use Rattle.vcp_base.specs.Limits.{most_depth, most_source_bytes}
+use Rattle.vcp_base.specs.Limits.{most_depth, most_rows_bytes, most_source_bytes}
+use Rattle.vcp_base.specs.declared.columns.Column.{Column}
+use Rattle.input_rows.specs.RowsOf.{rows_of}
+use Rattle.vcp_words.specs.Forms.{file}
 use Rattle.st_lexer.specs.declared.token.Token.{Token}
 use Rattle.st_lexer.specs.declared.fault.LexFault.{LexFault}
 use Rattle.st_lexer.specs.declared.fault.LexFault.TheVariants as lexer
@@ -24,9 +29,11 @@ use Rattle.vcp_inputs.specs.declared.refusal.Refusal.{Refusal}
 use Rattle.vcp_inputs.specs.declared.refusal.Refusal.TheVariants as refusal
 use Rattle.vcp_inputs.specs.declared.refusal.NoInput.{NoInput}
 use Rattle.vcp_inputs.specs.declared.refusal.NoInput.TheVariants as input
-use Rattle.vcp_inputs.specs.Files.{Untaken, long, short, NotLoaded, Loads, FileRead}
+use Rattle.vcp_inputs.specs.Files.{Untaken, long, short, LeavesLong, NotLoaded, Loads, FileRead}
 use Rattle.vcp_inputs.specs.Programs.{IsProgram, NoProgram, NotTyped, unlexed, unparsed, no_program, mistyped}
 use Rattle.vcp_inputs.specs.Refusals as none
+use Rattle.vcp_inputs.specs.RowsOutcome.{Opens, file_outcome, rows_or_refusal, rows_outcome}
+use Rattle.vcp_inputs.specs.RowsOutcome as outcome
 
 -- the lexer's fault is told
 pub lexer_refuses : (text : List ℕ) (f : LexFault) → Faults text f → Untaken (NoProgram text) (none.unlexed f)
@@ -86,6 +93,34 @@ file_unread held name limit b n reading.Failed h = h
 file_unread held name limit b n reading.TooLong (bytes, is, l) = (bytes, is, long l)
 file_unread held name limit b n reading.Memory h = tt
 
+-- one that is too long is left behind one byte more than the limit
+pub file_left : (held : Held) (name : List ℕ) (limit : ℕ) (rest : Option (List ℕ)) (r : ReadAll) → none.unread r ≡ input.Refused refusal.Bytes
+    → Takes held name limit rest (Err r) → LeavesLong name limit rest held
+file_left held name limit rest reading.Failed is h = absurd cc
+file_left held name limit rest reading.TooLong is (front, left, found, left_is, least, most) =
+    let taken : length front ≡ limit + 1 = omega (arith, least, most) in (
+      front ++ left,
+      found,
+      simp length-append (omega (arith, least)),
+      left_is ∙ ap Some (sym (ap (λ n. drop n (front ++ left)) (sym taken) ∙ drop-append_seam front left)),
+    )
+file_left held name limit rest reading.Memory is h = absurd cc
+
+-- where the files didn't fail, their count is what it was
+pub file_stays : {V W : Type 0} (b n : ℕ) (r : ReadAll) (x : Result V ReadAll) (y : Result W NoInput) → x ≡ Err r → y ≡ Err (none.unread r)
+    → (x ≢ Err reading.Failed → n ≡ b) → y ≢ Err input.Unread → n ≡ b
+file_stays b n reading.Failed x y is so h other = absurd (other so)
+file_stays b n reading.TooLong x y is so h other = h (λ e. cc)
+file_stays b n reading.Memory x y is so h other = h (λ e. cc)
+
+-- the same refusal of another value
+pub same_error : {V W : Type 0} (i j : NoInput) (x : Result V NoInput) (y : Result W NoInput) → x ≡ Err i → y ≡ Err i → y ≡ Err j → x ≡ Err j
+same_error i j x y is so e = let same : i ≡ j = cc in is ∙ ap Err same
+
+pub same_stays : {V W : Type 0} (b n : ℕ) (i : NoInput) (x : Result V NoInput) (y : Result W NoInput) → x ≡ Err i → y ≡ Err i
+    → (x ≢ Err input.Unread → n ≡ b) → y ≢ Err input.Unread → n ≡ b
+same_stays b n i x y is so h other = h (λ e. other (same_error i input.Unread y x so is e))
+
 -- a file that isn't read isn't loaded
 pub not_read : (Why : List ℕ → Refusal → Type 0) (held : Held) (name : List ℕ) (limit b n : ℕ) (i : NoInput) → FileRead held name limit b n (Err i)
     → NotLoaded Why held name limit b n i
@@ -113,3 +148,15 @@ module _ {V : Type 0} (Is : List ℕ → V → Type 0) (Why : List ℕ → Refus
 pub not_bytes : (held : Held) (name : List ℕ) (limit b n : ℕ) (r : Refusal) → FileRead held name limit b n (Err (input.Refused r)) → r ≡ refusal.Bytes
 not_bytes held name limit b n r (text, is, long l) = refl
 not_bytes held name limit b n r (text, is, short _ l never) = absurd never
+
+-- rows whose file isn't read, for some columns
+pub rows_unread : (held : Held) (name : List ℕ) (columns : List Column) (b n : ℕ) (i : NoInput) → length columns ≢ 0
+    → FileRead held name most_rows_bytes b n (Err i) → Opens (rows_outcome (file name) held columns) b n (Err i)
+rows_unread held name [] b n i some h = absurd (some refl)
+rows_unread held name (c ∷ columns) b n input.Unread some (inl none) = inl (ap (file_outcome (c ∷ columns)) none)
+rows_unread held name (c ∷ columns) b n input.Unread some (inr rose) = inr rose
+rows_unread held name (c ∷ columns) b n (input.Refused r) some (text, found, long l) =
+    let over : nat_lt most_rows_bytes (length text) ≡ true = grind (arith, nat_tests) in
+    ap (file_outcome (c ∷ columns)) found ∙ ap (λ (x : Bool). cond x (outcome.refused refusal.Bytes) (rows_or_refusal (rows_of text (c ∷ columns)))) over
+rows_unread held name (c ∷ columns) b n (input.Refused r) some (text, found, short _ l never) = absurd never
+rows_unread held name (c ∷ columns) b n input.Memory some h = tt

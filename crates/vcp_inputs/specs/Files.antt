@@ -1,5 +1,5 @@
 -- Files: what reading a whole file gives, and what taking it through its refusals gives.
-use Rattle.std.specs.Prelude.{ℕ, ◌≡◌, ◌⊎◌, ◌<◌, ◌≤◌, List, length, Some, None, Result, Ok, Err}
+use Rattle.std.specs.Prelude.{ℕ, ◌≡◌, ◌⊎◌, ◌+◌, ◌<◌, ◌≤◌, List, length, drop, Option, Some, None, Result, Ok, Err}
 use Rattle.vcp_outside.specs.Counts.{Rose}
 use Rattle.vcp_outside.specs.Held.{Held}
 use Rattle.vcp_inputs.specs.declared.refusal.Refusal.{Refusal}
@@ -30,6 +30,10 @@ Never text r = ⊥
 -- what reading a file gives: its bytes, up to the limit, or why there are none
 abbrev pub FileRead : Held → List ℕ → ℕ → ℕ → ℕ → Result (List ℕ) NoInput → Type 0
 FileRead held name limit before now result = Loads (λ text bytes. bytes ≡ text) Never held name limit before now result
+
+-- the file under a name has more bytes than a limit; one byte more than that was taken, and the others are left
+abbrev pub LeavesLong : List ℕ → ℕ → Option (List ℕ) → Held → Type 0
+LeavesLong name limit rest held = (bytes : List ℕ) × (held name ≡ Some bytes) × (limit < length bytes) × (rest ≡ Some (drop (limit + 1) bytes))
 
 -- why there is nothing of a text that was read, where this is why it is refused
 abbrev pub Untaken : (Refusal → Type 0) → NoInput → Type 0

@@ -1,5 +1,5 @@
 -- RowsOutcome: what the words ROWS come to, where the files hold this.
-use Rattle.std.specs.Prelude.{ℕ, ◌≡◌, ◌⊎◌, ◌<◌, ◌≤◌, Bool, true, false, cond, nat_lt, List, [], ◌∷◌, length, Option, Some, None, Result, Ok, Err}
+use Rattle.std.specs.Prelude.{ℕ, ◌≡◌, ◌⊎◌, ◌≤◌, Bool, true, false, cond, nat_lt, List, [], ◌∷◌, length, Option, Some, None, Result, Ok, Err}
 use Rattle.vcp_base.specs.Limits.{most_rows_bytes, most_cycles}
 use Rattle.vcp_base.specs.declared.columns.Column.{Column}
 use Rattle.vcp_outside.specs.Counts.{Rose}
@@ -8,6 +8,7 @@ use Rattle.vcp_words.specs.Forms.{Rows, file, cycles}
 use Rattle.input_rows.specs.declared.fault.RowFault.{RowFault}
 use Rattle.input_rows.specs.declared.fault.RowFault.TheVariants as row
 use Rattle.input_rows.specs.RowsOf.{RowsLeft, rows_of, rows_of_cycles}
+use Rattle.vcp_inputs.specs.Files.{LeavesLong}
 use Rattle.vcp_inputs.specs.declared.refusal.NoInput.{NoInput}
 use Rattle.vcp_inputs.specs.declared.refusal.NoInput.TheVariants as input
 use Rattle.vcp_inputs.specs.declared.refusal.Refusal.{Refusal}
@@ -43,10 +44,10 @@ begins (file name) [] = false
 begins (file name) (c ∷ columns) = true
 begins (cycles n) columns = false
 
--- the file of ROWS has more bytes than a rows file may have
-abbrev pub HasLongFile : Rows → Held → Type 0
-HasLongFile (file name) held = (bytes : List ℕ) × (held name ≡ Some bytes) × (most_rows_bytes < length bytes)
-HasLongFile (cycles n) held = ⊥
+-- the file of ROWS has more bytes than a rows file may have, of which one more was taken than it may
+abbrev pub HasLongFile : Rows → Option (List ℕ) → Held → Type 0
+HasLongFile (file name) rest held = LeavesLong name most_rows_bytes rest held
+HasLongFile (cycles n) rest held = ⊥
 
 -- ---- what calls give
 

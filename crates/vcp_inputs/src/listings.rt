@@ -5,7 +5,7 @@ ghost use Rattle.std.specs.Io.KnownBytes.{IsAtEnd};
 ghost use Rattle.vcp_outside.specs.Counts.{Rose};
 ghost use Rattle.il_front.specs.Answers.{most_il_bytes};
 ghost use Rattle.il_front.specs.Outcomes.{IsTypedIl};
-ghost use Rattle.vcp_inputs.specs.Files.{Untaken, Loads};
+ghost use Rattle.vcp_inputs.specs.Files.{Untaken, LeavesLong, Loads};
 ghost use Rattle.vcp_inputs.specs.Listings.{NotListing};
 ghost use Rattle.vcp_inputs.specs.Refusals.{IsCaused};
 ghost use Rattle.vcp_inputs.specs.declared.refusal.NoInput.TheVariants as input;
@@ -42,7 +42,9 @@ pub fn load_il<F: Files>(alloc: Global, files: &mut F, name: &Text) -> Result<Ty
     // What was taken of the file: all, unless it has too many bytes.
     ensures ended { OnOk result (IsAtEnd (F.seen files.new).rest) }
     ensures whole { (r : RefusalOf) → result ≡ Err (input.Refused r) → r ≢ refusal.Bytes → IsAtEnd (F.seen files.new).rest }
+    ensures left { result ≡ Err (input.Refused refusal.Bytes) → IfSome (F.seen files.old).held (LeavesLong name.now most_il_bytes (F.seen files.new).rest) }
     // What stays.
+    ensures stayed { result ≢ Err input.Unread → (F.seen files.new).faults ≡ (F.seen files.old).faults }
     ensures held { (F.seen files.new).held ≡ (F.seen files.old).held }
     ensures later { (F.seen files.old).faults ≤ (F.seen files.new).faults }
     ensures broken_later { (F.seen files.old).broken ≤ (F.seen files.new).broken }

@@ -47,11 +47,12 @@ fn load_file<F: Files>(
     ensures caused { IfErr result IsCaused }
     ensures begun { result ≡ Err input.Unread → begins (file name.now) columns.now ≡ true }
     ensures refused { (r : RefusalOf) → result ≡ Err (input.Refused r) → begins (file name.now) columns.now ≡ true → r ≡ refusal.Bytes }
-    ensures long { result ≡ Err (input.Refused refusal.Bytes) → IfSome (F.seen files.old).held (HasLongFile (file name.now)) }
+    ensures long { result ≡ Err (input.Refused refusal.Bytes) → IfSome (F.seen files.old).held (HasLongFile (file name.now) (F.seen files.new).rest) }
     ensures unbegun { begins (file name.now) columns.now ≡ false →
         ((F.seen files.new).rest ≡ (F.seen files.old).rest) × ((F.seen files.new).faults ≡ (F.seen files.old).faults) × ((F.seen files.new).broken ≡ (F.seen files.old).broken) }
     ensures ended { OnOk result (IsAtEnd (F.seen files.new).rest) }
     ensures whole { (r : RefusalOf) → result ≡ Err (input.Refused r) → r ≢ refusal.Bytes → (F.seen files.new).rest ≡ (F.seen files.old).rest }
+    ensures stayed { result ≢ Err input.Unread → (F.seen files.new).faults ≡ (F.seen files.old).faults }
     ensures held { (F.seen files.new).held ≡ (F.seen files.old).held }
     ensures later { (F.seen files.old).faults ≤ (F.seen files.new).faults }
     ensures broken_later { (F.seen files.old).broken ≤ (F.seen files.new).broken }
@@ -67,7 +68,7 @@ fn load_file<F: Files>(
 
 /// Takes ROWS through their refusals up to their header. `Form` comes for a file where there are no columns,
 /// and nothing is begun then; next `Unread`, and then `Bytes`. `Unread` comes only where a file is begun and
-/// the count of faults rose.
+/// the count of faults rose, which else is as it was.
 pub fn load_rows<F: Files>(
     alloc: Global,
     files: &mut F,
@@ -87,13 +88,14 @@ pub fn load_rows<F: Files>(
     ensures caused { IfErr result IsCaused }
     ensures begun { result ≡ Err input.Unread → begins (rows_of rows.entry) columns.now ≡ true }
     ensures refused { (r : RefusalOf) → result ≡ Err (input.Refused r) → begins (rows_of rows.entry) columns.now ≡ true → r ≡ refusal.Bytes }
-    ensures long { result ≡ Err (input.Refused refusal.Bytes) → IfSome (F.seen files.old).held (HasLongFile (rows_of rows.entry)) }
+    ensures long { result ≡ Err (input.Refused refusal.Bytes) → IfSome (F.seen files.old).held (HasLongFile (rows_of rows.entry) (F.seen files.new).rest) }
     // What was taken of the file: nothing where none is begun, else all, unless it has too many bytes.
     ensures unbegun { begins (rows_of rows.entry) columns.now ≡ false →
         ((F.seen files.new).rest ≡ (F.seen files.old).rest) × ((F.seen files.new).faults ≡ (F.seen files.old).faults) × ((F.seen files.new).broken ≡ (F.seen files.old).broken) }
     ensures ended { OnOk result (IsAtEnd (F.seen files.old).rest → IsAtEnd (F.seen files.new).rest) }
     ensures whole { (r : RefusalOf) → result ≡ Err (input.Refused r) → r ≢ refusal.Bytes → (F.seen files.new).rest ≡ (F.seen files.old).rest }
     // What stays.
+    ensures stayed { result ≢ Err input.Unread → (F.seen files.new).faults ≡ (F.seen files.old).faults }
     ensures held { (F.seen files.new).held ≡ (F.seen files.old).held }
     ensures later { (F.seen files.old).faults ≤ (F.seen files.new).faults }
     ensures broken_later { (F.seen files.old).broken ≤ (F.seen files.new).broken }

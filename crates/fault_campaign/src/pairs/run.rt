@@ -26,8 +26,8 @@ use vcp_outside::Sink;
 ///
 /// After `Write` a part of the text is written, in which the lines before the one that failed are whole.
 /// After `Memory` the lines of the groups before the one that wanted it are written, and for that one no call
-/// was made. `Write` comes only where the sink's count rose. The counts of the unit's wrong answers and of
-/// the sink's faults never fall.
+/// was made. `Write` comes only where the sink's count rose, which else is as it was. The counts of the
+/// unit's wrong answers and of the sink's faults never fall.
 pub fn run_pairs<U: Unit, O: Sink>(
     alloc: Global,
     out: &mut O,
@@ -49,6 +49,7 @@ pub fn run_pairs<U: Unit, O: Sink>(
     ensures never_falls { (U.seen unit.old).wrong ≤ (U.seen unit.new).wrong }
     ensures write { result ≡ Err fault.Write → Rose (O.seen out.old).faults (O.seen out.new).faults }
     ensures later { (O.seen out.old).faults ≤ (O.seen out.new).faults }
+    ensures stayed { result ≢ Err fault.Write → (O.seen out.new).faults ≡ (O.seen out.old).faults }
 {
     let mut totals = PairTotals::new();
     'groups: for i in 0..script.len() {

@@ -1,4 +1,4 @@
-use Rattle.std.proofs.Common.{◌≡◌, ap, sym, refl, subst, length, List, Err, arith}
+use Rattle.std.proofs.Common.{◌≡◌, ◌∙◌, ap, sym, refl, subst, length, List, Err, arith}
 use Rattle.std.proofs.lemmas.Result.{err_from_is_err_and}
 use Rattle.op_graph.specs.Lists.{Lists}
 use Rattle.std.specs.Io.KnownBytes.{Appends}
@@ -23,7 +23,7 @@ groups-init g c =
           (so_far_none r.table r.graph c.args.script.now r.rows r.answers before (g.U.Unit.seen c.args.unit.now) (g.O.Sink.seen c.args.out.now).written judged);
       counted = rw (c.new-totals.ensures) refl;
       never_falls = omega arith;
-      later = omega arith;
+      stayed = refl;
     }
 
 pub returns-in_err-verdict-clause-told : goal.returns-in_err-verdict-clause-told
@@ -84,7 +84,7 @@ groups-preserved g c =
           (unit.seen c.verdict.new.unit) old mid new c.groups.i c.groups.totals (i.so_far before judged right) f v c.line.result next c.line.ensures said);
       counted = rw (c.count.ensures) (omega (arith, one_counted c.groups.totals v, i.counted));
       never_falls = omega (arith, i.never_falls, found.never_falls);
-      later = omega (arith, i.later, c.in_ok-verdict_line.ensures.cause.later);
+      stayed = c.in_ok-verdict_line.ensures.cause.stayed ∙ i.stayed;
     }
 
 pub returns-in_err-totals_line-clause-told : goal.returns-in_err-totals_line-clause-told
@@ -104,3 +104,21 @@ returns-clause-told g c = λ before judged right.
     let so_far = rw all at (c.groups.invariant.so_far before judged right) in
     all_told r.table r.graph c.args.script.now r.rows r.answers before (g.U.Unit.seen c.groups.unit) _ _ _ c.groups.totals so_far
     c.in_ok-totals_line.ensures.whole
+
+-- ---- the sink's count of faults
+
+pub returns-in_err-verdict-clause-stayed : goal.returns-in_err-verdict-clause-stayed
+returns-in_err-verdict-clause-stayed g c = λ other. c.groups.invariant.stayed
+
+pub returns-in_err-verdict_line-clause-stayed : goal.returns-in_err-verdict_line-clause-stayed
+returns-in_err-verdict_line-clause-stayed g c = λ other.
+    let p = err_from_is_err_and c.from_residual-in_err-verdict_line.result c.from_residual-in_err-verdict_line.ensures.1 in
+    absurd (other (p.1 ∙ ap Err p.2))
+
+pub returns-in_err-totals_line-clause-stayed : goal.returns-in_err-totals_line-clause-stayed
+returns-in_err-totals_line-clause-stayed g c = λ other.
+    let p = err_from_is_err_and c.from_residual-in_err-totals_line.result c.from_residual-in_err-totals_line.ensures.1 in
+    absurd (other (p.1 ∙ ap Err p.2))
+
+pub returns-clause-stayed : goal.returns-clause-stayed
+returns-clause-stayed g c = λ other. c.in_ok-totals_line.ensures.cause.stayed ∙ c.groups.invariant.stayed

@@ -19,5 +19,5 @@ invariant-groups g l =
           → SoFar r.table r.graph l.script r.rows r.answers before (unit.seen l.unit) (sink.seen l.fn.out).written (sink.seen l.out).written l.i l.totals;
       counted : faults l.totals ≡ l.i;
       never_falls : (unit.seen l.fn.unit).wrong ≤ (unit.seen l.unit).wrong;
-      later : (sink.seen l.fn.out).faults ≤ (sink.seen l.out).faults;
+      stayed : (sink.seen l.out).faults ≡ (sink.seen l.fn.out).faults;
     }

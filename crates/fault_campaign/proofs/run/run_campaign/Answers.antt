@@ -1,4 +1,4 @@
-use Rattle.std.proofs.Common.{[], List, ap, ℤ}
+use Rattle.std.proofs.Common.{[], List, refl, ap, ℤ}
 use Rattle.std.proofs.lemmas.Result.{err_from_is_err_and}
 use Rattle.op_graph.specs.Lists.{Lists}
 use Rattle.signature_table.specs.Signatures.{Numbers}
@@ -33,3 +33,9 @@ returns-clause-told g c =
     new.graph new.table new.rows (c.groups_are_rerun_one_after_another.ensures.starts t graph rows r.answers script r.end before mid new.ran))
     (λ h. to_kept (λ (t : Numbers) (h : Lists) (xs : List (List ℤ)). IsReference t h xs r.answers) r t graph rows new.graph new.table new.rows
     (new.honest h)))
+
+pub returns-in_err-reference-clause-stayed : goal.returns-in_err-reference-clause-stayed
+returns-in_err-reference-clause-stayed g c = λ other. refl
+
+pub returns-clause-stayed : goal.returns-clause-stayed
+returns-clause-stayed g c = c.judge_groups.ensures.stayed

@@ -1,4 +1,4 @@
-use Rattle.std.proofs.Common.{length, subst, sym, ap, ◌∙◌, arith, ◌<◌}
+use Rattle.std.proofs.Common.{length, refl, subst, sym, ap, ◌∙◌, arith, ◌<◌, Err}
 use Rattle.std.proofs.lemmas.Result.{err_from_is_err_and}
 use Rattle.std.proofs.lemmas.List.{length-replicate}
 use Rattle.input_rows.specs.RowsOf.{RowsLeft}
@@ -102,7 +102,7 @@ cycles-preserved g c =
       inputs = c.next.ensures.width ∙ so_far.inputs ∙ ap (λ (x : RowsLeft). length x.types) one;
       outputs = cycle.width ∙ so_far.outputs;
       so_far =
-          up_to_next so_far.runs m.graph m.table c.args.rows.now c.cycles.rows c.next.new.self g.R.ReleasedRows.text _ _ _ (g.R.ReleasedRows.Keeps c.args.released.now) (g.R.ReleasedRows.Keeps c.cycles.released) (g.R.ReleasedRows.Keeps c.run_cycle.new.released) c.cycles.machine c.run_cycle.new.machine c.next.new.out c.in_ok-end.end so_far.so_far c.in-Released.is one cycle.turn cycle.between cycle.written.whole cycle.written.cause.later cycle.kept;
+          up_to_next so_far.runs m.graph m.table c.args.rows.now c.cycles.rows c.next.new.self g.R.ReleasedRows.text _ _ _ (g.R.ReleasedRows.Keeps c.args.released.now) (g.R.ReleasedRows.Keeps c.cycles.released) (g.R.ReleasedRows.Keeps c.run_cycle.new.released) c.cycles.machine c.run_cycle.new.machine c.next.new.out c.in_ok-end.end so_far.so_far c.in-Released.is one cycle.turn cycle.between cycle.written.whole cycle.written.cause.stayed cycle.kept;
     }
 
 pub returns-in_default-clause-leaves : goal.returns-in_default-clause-leaves
@@ -172,7 +172,7 @@ returns-in_err-outputs-clause-leaves g c =
 -- ---- the sink's count of faults
 
 pub returns-in_err-next-clause-later : goal.returns-in_err-next-clause-later
-returns-in_err-next-clause-later g c = c.cycles.invariant.so_far.faults
+returns-in_err-next-clause-later g c = omega (arith, c.cycles.invariant.so_far.faults)
 
 pub returns-in_err-end-clause-later : goal.returns-in_err-end-clause-later
 returns-in_err-end-clause-later g c = omega (arith, c.cycles.invariant.so_far.faults, c.in_err-end.ensures.written.cause.later)
@@ -181,7 +181,26 @@ pub returns-in_default-clause-later : goal.returns-in_default-clause-later
 returns-in_default-clause-later g c = omega (arith, c.cycles.invariant.so_far.faults, c.in_ok-end.ensures.written.cause.later)
 
 pub returns-clause-later : goal.returns-clause-later
-returns-clause-later g c = c.cycles.invariant.so_far.faults
+returns-clause-later g c = omega (arith, c.cycles.invariant.so_far.faults)
+
+pub returns-in_err-inputs-clause-stayed : goal.returns-in_err-inputs-clause-stayed
+returns-in_err-inputs-clause-stayed g c = λ other. refl
+
+pub returns-in_err-outputs-clause-stayed : goal.returns-in_err-outputs-clause-stayed
+returns-in_err-outputs-clause-stayed g c = λ other. refl
+
+pub returns-in_err-next-clause-stayed : goal.returns-in_err-next-clause-stayed
+returns-in_err-next-clause-stayed g c = λ other. c.cycles.invariant.so_far.faults
+
+pub returns-in_err-end-clause-stayed : goal.returns-in_err-end-clause-stayed
+returns-in_err-end-clause-stayed g c = λ other.
+    let p = err_from_is_err_and c.from_residual-in_err-end.result c.from_residual-in_err-end.ensures.1 in absurd (other (p.1 ∙ ap Err p.2))
+
+pub returns-in_default-clause-stayed : goal.returns-in_default-clause-stayed
+returns-in_default-clause-stayed g c = λ other. c.in_ok-end.ensures.written.cause.stayed ∙ c.cycles.invariant.so_far.faults
+
+pub returns-clause-stayed : goal.returns-clause-stayed
+returns-clause-stayed g c = λ other. c.cycles.invariant.so_far.faults
 
 -- ---- the first part of what is left
 

@@ -115,3 +115,30 @@ returns-clause-ran g c =
     c.cycles.ensures.value c.in_ok-print_end.ensures.whole in
     ended c.counts_bound_a_pair.ensures graph c.args.table.now c.args.other.now c.args.rows.now fair b h a n refl refl header
     c.in_ok-header_line.ensures.cause.later e rows (g.O.Sink.seen c.print_end.new.out) whole
+
+-- ---- the sink's count of faults
+
+pub returns-in_err-pair-clause-stayed : goal.returns-in_err-pair-clause-stayed
+returns-in_err-pair-clause-stayed g c = λ other. refl
+
+pub returns-in_err-names-clause-stayed : goal.returns-in_err-names-clause-stayed
+returns-in_err-names-clause-stayed g c = λ other. refl
+
+pub returns-in_err-header_line-clause-stayed : goal.returns-in_err-header_line-clause-stayed
+returns-in_err-header_line-clause-stayed g c = λ other.
+    let p = err_from_is_err_and c.from_residual-in_err-header_line.result c.from_residual-in_err-header_line.ensures.1 in
+    absurd (other (p.1 ∙ ap Err p.2))
+
+pub returns-in_err-end-clause-stayed : goal.returns-in_err-end-clause-stayed
+returns-in_err-end-clause-stayed g c = λ other.
+    let p = err_from_is_err_and c.from_residual-in_err-end.result c.from_residual-in_err-end.ensures.1 in
+    c.in_err-end.ensures.rows.stayed (λ e. other (p.1 ∙ (ap Err p.2 ∙ e))) ∙ c.in_ok-header_line.ensures.cause.stayed
+
+pub returns-in_err-print_end-clause-stayed : goal.returns-in_err-print_end-clause-stayed
+returns-in_err-print_end-clause-stayed g c = λ other.
+    let p = err_from_is_err_and c.from_residual-in_err-print_end.result c.from_residual-in_err-print_end.ensures.1 in
+    absurd (other (p.1 ∙ ap Err p.2))
+
+pub returns-clause-stayed : goal.returns-clause-stayed
+returns-clause-stayed g c = λ other.
+    c.in_ok-print_end.ensures.cause.stayed ∙ (c.in_ok-end.ensures.rows.stayed (λ e. cc) ∙ c.in_ok-header_line.ensures.cause.stayed)

@@ -93,7 +93,7 @@ cycles-preserved g c =
       outputs = cycle.width ∙ so_far.outputs;
       so_far = up_to_next so_far.laws c.args.graph.now old.first.table old.second.table c.args.rows.now c.cycles.rows c.next.new.self _ _ _ c.cycles.pair
           c.run_cycle.new.pair c.next.new.out _ _ c.in_ok-end.end so_far.so_far c.in-Released.is one cycle.turn cycle.between cycle.written.whole
-          cycle.written.cause.later;
+          cycle.written.cause.stayed;
     }
 
 pub returns-in_default-clause-rows : goal.returns-in_default-clause-rows
@@ -104,7 +104,7 @@ returns-in_default-clause-rows g c =
     let cycle = c.in_ok-end.ensures in
     cycle_exit so_far.laws c.args.graph.now old.first.table old.second.table c.args.rows.now c.cycles.rows c.next.new.self _ _ _ c.cycles.pair
     c.run_cycle.new.pair c.next.new.out _ _ c.in_ok-end.end so_far.so_far c.in_default.not-Released one cycle.turn cycle.written.whole
-    cycle.written.cause.later
+    cycle.written.cause.stayed
 
 pub returns-in_default-clause-there : goal.returns-in_default-clause-there
 returns-in_default-clause-there g c = λ e is.

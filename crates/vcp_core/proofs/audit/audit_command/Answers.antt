@@ -2,13 +2,13 @@ use Rattle.std.proofs.Common.{inl, inr, refl, ap, Err}
 use Rattle.std.proofs.lemmas.Result.{err_from_is_err_and}
 use Rattle.vcp_words.specs.Forms.{audit}
 use Rattle.vcp_inputs.specs.Images.{ImageOf, NotImage}
+use Rattle.vcp_inputs.proofs.NotBytes.{image_not_bytes}
 use Rattle.command_meaning.specs.Abouts.{about, image_word}
 use Rattle.command_meaning.specs.Answer.{printed as printed_answer}
 use Rattle.command_meaning.specs.Kinds.{prints}
 use Rattle.vcp_core.specs.Tasks.{Audited, AuditTask}
 use Rattle.vcp_core.proofs.AuditKinds.{audit_told, too_large_audit, weights_caused, weights_read}
 use Rattle.vcp_core.proofs.Facts.{if_some_always, if_some_weaker}
-use Rattle.vcp_core.proofs.ImageLoaded.{image_not_bytes}
 use Rattle.vcp_core.proofs.Performing.{files_lost, quiet_lost, quiet_part, quiet_whole}
 use Rattle.vcp_core.proofs.audit.audit_command.Goals as goal
 
@@ -21,7 +21,8 @@ returns-in-Err g c unit =
     rw c.bytes.ensures
     (quiet_lost (about (audit m horizon)) ImageOf NotImage (λ h. Audited horizon m) (image_word m) files later _ c.in-Err.input (inl refl) (λ none. cc)
     (inr (inl refl)) c.load_image.ensures.held
-    c.in-Err.ensures.loads (λ r is. c.in-Err.ensures.whole r (ap Err is)) image_not_bytes (λ is. c.in-Err.ensures.unread (ap Err is))
+    c.in-Err.ensures.loads (λ r is. c.in-Err.ensures.whole r (ap Err is)) image_not_bytes (λ is. c.in-Err.ensures.left (ap Err is))
+    (λ is. c.in-Err.ensures.unread (ap Err is)) (λ no. c.in-Err.ensures.stayed (λ e. no cc))
     c.in-Err.ensures.caused)
 
 pub returns-in_err-write_audit-in-Ok-weights_of : goal.returns-in_err-write_audit-in-Ok-weights_of
@@ -33,7 +34,7 @@ returns-in_err-write_audit-in-Ok-weights_of g c unit =
     let q = err_from_is_err_and c.from_residual.result c.from_residual.ensures.1 in
     let w = c.in_err-write_audit-in-Ok-weights_of.ensures in
     rw (q.1, q.2)
-    (quiet_part (about (audit m horizon)) (AuditTask m horizon) files later (λ none. cc) c.load_image.ensures.held _ _ c.in-Ok.ensures.ended refl
+    (quiet_part (about (audit m horizon)) (AuditTask m horizon) files later (λ none. cc) c.load_image.ensures.held _ _ c.in-Ok.ensures.ended (c.in-Ok.ensures.stayed (λ e. cc)) refl
     (if_some_weaker files.held _ _
     (λ h loads. (
       prints _,
@@ -48,14 +49,14 @@ returns-in-Ok-weights_of g c unit =
     let horizon = c.args.horizon in
     let files = g.F.Files.seen c.args.files.now in
     let later = g.F.Files.seen c.load_image.new.files in
-    quiet_whole (about (audit m horizon)) (AuditTask m horizon) files later (λ none. cc) c.load_image.ensures.held _ _ c.in-Ok.ensures.ended refl (inl refl) _
+    quiet_whole (about (audit m horizon)) (AuditTask m horizon) files later (λ none. cc) c.load_image.ensures.held _ _ c.in-Ok.ensures.ended (c.in-Ok.ensures.stayed (λ e. cc)) refl (inl refl) _
     (if_some_weaker files.held _ _
     (λ h loads. (
       prints _,
       audit_told m horizon h c.in-Ok.loaded loads _ c.in-Ok-weights_of.ensures.few c.in-Ok-weights_of.ensures.weights,
       (refl, refl),
     )) c.in-Ok.ensures.loads)
-    c.in_ok-write_audit-in-Ok-weights_of.ensures.whole
+    c.in_ok-write_audit-in-Ok-weights_of.ensures.whole c.in_ok-write_audit-in-Ok-weights_of.ensures.cause.stayed
 
 pub returns : goal.returns
 returns g c unit =
@@ -69,5 +70,5 @@ returns g c unit =
     (files_lost (about (audit m horizon)) (AuditTask m horizon) files later (λ none. cc) c.load_image.ensures.held (inr (inl refl)) _ m e
     (if_some_weaker files.held _ _ (λ h loads. too_large_audit m horizon h c.in-Ok.loaded files later _ e loads why) c.in-Ok.ensures.loads)
     (λ is. if_some_always files.held _ (λ h. inl c.in-Ok.ensures.ended)) (λ is. absurd (weights_read c.in-Ok.loaded horizon e why is))
-    (λ is. absurd (weights_read c.in-Ok.loaded horizon e why is)) (weights_caused c.in-Ok.loaded horizon e why)
+    (λ no. c.in-Ok.ensures.stayed (λ e. cc)) (λ is. absurd (weights_read c.in-Ok.loaded horizon e why is)) (weights_caused c.in-Ok.loaded horizon e why)
     (inl (image_word m, inl refl, refl)))

@@ -1,4 +1,4 @@
-use Rattle.std.proofs.Common.{◌≡◌, inl, sym, ap, ◌∙◌, Ok}
+use Rattle.std.proofs.Common.{◌≡◌, inl, refl, sym, ap, ◌∙◌, Ok}
 use Rattle.std.proofs.lemmas.Result.{err_from_is_err_and}
 use Rattle.signature_table.specs.Signatures.{Numbers}
 use Rattle.vcp_core.specs.declared.ending.Ending.TheVariants as ending
@@ -33,14 +33,15 @@ returns-in_err-last-clause-ran g c name =
 pub returns-in_err-other-clause-causes : goal.returns-in_err-other-clause-causes
 returns-in_err-other-clause-causes g c =
     let q = err_from_is_err_and c.from_residual.result c.from_residual.ensures.1 in
-    rw (q.1, q.2) (failed-causes _ _ given_up.Memory (λ is. absurd cc))
+    rw (q.1, q.2) (failed-causes _ _ given_up.Memory (λ is. absurd cc) (λ no. refl))
 
 pub returns-in_err-last-clause-causes : goal.returns-in_err-last-clause-causes
 returns-in_err-last-clause-causes g c =
     let q = err_from_is_err_and c.from_residual-in_err-last.result c.from_residual-in_err-last.ensures.1 in
     rw (q.1, q.2)
     (failed-causes _ _ c.in_err-last.field-0.0
-    (wrote c.args.image.now.graph c.args.image.now.table c.args.rows.now _ _ c.in_err-last.field-0.0 c.in_err-last.ensures.ran))
+    (wrote c.args.image.now.graph c.args.image.now.table c.args.rows.now _ _ c.in_err-last.field-0.0 c.in_err-last.ensures.ran)
+    (λ no. c.in_err-last.ensures.stayed (λ e. no cc)))
 
 -- ---- it came to its end
 
@@ -57,5 +58,6 @@ returns-clause-causes g c = record {
   stopped = λ is.
       let same : c.ending_of.result ≡ ending.Stopped = cc in
       let (op, why, last) = c.ending_of.ensures.stopped same in
-      c.in_ok-last.ensures.stopped op why (ap Ok last);
+      (op, why, c.in_ok-last.ensures.stopped op why (ap Ok last));
+  stayed = λ no. c.in_ok-last.ensures.stayed (λ e. cc);
 }

@@ -3,12 +3,12 @@ use Rattle.std.proofs.lemmas.Result.{err_from_is_err_and}
 use Rattle.vcp_typed.specs.Size.{size}
 use Rattle.vcp_words.specs.Forms.{check}
 use Rattle.vcp_inputs.specs.Programs.{TypedOf, NotTyped}
+use Rattle.vcp_inputs.proofs.NotBytes.{typed_not_bytes}
 use Rattle.command_meaning.specs.Abouts.{about, source_word}
 use Rattle.command_meaning.specs.Answer.{printed as printed_answer}
 use Rattle.command_meaning.specs.Kinds.{prints}
 use Rattle.vcp_core.specs.Tasks.{ok_text, CheckTask}
 use Rattle.vcp_core.proofs.Facts.{if_some_weaker}
-use Rattle.vcp_core.proofs.Loaded.{typed_not_bytes}
 use Rattle.vcp_core.proofs.Performing.{quiet_lost, quiet_part, quiet_whole}
 use Rattle.vcp_core.proofs.Sized.{sized}
 use Rattle.vcp_core.proofs.check.check_command.Goals as goal
@@ -21,7 +21,8 @@ returns-in-Err g c unit =
     rw c.bytes.ensures
     (quiet_lost (about (check p)) TypedOf NotTyped (λ h t x. x ≡ prints (ok_text (size t))) (source_word p) files later _ c.in-Err.input (inl refl)
     (λ none. cc) (inr (inl refl)) c.load_typed.ensures.held
-    c.in-Err.ensures.loads (λ r is. c.in-Err.ensures.whole r (ap Err is)) typed_not_bytes (λ is. c.in-Err.ensures.unread (ap Err is))
+    c.in-Err.ensures.loads (λ r is. c.in-Err.ensures.whole r (ap Err is)) typed_not_bytes (λ is. c.in-Err.ensures.left (ap Err is))
+    (λ is. c.in-Err.ensures.unread (ap Err is)) (λ no. c.in-Err.ensures.stayed (λ e. no cc))
     c.in-Err.ensures.caused)
 
 pub returns-in_err-ok_line-in-Ok : goal.returns-in_err-ok_line-in-Ok
@@ -32,7 +33,7 @@ returns-in_err-ok_line-in-Ok g c unit =
     let q = err_from_is_err_and c.from_residual.result c.from_residual.ensures.1 in
     let w = c.in_err-ok_line-in-Ok.ensures in
     rw (q.1, q.2)
-    (quiet_part (about (check p)) (CheckTask p) files later (λ none. cc) c.load_typed.ensures.held _ _ c.in-Ok.ensures.ended refl
+    (quiet_part (about (check p)) (CheckTask p) files later (λ none. cc) c.load_typed.ensures.held _ _ c.in-Ok.ensures.ended (c.in-Ok.ensures.stayed (λ e. cc)) refl
     (if_some_weaker files.held _ _
     (λ h loads. (
       prints (ok_text c.size.result),
@@ -46,8 +47,8 @@ returns-in_ok-ok_line-in-Ok g c unit =
     let p = c.args.source.now in
     let files = g.F.Files.seen c.args.files.now in
     let later = g.F.Files.seen c.load_typed.new.files in
-    quiet_whole (about (check p)) (CheckTask p) files later (λ none. cc) c.load_typed.ensures.held _ _ c.in-Ok.ensures.ended refl (inl refl)
+    quiet_whole (about (check p)) (CheckTask p) files later (λ none. cc) c.load_typed.ensures.held _ _ c.in-Ok.ensures.ended (c.in-Ok.ensures.stayed (λ e. cc)) refl (inl refl)
     (ok_text c.size.result)
     (if_some_weaker files.held _ _
     (λ h loads. (prints (ok_text c.size.result), sized p h c.in-Ok.program c.size.result loads c.size.ensures.size, (refl, refl))) c.in-Ok.ensures.loads)
-    c.in_ok-ok_line-in-Ok.ensures.whole
+    c.in_ok-ok_line-in-Ok.ensures.whole c.in_ok-ok_line-in-Ok.ensures.cause.stayed

@@ -4,8 +4,8 @@ use Rattle.vcp_base.specs.Limits.{most_source_bytes}
 use Rattle.vcp_words.specs.Forms.{compile, as_code}
 use Rattle.vcp_inputs.specs.Programs.{TypedOf, NotTyped}
 use Rattle.vcp_core.proofs.Facts.{if_some_weaker}
-use Rattle.vcp_core.proofs.Loaded.{typed_not_bytes}
 use Rattle.image_file.specs.Image.{image_of}
+use Rattle.vcp_inputs.proofs.NotBytes.{typed_not_bytes}
 use Rattle.command_meaning.specs.Abouts.{about, source_word}
 use Rattle.command_meaning.specs.GraphsOf.{image_answer}
 use Rattle.command_meaning.specs.Kinds.{compiles as compiles_to}
@@ -22,7 +22,8 @@ returns-in-Err g c unit =
     rw c.bytes-in-Err.ensures
     (quiet_lost (about (compile p code)) TypedOf NotTyped (λ h t x. x ≡ compiles_to t code) (source_word p) files later _ c.in-Err.input (inl refl)
     (λ none. cc) (inr (inl refl)) c.load_typed.ensures.held
-    c.in-Err.ensures.loads (λ r is. c.in-Err.ensures.whole r (ap Err is)) typed_not_bytes (λ is. c.in-Err.ensures.unread (ap Err is))
+    c.in-Err.ensures.loads (λ r is. c.in-Err.ensures.whole r (ap Err is)) typed_not_bytes (λ is. c.in-Err.ensures.left (ap Err is))
+    (λ is. c.in-Err.ensures.unread (ap Err is)) (λ no. c.in-Err.ensures.stayed (λ e. no cc))
     c.in-Err.ensures.caused)
 
 pub returns-in_err-image-in-Ok : goal.returns-in_err-image-in-Ok
@@ -33,7 +34,7 @@ returns-in_err-image-in-Ok g c unit =
     let later = g.F.Files.seen c.load_typed.new.files in
     let q = err_from_is_err_and c.from_residual.result c.from_residual.ensures.1 in
     rw (q.1, q.2)
-    (files_wanted (about (compile p code)) (CompileTask p code) files later (λ none. cc) c.load_typed.ensures.held _)
+    (files_wanted (about (compile p code)) (CompileTask p code) files later (λ none. cc) c.load_typed.ensures.held _ (c.in-Ok.ensures.stayed (λ e. cc)))
 
 pub returns-in_err-write_all-in-Ok : goal.returns-in_err-write_all-in-Ok
 returns-in_err-write_all-in-Ok g c unit =
@@ -44,7 +45,7 @@ returns-in_err-write_all-in-Ok g c unit =
     let q = err_from_is_err_and c.from_residual-in_err-write_all-in-Ok.result c.from_residual-in_err-write_all-in-Ok.ensures.1 in
     let (graph, may, is) = c.in_ok-image-in-Ok.ensures in
     rw (q.1, q.2)
-    (quiet_part (about (compile p code)) (CompileTask p code) files later (λ none. cc) c.load_typed.ensures.held _ _ c.in-Ok.ensures.ended refl
+    (quiet_part (about (compile p code)) (CompileTask p code) files later (λ none. cc) c.load_typed.ensures.held _ _ c.in-Ok.ensures.ended (c.in-Ok.ensures.stayed (λ e. cc)) refl
     (if_some_weaker files.held _ _
     (λ h loads. (
       compiles_to c.in-Ok.program code,
@@ -61,7 +62,7 @@ returns-in_ok-write_all-in-Ok g c unit =
     let files = g.F.Files.seen c.args.files.now in
     let later = g.F.Files.seen c.load_typed.new.files in
     let (graph, may, is) = c.in_ok-image-in-Ok.ensures in
-    quiet_whole (about (compile p code)) (CompileTask p code) files later (λ none. cc) c.load_typed.ensures.held _ _ c.in-Ok.ensures.ended refl (inl refl)
+    quiet_whole (about (compile p code)) (CompileTask p code) files later (λ none. cc) c.load_typed.ensures.held _ _ c.in-Ok.ensures.ended (c.in-Ok.ensures.stayed (λ e. cc)) refl (inl refl)
     (image_of graph code.seed code.step)
     (if_some_weaker files.held _ _
     (λ h loads. (
@@ -70,4 +71,4 @@ returns-in_ok-write_all-in-Ok g c unit =
           (compiles_to c.in-Ok.program code) loads refl,
       (refl, (graph, may, refl)),
     )) c.in-Ok.ensures.loads)
-    (rw (c.bytes.ensures, is) at c.in_ok-write_all-in-Ok.ensures.whole)
+    (rw (c.bytes.ensures, is) at c.in_ok-write_all-in-Ok.ensures.whole) c.in_ok-write_all-in-Ok.ensures.cause.stayed

@@ -14,7 +14,7 @@ pub returns-in_err-made : goal.returns-in_err-made
 returns-in_err-made g c files =
     let number = c.args.number in
     let q = err_from_is_err_and c.from_residual.result c.from_residual.ensures.1 in
-    rw (q.1, q.2) (wanted_performs (about (demo number)) (λ h. DemoTask number) files files refl (λ none. refl) _ _ (still _))
+    rw (q.1, q.2) (wanted_performs (about (demo number)) (λ h. DemoTask number) files files refl (λ none. refl) _ _ (still _) refl refl)
 
 pub returns : goal.returns
 returns g c files =
@@ -23,5 +23,6 @@ returns g c files =
     input_performs (about (demo number)) (λ h. DemoTask number) files files refl (λ none. refl) (inr (inl refl)) _ made_name i
     (λ h may. source_lost number files _ _ (still _) i 0 0 (λ e. c.in-Err.ensures.read (ap Err e))
     (rw c.in_ok-made.ensures.source at (c.in-Err.ensures.loads made_name 0)))
-    (λ some. absurd (some refl)) (λ is. absurd (c.in-Err.ensures.read (ap Err is))) (λ is. absurd (c.in-Err.ensures.read (ap Err is)))
+    (λ some. absurd (some refl)) (λ is. absurd (c.in-Err.ensures.read (ap Err is))) (λ no. refl)
+    (λ is. absurd (c.in-Err.ensures.read (ap Err is)))
     c.in-Err.ensures.caused (inr (inl refl))

@@ -25,7 +25,7 @@ pub returns-in_err-columns : goal.returns-in_err-columns
 returns-in_err-columns g c files =
     let number = c.args.number in
     let q = err_from_is_err_and c.from_residual.result c.from_residual.ensures.1 in
-    rw (q.1, q.2) (wanted_performs (about (demo number)) (λ h. DemoTask number) files files refl (λ none. refl) _ _ (still _))
+    rw (q.1, q.2) (wanted_performs (about (demo number)) (λ h. DemoTask number) files files refl (λ none. refl) _ _ (still _) refl refl)
 
 pub returns-in-Ok : goal.returns-in-Ok
 returns-in-Ok g c files =
@@ -45,7 +45,7 @@ returns-in-Ok g c files =
     (λ h may. ran (about (demo number)) files files before after (DemoTask number) j c.run_program.result refl
     (opened_comes number program c.in-Ok.rows 0 0 (c.requires.typed 0) opens) c.run_program.ensures.causes.write ended)
     (λ some. absurd (some refl)) (λ no. absurd cc) (λ calls. c.run_program.ensures.causes.stopped) c.run_program.ensures.causes.refused
-    c.run_program.ensures.causes.write (inr (inl refl)))
+    c.run_program.ensures.causes.write refl c.run_program.ensures.causes.stayed (inr (inl refl)))
 
 pub returns : goal.returns
 returns g c files =
@@ -56,5 +56,6 @@ returns g c files =
     c.in_ok-columns.ensures.columns (c.in-Err.ensures.opens 0 0) in
     input_performs (about (demo number)) (λ h. DemoTask number) files files refl (λ none. refl) (inr (inl refl)) _ made_name i
     (λ h may. rows_lost number files _ _ (still _) program i 0 0 (c.requires.typed 0) (λ e. c.in-Err.ensures.read (ap Err e)) opens)
-    (λ some. absurd (some refl)) (λ is. absurd (c.in-Err.ensures.read (ap Err is))) (λ is. absurd (c.in-Err.ensures.read (ap Err is)))
+    (λ some. absurd (some refl)) (λ is. absurd (c.in-Err.ensures.read (ap Err is))) (λ no. refl)
+    (λ is. absurd (c.in-Err.ensures.read (ap Err is)))
     c.in-Err.ensures.caused (inr (inl refl))

@@ -4,6 +4,7 @@ use Rattle.vcp_words.specs.Forms.{exec, rows_of}
 use Rattle.vcp_words.specs.Tables.{rows_name}
 use Rattle.machine_run.specs.Moments.{moment}
 use Rattle.vcp_inputs.specs.Images.{ImageOf, NotImage}
+use Rattle.vcp_inputs.proofs.NotBytes.{image_not_bytes}
 use Rattle.command_meaning.specs.Abouts.{about, image_word}
 use Rattle.command_meaning.specs.FileTasks.{TakenRows}
 use Rattle.command_meaning.specs.Kinds.{runs as runs_to}
@@ -15,7 +16,7 @@ use Rattle.vcp_core.proofs.PrintedRun.{rows-shown}
 use Rattle.vcp_inputs.specs.RowsRead.{graph_columns}
 use Rattle.vcp_core.specs.Tasks.{table_code, rows_job, ExecTask}
 use Rattle.vcp_core.proofs.Facts.{if_some_weaker}
-use Rattle.vcp_core.proofs.ImageLoaded.{image-carried, image_not_bytes, table-is-of, types-width}
+use Rattle.vcp_core.proofs.ImageLoaded.{image-carried, table-is-of, types-width}
 use Rattle.vcp_core.proofs.LoadedRows.{opened_comes, rows_may, rows_unloaded, rows_unopened}
 use Rattle.vcp_core.proofs.Performing.{files_run, files_wanted, quiet_lost, ran, run_ends}
 use Rattle.vcp_core.proofs.exec.exec_command.Goals as goal
@@ -40,7 +41,8 @@ returns-in-Err g c =
     (quiet_lost (about f) ImageOf NotImage (λ h i. TakenRows (λ left x. x ≡ runs_to (rows_job (rows_name rows) (table_code i.table) (image i.graph) left))
     rows h (graph_columns i.graph)) (image_word m) files mid _
     c.in-Err.input (inl refl) (λ none. cc) (inr (inl refl)) c.load_image.ensures.held
-    c.in-Err.ensures.loads (λ r is. c.in-Err.ensures.whole r (ap Err is)) image_not_bytes (λ is. c.in-Err.ensures.unread (ap Err is))
+    c.in-Err.ensures.loads (λ r is. c.in-Err.ensures.whole r (ap Err is)) image_not_bytes (λ is. c.in-Err.ensures.left (ap Err is))
+    (λ is. c.in-Err.ensures.unread (ap Err is)) (λ no. c.in-Err.ensures.stayed (λ e. no cc))
     c.in-Err.ensures.caused)
 
 pub returns-in_err-columns : goal.returns-in_err-columns
@@ -51,7 +53,7 @@ returns-in_err-columns g c =
     let files = g.F.Files.seen c.args.files.now in
     let mid = g.F.Files.seen c.load_image.new.files in
     let q = err_from_is_err_and c.from_residual.result c.from_residual.ensures.1 in
-    rw (q.1, q.2) (files_wanted (about f) (ExecTask m rows) files mid (λ none. cc) c.load_image.ensures.held _)
+    rw (q.1, q.2) (files_wanted (about f) (ExecTask m rows) files mid (λ none. cc) c.load_image.ensures.held _ (c.in-Ok.ensures.stayed (λ e. cc)))
 
 -- ---- there is nothing of ROWS
 
@@ -68,8 +70,9 @@ returns-in-Err-load_rows g c =
     (λ n among. among) (λ h i left x. x ≡ runs_to (rows_job (rows_name rows) (table_code i.table) (image i.graph) left))
     files mid later c.in-Ok.loaded c.in_ok-columns.columns
     c.in_ok-columns.ensures.columns c.load_image.ensures.held c.load_rows.ensures.held c.in-Ok.ensures.loads _
-    c.in-Err-load_rows.input c.load_image.ensures.later c.load_image.ensures.broken_later c.in-Ok.ensures.ended c.in-Err-load_rows.ensures.loads
+    c.in-Err-load_rows.input (c.in-Ok.ensures.stayed (λ e. cc)) c.load_image.ensures.broken_later c.in-Ok.ensures.ended c.in-Err-load_rows.ensures.loads
     (λ is. c.in-Err-load_rows.ensures.begun (ap Err is)) (λ is. c.in-Err-load_rows.ensures.unread (ap Err is))
+    (λ no. c.in-Err-load_rows.ensures.stayed (λ e. no cc))
     (λ r is other. c.in-Err-load_rows.ensures.whole r (ap Err is) other) (λ is. c.in-Err-load_rows.ensures.long (ap Err is))
     c.in-Err-load_rows.ensures.caused)
 
@@ -86,7 +89,8 @@ returns g c =
     (λ n among. among) (λ h i left x. x ≡ runs_to (rows_job (rows_name rows) (table_code i.table) (image i.graph) left))
     files mid later c.in-Ok.loaded c.in_ok-columns.columns
     c.in_ok-columns.ensures.columns c.load_image.ensures.held c.load_rows.ensures.held c.in-Ok.ensures.loads
-    c.in-Ok-load_rows.inputs (c.in-Ok-load_rows.ensures.ended c.in-Ok.ensures.ended) c.in-Ok-load_rows.ensures.loads _ c.in-Err-open.input
+    c.in-Ok-load_rows.inputs (c.in-Ok-load_rows.ensures.ended c.in-Ok.ensures.ended) c.in-Ok-load_rows.ensures.loads
+    (c.in-Ok-load_rows.ensures.stayed (λ e. cc) ∙ c.in-Ok.ensures.stayed (λ e. cc)) _ c.in-Err-open.input
     (λ is. c.in-Err-open.ensures.read (ap Err is)) (c.in-Err-open.ensures.opens files.broken later.broken) c.in-Err-open.ensures.caused)
 
 -- ---- the run
@@ -120,4 +124,5 @@ returns-in-Ok-open g c =
     (c.in-Ok-open.ensures.opens 0 0) (λ h. refl)))
     (c.in-Ok-load_rows.ensures.ended c.in-Ok.ensures.ended) (λ no. absurd cc) (λ calls. c.run_printed.ensures.causes.stopped)
     c.run_printed.ensures.causes.refused c.run_printed.ensures.causes.write
+    (c.in-Ok-load_rows.ensures.stayed (λ e. cc) ∙ c.in-Ok.ensures.stayed (λ e. cc)) c.run_printed.ensures.causes.stayed
     (rows_may (about f) rows (λ w among. inr among) (λ n among. among)))

@@ -4,7 +4,7 @@ use Rattle.vcp_base.specs.Limits.{most_source_bytes}
 use Rattle.vcp_words.specs.Forms.{format}
 use Rattle.vcp_inputs.specs.Programs.{IsProgram, NoProgram}
 use Rattle.vcp_core.proofs.Facts.{if_some_weaker}
-use Rattle.vcp_core.proofs.Loaded.{program_not_bytes}
+use Rattle.vcp_inputs.proofs.NotBytes.{program_not_bytes}
 use Rattle.command_meaning.specs.Abouts.{about, source_word}
 use Rattle.command_meaning.specs.Answer.{printed as printed_answer}
 use Rattle.command_meaning.specs.Kinds.{prints}
@@ -22,7 +22,8 @@ returns-in-Err g c unit =
     rw c.bytes-in-Err.ensures
     (quiet_lost (about (format p)) IsProgram NoProgram (λ h t x. x ≡ prints (canonical t)) (source_word p) files later _ c.in-Err.input (inl refl)
     (λ none. cc) (inr (inl refl)) c.load_program.ensures.held
-    c.in-Err.ensures.loads (λ r is. c.in-Err.ensures.whole r (ap Err is)) program_not_bytes (λ is. c.in-Err.ensures.unread (ap Err is))
+    c.in-Err.ensures.loads (λ r is. c.in-Err.ensures.whole r (ap Err is)) program_not_bytes (λ is. c.in-Err.ensures.left (ap Err is))
+    (λ is. c.in-Err.ensures.unread (ap Err is)) (λ no. c.in-Err.ensures.stayed (λ e. no cc))
     c.in-Err.ensures.caused)
 
 pub returns-in_err-text-in-Ok : goal.returns-in_err-text-in-Ok
@@ -32,7 +33,7 @@ returns-in_err-text-in-Ok g c unit =
     let later = g.F.Files.seen c.load_program.new.files in
     let q = err_from_is_err_and c.from_residual.result c.from_residual.ensures.1 in
     rw (q.1, q.2)
-    (files_wanted (about (format p)) (FormatTask p) files later (λ none. cc) c.load_program.ensures.held _)
+    (files_wanted (about (format p)) (FormatTask p) files later (λ none. cc) c.load_program.ensures.held _ (c.in-Ok.ensures.stayed (λ e. cc)))
 
 pub returns-in_err-write_all-in-Ok : goal.returns-in_err-write_all-in-Ok
 returns-in_err-write_all-in-Ok g c unit =
@@ -41,7 +42,7 @@ returns-in_err-write_all-in-Ok g c unit =
     let later = g.F.Files.seen c.load_program.new.files in
     let q = err_from_is_err_and c.from_residual-in_err-write_all-in-Ok.result c.from_residual-in_err-write_all-in-Ok.ensures.1 in
     rw (q.1, q.2)
-    (quiet_part (about (format p)) (FormatTask p) files later (λ none. cc) c.load_program.ensures.held _ _ c.in-Ok.ensures.ended refl
+    (quiet_part (about (format p)) (FormatTask p) files later (λ none. cc) c.load_program.ensures.held _ _ c.in-Ok.ensures.ended (c.in-Ok.ensures.stayed (λ e. cc)) refl
     (if_some_weaker files.held _ _
     (λ h loads. (
       prints (canonical (program_tree c.in-Ok.program)),
@@ -64,7 +65,7 @@ returns-in_ok-write_all-in-Ok g c unit =
     let p = c.args.source.now in
     let files = g.F.Files.seen c.args.files.now in
     let later = g.F.Files.seen c.load_program.new.files in
-    quiet_whole (about (format p)) (FormatTask p) files later (λ none. cc) c.load_program.ensures.held _ _ c.in-Ok.ensures.ended refl (inl refl)
+    quiet_whole (about (format p)) (FormatTask p) files later (λ none. cc) c.load_program.ensures.held _ _ c.in-Ok.ensures.ended (c.in-Ok.ensures.stayed (λ e. cc)) refl (inl refl)
     (canonical (program_tree c.in-Ok.program))
     (if_some_weaker files.held _ _
     (λ h loads. (
@@ -73,4 +74,4 @@ returns-in_ok-write_all-in-Ok g c unit =
           (program_tree c.in-Ok.program) (prints (canonical (program_tree c.in-Ok.program))) loads refl,
       (refl, refl),
     )) c.in-Ok.ensures.loads)
-    (rw (c.bytes.ensures, c.in_ok-text-in-Ok.ensures.text) at c.in_ok-write_all-in-Ok.ensures.whole)
+    (rw (c.bytes.ensures, c.in_ok-text-in-Ok.ensures.text) at c.in_ok-write_all-in-Ok.ensures.whole) c.in_ok-write_all-in-Ok.ensures.cause.stayed

@@ -3,16 +3,20 @@ use Rattle.std.proofs.lemmas.Result.{err_from_is_err_and}
 use Rattle.vcp_base.specs.Limits.{most_source_bytes}
 use Rattle.vcp_words.specs.Forms.{inject, rows_of}
 use Rattle.vcp_words.specs.Tables.{rows_name}
+use Rattle.vcp_inputs.specs.declared.refusal.NoInput.TheVariants as input
+use Rattle.vcp_inputs.specs.declared.refusal.Refusal.TheVariants as refusal
+use Rattle.vcp_inputs.specs.Files.{LeavesLong}
 use Rattle.vcp_inputs.specs.Images.{ImageOf, NotImage}
 use Rattle.vcp_inputs.specs.RowsOutcome.{rows_outcome, source_outcome}
 use Rattle.vcp_inputs.specs.Scripts.{NotScript}
+use Rattle.vcp_inputs.proofs.NotBytes.{image_not_bytes}
 use Rattle.command_meaning.specs.Abouts.{about, image_word, script_word}
 use Rattle.command_meaning.specs.FileTasks.{TakenRows}
 use Rattle.machine_run.specs.Moments.{moment}
 use Rattle.vcp_inputs.specs.RowsRead.{graph_columns}
 use Rattle.vcp_core.specs.Tasks.{InjectTask}
-use Rattle.vcp_core.proofs.Facts.{if_some_always, if_some_weaker, if_some_both, if_some_same}
-use Rattle.vcp_core.proofs.ImageLoaded.{image_not_bytes, table-is-of}
+use Rattle.vcp_core.proofs.Facts.{if_some_always, if_some_weaker, if_some_both, if_some_same, if_some_when}
+use Rattle.vcp_core.proofs.ImageLoaded.{table-is-of}
 use Rattle.vcp_core.proofs.JudgedTasks.{LoadsAt, OnLeft, campaign_of, campaign_performs, groups_come as groups_come_to, judged_to as judged_so_far, judged_whole as judged_all, lost_for, rows_are_read, rows_lost as rows_lost_all, rows_named, script_lost as script_lost_all, script_named as script_named_of, script_taken as script_taken_all}
 use Rattle.vcp_core.proofs.LoadedRows.{rows_may, rows_unloaded}
 use Rattle.vcp_core.proofs.Performing.{files_lost, files_wanted, quiet_lost, whole_performs}
@@ -34,7 +38,8 @@ returns-in-Err g c =
     rw c.bytes.ensures
     (quiet_lost (about f) ImageOf NotImage (λ h i. TakenRows (OnLeft rows s h i) rows h (graph_columns i.graph)) (image_word m) files mid _
     c.in-Err.input (inl refl) (λ none. cc) (inr (inl refl)) c.load_image.ensures.held
-    c.in-Err.ensures.loads (λ r is. c.in-Err.ensures.whole r (ap Err is)) image_not_bytes (λ is. c.in-Err.ensures.unread (ap Err is))
+    c.in-Err.ensures.loads (λ r is. c.in-Err.ensures.whole r (ap Err is)) image_not_bytes (λ is. c.in-Err.ensures.left (ap Err is))
+    (λ is. c.in-Err.ensures.unread (ap Err is)) (λ no. c.in-Err.ensures.stayed (λ e. no cc))
     c.in-Err.ensures.caused)
 
 pub returns-in_err-columns : goal.returns-in_err-columns
@@ -46,7 +51,7 @@ returns-in_err-columns g c =
     let files = g.F.Files.seen c.args.files.now in
     let mid = g.F.Files.seen c.load_image.new.files in
     let q = err_from_is_err_and c.from_residual.result c.from_residual.ensures.1 in
-    rw (q.1, q.2) (files_wanted (about f) (InjectTask m rows s) files mid (λ none. cc) c.load_image.ensures.held _)
+    rw (q.1, q.2) (files_wanted (about f) (InjectTask m rows s) files mid (λ none. cc) c.load_image.ensures.held _ (c.in-Ok.ensures.stayed (λ e. cc)))
 
 -- ---- there is nothing of ROWS
 
@@ -64,8 +69,9 @@ returns-in-Err-load_rows g c =
     (λ n among. among) (λ h. OnLeft rows s h)
     files mid later c.in-Ok.loaded c.in_ok-columns.columns
     c.in_ok-columns.ensures.columns c.load_image.ensures.held c.load_rows.ensures.held c.in-Ok.ensures.loads _
-    c.in-Err-load_rows.input c.load_image.ensures.later c.load_image.ensures.broken_later c.in-Ok.ensures.ended c.in-Err-load_rows.ensures.loads
+    c.in-Err-load_rows.input (c.in-Ok.ensures.stayed (λ e. cc)) c.load_image.ensures.broken_later c.in-Ok.ensures.ended c.in-Err-load_rows.ensures.loads
     (λ is. c.in-Err-load_rows.ensures.begun (ap Err is)) (λ is. c.in-Err-load_rows.ensures.unread (ap Err is))
+    (λ no. c.in-Err-load_rows.ensures.stayed (λ e. no cc))
     (λ r is other. c.in-Err-load_rows.ensures.whole r (ap Err is) other) (λ is. c.in-Err-load_rows.ensures.long (ap Err is))
     c.in-Err-load_rows.ensures.caused)
 
@@ -89,6 +95,7 @@ returns-in-Err-all_rows g c =
     (if_some_both files.held mid.held _ (λ h. rows_outcome rows h c.in_ok-columns.columns ≡ o) (LoadsAt m rows i o) c.load_image.ensures.held
     (λ h l is. (l, ap (rows_outcome rows h) (sym c.in_ok-columns.ensures.columns) ∙ is)) c.in-Ok.ensures.loads c.in-Ok-load_rows.ensures.loads))
     (λ is. if_some_always files.held _ (λ h. inl end)) (λ is. absurd (rows_are_read o i.graph e c.in-Err-all_rows.ensures.fault is))
+    (λ no. c.in-Ok-load_rows.ensures.stayed (λ e. cc) ∙ c.in-Ok.ensures.stayed (λ e. cc))
     (λ is. absurd (rows_are_read o i.graph e c.in-Err-all_rows.ensures.fault is)) c.in-Err-all_rows.ensures.caused
     (rows_may (about f) rows (rows_named m rows s) (λ n among. among)))
 
@@ -119,10 +126,14 @@ returns-in-Err-load_script g c =
     (λ h l is. (l, ap (rows_outcome rows h) (sym c.in_ok-columns.ensures.columns) ∙ is)) c.in-Ok.ensures.loads c.in-Ok-load_rows.ensures.loads)
     c.in-Err-load_script.ensures.loads)
     (λ is. if_some_same files.held later.held _ (c.load_rows.ensures.held ∙ c.load_image.ensures.held)
-    (if_some_weaker later.held _ _
-    (λ h lost. script_taken_all m rows s h i.graph later.broken final.broken e final.rest (λ r why. c.in-Err-load_script.ensures.whole r (ap Err why)) lost is)
-    c.in-Err-load_script.ensures.loads))
+    (if_some_both later.held later.held _ _ _ refl
+    (λ h lost at_most. script_taken_all m rows s h i.graph later.broken final.broken e final.rest
+    (λ r why. c.in-Err-load_script.ensures.whole r (ap Err why)) at_most lost is)
+    c.in-Err-load_script.ensures.loads
+    (if_some_when (e ≡ input.Refused refusal.Bytes) later.held later.held (LeavesLong s most_source_bytes final.rest) refl
+    (λ why. c.in-Err-load_script.ensures.left (ap Err why)))))
     (λ is. omega (arith, c.load_image.ensures.later, c.load_rows.ensures.later, c.in-Err-load_script.ensures.unread (ap Err is)))
+    (λ no. c.in-Err-load_script.ensures.stayed (λ e. no cc) ∙ (c.in-Ok-load_rows.ensures.stayed (λ e. cc) ∙ c.in-Ok.ensures.stayed (λ e. cc)))
     (λ is. (script_word s, script_named_of m rows s, refl)) c.in-Err-load_script.ensures.caused (inl (script_word s, script_named_of m rows s, refl)))
 
 -- ---- the groups of faults
@@ -147,7 +158,7 @@ returns-in_err-run_campaign g c =
     rw (q.1, q.2)
     (campaign_performs (about f) (InjectTask m rows s) files final (λ none. cc)
     (c.load_script.ensures.held ∙ c.load_rows.ensures.held ∙ c.load_image.ensures.held) before after
-    c.in-Ok-load_script.ensures.ended (λ no. absurd cc) e
+    c.in-Ok-load_script.ensures.ended (c.in-Ok-load_script.ensures.stayed (λ e. cc) ∙ (c.in-Ok-load_rows.ensures.stayed (λ e. cc) ∙ c.in-Ok.ensures.stayed (λ e. cc))) (λ no. absurd cc) e
     (if_some_both files.held later.held (LoadsAt m rows i o) _ _ (c.load_rows.ensures.held ∙ c.load_image.ensures.held)
     (λ h (l, same) found. judged_so_far (campaign_of i c.in-Ok-all_rows.list c.in-Ok-load_script.groups) (g.U.Unit.seen c.args.unit.now)
     (g.U.Unit.seen c.run_campaign.new.unit) (g.O.Sink.seen c.args.out.now)
@@ -157,7 +168,7 @@ returns-in_err-run_campaign g c =
     (if_some_both files.held mid.held _ (λ h. rows_outcome rows h c.in_ok-columns.columns ≡ o) (LoadsAt m rows i o) c.load_image.ensures.held
     (λ h l is. (l, ap (rows_outcome rows h) (sym c.in_ok-columns.ensures.columns) ∙ is)) c.in-Ok.ensures.loads c.in-Ok-load_rows.ensures.loads)
     c.in-Ok-load_script.ensures.loads)
-    (λ is. c.in_err-run_campaign.ensures.write (ap Err is)))
+    (λ is. c.in_err-run_campaign.ensures.write (ap Err is)) (λ no. c.in_err-run_campaign.ensures.stayed (λ e. no cc)))
 
 pub returns : goal.returns
 returns g c =
@@ -176,7 +187,7 @@ returns g c =
     let after = moment (g.U.Unit.seen c.run_campaign.new.unit) (g.O.Sink.seen c.run_campaign.new.out) in
     whole_performs (about f) (InjectTask m rows s) files final (λ none. cc)
     (c.load_script.ensures.held ∙ c.load_rows.ensures.held ∙ c.load_image.ensures.held) before after
-    c.in-Ok-load_script.ensures.ended (inl refl) (λ no. absurd cc)
+    c.in-Ok-load_script.ensures.ended (c.in-Ok-load_script.ensures.stayed (λ e. cc) ∙ (c.in-Ok-load_rows.ensures.stayed (λ e. cc) ∙ c.in-Ok.ensures.stayed (λ e. cc))) (inl refl) (λ no. absurd cc)
     (if_some_both files.held later.held (LoadsAt m rows i o) _ _ (c.load_rows.ensures.held ∙ c.load_image.ensures.held)
     (λ h (l, same) found. judged_all (campaign_of i c.in-Ok-all_rows.list c.in-Ok-load_script.groups) (g.U.Unit.seen c.args.unit.now)
     (g.U.Unit.seen c.run_campaign.new.unit) (g.O.Sink.seen c.args.out.now)
@@ -185,4 +196,4 @@ returns g c =
     c.in_ok-run_campaign.ensures.told)
     (if_some_both files.held mid.held _ (λ h. rows_outcome rows h c.in_ok-columns.columns ≡ o) (LoadsAt m rows i o) c.load_image.ensures.held
     (λ h l is. (l, ap (rows_outcome rows h) (sym c.in_ok-columns.ensures.columns) ∙ is)) c.in-Ok.ensures.loads c.in-Ok-load_rows.ensures.loads)
-    c.in-Ok-load_script.ensures.loads)
+    c.in-Ok-load_script.ensures.loads) (c.in_ok-run_campaign.ensures.stayed (λ e. cc))

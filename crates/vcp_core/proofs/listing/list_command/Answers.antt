@@ -2,7 +2,8 @@ use Rattle.std.proofs.Common.{◌≡◌, inl, inr, refl, ap, Err}
 use Rattle.std.proofs.lemmas.Result.{err_from_is_err_and}
 use Rattle.vcp_words.specs.Forms.{list}
 use Rattle.vcp_core.proofs.Facts.{if_some_weaker}
-use Rattle.vcp_core.proofs.ImageLoaded.{corrections-long, image_not_bytes, table-is-of}
+use Rattle.vcp_core.proofs.ImageLoaded.{corrections-long, table-is-of}
+use Rattle.vcp_inputs.proofs.NotBytes.{image_not_bytes}
 use Rattle.command_meaning.specs.Abouts.{about, image_word}
 use Rattle.command_meaning.specs.Answer.{printed as printed_answer}
 use Rattle.command_meaning.specs.Kinds.{prints}
@@ -24,7 +25,8 @@ returns-in-Err g c unit =
     rw c.bytes.ensures
     (quiet_lost (about (list m)) ImageOf NotImage (λ h i x. x ≡ prints (listing i.graph i.table)) (image_word m) files later _ c.in-Err.input (inl refl)
     (λ none. cc) (inr (inl refl)) c.load_image.ensures.held
-    c.in-Err.ensures.loads (λ r is. c.in-Err.ensures.whole r (ap Err is)) image_not_bytes (λ is. c.in-Err.ensures.unread (ap Err is))
+    c.in-Err.ensures.loads (λ r is. c.in-Err.ensures.whole r (ap Err is)) image_not_bytes (λ is. c.in-Err.ensures.left (ap Err is))
+    (λ is. c.in-Err.ensures.unread (ap Err is)) (λ no. c.in-Err.ensures.stayed (λ e. no cc))
     c.in-Err.ensures.caused)
 
 pub returns-in_err-list_operations-in-Ok : goal.returns-in_err-list_operations-in-Ok
@@ -34,7 +36,7 @@ returns-in_err-list_operations-in-Ok g c unit =
     let later = g.F.Files.seen c.load_image.new.files in
     let q = err_from_is_err_and c.from_residual.result c.from_residual.ensures.1 in
     rw (q.1, q.2)
-    (quiet_part (about (list m)) (ListTask m) files later (λ none. cc) c.load_image.ensures.held _ _ c.in-Ok.ensures.ended refl
+    (quiet_part (about (list m)) (ListTask m) files later (λ none. cc) c.load_image.ensures.held _ _ c.in-Ok.ensures.ended (c.in-Ok.ensures.stayed (λ e. cc)) refl
     (if_some_weaker files.held _ _
     (λ h loads. (
       prints (listing c.in-Ok.loaded.graph c.in-Ok.loaded.table),
@@ -50,7 +52,7 @@ returns-in_ok-list_operations-in-Ok g c unit =
     let m = c.args.image.now in
     let files = g.F.Files.seen c.args.files.now in
     let later = g.F.Files.seen c.load_image.new.files in
-    quiet_whole (about (list m)) (ListTask m) files later (λ none. cc) c.load_image.ensures.held _ _ c.in-Ok.ensures.ended refl (inl refl)
+    quiet_whole (about (list m)) (ListTask m) files later (λ none. cc) c.load_image.ensures.held _ _ c.in-Ok.ensures.ended (c.in-Ok.ensures.stayed (λ e. cc)) refl (inl refl)
     (listing c.in-Ok.loaded.graph c.in-Ok.loaded.table)
     (if_some_weaker files.held _ _
     (λ h loads. (
@@ -59,4 +61,4 @@ returns-in_ok-list_operations-in-Ok g c unit =
           (λ i x. x ≡ prints (listing i.graph i.table)) m h c.in-Ok.loaded
           (prints (listing c.in-Ok.loaded.graph c.in-Ok.loaded.table)) loads refl,
       (refl, refl),
-    )) c.in-Ok.ensures.loads) c.in_ok-list_operations-in-Ok.ensures.whole
+    )) c.in-Ok.ensures.loads) c.in_ok-list_operations-in-Ok.ensures.whole c.in_ok-list_operations-in-Ok.ensures.cause.stayed

@@ -6,6 +6,7 @@ use Rattle.machine_run.specs.Moments.{moment}
 use Rattle.vcp_inputs.specs.declared.refusal.NoInput.TheVariants as input
 use Rattle.vcp_inputs.specs.declared.refusal.Refusal.TheVariants as refusal
 use Rattle.vcp_inputs.specs.Images.{ImageOf, NotImage}
+use Rattle.vcp_inputs.proofs.NotBytes.{image_not_bytes}
 use Rattle.command_meaning.specs.Abouts.{about, image_word}
 use Rattle.command_meaning.specs.Kinds.{compares}
 use Rattle.vcp_core.specs.ChannelsRun.{ComparesTo}
@@ -13,7 +14,7 @@ use Rattle.vcp_inputs.specs.RowsRead.{graph_columns}
 use Rattle.vcp_core.specs.Tasks.{Apart, Compared, PairTask, pair_job}
 use Rattle.vcp_core.proofs.TwoChannels.{ApartImage, Comparing, apart_comes, compared, loads_apart, performs_by, seed_refused}
 use Rattle.vcp_core.proofs.Facts.{if_some_always, if_some_weaker}
-use Rattle.vcp_core.proofs.ImageLoaded.{image_not_bytes, types-width}
+use Rattle.vcp_core.proofs.ImageLoaded.{types-width}
 use Rattle.vcp_core.proofs.LoadedRows.{opened_comes, rows_may, rows_unloaded, rows_unopened}
 use Rattle.vcp_core.proofs.Performing.{files_lost, files_run, files_wanted, quiet_lost, run_ends}
 use Rattle.vcp_core.proofs.pair.pair_command.Goals as goal
@@ -36,8 +37,8 @@ returns-in-Err g c =
     let mid = g.F.Files.seen c.load_image.new.files in
     rw c.bytes.ensures
     (quiet_lost (about f) ImageOf NotImage (λ h. Apart m c.args.seed (Compared rows h)) (image_word m) files mid _ c.in-Err.input (inl refl) (λ none. cc) (inr (inl refl))
-    c.load_image.ensures.held c.in-Err.ensures.loads (λ r is. c.in-Err.ensures.whole r (ap Err is)) image_not_bytes
-    (λ is. c.in-Err.ensures.unread (ap Err is))
+    c.load_image.ensures.held c.in-Err.ensures.loads (λ r is. c.in-Err.ensures.whole r (ap Err is)) image_not_bytes (λ is. c.in-Err.ensures.left (ap Err is))
+    (λ is. c.in-Err.ensures.unread (ap Err is)) (λ no. c.in-Err.ensures.stayed (λ e. no cc))
     c.in-Err.ensures.caused)
 
 pub returns-in_err-columns : goal.returns-in_err-columns
@@ -48,7 +49,7 @@ returns-in_err-columns g c =
     let files = g.F.Files.seen c.args.files.now in
     let mid = g.F.Files.seen c.load_image.new.files in
     let q = err_from_is_err_and c.from_residual.result c.from_residual.ensures.1 in
-    rw (q.1, q.2) (files_wanted (about f) (PairTask m rows c.args.seed) files mid (λ none. cc) c.load_image.ensures.held _)
+    rw (q.1, q.2) (files_wanted (about f) (PairTask m rows c.args.seed) files mid (λ none. cc) c.load_image.ensures.held _ (c.in-Ok.ensures.stayed (λ e. cc)))
 
 pub returns-then-seed : goal.returns-then-seed
 returns-then-seed g c =
@@ -62,7 +63,8 @@ returns-then-seed g c =
     rw c.bytes-then-seed.ensures
     (files_lost (about f) (PairTask m rows seed) files mid (λ none. cc) c.load_image.ensures.held (inr (inl refl)) _ m (input.Refused refusal.Seed)
     (if_some_weaker files.held _ _ (λ h loads. seed_refused m rows seed h c.in-Ok.loaded files mid _ loads same) c.in-Ok.ensures.loads)
-    (λ is. if_some_always files.held _ (λ h. inl c.in-Ok.ensures.ended)) (λ is. cc) (λ is. absurd cc) tt (inl (image_word m, inl refl, refl)))
+    (λ is. if_some_always files.held _ (λ h. inl c.in-Ok.ensures.ended)) (λ is. cc)
+    (λ no. c.in-Ok.ensures.stayed (λ e. cc)) (λ is. absurd cc) tt (inl (image_word m, inl refl, refl)))
 
 -- ---- there is nothing of ROWS
 
@@ -83,8 +85,9 @@ returns-in-Err-load_rows g c =
     files mid later c.in-Ok.loaded c.in_ok-columns.columns
     c.in_ok-columns.ensures.columns c.load_image.ensures.held c.load_rows.ensures.held
     (loads_apart m seed files.held files.broken mid.broken c.in-Ok.loaded apart c.in-Ok.ensures.loads) _
-    c.in-Err-load_rows.input c.load_image.ensures.later c.load_image.ensures.broken_later c.in-Ok.ensures.ended c.in-Err-load_rows.ensures.loads
+    c.in-Err-load_rows.input (c.in-Ok.ensures.stayed (λ e. cc)) c.load_image.ensures.broken_later c.in-Ok.ensures.ended c.in-Err-load_rows.ensures.loads
     (λ is. c.in-Err-load_rows.ensures.begun (ap Err is)) (λ is. c.in-Err-load_rows.ensures.unread (ap Err is))
+    (λ no. c.in-Err-load_rows.ensures.stayed (λ e. no cc))
     (λ r is other. c.in-Err-load_rows.ensures.whole r (ap Err is) other) (λ is. c.in-Err-load_rows.ensures.long (ap Err is))
     c.in-Err-load_rows.ensures.caused))
 
@@ -105,7 +108,8 @@ returns g c =
     files mid later c.in-Ok.loaded c.in_ok-columns.columns
     c.in_ok-columns.ensures.columns c.load_image.ensures.held c.load_rows.ensures.held
     (loads_apart m seed files.held files.broken mid.broken c.in-Ok.loaded apart c.in-Ok.ensures.loads)
-    c.in-Ok-load_rows.inputs (c.in-Ok-load_rows.ensures.ended c.in-Ok.ensures.ended) c.in-Ok-load_rows.ensures.loads _ c.in-Err-open.input
+    c.in-Ok-load_rows.inputs (c.in-Ok-load_rows.ensures.ended c.in-Ok.ensures.ended) c.in-Ok-load_rows.ensures.loads
+    (c.in-Ok-load_rows.ensures.stayed (λ e. cc) ∙ c.in-Ok.ensures.stayed (λ e. cc)) _ c.in-Err-open.input
     (λ is. c.in-Err-open.ensures.read (ap Err is)) (c.in-Err-open.ensures.opens files.broken later.broken) c.in-Err-open.ensures.caused))
 
 -- ---- the run
@@ -140,4 +144,5 @@ returns-in-Ok-open g c =
     (c.in-Ok-open.ensures.opens 0 0) (λ h. refl)))
     (c.in-Ok-load_rows.ensures.ended c.in-Ok.ensures.ended) (λ no. absurd cc) (λ calls. c.run_channels.ensures.causes.stopped) c.run_channels.ensures.causes.refused
     c.run_channels.ensures.causes.write
+    (c.in-Ok-load_rows.ensures.stayed (λ e. cc) ∙ c.in-Ok.ensures.stayed (λ e. cc)) c.run_channels.ensures.causes.stayed
     (rows_may (about f) rows (λ w among. inr among) (λ n among. among)))

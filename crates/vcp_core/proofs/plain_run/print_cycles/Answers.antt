@@ -64,6 +64,7 @@ cycles-preserved g c =
       inputs = c.next.ensures.width ∙ c.cycles.invariant.inputs;
       outputs = here.cells more ∙ c.cycles.invariant.outputs;
       later = omega (arith, c.cycles.invariant.later, here.line.cause.later);
+      stayed = here.line.cause.stayed ∙ c.cycles.invariant.stayed;
       going = going-on c.args.plain.now.program c.args.plain.now.values c.args.rows.now (g.O.Sink.seen c.args.out.now).written
           (g.O.Sink.seen c.cycles.out).written (g.O.Sink.seen c.print_cycle.new.out).written c.cycles.count c.cycles.plain.values
           c.print_cycle.new.plain.values c.next.new.out c.cycles.rows c.next.new.self c.cycles.invariant.going taken
@@ -80,3 +81,24 @@ returns-then-not-branch-clause-prints g c =
     (stops-here p c.cycles.count c.cycles.plain.values c.next.new.out stopped.0 c.cycles.rows c.next.new.self (g.O.Sink.seen c.cycles.out).written
     (g.O.Sink.seen c.print_cycle.new.out).written (c.in_ok-next.ensures.row c.if-branch.true) (rw c.cycles.invariant.program at stopped.1)
     (rw c.cycles.invariant.program at here.line.whole))
+
+-- ---- the sink's count of faults
+
+pub returns-in_err-next-clause-stayed : goal.returns-in_err-next-clause-stayed
+returns-in_err-next-clause-stayed g c = λ other. c.cycles.invariant.stayed
+
+pub returns-in_err-print_cycle-clause-stayed : goal.returns-in_err-print_cycle-clause-stayed
+returns-in_err-print_cycle-clause-stayed g c = λ other.
+    let p = err_from_is_err_and c.from_residual-in_err-print_cycle.result c.from_residual-in_err-print_cycle.ensures.1 in
+    absurd (other (p.1 ∙ ap Err p.2))
+
+pub returns-then-not-branch-clause-stayed : goal.returns-then-not-branch-clause-stayed
+returns-then-not-branch-clause-stayed g c = λ other. c.in_ok-print_cycle.ensures.line.cause.stayed ∙ c.cycles.invariant.stayed
+
+pub returns-in_err-end_line-clause-stayed : goal.returns-in_err-end_line-clause-stayed
+returns-in_err-end_line-clause-stayed g c = λ other.
+    let p = err_from_is_err_and c.from_residual-in_err-end_line.result c.from_residual-in_err-end_line.ensures.1 in
+    absurd (other (p.1 ∙ ap Err p.2))
+
+pub returns-clause-stayed : goal.returns-clause-stayed
+returns-clause-stayed g c = λ other. c.in_ok-end_line.ensures.cause.stayed ∙ c.cycles.invariant.stayed

@@ -15,6 +15,7 @@ invariant-cycles g l = record {
   inputs : length l.inputs ≡ length (input_types l.fn.plain.program.slots);
   outputs : length l.outputs ≡ length (output_types l.fn.plain.program.slots);
   later : (g.O.Sink.seen l.fn.out).faults ≤ (g.O.Sink.seen l.out).faults;
+  stayed : (g.O.Sink.seen l.out).faults ≡ (g.O.Sink.seen l.fn.out).faults;
   going : Going l.fn.plain.program l.fn.plain.values l.fn.rows (g.O.Sink.seen l.fn.out).written (g.O.Sink.seen l.out).written l.count l.plain.values l.rows;
 }
 

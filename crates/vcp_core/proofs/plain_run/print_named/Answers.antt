@@ -1,4 +1,4 @@
-use Rattle.std.proofs.Common.{◌≡◌, List, length, map, sym, ap, ◌∙◌}
+use Rattle.std.proofs.Common.{◌≡◌, List, length, map, sym, ap, ◌∙◌, Err}
 use Rattle.std.proofs.lemmas.Result.{err_from_is_err_and}
 use Rattle.vcp_base.specs.declared.columns.Column.{Column}
 use Rattle.vcp_typed.specs.declared.slot.Slot.{Slot}
@@ -36,3 +36,13 @@ returns-clause-prints g c =
     header-first c.args.program.now c.args.rows.now (g.O.Sink.seen c.args.out.now).written (g.O.Sink.seen c.header_line.new.out).written
     (g.O.Sink.seen c.print_cycles.new.out).written c.print_cycles.result (rw names at c.in_ok-header_line.ensures.whole)
     (rw c.in_ok-plain.ensures at c.print_cycles.ensures.prints)
+
+-- ---- the sink's count of faults
+
+pub returns-in_err-header_line-clause-stayed : goal.returns-in_err-header_line-clause-stayed
+returns-in_err-header_line-clause-stayed g c = λ other.
+    let p = err_from_is_err_and c.from_residual-in_err-header_line.result c.from_residual-in_err-header_line.ensures.1 in
+    absurd (other (p.1 ∙ ap Err p.2))
+
+pub returns-clause-stayed : goal.returns-clause-stayed
+returns-clause-stayed g c = λ other. c.print_cycles.ensures.stayed other ∙ c.in_ok-header_line.ensures.cause.stayed

@@ -24,9 +24,10 @@ returns-in_ok-graph_stop_line-in-Stopped g c =
     let there : c.in-Stopped.op < length c.args.graph.now.operations = rw c.in-Stopped.is at c.requires.there in
     let w = stop-printed c.args.graph.now (map (λ (x : Column). x.name) c.args.outputs.now) c.args.cycles c.in-Stopped.kind _ _ _ _ _ c.in-Stopped.op there
     c.in_ok-graph_stop_line-in-Stopped.ensures in
-    rw c.in-Stopped.is (w.whole, stop-status c.args.graph.now c.in-Stopped.op c.in-Stopped.kind there)
+    rw c.in-Stopped.is (w.whole, stop-status c.args.graph.now c.in-Stopped.op c.in-Stopped.kind there, w.cause.stayed)
 
 pub returns-in_ok-refused_line-in-Refused : goal.returns-in_ok-refused_line-in-Refused
 returns-in_ok-refused_line-in-Refused g c =
     let name = name-at c.args.outputs.now c.in-Refused.output c.at.result.now c.at.ensures in
-    rw (c.in-Refused.is, name) (c.in_ok-refused_line-in-Refused.ensures.whole, refl)
+    rw (c.in-Refused.is, name)
+    (c.in_ok-refused_line-in-Refused.ensures.whole, refl, c.in_ok-refused_line-in-Refused.ensures.cause.stayed)

@@ -56,30 +56,31 @@ print_last-requires-clause-whole g c =
 pub returns-in_err-machine-clause-causes : goal.returns-in_err-machine-clause-causes
 returns-in_err-machine-clause-causes g c =
     let q = err_from_is_err_and c.from_residual.result c.from_residual.ensures.1 in
-    rw (q.1, q.2) (failed-causes _ _ given_up.Memory (λ is. absurd cc))
+    rw (q.1, q.2) (failed-causes _ _ given_up.Memory (λ is. absurd cc) (λ no. refl))
 
 pub returns-in_err-outputs-clause-causes : goal.returns-in_err-outputs-clause-causes
 returns-in_err-outputs-clause-causes g c =
     let q = err_from_is_err_and c.from_residual-in_err-outputs.result c.from_residual-in_err-outputs.ensures.1 in
-    rw (q.1, q.2) (failed-causes _ _ given_up.Memory (λ is. absurd cc))
+    rw (q.1, q.2) (failed-causes _ _ given_up.Memory (λ is. absurd cc) (λ no. refl))
 
 pub returns-in_err-print_first-clause-causes : goal.returns-in_err-print_first-clause-causes
 returns-in_err-print_first-clause-causes g c =
     let q = err_from_is_err_and c.from_residual-in_err-print_first.result c.from_residual-in_err-print_first.ensures.1 in
-    rw (q.1, q.2) (failed-causes _ _ given_up.Write (λ is. c.in_err-print_first.ensures.cause.failed))
+    rw (q.1, q.2) (failed-causes _ _ given_up.Write (λ is. c.in_err-print_first.ensures.cause.failed) (λ no. absurd (no refl)))
 
 pub returns-in_err-end-clause-causes : goal.returns-in_err-end-clause-causes
 returns-in_err-end-clause-causes g c =
     let q = err_from_is_err_and c.from_residual-in_err-end.result c.from_residual-in_err-end.ensures.1 in
     rw (q.1, q.2)
-    (failed-causes _ _ _ (λ is. omega (arith, c.in_ok-print_first.ensures.cause.later, rows-rose _ _ _ _ _ _ _ c.in_err-end.ensures.leaves.run is)))
+    (failed-causes _ _ _ (λ is. omega (arith, c.in_ok-print_first.ensures.cause.later, rows-rose _ _ _ _ _ _ _ c.in_err-end.ensures.leaves.run is))
+    (λ no. c.in_err-end.ensures.stayed (λ e. no cc) ∙ c.in_ok-print_first.ensures.cause.stayed))
 
 pub returns-in_err-print_last-clause-causes : goal.returns-in_err-print_last-clause-causes
 returns-in_err-print_last-clause-causes g c =
     let q = err_from_is_err_and c.from_residual-in_err-print_last.result c.from_residual-in_err-print_last.ensures.1 in
     rw (q.1, q.2)
     (failed-causes _ _ given_up.Write
-    (λ is. omega (arith, c.in_ok-print_first.ensures.cause.later, c.run_rows.ensures.later, c.in_err-print_last.ensures.0)))
+    (λ is. omega (arith, c.in_ok-print_first.ensures.cause.later, c.run_rows.ensures.later, c.in_err-print_last.ensures.0)) (λ no. absurd (no refl)))
 
 pub returns-clause-causes : goal.returns-clause-causes
 returns-clause-causes g c = record {
@@ -91,7 +92,8 @@ returns-clause-causes g c = record {
   stopped = λ is.
       let same : c.in_ok-print_last.field-0 ≡ ending.Stopped = cc in
       let (k, why, e) = stopped-is c.run_rows.new.machine.graph c.in_ok-end.end (ap end_status (sym same) ∙ c.in_ok-print_last.ensures.1) in
-      c.in_ok-end.ensures.stopped k why (ap Ok e);
+      (k, why, c.in_ok-end.ensures.stopped k why (ap Ok e));
+  stayed = λ no. c.in_ok-print_last.ensures.2 ∙ (c.in_ok-end.ensures.stayed (λ e. cc) ∙ c.in_ok-print_first.ensures.cause.stayed);
 }
 
 -- ---- how far the job's run came

@@ -1,3 +1,4 @@
+use Rattle.std.proofs.Common.{refl}
 use Rattle.std.proofs.lemmas.Result.{err_from_is_err_and}
 use Rattle.machine_run.specs.declared.fault.RunFault.TheVariants as given_up
 use Rattle.vcp_words.specs.Forms.{as_code}
@@ -18,9 +19,9 @@ returns-clause-ran g c s name p words stands shows =
 pub returns-in_err-graph-clause-causes : goal.returns-in_err-graph-clause-causes
 returns-in_err-graph-clause-causes g c =
     let q = err_from_is_err_and c.from_residual.result c.from_residual.ensures.1 in
-    rw (q.1, q.2) (failed-causes _ _ given_up.Memory (λ is. absurd cc))
+    rw (q.1, q.2) (failed-causes _ _ given_up.Memory (λ is. absurd cc) (λ no. refl))
 
 pub returns-in_err-table-clause-causes : goal.returns-in_err-table-clause-causes
 returns-in_err-table-clause-causes g c =
     let q = err_from_is_err_and c.from_residual-in_err-table.result c.from_residual-in_err-table.ensures.1 in
-    rw (q.1, q.2) (failed-causes _ _ given_up.Memory (λ is. absurd cc))
+    rw (q.1, q.2) (failed-causes _ _ given_up.Memory (λ is. absurd cc) (λ no. refl))

@@ -2,7 +2,7 @@ use Rattle.std.proofs.Common.{◌≡◌, inl, inr, refl, ap, Err}
 use Rattle.std.proofs.lemmas.Result.{err_from_is_err_and}
 use Rattle.vcp_words.specs.Forms.{widen}
 use Rattle.vcp_core.proofs.Facts.{if_some_weaker}
-use Rattle.vcp_core.proofs.ImageLoaded.{image_not_bytes}
+use Rattle.vcp_inputs.proofs.NotBytes.{image_not_bytes}
 use Rattle.command_meaning.specs.Abouts.{about, image_word}
 use Rattle.command_meaning.specs.Answer.{printed as printed_answer}
 use Rattle.command_meaning.specs.Kinds.{prints}
@@ -21,7 +21,8 @@ returns-in-Err g c unit =
     rw c.bytes-in-Err.ensures
     (quiet_lost (about (widen m)) ImageOf NotImage (λ h i x. x ≡ prints (image_of (widened i.graph) i.table.seed i.table.step)) (image_word m) files later
     _ c.in-Err.input (inl refl) (λ none. cc) (inr (inl refl)) c.load_image.ensures.held
-    c.in-Err.ensures.loads (λ r is. c.in-Err.ensures.whole r (ap Err is)) image_not_bytes (λ is. c.in-Err.ensures.unread (ap Err is))
+    c.in-Err.ensures.loads (λ r is. c.in-Err.ensures.whole r (ap Err is)) image_not_bytes (λ is. c.in-Err.ensures.left (ap Err is))
+    (λ is. c.in-Err.ensures.unread (ap Err is)) (λ no. c.in-Err.ensures.stayed (λ e. no cc))
     c.in-Err.ensures.caused)
 
 pub returns-in_err-wide-in-Ok : goal.returns-in_err-wide-in-Ok
@@ -31,7 +32,7 @@ returns-in_err-wide-in-Ok g c unit =
     let later = g.F.Files.seen c.load_image.new.files in
     let q = err_from_is_err_and c.from_residual.result c.from_residual.ensures.1 in
     rw (q.1, q.2)
-    (files_wanted (about (widen m)) (WidenTask m) files later (λ none. cc) c.load_image.ensures.held _)
+    (files_wanted (about (widen m)) (WidenTask m) files later (λ none. cc) c.load_image.ensures.held _ (c.in-Ok.ensures.stayed (λ e. cc)))
 
 pub returns-in_err-write_all-in-Ok : goal.returns-in_err-write_all-in-Ok
 returns-in_err-write_all-in-Ok g c unit =
@@ -40,7 +41,7 @@ returns-in_err-write_all-in-Ok g c unit =
     let later = g.F.Files.seen c.load_image.new.files in
     let q = err_from_is_err_and c.from_residual-in_err-write_all-in-Ok.result c.from_residual-in_err-write_all-in-Ok.ensures.1 in
     rw (q.1, q.2)
-    (quiet_part (about (widen m)) (WidenTask m) files later (λ none. cc) c.load_image.ensures.held _ _ c.in-Ok.ensures.ended refl
+    (quiet_part (about (widen m)) (WidenTask m) files later (λ none. cc) c.load_image.ensures.held _ _ c.in-Ok.ensures.ended (c.in-Ok.ensures.stayed (λ e. cc)) refl
     (if_some_weaker files.held _ _
     (λ h loads. (
       prints (image_of (widened c.in-Ok.loaded.graph) c.in-Ok.loaded.table.seed c.in-Ok.loaded.table.step),
@@ -62,7 +63,7 @@ returns-in_ok-write_all-in-Ok g c unit =
     let m = c.args.image.now in
     let files = g.F.Files.seen c.args.files.now in
     let later = g.F.Files.seen c.load_image.new.files in
-    quiet_whole (about (widen m)) (WidenTask m) files later (λ none. cc) c.load_image.ensures.held _ _ c.in-Ok.ensures.ended refl (inl refl)
+    quiet_whole (about (widen m)) (WidenTask m) files later (λ none. cc) c.load_image.ensures.held _ _ c.in-Ok.ensures.ended (c.in-Ok.ensures.stayed (λ e. cc)) refl (inl refl)
     (image_of (widened c.in-Ok.loaded.graph) c.in-Ok.loaded.table.seed c.in-Ok.loaded.table.step)
     (if_some_weaker files.held _ _
     (λ h loads. (
@@ -71,4 +72,4 @@ returns-in_ok-write_all-in-Ok g c unit =
           (prints (image_of (widened c.in-Ok.loaded.graph) c.in-Ok.loaded.table.seed c.in-Ok.loaded.table.step)) loads refl,
       (refl, refl),
     )) c.in-Ok.ensures.loads)
-    (rw (c.bytes.ensures, c.in_ok-wide-in-Ok.ensures) at c.in_ok-write_all-in-Ok.ensures.whole)
+    (rw (c.bytes.ensures, c.in_ok-wide-in-Ok.ensures) at c.in_ok-write_all-in-Ok.ensures.whole) c.in_ok-write_all-in-Ok.ensures.cause.stayed

@@ -3,11 +3,12 @@ use Rattle.std.proofs.lemmas.Result.{err_from_is_err_and}
 use Rattle.vcp_base.specs.Limits.{most_source_bytes}
 use Rattle.vcp_words.specs.Forms.{wire}
 use Rattle.vcp_inputs.specs.Wires.{WireOf, NotWire}
+use Rattle.vcp_inputs.proofs.NotBytes.{wire_not_bytes}
 use Rattle.command_meaning.specs.Abouts.{about, script_word}
 use Rattle.command_meaning.specs.Kinds.{wires}
 use Rattle.vcp_core.proofs.Facts.{if_some_weaker}
 use Rattle.vcp_core.proofs.Performing.{file_takes, quiet_lost}
-use Rattle.vcp_core.proofs.WireTasks.{wire_ended, wire_failed, wire_not_bytes}
+use Rattle.vcp_core.proofs.WireTasks.{wire_ended, wire_failed}
 use Rattle.vcp_core.proofs.wire.wire_command.Goals as goal
 
 -- F isn't taken
@@ -19,7 +20,8 @@ returns-in-Err g c =
     rw c.bytes.ensures
     (quiet_lost (about (wire f)) WireOf NotWire (λ h s x. x ≡ wires s) (script_word f) files later _
     c.in-Err.input (inl refl) (λ none. cc) (inr (inl refl)) c.load_wire.ensures.held
-    c.in-Err.ensures.loads (λ r is. c.in-Err.ensures.whole r (ap Err is)) wire_not_bytes (λ is. c.in-Err.ensures.unread (ap Err is))
+    c.in-Err.ensures.loads (λ r is. c.in-Err.ensures.whole r (ap Err is)) wire_not_bytes (λ is. c.in-Err.ensures.left (ap Err is))
+    (λ is. c.in-Err.ensures.unread (ap Err is)) (λ no. c.in-Err.ensures.stayed (λ e. no cc))
     c.in-Err.ensures.caused)
 
 -- it wasn't run to its end
@@ -31,7 +33,7 @@ returns-in_err-end g c =
     let later = g.F.Files.seen c.load_wire.new.files in
     let q = err_from_is_err_and c.from_residual.result c.from_residual.ensures.1 in
     rw (q.1, q.2)
-    (wire_failed f files later c.load_wire.ensures.held c.in-Ok.ensures.ended s c.in-Ok.ensures.fits
+    (wire_failed f files later c.load_wire.ensures.held c.in-Ok.ensures.ended (c.in-Ok.ensures.stayed (λ e. cc)) s c.in-Ok.ensures.fits
     (if_some_weaker files.held _ _ (λ h found. file_takes WireOf NotWire most_source_bytes (λ s x. x ≡ wires s) f h s (wires s) found refl)
     c.in-Ok.ensures.loads)
     _ _ _ _ _ c.in_err-end.ensures.runs)
@@ -43,7 +45,7 @@ returns g c =
     let files = g.F.Files.seen c.args.files.now in
     let later = g.F.Files.seen c.load_wire.new.files in
     rw c.ending_of.ensures
-    (wire_ended f files later c.load_wire.ensures.held c.in-Ok.ensures.ended s c.in-Ok.ensures.fits
+    (wire_ended f files later c.load_wire.ensures.held c.in-Ok.ensures.ended (c.in-Ok.ensures.stayed (λ e. cc)) s c.in-Ok.ensures.fits
     (if_some_weaker files.held _ _ (λ h found. file_takes WireOf NotWire most_source_bytes (λ s x. x ≡ wires s) f h s (wires s) found refl)
     c.in-Ok.ensures.loads)
-    _ _ _ _ c.in_ok-end.end c.in_ok-end.ensures.runs)
+    _ _ _ _ c.in_ok-end.end c.in_ok-end.ensures.runs (c.in_ok-end.ensures.stayed (λ e. cc)))

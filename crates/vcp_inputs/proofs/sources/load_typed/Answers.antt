@@ -1,9 +1,10 @@
 use Rattle.std.proofs.lemmas.Result.{err_from_is_err_and}
 use Rattle.vcp_base.specs.Limits.{most_source_bytes}
 use Rattle.vcp_inputs.specs.Programs.{TypedOf, NotTyped}
-use Rattle.vcp_inputs.proofs.Taken.{if_some_weaker, not_read, by_result}
-use Rattle.std.proofs.Common.{ap, Err}
+use Rattle.vcp_inputs.proofs.Taken.{if_some_weaker, not_read, by_result, same_error, same_stays}
+use Rattle.std.proofs.Common.{◌∙◌, refl, ap, Err}
 use Rattle.vcp_inputs.proofs.Causes.{read_caused}
+use Rattle.vcp_inputs.proofs.NotBytes.{typed_not_bytes, never_long}
 use Rattle.vcp_inputs.proofs.sources.load_typed.Goals as goal
 
 pub returns-in_err-source-clause-loads : goal.returns-in_err-source-clause-loads
@@ -25,3 +26,20 @@ pub returns-in_err-source-clause-caused : goal.returns-in_err-source-clause-caus
 returns-in_err-source-clause-caused g c =
     let p = err_from_is_err_and c.from_residual.result c.from_residual.ensures.1 in
     rw (p.1, p.2) (read_caused _ (λ r is. c.in_err-source.ensures.long r (ap Err is)))
+
+pub returns-in_err-source-clause-left : goal.returns-in_err-source-clause-left
+returns-in_err-source-clause-left g c = λ is.
+    let p = err_from_is_err_and c.from_residual.result c.from_residual.ensures.1 in
+    c.in_err-source.ensures.left (same_error _ _ _ _ refl (p.1 ∙ ap Err p.2) is)
+
+pub returns-clause-left : goal.returns-clause-left
+returns-clause-left g c = λ is.
+    absurd (never_long (NotTyped c.in_ok-source.source) c.typed_program.result (typed_not_bytes c.in_ok-source.source) (rw c.bytes.ensures at c.typed_program.ensures.err) is)
+
+pub returns-in_err-source-clause-stayed : goal.returns-in_err-source-clause-stayed
+returns-in_err-source-clause-stayed g c =
+    let p = err_from_is_err_and c.from_residual.result c.from_residual.ensures.1 in
+    same_stays _ _ _ _ _ refl (p.1 ∙ ap Err p.2) c.in_err-source.ensures.stayed
+
+pub returns-clause-stayed : goal.returns-clause-stayed
+returns-clause-stayed g c = λ other. c.in_ok-source.ensures.stayed (λ e. cc)

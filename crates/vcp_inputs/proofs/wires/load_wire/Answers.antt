@@ -1,9 +1,10 @@
 use Rattle.std.proofs.lemmas.Result.{err_from_is_err_and}
 use Rattle.vcp_base.specs.Limits.{most_source_bytes}
 use Rattle.vcp_inputs.specs.Wires.{WireOf, NotWire}
-use Rattle.vcp_inputs.proofs.Taken.{if_some_weaker, not_read, by_result}
-use Rattle.std.proofs.Common.{ap, Err}
+use Rattle.vcp_inputs.proofs.Taken.{if_some_weaker, not_read, by_result, same_error, same_stays}
+use Rattle.std.proofs.Common.{◌∙◌, refl, ap, Err}
 use Rattle.vcp_inputs.proofs.Causes.{read_caused}
+use Rattle.vcp_inputs.proofs.NotBytes.{wire_not_bytes, never_long}
 use Rattle.vcp_inputs.proofs.wires.load_wire.Goals as goal
 
 pub returns-in_err-text-clause-loads : goal.returns-in_err-text-clause-loads
@@ -25,3 +26,20 @@ pub returns-in_err-text-clause-caused : goal.returns-in_err-text-clause-caused
 returns-in_err-text-clause-caused g c =
     let p = err_from_is_err_and c.from_residual.result c.from_residual.ensures.1 in
     rw (p.1, p.2) (read_caused _ (λ r is. c.in_err-text.ensures.long r (ap Err is)))
+
+pub returns-in_err-text-clause-left : goal.returns-in_err-text-clause-left
+returns-in_err-text-clause-left g c = λ is.
+    let p = err_from_is_err_and c.from_residual.result c.from_residual.ensures.1 in
+    c.in_err-text.ensures.left (same_error _ _ _ _ refl (p.1 ∙ ap Err p.2) is)
+
+pub returns-clause-left : goal.returns-clause-left
+returns-clause-left g c = λ is.
+    absurd (never_long (NotWire c.in_ok-text.text) c.wire_of.result (wire_not_bytes c.in_ok-text.text) (rw c.bytes.ensures at c.wire_of.ensures.err) is)
+
+pub returns-in_err-text-clause-stayed : goal.returns-in_err-text-clause-stayed
+returns-in_err-text-clause-stayed g c =
+    let p = err_from_is_err_and c.from_residual.result c.from_residual.ensures.1 in
+    same_stays _ _ _ _ _ refl (p.1 ∙ ap Err p.2) c.in_err-text.ensures.stayed
+
+pub returns-clause-stayed : goal.returns-clause-stayed
+returns-clause-stayed g c = λ other. c.in_ok-text.ensures.stayed (λ e. cc)

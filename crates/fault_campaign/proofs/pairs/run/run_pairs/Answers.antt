@@ -1,4 +1,4 @@
-use Rattle.std.proofs.Common.{◌≡◌, ap, arith, length}
+use Rattle.std.proofs.Common.{◌≡◌, ◌∙◌, refl, ap, arith, length, Err}
 use Rattle.std.proofs.lemmas.Result.{err_from_is_err_and}
 use Rattle.fault_campaign.proofs.SoFar.{group_fits}
 use Rattle.fault_campaign.specs.GroupLines.{groups_in}
@@ -11,7 +11,7 @@ groups-init g c = record {
   so_far =
       rw (c.new-totals.ensures)
       (so_far_none c.args.table.now c.args.graph.now c.args.script.now c.args.rows.now (g.U.Unit.seen c.args.unit.now) (g.O.Sink.seen c.args.out.now).written);
-  faults = omega arith;
+  stayed = refl;
 }
 
 pub run_group-requires-clause-group : goal.run_group-requires-clause-group
@@ -49,7 +49,7 @@ groups-preserved g c = record {
       (so_far_next c.args.table.now c.args.graph.now c.args.script.now c.args.rows.now _ _ _ _ _ _ c.groups.i c.groups.totals c.groups.invariant.so_far
       c.at-group.result.now c.in_ok-verdict.verdict c.at-group.ensures c.in_ok-verdict.ensures.ran c.line.result c.line.ensures
       c.in_ok-group_line.ensures.whole);
-  faults = omega (arith, c.groups.invariant.faults, c.in_ok-group_line.ensures.cause.later);
+  stayed = c.in_ok-group_line.ensures.cause.stayed ∙ c.groups.invariant.stayed;
 }
 
 pub returns-in_err-pair_totals_line-clause-told : goal.returns-in_err-pair_totals_line-clause-told
@@ -66,3 +66,21 @@ returns-clause-told g c =
     let all : c.groups.i ≡ length c.args.script.now = omega (arith, c.groups-test.false, c.groups.auto.i-end, c.len-i-end.ensures) in
     let so_far = rw all at c.groups.invariant.so_far in
     all_told c.args.table.now c.args.graph.now c.args.script.now c.args.rows.now _ _ _ _ _ c.groups.totals so_far c.in_ok-pair_totals_line.ensures.whole
+
+-- ---- the sink's count of faults
+
+pub returns-in_err-verdict-clause-stayed : goal.returns-in_err-verdict-clause-stayed
+returns-in_err-verdict-clause-stayed g c = λ other. c.groups.invariant.stayed
+
+pub returns-in_err-group_line-clause-stayed : goal.returns-in_err-group_line-clause-stayed
+returns-in_err-group_line-clause-stayed g c = λ other.
+    let p = err_from_is_err_and c.from_residual-in_err-group_line.result c.from_residual-in_err-group_line.ensures.1 in
+    absurd (other (p.1 ∙ ap Err p.2))
+
+pub returns-in_err-pair_totals_line-clause-stayed : goal.returns-in_err-pair_totals_line-clause-stayed
+returns-in_err-pair_totals_line-clause-stayed g c = λ other.
+    let p = err_from_is_err_and c.from_residual-in_err-pair_totals_line.result c.from_residual-in_err-pair_totals_line.ensures.1 in
+    absurd (other (p.1 ∙ ap Err p.2))
+
+pub returns-clause-stayed : goal.returns-clause-stayed
+returns-clause-stayed g c = λ other. c.in_ok-pair_totals_line.ensures.cause.stayed ∙ c.groups.invariant.stayed

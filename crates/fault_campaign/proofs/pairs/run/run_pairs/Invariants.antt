@@ -1,4 +1,4 @@
-use Rattle.std.proofs.Common.{◌≤◌}
+use Rattle.std.proofs.Common.{◌≡◌}
 use Rattle.fault_campaign.proofs.Told.{SoFar}
 use Rattle.fault_campaign.proofs.pairs.run.run_pairs.Given as goal
 
@@ -9,5 +9,5 @@ invariant-groups g l =
     record {
       so_far :
           SoFar l.table l.graph l.script l.rows (unit.seen l.fn.unit) (unit.seen l.unit) (sink.seen l.fn.out).written (sink.seen l.out).written l.i l.totals;
-      faults : (sink.seen l.fn.out).faults ≤ (sink.seen l.out).faults;
+      stayed : (sink.seen l.out).faults ≡ (sink.seen l.fn.out).faults;
     }
