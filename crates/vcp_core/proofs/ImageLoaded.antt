@@ -1,5 +1,5 @@
 -- What commands come to that write or read images, from what loading their files gives.
-use Rattle.std.proofs.Common.{ℕ, ◌+◌, ◌≡◌, ◌≢◌, refl, ap, ◌∙◌, List, [], ◌∷◌, length, map, arith}
+use Rattle.std.proofs.Common.{ℕ, ◌+◌, ◌≡◌, refl, ap, ◌∙◌, List, [], ◌∷◌, length, map, arith}
 use Rattle.std.proofs.lemmas.List.{length-map}
 use Rattle.vcp_base.specs.declared.code.Profile.{Profile}
 use Rattle.vcp_base.specs.declared.columns.Column.{Column}
@@ -9,9 +9,6 @@ use Rattle.op_graph.specs.declared.op.Cell.{Cell}
 use Rattle.op_graph.specs.declared.op.Op.{Op}
 use Rattle.op_graph.specs.Lists.{Lists, cells, column}
 use Rattle.signature_table.specs.Signatures.{Numbers, corrections_from, table_of, IsTableOf}
-use Rattle.vcp_inputs.specs.declared.refusal.Refusal.{Refusal}
-use Rattle.vcp_inputs.specs.declared.refusal.Refusal.TheVariants as refusal
-use Rattle.vcp_inputs.specs.Images.{NotImage, no_image}
 use Rattle.command_meaning.specs.Answer.{image}
 use Rattle.vcp_core.specs.Tasks.{table_code}
 use Rattle.vcp_core.specs.MachineRun.{CarriesOut}

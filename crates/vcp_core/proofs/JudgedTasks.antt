@@ -9,7 +9,6 @@ use Rattle.vcp_outside.specs.Counts.{Rose}
 use Rattle.vcp_outside.specs.Held.{Held}
 use Rattle.vcp_outside.specs.Written.{AppendsFront, AppendsPart}
 use Rattle.input_rows.specs.declared.fault.RowFault.{RowFault}
-use Rattle.input_rows.specs.declared.fault.RowFault.TheVariants as row
 use Rattle.input_rows.specs.RowsOf.{RowsLeft}
 use Rattle.op_graph.specs.Lists.{Lists}
 use Rattle.fault_script.specs.declared.act.Fault.{Fault as ScriptedFault}
@@ -30,7 +29,6 @@ use Rattle.vcp_inputs.specs.declared.refusal.NoInput.TheVariants as input
 use Rattle.vcp_inputs.specs.Files.{LeavesLong, Loads, NotLoaded as FileLost}
 use Rattle.vcp_inputs.specs.Images.{ImageOf, NotImage}
 use Rattle.vcp_inputs.specs.Lines.{input_status, input_text, refusal_text}
-use Rattle.vcp_inputs.specs.Refusals.{no_rows}
 use Rattle.vcp_inputs.specs.RowsOutcome.{RowsOutcome, opened, rows_outcome}
 use Rattle.vcp_inputs.specs.RowsRead.{AllRead, NoneRead, RowsBroken, at_header, at_row, graph_columns}
 use Rattle.vcp_inputs.specs.Scripts.{ScriptOf, NotScript}
@@ -44,7 +42,7 @@ use Rattle.command_meaning.specs.Kinds.{Task, judges, refusal_task}
 use Rattle.command_meaning.specs.Performing.{Reaches, done, cut, wanting, unread, unmade, Performs}
 use Rattle.vcp_outside.specs.Seen.{FilesSeen, SinkSeen}
 use Rattle.machine_run.specs.Moments.{Moment, moment}
-use Rattle.vcp_core.specs.Tasks.{FewRows, InjectTask, JudgedScript, WholeRows, most_trace}
+use Rattle.vcp_core.specs.Tasks.{FewRows, InjectTask, JudgedScript, WholeRows}
 use Rattle.vcp_core.specs.Tasks as task
 use Rattle.vcp_core.specs.Faults.{of_campaign}
 use Rattle.vcp_core.specs.Inject.{AllRows, NoRows, RowsRefused, broken, too_many}

@@ -1,12 +1,8 @@
 -- What commands come to, from what loading their files gives.
-use Rattle.std.proofs.Common.{ℕ, ◌≡◌, ◌≢◌, subst, List, Result}
+use Rattle.std.proofs.Common.{ℕ, ◌≡◌, subst, List, Result}
 use Rattle.vcp_base.specs.declared.columns.Column.{Column}
 use Rattle.input_rows.specs.RowsOf.{RowsLeft}
-use Rattle.vcp_inputs.specs.declared.refusal.Refusal.{Refusal}
-use Rattle.vcp_inputs.specs.declared.refusal.Refusal.TheVariants as refusal
 use Rattle.vcp_inputs.specs.declared.refusal.NoInput.{NoInput}
-use Rattle.vcp_inputs.specs.Listings.{NotListing, no_listing}
-use Rattle.vcp_inputs.specs.Programs.{NoProgram, unlexed, unparsed, NotTyped, no_program, mistyped}
 use Rattle.vcp_inputs.specs.RowsOutcome.{source_outcome, Opens}
 use Rattle.vcp_inputs.specs.declared.rows.RowsSource.TheVariants as rows
 

@@ -53,11 +53,11 @@ use vcp_words::{Command, command_of};
 /// | 0 | the Size, the text, the image, the lines or the verdicts were printed, or the run came to the end of its rows |
 /// | 1 | a file is refused, or a row of one |
 /// | 2 | the run stopped |
-/// | 3 | an output was refused, or the channels of a pair disagreed, or a telegram wasn't sent |
+/// | 3 | an output was refused, or the channels of a pair disagreed, or a telegram wasn't sent; with an honest unit never |
 /// | 4 | the words are none of the forms |
 /// | 5 | a file failed |
 /// | 6 | a sink failed |
-/// | 7 | memory was wanted |
+/// | 7 | memory was wanted: at any time, as far as is proved, where the words are one of the forms |
 ///
 /// By its clauses:
 /// - `serves`: For the one task that the words lead to with what is held, the program ends in one of these ways: the task's answer is given; the
