@@ -23,17 +23,20 @@ TOTALS = f"faults {OPERATIONS * (CYCLES - 1)} same "
 CALL = "import sys; from vcp_tools.read import script; script.MOST = 50; from vcp_tools.main import main; sys.exit(main(sys.argv[1:]))"
 """The tool with small parts."""
 SSH = """#!/bin/sh
-# ssh [OPTION].. HOST [--] COMMAND.., of a machine that is a folder; the file `lost` there says how many calls go on before it is lost.
+# ssh [OPTION].. HOST [--] COMMAND.., of a machine that is a folder and has no shell for its user; the file `lost` there says how many calls go on before
+# it is lost.
 while :; do case $1 in -[loip]) shift 2 ;; -*) shift ;; *) break ;; esac; done
 shift
 [ "$1" != -- ] || shift
 cd HERE || exit 1
 if [ -s lost ]; then
+    until mkdir counts 2>/dev/null; do sleep 0.01; done
     left=$(cat lost)
-    [ "${left:-0}" -gt 0 ] || { echo "ssh: connect to host far port 22: No route to host" >&2; exit 255; }
-    echo $((left - 1)) >lost.$$ && mv lost.$$ lost
+    echo $((left > 0 ? left - 1 : 0)) >lost
+    rmdir counts
+    [ "$left" -gt 0 ] || { echo "ssh: connect to host far port 22: No route to host" >&2; exit 255; }
 fi
-cd home && HOME=$PWD exec sh -c "$*"
+cd home && HOME=$PWD SHELL=/bin/false exec sh -c "$*"
 """
 needs_parallel = unittest.skipUnless(shutil.which("parallel") and shutil.which("rsync"), "GNU parallel and rsync aren't both installed")
 

@@ -57,7 +57,11 @@ def _parallel(folder: Path, parts: Sequence[str], jobs: int | None, words: Seque
         # What runs here, where `:` stands among the hosts, goes to a folder of that name, too.
         here.unlink(missing_ok=True)
         here.symlink_to(".")
-        _run([*call, *words, "./judge", "{}"], folder, parts, lock)
+        # A part whose files couldn't be fetched isn't tried again by parallel itself: it is here, as long as others come.
+        left, before = list(parts), len(parts) + 1
+        while 0 < len(left) < before:
+            _run([*call, *words, "./judge", "{}"], folder, left, lock)
+            left, before = [part for part in left if not (folder / part).with_suffix(".done").exists()], len(left)
     finally:
         here.unlink(missing_ok=True)
 
@@ -66,7 +70,9 @@ def _run(call: Sequence[str], folder: Path, parts: Sequence[str], lock: int) -> 
     """Runs parallel on the names of parts, and ends it with the tool."""
     given = "".join(f"{part}\n" for part in parts).encode("ascii")
     out = sys.stderr.fileno() if _has_file(sys.stderr) else subprocess.DEVNULL
-    running = subprocess.Popen(call, cwd=folder, stdin=subprocess.PIPE, stdout=out, pass_fds=(lock,), start_new_session=True)
+    # By the shell that `judge` is written for, here and there, whichever shell callers have, or none.
+    shell = {**os.environ, "PARALLEL_SHELL": "/bin/sh"}
+    running = subprocess.Popen(call, cwd=folder, env=shell, stdin=subprocess.PIPE, stdout=out, pass_fds=(lock,), start_new_session=True)
     try:
         running.communicate(given)
     except BaseException:
