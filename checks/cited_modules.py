@@ -3,7 +3,7 @@
 
     checks/cited_modules.py                  prints the list of docs/ARCHITECTURE.md, 'What an assessor reads'
     checks/cited_modules.py --write          puts it there, in the place of the one that stands there
-    checks/cited_modules.py vcp_core::vcp    the modules that one public item of a crate rests on, with their lines
+    checks/cited_modules.py vcp_core::vcp    the modules that one public item of a crate rests on, with the lines of what is cited of each, and of each
 
 It reads the sources as they stand and proves nothing. Python 3 and its library are all that it needs.
 
@@ -171,18 +171,26 @@ def in_lines(text):
     return lines
 
 
+def lines_of(text):
+    return sum(1 for line in text.split("\n") if line.strip())
+
+
 def one_item(crates, wanted):
     name, _, item = wanted.partition("::")
     if name not in crates or item not in crates[name].public:
         sys.exit(f"{wanted} is no public item with a contract")
     reading = Reading(crates)
     reading.of_item(crates[name], item, crates[name].public[item])
-    total = 0
-    for crate, module in sorted(reading.modules(), key=lambda m: (list(crates).index(m[0]), m[1])):
-        lines = crates[crate].modules[module].lines
-        total += lines
-        print(f"{lines:6} {crate} {module}")
-    print(f"{total:6} lines of {len(reading.modules())} modules, without comments, blank lines and imports")
+    of_modules, of_definitions = 0, 0
+    reached = reading.reached
+    for crate, module in sorted(modules_of(reached), key=lambda m: (list(crates).index(m[0]), m[1])):
+        it = crates[crate].modules[module]
+        cited = sum(lines_of(it.texts[node[2]]) for node in reached if node[0] == crate and node[1] == module)
+        of_modules += it.lines
+        of_definitions += cited
+        print(f"{cited:6} of {it.lines:5} {crate} {module}")
+    print(f"{of_definitions:6} lines of the definitions that are cited, without comments, blank lines and imports")
+    print(f"{of_modules:6} lines of {len(reading.modules())} modules, without comments, blank lines and imports")
 
 
 def main():

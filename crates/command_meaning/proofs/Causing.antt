@@ -13,7 +13,7 @@ use Rattle.fault_campaign.specs.declared.pairs.verdict.PairVerdict.{PairVerdict}
 use Rattle.command_meaning.specs.PairsKind.{pairs_answer}
 use Rattle.command_meaning.specs.PairKind.{pair_answer, pair_read, pair_status}
 use Rattle.command_meaning.specs.Printing.{Report}
-use Rattle.command_meaning.specs.Endings.{TellsLine, ended, cut, wanting, unread, unmade, Given, Causes, NothingFailed, HasOwnStatus, DoneIsMeant, EndingsHaveCauses, GivingUpHasCauses}
+use Rattle.command_meaning.specs.Endings.{TellsLine, ended, cut, wanting, unread, unmade, Given, Causes, NothingFailed, HasOwnStatus, DoneHasStatus, DoneIsMeant, EndingsHaveCauses, GivingUpHasCauses}
 use Rattle.command_meaning.specs.Kinds.{Task, lacks, answers, compiles, runs, judges, compares, pairs_, wires, Done, lack_answer}
 use Rattle.command_meaning.specs.Reports.{RunEnd, complete, stopped, refused, run_status}
 use Rattle.command_meaning.specs.RunKind.{job_answer, run_read}
@@ -25,37 +25,40 @@ use Rattle.command_meaning.specs.Seen.{Outside}
 
 -- ---- the status of an answer
 
-pub run_small : (e : RunEnd) (behind : Option RowFault) → run_status e behind ≤ 3
+run_small : (e : RunEnd) (behind : Option RowFault) → run_status e behind ≤ 3
 run_small complete None = lit≤ tt
 run_small complete (Some f) = lit≤ tt
 run_small (stopped s) behind = lit≤ tt
 run_small (refused output found wanted) behind = lit≤ tt
 
-pub pair_small : (e : PairEnd) (behind : Option RowFault) → pair_status e behind ≤ 3
+pair_small : (e : PairEnd) (behind : Option RowFault) → pair_status e behind ≤ 3
 pair_small pair.Released None = lit≤ tt
 pair_small pair.Released (Some f) = lit≤ tt
 pair_small (pair.Stopped op why) behind = lit≤ tt
 pair_small (pair.Parted first second) behind = lit≤ tt
 pair_small (pair.Differ output first second) behind = lit≤ tt
 
-pub wire_small : (cut : Option Cut) → wire_status cut ≤ 3
+wire_small : (cut : Option Cut) → wire_status cut ≤ 3
 wire_small None = lit≤ tt
 wire_small (Some c) = lit≤ tt
 
-pub status_of : (x y : Answer) → x ≡ y → x.status ≡ y.status
+status_of : (x y : Answer) → x ≡ y → x.status ≡ y.status
 status_of x y same = ap (λ (z : Answer). z.status) same
 
+pub done_has_status : DoneHasStatus
+done_has_status (lacks name) a b x few d = inr (name, refl, d.1)
+done_has_status (answers y) a b x few d = inl (omega (arith, few, status_of x y d.1))
+done_has_status (compiles p code) a b x few (quiet, (g, may, is)) = inl (omega (arith, status_of x _ is))
+done_has_status (runs j) a b x few d = inl (omega (arith, status_of x _ d.read, run_small (run_read j d.graph d.cycles).end j.rows.refusal))
+done_has_status (judges c) a b x few d = inl (omega (arith, status_of x _ d.read))
+done_has_status (wires s) a b x few d = inl (omega (arith, status_of x _ d.read, wire_small d.cut))
+done_has_status (compares j) a b x few d = inl (omega (arith, status_of x _ d.read, pair_small (pair_read j d.cycles).end j.rows.refusal))
+done_has_status (pairs_ c) a b x few d = inl (omega (arith, status_of x _ d.read))
+
 -- only where a name is lacking the status is 5
-pub five_lacks : (task : Task) (a b : UnitSeen) (x : Answer) → HasOwnStatus task → Done task a b x → x.status ≡ 5
+five_lacks : (task : Task) (a b : UnitSeen) (x : Answer) → HasOwnStatus task → Done task a b x → x.status ≡ 5
     → (name : List ℕ) × (task ≡ lacks name) × (x ≡ lack_answer name)
-five_lacks (lacks name) a b x few d h = (name, refl, d.1)
-five_lacks (answers y) a b x few d h = absurd (omega (arith, few, h, status_of x y d.1))
-five_lacks (compiles p code) a b x few (quiet, (g, may, is)) h = absurd (omega (arith, h, status_of x _ is))
-five_lacks (runs j) a b x few d h = absurd (omega (arith, h, status_of x _ d.read, run_small (run_read j d.graph d.cycles).end j.rows.refusal))
-five_lacks (judges c) a b x few d h = absurd (omega (arith, h, status_of x _ d.read))
-five_lacks (wires s) a b x few d h = absurd (omega (arith, h, status_of x _ d.read, wire_small d.cut))
-five_lacks (compares j) a b x few d h = absurd (omega (arith, h, status_of x _ d.read, pair_small (pair_read j d.cycles).end j.rows.refusal))
-five_lacks (pairs_ c) a b x few d h = absurd (omega (arith, h, status_of x _ d.read))
+five_lacks task a b x few d five = elim (done_has_status task a b x few d) [ inl small ↦ absurd (omega (arith, five, small)) | inr lack ↦ lack ]
 
 lacks_five : (task : Task) (a b : UnitSeen) (x : Answer) (name : List ℕ) → task ≡ lacks name → Done task a b x → x.status ≡ 5
 lacks_five task a b x name is d =

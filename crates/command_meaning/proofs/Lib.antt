@@ -1,4 +1,3 @@
 mod Causing
 pub mod OneFile
-pub mod Performed
 pub mod Worked

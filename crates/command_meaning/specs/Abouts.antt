@@ -1,9 +1,8 @@
--- Abouts: what each command is about, a line a command, and which one writes the same without a unit. What each comes to stands in the
--- crate of the top call; nothing else is said of a command by its name.
+-- Abouts: what each command is about, a line a command. What each comes to stands in the crate of the top call; nothing else is said of a
+-- command by its name.
 -- The table has for each command which files it reads and how long they may be, whether it calls the unit,
--- whether it takes memory late, with which statuses it may end, and which command writes the same without a
--- unit.
-use Rattle.std.specs.Prelude.{ℕ, ◌≡◌, ◌⊎◌, Bool, true, false, List, [], ◌∷◌, ◌++◌, Option, Some, None, IsSome, codes}
+-- whether it takes memory late, and with which statuses it may end.
+use Rattle.std.specs.Prelude.{ℕ, ◌≡◌, ◌⊎◌, Bool, true, false, List, [], ◌∷◌, ◌++◌, IsSome, codes}
 use Rattle.vcp_base.specs.Limits.{most_source_bytes, most_image_bytes, most_rows_bytes}
 use Rattle.il_front.specs.Answers.{most_il_bytes}
 use Rattle.vcp_outside.specs.Held.{Held}
@@ -89,25 +88,6 @@ about (pair m rows seed) = runs_of (image_word m ∷ rows_words rows) (rows_othe
 about (pairs m rows seed f) = judges_of (image_word m ∷ (rows_words rows ++ script_word f ∷ [])) (rows_others rows)
 about (wire f) = sends_of (script_word f ∷ [])
 about (demo n) = runs_of [] (made_name ∷ [])
-
--- the command that writes the same without a unit, where there is one
-abbrev pub without_unit : Form → Option Form
-without_unit (check p) = None
-without_unit (format p) = None
-without_unit (plain p rows) = None
-without_unit (run p rows code) = Some (plain p rows)
-without_unit (il p rows code) = None
-without_unit (compile p code) = None
-without_unit (list m) = None
-without_unit (exec m rows) = None
-without_unit (trace m rows n) = None
-without_unit (widen m) = None
-without_unit (audit m horizon) = None
-without_unit (inject m rows f) = None
-without_unit (pair m rows seed) = None
-without_unit (pairs m rows seed f) = None
-without_unit (wire f) = None
-without_unit (demo n) = None
 
 -- each of these files is held
 abbrev pub AllHeld : Held → List FileWord → Type 0

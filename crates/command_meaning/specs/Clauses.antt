@@ -35,15 +35,15 @@ use Rattle.std.specs.Prelude.{ℕ, ◌≡◌, ◌≢◌, ◌⊎◌, ◌+◌, ◌
 use Rattle.std.specs.Io.KnownBytes.{Appends, IsAtEnd}
 use Rattle.vcp_outside.specs.Counts.{Rose}
 use Rattle.vcp_outside.specs.Held.{Held}
-use Rattle.vcp_words.specs.Forms.{Form, usage_text}
+use Rattle.vcp_words.specs.Forms.{usage_text}
 use Rattle.vcp_inputs.specs.declared.refusal.Refusal.TheVariants as refusal
 use Rattle.vcp_inputs.specs.declared.refusal.Refusal.{Refusal}
 use Rattle.vcp_inputs.specs.Lines.{memory_text, read_fault_text, refusal_text, write_fault_text}
 use Rattle.vcp_inputs.specs.Refusals.{IsCause}
 use Rattle.command_meaning.specs.Answer.{Answer}
-use Rattle.command_meaning.specs.Abouts.{Among, About, FileWord, AllHeld, without_unit}
-use Rattle.command_meaning.specs.Endings.{Answered, Came, Causes, IsNoFault, NothingFailed, TellsLine}
-use Rattle.command_meaning.specs.Kinds.{Task, answers, Meant}
+use Rattle.command_meaning.specs.Abouts.{Among, About, FileWord, AllHeld}
+use Rattle.command_meaning.specs.Endings.{Answered, Came, Causes, NothingFailed, TellsLine}
+use Rattle.command_meaning.specs.Kinds.{Task, Meant}
 use Rattle.machine_run.specs.Stops.{GrowsToSomeStop}
 use Rattle.vcp_outside.specs.Seen.{SinkSeen}
 use Rattle.coded_unit.specs.Seen.{StaysHonest}
@@ -163,9 +163,3 @@ abbrev pub Completes : About → Held → (Task → Type 0) → Outside → Outs
 Completes c held Comes before after status =
     AllHeld held c.files → NothingFailed before after → (c.calls ≡ true → StaysHonest before.unit after.unit) →
     (task : Task) → Comes task → IsAccepted task → (status ≡ 7) ⊎ Completed c task before after status
-
--- with an honest unit the answer of the command without one came, but for 5, 6 and 7
-abbrev pub AsPlain : (Form → Held → Task → Type 0) → Form → Held → Outside → Outside → ℕ → Type 0
-AsPlain Comes f held before after status =
-    IfSome (without_unit f)
-    (λ g. (x : Answer) → Comes g held (answers x) → StaysHonest before.unit after.unit → IsNoFault status → Came x before after status)

@@ -29,7 +29,7 @@ use Rattle.vcp_outside.specs.Written.{AppendsFront, AppendsPart}
 use Rattle.vcp_inputs.specs.Lines.{memory_text, read_fault_text, write_fault_text}
 use Rattle.command_meaning.specs.Answer.{Answer}
 use Rattle.command_meaning.specs.Abouts.{Among, About, FileWord}
-use Rattle.command_meaning.specs.Kinds.{Task, lacks, answers, compiles, runs, judges, compares, pairs_, wires, Done, Left, Meant}
+use Rattle.command_meaning.specs.Kinds.{Task, lacks, answers, compiles, runs, judges, compares, pairs_, wires, Done, Left, Meant, lack_answer}
 use Rattle.coded_unit.specs.Seen.{UnitSeen, StaysHonest}
 use Rattle.vcp_outside.specs.Seen.{SinkSeen}
 use Rattle.command_meaning.specs.Seen.{Outside, Still, moment_of}
@@ -116,6 +116,12 @@ HasOwnStatus (judges c) = Unit {0}
 HasOwnStatus (wires s) = Unit {0}
 HasOwnStatus (compares j) = Unit {0}
 HasOwnStatus (pairs_ c) = Unit {0}
+
+-- The answer of what was done has at most the status 3; or the task is that a name is lacking, with 5.
+abbrev pub DoneHasStatus : Type 0
+DoneHasStatus =
+    (task : Task) (before after : UnitSeen) (x : Answer) → HasOwnStatus task → Done task before after x
+    → (x.status ≤ 3) ⊎ ((name : List ℕ) × (task ≡ lacks name) × (x ≡ lack_answer name))
 
 -- a task that was done with an honest unit was done as it is meant
 abbrev pub DoneIsMeant : Type 0

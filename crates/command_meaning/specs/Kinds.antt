@@ -16,7 +16,7 @@ use Rattle.command_meaning.specs.GraphsOf.{MayCompile, image_answer}
 use Rattle.coded_unit.specs.Seen.{UnitSeen}
 use Rattle.machine_run.specs.Moments.{Moment}
 use Rattle.command_meaning.specs.Seen.{Appending}
-use Rattle.command_meaning.specs.RunKind.{Job, RunDone, RunLeft, job_answer, run_meant}
+use Rattle.command_meaning.specs.RunKind.{Job, RunDone, RunLeft, meant_answer}
 use Rattle.command_meaning.specs.CampaignKind.{CampaignDone, CampaignLeft, verdicts_answer, verdicts_meant}
 use Rattle.telegram.specs.declared.script.script.WireScript.{WireScript}
 use Rattle.command_meaning.specs.WireKind.{WireDone, WireLeft, wire_meant}
@@ -55,7 +55,7 @@ abbrev pub Meant : Task → Answer → Type 0
 Meant (lacks name) x = x ≡ lack_answer name
 Meant (answers a) x = x ≡ a
 Meant (compiles p code) x = (g : Lists) × MayCompile p code g × (x ≡ image_answer code g)
-Meant (runs j) x = x ≡ job_answer j (run_meant j)
+Meant (runs j) x = x ≡ meant_answer j
 Meant (judges c) x = x ≡ verdicts_answer c (verdicts_meant c)
 Meant (wires s) x = x ≡ wire_meant s
 Meant (compares j) x = x ≡ pair_answer j (pair_meant j)

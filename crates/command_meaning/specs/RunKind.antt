@@ -71,6 +71,10 @@ run_meant j = record {
 abbrev pub job_answer : Job → Report → Answer
 job_answer j r = told_answer j.printing (subject_outputs j.subject) j.rows_name j.rows r
 
+-- the answer that a job means: that to its subject's own run
+abbrev pub meant_answer : Job → Answer
+meant_answer j = job_answer j (run_meant j)
+
 -- A whole run: some graph that may be run for the subject, and a cycle for each row up to the first that is not released. Where the log is
 -- told, it grew by the calls of these cycles with the answers that the unit gave, and by nothing else; where it is not, these are some
 -- answers of that form. What is answered is read off them; and where no answer was wrong, the run is the one that is meant.
@@ -101,4 +105,4 @@ pub record RunLeft (j : Job) (Writes : Appending) (before after : Moment) : Type
   pub text : (later : Report) → MayFollow j cycles later
       → Writes before.out.written after.out.written (job_answer j (run_then (run_read j graph cycles) later)).out
   pub earlier : EarlierPrinted graph j.printing.header j.printing.row cycles before.out.written after.out.written
-  pub honest : StaysHonest before.unit after.unit → Writes before.out.written after.out.written (job_answer j (run_meant j)).out
+  pub honest : StaysHonest before.unit after.unit → Writes before.out.written after.out.written (meant_answer j).out

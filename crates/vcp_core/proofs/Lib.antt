@@ -13,6 +13,7 @@ pub mod Loaded
 pub mod LoadedRows
 pub mod Meanings
 pub mod OneText
+pub mod Performed
 pub mod Performing
 pub mod PlainKinds
 pub mod PlainNames
@@ -21,7 +22,6 @@ pub mod PlainWorked
 pub mod PrintedRun
 pub mod Reduced
 pub mod ScriptsTold
-pub mod Served
 pub mod Sized
 pub mod StaleShown
 pub mod Traced

@@ -1,6 +1,6 @@
 -- Meanings: a command comes to one task, which has a status of its own, and lacks no name where all its files are held; and what is meant
 -- where `run` comes to a run is the answer of `plain`.
-use Rattle.std.proofs.Common.{ℕ, ℤ, ◌≡◌, ◌<◌, ◌≤◌, ◌*◌, inl, inr, refl, sym, ap, subst, ◌∙◌, List, [], ◌∷◌, ◌++◌, length, Option, Some, None, IsSome, IfSome, lit≤, Result, Ok, Err, Bool, true, false, cond, nat_lt, arith}
+use Rattle.std.proofs.Common.{ℕ, ℤ, ◌≡◌, ◌<◌, ◌≤◌, ◌*◌, inl, inr, refl, sym, ap, subst, ◌∙◌, List, [], ◌∷◌, ◌++◌, length, Option, Some, None, IsSome, lit≤, Result, Ok, Err, Bool, true, false, cond, nat_lt, arith}
 use Rattle.vcp_base.specs.Limits.{most_image_bytes, most_rows_bytes, most_source_bytes}
 use Rattle.vcp_base.specs.Stops.{ToldStop}
 use Rattle.vcp_base.specs.declared.columns.Column.{Column}
@@ -39,7 +39,7 @@ use Rattle.image_file.specs.Image.{image_of}
 use Rattle.signature_table.specs.Signatures.{Numbers, table_of}
 use Rattle.weight_audit.specs.Audit.{most_weights, weights_up_to}
 use Rattle.weight_audit.specs.AuditText.{AuditOf}
-use Rattle.command_meaning.specs.Abouts.{FileWord, about, AllHeld, made_name, image_word, listing_word, rows_words, script_word, source_word, without_unit, Among}
+use Rattle.command_meaning.specs.Abouts.{FileWord, about, AllHeld, made_name, image_word, listing_word, rows_words, script_word, source_word, Among}
 use Rattle.command_meaning.specs.Answer.{Answer, Campaign, source, listed, image}
 use Rattle.command_meaning.specs.FileTasks.{TakenFile, missing, untaken, taken, ParsedFile, TypedFile, ListingFile, ImageFile, ScriptFile, OnRows, TakenRows}
 use Rattle.command_meaning.specs.Endings.{HasOwnStatus}
@@ -49,10 +49,11 @@ use Rattle.command_meaning.specs.Reports.{end_told, run_status}
 use Rattle.command_meaning.specs.RunKind.{Job, job_answer, run_meant}
 use Rattle.command_meaning.proofs.OneFile.{one_file, file_has}
 use Rattle.vcp_core.specs.Tasks.{Audited, too_large, printed, FewRows, too_many, few, JudgedScript, WholeRows, Apart, same_seed, two_seeds, Compared, PairsRows, PairsScript, pair_job, TaskOf, PlainTask, RunTask, plain_answer, rows_job, words_job, ok_text, most_trace, table_code, listing, widened}
-use Rattle.command_meaning.proofs.Performed.{NeedsNone}
+use Rattle.vcp_core.specs.PerformedLaws.{RunMeansPlain}
 use Rattle.vcp_inputs.specs.RowsRead.{graph_columns}
 use Rattle.vcp_core.specs.Demo.{made_held, summary_job}
 use Rattle.vcp_core.proofs.OneText.{ImageLaws, Laws, OneAudit, image_once, image_or_none, no_image_once, program_once, program_or_none, refused_once, typed_once, typed_apart, untyped_once, listing_or_none, no_listing_once}
+use Rattle.vcp_core.proofs.Performed.{NeedsNone}
 use Rattle.vcp_core.proofs.WireTasks.{wire_task_once}
 
 -- ---- a command comes to one task
@@ -556,22 +557,6 @@ meant_is (wires s) x y is h = absurd cc
 meant_is (compares j) x y is h = absurd cc
 meant_is (pairs_ c) x y is h = absurd cc
 
-pub plain_meant : Laws → (f : Form) (held : Held) (task : Task) → TaskOf f held task →
-    IfSome (without_unit f) (λ g. (x y : Answer) → TaskOf g held (answers x) → Meant task y → y ≡ x)
-plain_meant laws (check p) held task comes = tt
-plain_meant laws (format p) held task comes = tt
-plain_meant laws (plain p rows) held task comes = tt
-plain_meant laws (run p rows code) held task comes =
-    λ x y also meant. meant_is task x y (task_once laws (plain p rows) held (as_meant task) (answers x) (run_is_plain p rows code held task comes) also) meant
-plain_meant laws (il p rows code) held task comes = tt
-plain_meant laws (compile p code) held task comes = tt
-plain_meant laws (list m) held task comes = tt
-plain_meant laws (exec m rows) held task comes = tt
-plain_meant laws (trace m rows n) held task comes = tt
-plain_meant laws (widen m) held task comes = tt
-plain_meant laws (audit m horizon) held task comes = tt
-plain_meant laws (inject m rows f) held task comes = tt
-plain_meant laws (pair m rows seed) held task comes = tt
-plain_meant laws (pairs m rows seed f) held task comes = tt
-plain_meant laws (wire f) held task comes = tt
-plain_meant laws (demo number) held task comes = tt
+pub run_means_plain : Laws → RunMeansPlain
+run_means_plain laws p rows code held task comes x y also meant =
+    meant_is task x y (task_once laws (plain p rows) held (as_meant task) (answers x) (run_is_plain p rows code held task comes) also) meant

@@ -6,6 +6,8 @@ pub mod EndLines
 pub mod Faults
 pub mod Inject
 pub mod MachineRun
+pub mod Performed
+pub mod PerformedLaws
 pub mod PlainRun
 pub mod Reach
 pub mod Shown

@@ -9,7 +9,6 @@ use Rattle.signature_table.specs.Signatures.{Numbers}
 use Rattle.run_report.specs.OperationLines.{list_text}
 use Rattle.vcp_base.specs.declared.code.Profile.TheVariants as profile
 use Rattle.st_writer.specs.CanonicalProgram.{canonical}
-use Rattle.flat_expr.specs.Told.{told_source}
 use Rattle.vcp_outside.specs.Held.{Held}
 use Rattle.vcp_typed.specs.Fitting.{input_columns}
 use Rattle.vcp_typed.specs.Size.{size}
@@ -25,9 +24,9 @@ use Rattle.command_meaning.specs.Answer.{Answer, Subject, source, listed, image}
 use Rattle.command_meaning.specs.FileTasks.{ParsedFile, TypedFile, ListingFile, ImageFile, ScriptFile, WireFile, TakenRows}
 use Rattle.command_meaning.specs.Kinds.{Task, answers, compiles, runs, judges, compares, pairs_, wires, prints, refusal_task}
 use Rattle.command_meaning.specs.PairKind.{PairJob}
-use Rattle.command_meaning.specs.Printing.{every_row, each_word, no_words, cycle_words, told_answer}
-use Rattle.command_meaning.specs.Reports.{end_told, subject_outputs, output_names}
-use Rattle.command_meaning.specs.RunKind.{Job}
+use Rattle.command_meaning.specs.Printing.{every_row, each_word, no_words, cycle_words}
+use Rattle.command_meaning.specs.Reports.{subject_outputs}
+use Rattle.command_meaning.specs.RunKind.{Job, meant_answer}
 use Rattle.vcp_core.specs.Demo.{DemoTask}
 
 -- ---- what single commands print and name, and their limits
@@ -107,11 +106,9 @@ abbrev pub words_job : List ℕ → ℕ → Lists → Code → RowsLeft → Job
 words_job name n g code left =
     record { subject = image g; rows = left; rows_name = name; code = code; printing = each_word g code n; words = cycle_words g code n }
 
--- the answer of a program's own run, without code or unit
+-- The answer of a program's own run: the one that is meant by its run in whatever code, here in one with seed and step 0.
 abbrev pub plain_answer : List ℕ → Program → RowsLeft → Answer
-plain_answer name p left =
-    told_answer (every_row (output_names p)) (output_names p) name left
-    (record { rows = (told_source p left.rows).rows; end = end_told (told_source p left.rows).end; words = no_words.meant left.rows })
+plain_answer name p left = meant_answer (rows_job name (record { seed = 0; step = 0 }) (source p) left)
 
 -- The words `plain P ROWS` and `run P ROWS CODE` lead to the same refusals of P as `check P`, and then to
 -- those of ROWS, `R4` whatever the file holds; or to a run of the checked program over the rows that are left

@@ -1,6 +1,6 @@
 //! Laws of what commands come to.
 
-ghost use Rattle.std.specs.Prelude.{◌≡◌, ◌≤◌, Some, IfSome, List, ℕ, ℤ, length};
+ghost use Rattle.std.specs.Prelude.{◌≡◌, ◌≤◌, Some, List, ℕ, ℤ, length};
 ghost use Rattle.vcp_base.specs.Limits.{most_image_bytes};
 ghost use Rattle.vcp_base.specs.declared.code.Profile.TheVariants as profile;
 ghost use Rattle.vcp_outside.specs.Held.{Held};
@@ -12,17 +12,18 @@ ghost use Rattle.image_file.specs.Image.{image_of};
 ghost use Rattle.weight_audit.specs.Audit.{most_weights, weights_up_to};
 ghost use Rattle.weight_audit.specs.AuditText.{AuditOf};
 ghost use Rattle.vcp_words.specs.Forms.{Form};
-ghost use Rattle.command_meaning.specs.Abouts.{about, AllHeld, without_unit};
-ghost use Rattle.command_meaning.specs.Answer.{Answer};
+ghost use Rattle.command_meaning.specs.Abouts.{about, AllHeld};
 ghost use Rattle.command_meaning.specs.FileTasks.{ImageFile};
 ghost use Rattle.command_meaning.specs.Endings.{HasOwnStatus};
-ghost use Rattle.command_meaning.specs.Kinds.{Task, answers, lacks, prints, Meant};
+ghost use Rattle.command_meaning.specs.Kinds.{Task, lacks, prints};
 ghost use Rattle.vcp_core.specs.EachTask.{EachHasTask};
+ghost use Rattle.vcp_core.specs.PerformedLaws.{PerformedCompletes, PerformedKeeps, PerformedKnown, PerformedServes, RunMeansPlain, RunWritesPlain};
 ghost use Rattle.vcp_core.specs.Tasks.{AuditTask, TaskOf, widened};
 ghost use Rattle.command_meaning.specs.WireKind.{WiresDeliver};
 ghost use Rattle.vcp_core.specs.StaleSeen.{StaleShows};
 ghost use Rattle.vcp_core.specs.WrittenImages.{WrittenImagesAreTaken};
 
+use command_meaning::endings_have_causes;
 use il_front::il_answers_are_one;
 use image_file::images_are_told_apart;
 use st_lexer::one_reading;
@@ -41,8 +42,7 @@ pub fn one_task()
     ensures one { (f : Form) (held : Held) (a b : Task) → TaskOf f held a → TaskOf f held b → a ≡ b }
     ensures own { (f : Form) (held : Held) (task : Task) → TaskOf f held task → HasOwnStatus task }
     ensures found { (f : Form) (held : Held) (name : List ℕ) → AllHeld held (about f).files → TaskOf f held (lacks name) → ⊥ }
-    ensures as_plain { (f : Form) (held : Held) (task : Task) → TaskOf f held task →
-        IfSome (without_unit f) (λ g. (x y : Answer) → TaskOf g held (answers x) → Meant task y → y ≡ x) }
+    ensures as_plain { RunMeansPlain }
 {
     one_reading();
     one_answer();
@@ -50,6 +50,29 @@ pub fn one_task()
     il_answers_are_one();
     images_are_told_apart();
     an_audit_has_one_text();
+}
+
+/// What follows where a command was performed, as the program does it:
+///
+/// - `serves`: For the one task that the words lead to with what is held, it ended in one of these ways: the task's answer was given; the files
+///   failed; the output's sink failed; the errors' sink failed; memory was lacking. Or it was given up before the task was known.
+/// - `completes`: Where the files that the words name are held, nothing failed, the unit was honest, if the command calls it, and nothing of the
+///   task is refused, the task was brought to its end, unless memory was lacking: with 0, or with 2 where the command may meet a stop; all that is
+///   meant by it was written, and of the file that was begun last nothing is unread.
+/// - `keeps`: What every command keeps, and which cause each of the statuses 2, 3, 5 and 6 has, whatever unit, files and sinks are; and a call of
+///   these that fails gives 5 or 6 each time: `Keeps`, in `command_meaning`.
+/// - `known`: The status is none but 0 to 7, and 4 only words have that are none of the forms.
+/// - `as_plain`: Where no answer was wrong, `run P ROWS CODE` wrote the bytes that `plain P ROWS` is to write, with its status, unless the status is
+///   5, 6 or 7.
+pub fn a_performed_command()
+    ensures serves { PerformedServes }
+    ensures completes { PerformedCompletes }
+    ensures keeps { PerformedKeeps }
+    ensures known { PerformedKnown }
+    ensures as_plain { RunWritesPlain }
+{
+    one_task();
+    endings_have_causes();
 }
 
 /// The image of any graph, seed and step is read as that graph and its table by each command that reads

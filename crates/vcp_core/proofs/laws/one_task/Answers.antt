@@ -1,5 +1,5 @@
 use Rattle.vcp_core.proofs.EachTask.{AnswerLaws, some_task}
-use Rattle.vcp_core.proofs.Meanings.{task_once, own_status, all_found, plain_meant}
+use Rattle.vcp_core.proofs.Meanings.{task_once, own_status, all_found, run_means_plain}
 use Rattle.vcp_core.proofs.OneText.{ImageLaws, Laws, ListingLaws}
 use Rattle.vcp_core.proofs.laws.one_task.Goals as goal
 
@@ -76,4 +76,4 @@ returns-clause-as_plain c =
       images = images;
       audits = c.an_audit_has_one_text.ensures.one;
     } in
-    plain_meant laws
+    run_means_plain laws

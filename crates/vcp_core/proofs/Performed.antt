@@ -1,28 +1,33 @@
--- Performed: from how far a command came, and what became of its line, to how it serves and what it keeps.
-use Rattle.std.proofs.Common.{ℕ, ◌≡◌, ◌≢◌, ◌≤◌, ◌⊎◌, inl, inr, refl, sym, subst, ◌∙◌, Bool, true, false, List, [], ◌∷◌, ◌++◌, Option, Some, None, IfSome, arith}
+-- Performed: from how far a command came, and what became of its line, to how it serves, what it keeps and that it completes.
+use Rattle.std.proofs.Common.{ℕ, ◌≡◌, ◌≢◌, ◌≤◌, lit≤, ◌⊎◌, inl, inr, refl, sym, ap, subst, ◌∙◌, Bool, true, false, List, [], ◌∷◌, ◌++◌, Option, Some, None, IfSome, All, arith}
 use Rattle.std.specs.Io.KnownBytes.{Appends, IsAtEnd}
 use Rattle.vcp_outside.specs.Counts.{Rose}
 use Rattle.vcp_outside.specs.Held.{Held}
+use Rattle.vcp_words.specs.Forms.{Form, Rows, Code, check, format, plain, run, il, compile, list, exec, trace, widen, audit, inject, pair, pairs, wire, demo}
 use Rattle.command_meaning.specs.Answer.{Answer}
-use Rattle.command_meaning.specs.Abouts.{Among, About, AllHeld}
+use Rattle.command_meaning.specs.Abouts.{Among, About, about, AllHeld}
 use Rattle.command_meaning.specs.Clauses.{IsEnd, IsTooLong, Keeps, MayHold, Serves, TellsTooLong, Completed, Completes, IsAccepted}
-use Rattle.command_meaning.specs.Endings.{Answered, known, given_up, Came, Causes, Ends, Given, GivenUp, HasOwnStatus, NothingFailed, TellsLine}
+use Rattle.command_meaning.specs.Endings.{Answered, known, given_up, Came, Causes, DoneHasStatus, DoneIsMeant, Ends, EndingsHaveCauses, Given, GivenUp, GivingUpHasCauses, HasOwnStatus, IsNoFault, NothingFailed, TellsLine}
 use Rattle.command_meaning.specs.Endings as ends
-use Rattle.command_meaning.specs.Kinds.{Task, lacks, answers, compiles, runs, judges, compares, pairs_, wires, Done, Meant}
+use Rattle.command_meaning.specs.Kinds.{Task, lacks, answers, compiles, runs, judges, compares, pairs_, wires, Done, Meant, lack_answer}
 use Rattle.command_meaning.specs.Performing.{Reaches, done, cut, wanting, unread, unmade, Performs}
-use Rattle.command_meaning.specs.PairKind.{pair_read}
-use Rattle.command_meaning.specs.RunKind.{run_read}
 use Rattle.coded_unit.specs.Seen.{UnitSeen, StaysHonest}
 use Rattle.vcp_outside.specs.Seen.{SinkSeen}
 use Rattle.command_meaning.specs.Seen.{Outside, moment_of}
-use Rattle.command_meaning.proofs.Causing.{endings_have_causes, giving_up_has_causes, five_lacks, pair_small, run_small, status_of, done_is_meant, wire_small}
+use Rattle.vcp_core.specs.Performed.{Performed}
+use Rattle.vcp_core.specs.PerformedLaws.{RunMeansPlain, RunWritesPlain}
+use Rattle.vcp_core.specs.Tasks.{TaskOf, PlainTask, RunTask}
 
--- A command comes to one task at most; to an answer only with a status of its own; and to a lacking name only where not all of its files
--- are held.
-pub record IsMeaning (c : About) (Comes : Held → Task → Type 0) : Type 0 where
-  pub one : (h : Held) (a b : Task) → Comes h a → Comes h b → a ≡ b
-  pub own : (h : Held) (task : Task) → Comes h task → HasOwnStatus task
-  pub found : (h : Held) (name : List ℕ) → AllHeld h c.files → Comes h (lacks name) → ⊥
+-- What is known of tasks: of each what its endings cause, and that a command comes to one at most, to an answer only with a status of its own,
+-- and to a lacking name only where not all of its files are held.
+pub record TaskLaws : Type 0 where
+  pub meant : DoneIsMeant
+  pub statuses : DoneHasStatus
+  pub ended : EndingsHaveCauses
+  pub left : GivingUpHasCauses
+  pub one : (f : Form) (h : Held) (a b : Task) → TaskOf f h a → TaskOf f h b → a ≡ b
+  pub own : (f : Form) (h : Held) (task : Task) → TaskOf f h task → HasOwnStatus task
+  pub found : (f : Form) (h : Held) (name : List ℕ) → AllHeld h (about f).files → TaskOf f h (lacks name) → ⊥
 
 -- a line that was told, under other names for it and its status
 retold : (line other : List ℕ) (code number : ℕ) (a b : SinkSeen) (status : ℕ) → line ≡ other → code ≡ number → TellsLine line code a b status
@@ -46,16 +51,18 @@ module _ (c : About) (Comes : Task → Type 0) (before after : Outside) (line : 
 
 -- ---- completeness
 
--- no answer has the status of a sink that failed
-never_six : (task : Task) (a b : UnitSeen) (x : Answer) → HasOwnStatus task → Done task a b x → x.status ≡ 6 → ⊥
-never_six (lacks name) a b x few d h = omega (arith, h, status_of x _ d.1)
-never_six (answers y) a b x few d h = omega (arith, few, h, status_of x y d.1)
-never_six (compiles p code) a b x few (quiet, (g, may, is)) h = omega (arith, h, status_of x _ is)
-never_six (runs j) a b x few d h = omega (arith, h, status_of x _ d.read, run_small (run_read j d.graph d.cycles).end j.rows.refusal)
-never_six (judges c) a b x few d h = omega (arith, h, status_of x _ d.read)
-never_six (wires s) a b x few d h = omega (arith, h, status_of x _ d.read, wire_small d.cut)
-never_six (compares j) a b x few d h = omega (arith, h, status_of x _ d.read, pair_small (pair_read j d.cycles).end j.rows.refusal)
-never_six (pairs_ c) a b x few d h = omega (arith, h, status_of x _ d.read)
+-- no answer has the status of a sink that failed, and only where a name is lacking it has that of a file
+never_six : DoneHasStatus → (task : Task) (a b : UnitSeen) (x : Answer) → HasOwnStatus task → Done task a b x → x.status ≡ 6 → ⊥
+never_six statuses task a b x few d six =
+    elim (statuses task a b x few d) [
+      | inl small ↦ omega (arith, six, small)
+      | inr lack ↦ omega (arith, six, ap (λ (y : Answer). y.status) lack.2)
+    ]
+
+five_lacks : DoneHasStatus → (task : Task) (a b : UnitSeen) (x : Answer) → HasOwnStatus task → Done task a b x → x.status ≡ 5
+    → (name : List ℕ) × (task ≡ lacks name)
+five_lacks statuses task a b x few d five =
+    elim (statuses task a b x few d) [ inl small ↦ absurd (omega (arith, five, small)) | inr lack ↦ (lack.0, lack.1) ]
 
 -- a task that needs no unit: it comes to one answer, or to one of some, whatever a unit answers
 abbrev pub NeedsNone : Task → Type 0
@@ -80,9 +87,9 @@ none_meant (compares j) a b x none d = absurd none
 none_meant (pairs_ c) a b x none d = absurd none
 
 none_three : (task : Task) (a b : UnitSeen) (x : Answer) → NeedsNone task → Done task a b x → x.status ≡ 3 → ⊥
-none_three (lacks name) a b x none d h = omega (arith, h, status_of x _ d.1)
-none_three (answers y) a b x none d h = omega (arith, none, h, status_of x y d.1)
-none_three (compiles p code) a b x none (quiet, (g, may, is)) h = omega (arith, h, status_of x _ is)
+none_three (lacks name) a b x none d h = omega (arith, h, ap (λ (z : Answer). z.status) d.1)
+none_three (answers y) a b x none d h = omega (arith, none, h, ap (λ (z : Answer). z.status) d.1)
+none_three (compiles p code) a b x none (quiet, (g, may, is)) h = omega (arith, h, ap (λ (z : Answer). z.status) is)
 none_three (runs j) a b x none d h = none
 none_three (judges c) a b x none d h = none
 none_three (wires s) a b x none d h = none
@@ -99,17 +106,17 @@ told_six : (line : List ℕ) (code : ℕ) (a b : SinkSeen) (status : ℕ) → Te
 told_six line code a b status (inl t) is = inl (sym t.0 ∙ is)
 told_six line code a b status (inr t) is = inr t.1
 
-module _ (c : About) (before after : Outside) (status : ℕ) (nothing : NothingFailed before after) where
+module _ (statuses : DoneHasStatus) (c : About) (before after : Outside) (status : ℕ) (nothing : NothingFailed before after) where
   ended_five : (task : Task) → HasOwnStatus task → ((name : List ℕ) → task ≡ lacks name → ⊥) → Ends c task before after status → status ≡ 5 → ⊥
   ended_five task few found (ends.ended x d out told) is =
-      let l = five_lacks task before.unit after.unit x few d (told_five _ _ before.err after.err status told is) in found l.0 l.1
+      let l = five_lacks statuses task before.unit after.unit x few d (told_five _ _ before.err after.err status told is) in found l.0 l.1
   ended_five task few found (ends.cut rose left told) is = nothing.out rose
   ended_five task few found (ends.wanting late left told) is = let seven = told_five _ 7 before.err after.err status told is in omega (arith, seven)
 
   ended_six : (task : Task) → HasOwnStatus task → Ends c task before after status → status ≡ 6 → ⊥
   ended_six task few (ends.ended x d out told) is =
       elim (told_six _ _ before.err after.err status told is) [
-        | inl six ↦ never_six task before.unit after.unit x few d six
+        | inl six ↦ never_six statuses task before.unit after.unit x few d six
         | inr rose ↦ nothing.err rose
       ]
   ended_six task few (ends.cut rose left told) is = nothing.out rose
@@ -125,32 +132,31 @@ module _ (c : About) (before after : Outside) (status : ℕ) (nothing : NothingF
   given_six (ends.unmade u told) is =
       elim (told_six _ 7 before.err after.err status told is) [ inl six ↦ omega (arith, six) | inr rose ↦ nothing.err rose ]
 
-module _ (c : About) (Comes : Held → Task → Type 0) (before after : Outside) (status : ℕ) (h : Held) (laws : IsMeaning c Comes) where
-  causes_of : Answered c (Comes h) before after status → (task : Task) → Comes h task → Causes task before after status
+module _ (laws : TaskLaws) (f : Form) (before after : Outside) (status : ℕ) (h : Held) where
+  causes_of : Answered (about f) (TaskOf f h) before after status → (task : Task) → TaskOf f h task → Causes task before after status
   causes_of (known other comes finish) task takes =
-      let same : other ≡ task = laws.one h other task comes takes in
-      subst (λ (t : Task). Causes t before after status) same
-      (endings_have_causes c other before after status (laws.own h other comes) finish)
-  causes_of (given_up g) task takes = giving_up_has_causes c task before after status g
+      let same : other ≡ task = laws.one f h other task comes takes in
+      subst (λ (t : Task). Causes t before after status) same (laws.ended (about f) other before after status (laws.own f h other comes) finish)
+  causes_of (given_up g) task takes = laws.left (about f) task before after status g
 
-  unfailing_of : Answered c (Comes h) before after status → AllHeld h c.files → NothingFailed before after → (status ≢ 5) × (status ≢ 6)
+  unfailing_of : Answered (about f) (TaskOf f h) before after status → AllHeld h (about f).files → NothingFailed before after → (status ≢ 5) × (status ≢ 6)
   unfailing_of (known task comes finish) all nothing = (
-    ended_five c before after status nothing task (laws.own h task comes)
-        (λ name is. laws.found h name all (subst (λ (t : Task). Comes h t) is comes)) finish,
-    ended_six c before after status nothing task (laws.own h task comes) finish,
+    ended_five laws.statuses (about f) before after status nothing task (laws.own f h task comes)
+        (λ name is. laws.found f h name all (subst (λ (t : Task). TaskOf f h t) is comes)) finish,
+    ended_six laws.statuses (about f) before after status nothing task (laws.own f h task comes) finish,
   )
-  unfailing_of (given_up g) all nothing = (given_five c before after status nothing g, given_six c before after status nothing g)
+  unfailing_of (given_up g) all nothing =
+      (given_five laws.statuses (about f) before after status nothing g, given_six laws.statuses (about f) before after status nothing g)
 
 -- where a command came so far and then its line was told, it serves
-pub performed_serves : (c : About) (Comes : Held → Task → Type 0) (before after : Outside) (line : List ℕ) (code status : ℕ) → IsMeaning c Comes →
-    Performs c Comes before.files after.files (moment_of before) (moment_of after) line code → TellsLine line code before.err after.err status →
-    (h : Held) → MayHold c before.files.held h → Serves c h (Comes h) before after status
-performed_serves c Comes before after line code status laws p told h may =
-    let a : Answered c (Comes h) before after status = answered c (Comes h) before after line code status told (p.reaches h may) in
+pub performed_serves : (laws : TaskLaws) (f : Form) (before after : Outside) (status : ℕ) → Performed f before after status →
+    (h : Held) → MayHold (about f) before.files.held h → Serves (about f) h (TaskOf f h) before after status
+performed_serves laws f before after status (line, code, p, told) h may =
+    let a : Answered (about f) (TaskOf f h) before after status = answered (about f) (TaskOf f h) before after line code status told (p.reaches h may) in
     record {
       answered = a;
-      causes = causes_of c Comes before after status h laws a;
-      unfailing = unfailing_of c Comes before after status h laws a;
+      causes = causes_of laws f before after status h a;
+      unfailing = unfailing_of laws f before after status h a;
     }
 
 -- ---- what is kept
@@ -171,10 +177,10 @@ not_six status six (inr (inl h)) = omega (arith, six, h)
 not_six status six (inr (inr h)) = omega (arith, six, h)
 
 -- and keeps what every command keeps
-pub performed_keeps : (c : About) (Comes : Held → Task → Type 0) (before after : Outside) (line : List ℕ) (code status : ℕ) →
+keeps_of : (c : About) (Comes : Held → Task → Type 0) (before after : Outside) (line : List ℕ) (code status : ℕ) →
     Performs c Comes before.files after.files (moment_of before) (moment_of after) line code → TellsLine line code before.err after.err status →
     Keeps c before after status
-performed_keeps c Comes before after line code status p (inl (is, w, same)) = record {
+keeps_of c Comes before after line code status p (inl (is, w, same)) = record {
   statuses = subst (λ (n : ℕ). Among n (c.ends ++ 5 ∷ 6 ∷ 7 ∷ [])) (sym is) p.statuses;
   told = (code, line, p.statuses, p.told, p.write, inl (is, w, same));
   held = p.held;
@@ -193,7 +199,7 @@ performed_keeps c Comes before after line code status p (inl (is, w, same)) = re
     err = λ six. same;
   };
 }
-performed_keeps c Comes before after line code status p (inr (is, rose, part)) = record {
+keeps_of c Comes before after line code status p (inr (is, rose, part)) = record {
   statuses = subst (λ (n : ℕ). Among n (c.ends ++ 5 ∷ 6 ∷ 7 ∷ [])) (sym is) (among_after 6 c.ends (5 ∷ 6 ∷ 7 ∷ []) (inr (inl refl)));
   told = (code, line, p.statuses, p.told, p.write, inr (is, rose, part));
   held = p.held;
@@ -207,6 +213,9 @@ performed_keeps c Comes before after line code status p (inr (is, rose, part)) =
   write = λ six. inr rose;
   faults = record { files = λ five six. absurd (six is); out = λ six. absurd (six is); err = λ six. absurd (six is) };
 }
+
+pub performed_keeps : (f : Form) (before after : Outside) (status : ℕ) → Performed f before after status → Keeps (about f) before after status
+performed_keeps f before after status (line, code, p, told) = keeps_of (about f) (TaskOf f) before after line code status p told
 
 -- ---- completeness, as one sentence
 
@@ -228,7 +237,37 @@ two_own n ends two own =
     among_own 2 ends (λ e. omega (arith, e)) (λ e. omega (arith, e)) (λ e. omega (arith, e))
     (subst (λ (m : ℕ). Among m (ends ++ 5 ∷ 6 ∷ 7 ∷ [])) two own)
 
-module _ (c : About) (task : Task) (before after : Outside) (status : ℕ) (kept : Keeps c before after status) where
+-- its status is none of words that are no command
+among_small : (n : ℕ) (ends : List ℕ) → All (λ end. end ≤ 3) ends → Among n (ends ++ 5 ∷ 6 ∷ 7 ∷ []) → (n ≤ 7) × (n ≢ 4)
+among_small n [] small (inl is) = (omega (arith, is), λ four. omega (arith, is, four))
+among_small n [] small (inr (inl is)) = (omega (arith, is), λ four. omega (arith, is, four))
+among_small n [] small (inr (inr (inl is))) = (omega (arith, is), λ four. omega (arith, is, four))
+among_small n [] small (inr (inr (inr none))) = absurd none
+among_small n (end ∷ ends) small (inl is) = (omega (arith, is, small.0), λ four. omega (arith, is, small.0, four))
+among_small n (end ∷ ends) small (inr h) = among_small n ends small.1 h
+
+ends_small : (f : Form) → All (λ end. end ≤ 3) (about f).ends
+ends_small (check p) = (lit≤ tt, lit≤ tt, tt)
+ends_small (format p) = (lit≤ tt, lit≤ tt, tt)
+ends_small (plain p rows) = (lit≤ tt, lit≤ tt, lit≤ tt, tt)
+ends_small (run p rows code) = (lit≤ tt, lit≤ tt, lit≤ tt, lit≤ tt, tt)
+ends_small (il p rows code) = (lit≤ tt, lit≤ tt, lit≤ tt, lit≤ tt, tt)
+ends_small (compile p code) = (lit≤ tt, lit≤ tt, tt)
+ends_small (list m) = (lit≤ tt, lit≤ tt, tt)
+ends_small (exec m rows) = (lit≤ tt, lit≤ tt, lit≤ tt, lit≤ tt, tt)
+ends_small (trace m rows n) = (lit≤ tt, lit≤ tt, lit≤ tt, lit≤ tt, tt)
+ends_small (widen m) = (lit≤ tt, lit≤ tt, tt)
+ends_small (audit m horizon) = (lit≤ tt, lit≤ tt, tt)
+ends_small (inject m rows g) = (lit≤ tt, lit≤ tt, tt)
+ends_small (pair m rows seed) = (lit≤ tt, lit≤ tt, lit≤ tt, lit≤ tt, tt)
+ends_small (pairs m rows seed g) = (lit≤ tt, lit≤ tt, tt)
+ends_small (wire g) = (lit≤ tt, lit≤ tt, lit≤ tt, tt)
+ends_small (demo n) = (lit≤ tt, lit≤ tt, lit≤ tt, lit≤ tt, tt)
+
+pub performed_known : (f : Form) (before after : Outside) (status : ℕ) → Performed f before after status → (status ≤ 7) × (status ≢ 4)
+performed_known f before after status did = among_small status (about f).ends (ends_small f) (performed_keeps f before after status did).statuses
+
+module _ (as_meant : DoneIsMeant) (c : About) (task : Task) (before after : Outside) (status : ℕ) (kept : Keeps c before after status) where
   ended_so : (x : Answer) → Meant task x → Came x before after status → (status ≡ 7) ⊎ ((status ≡ 0) ⊎ (status ≡ 2)) →
       (status ≡ 7) ⊎ Completed c task before after status
   ended_so x meant came (inl wanted) = inl wanted
@@ -253,7 +292,7 @@ module _ (c : About) (task : Task) (before after : Outside) (status : ℕ) (kept
       -- with an honest unit, or for a task that needs none
       given_so : StaysHonest before.unit after.unit ⊎ NeedsNone task → (status ≡ 7) ⊎ Completed c task before after status
       given_so (inl honest) =
-          meant_so (done_is_meant task before.unit after.unit given.answer given.done honest)
+          meant_so (as_meant task before.unit after.unit given.answer given.done honest)
           (λ three. let rose = kept.refused three in omega (arith, rose, honest.0, honest.1))
       given_so (inr none) =
           meant_so (none_meant task before.unit after.unit given.answer none given.done)
@@ -270,10 +309,40 @@ honest_or_none : (calls : Bool) (before after : UnitSeen) (task : Task) → (cal
 honest_or_none true before after task honest none = inl (honest refl)
 honest_or_none false before after task honest none = inr (none refl)
 
--- where a command serves and keeps what every command keeps, and comes to tasks that need no unit if it calls none, it completes
-pub serves_completes : (c : About) (held : Held) (Comes : Task → Type 0) (before after : Outside) (status : ℕ) →
-    (c.calls ≡ false → (task : Task) → Comes task → NeedsNone task) → Serves c held Comes before after status → Keeps c before after status →
-    status ≤ 7 → status ≢ 4 → Completes c held Comes before after status
-serves_completes c held Comes before after status none serves kept small no_usage all nothing honest task comes accepted =
-    came_so c task before after status kept small no_usage accepted (serves.unfailing all nothing)
-    (honest_or_none c.calls before.unit after.unit task honest (λ no. none no task comes)) ((serves.causes task comes).finishes nothing)
+-- a command that calls no unit comes to tasks that need none
+abbrev pub QuietNeedsNone : Type 0
+QuietNeedsNone = (f : Form) (h : Held) (task : Task) → (about f).calls ≡ false → TaskOf f h task → NeedsNone task
+
+-- where a command was performed, it completes
+pub performed_completes : TaskLaws → QuietNeedsNone → (f : Form) (before after : Outside) (status : ℕ) → Performed f before after status →
+    (h : Held) → MayHold (about f) before.files.held h → Completes (about f) h (TaskOf f h) before after status
+performed_completes laws quiet f before after status did h may all nothing honest task comes accepted =
+    let serves = performed_serves laws f before after status did h may in
+    let few = performed_known f before after status did in
+    came_so laws.meant (about f) task before after status (performed_keeps f before after status did) few.0 few.1 accepted (serves.unfailing all nothing)
+    (honest_or_none (about f).calls before.unit after.unit task honest (λ no. quiet f h task no comes)) ((serves.causes task comes).finishes nothing)
+
+-- ---- `run` beside `plain`
+
+-- what was given up ended by a fault
+gave_no_answer : (c : About) (before after : Outside) (status : ℕ) → GivenUp c before after status → IsNoFault status → ⊥
+gave_no_answer c before after status (ends.unread word named rose u (inl told)) fine = fine.files told.0
+gave_no_answer c before after status (ends.unread word named rose u (inr told)) fine = fine.sinks told.0
+gave_no_answer c before after status (ends.unmade u (inl told)) fine = fine.memory told.0
+gave_no_answer c before after status (ends.unmade u (inr told)) fine = fine.sinks told.0
+
+module _ (p : List ℕ) (rows : Rows) (code : Code) (before after : Outside) (status : ℕ) (h : Held)
+    (same : (task : Task) → RunTask p rows code h task → (x y : Answer) → PlainTask p rows h (answers x) → Meant task y → y ≡ x)
+    (causes : (task : Task) → RunTask p rows code h task → Causes task before after status) where
+  answered_as_plain : Answered (about (run p rows code)) (RunTask p rows code h) before after status
+      → (x : Answer) → PlainTask p rows h (answers x) → StaysHonest before.unit after.unit → IsNoFault status → Came x before after status
+  answered_as_plain (known task comes finish) x also honest fine =
+      let (y, meant, came) = (causes task comes).meant honest fine in
+      subst (λ (z : Answer). Came z before after status) (same task comes x y also meant) came
+  answered_as_plain (given_up g) x also honest fine = absurd (gave_no_answer (about (run p rows code)) before after status g fine)
+
+-- where `run` was performed, what `plain` answers was written, with an honest unit, but for 5, 6 and 7
+pub performed_as_plain : TaskLaws → RunMeansPlain → RunWritesPlain
+performed_as_plain laws same p rows code before after status did h may =
+    let serves = performed_serves laws (run p rows code) before after status did h may in
+    answered_as_plain p rows code before after status h (same p rows code h) serves.causes serves.answered
