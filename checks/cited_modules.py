@@ -4,6 +4,7 @@
     checks/cited_modules.py                  prints the list of docs/ARCHITECTURE.md, 'What an assessor reads'
     checks/cited_modules.py --write          puts it there, in the place of the one that stands there
     checks/cited_modules.py vcp_core::vcp    the modules that one public item of a crate rests on, with the lines of what is cited of each, and of each
+    checks/cited_modules.py vcp_core::vcp exec audit    the same for these commands alone: without what only the arms of the others cite
 
 It reads the sources as they stand and proves nothing. Python 3 and its library are all that it needs.
 
@@ -44,11 +45,41 @@ def words(text):
     return found
 
 
+COMMANDS = {
+    "check": "answers", "format": "answers", "plain": "answers", "run": "runs", "il": "runs", "compile": "compiles", "list": "answers", "exec": "runs",
+    "trace": "runs", "widen": "answers", "audit": "answers", "inject": "judges", "pair": "compares", "pairs": "pairs_", "wire": "wires", "demo": "runs"}
+"""The commands of `vcp`, each with the kind of task that it comes to. Each has an arm in the definitions that go command by command, and each kind in those
+that go kind by kind."""
+SUBJECTS = {"plain": "source", "run": "source", "demo": "source", "il": "listed", "exec": "image", "trace": "image"}
+"""What is run by those that run something."""
+WITH_ARMS = {("vcp_words", "Forms"), ("vcp_core", "Tasks")} | {("command_meaning", it) for it in ("Abouts", "Answer", "Endings", "GraphsOf", "Kinds", "Reports")}
+
+
+OF_IMAGES = "WrittenImagesAreTaken"
+"""What a clause of `vcp` says of those commands alone that write or read images."""
+
+
+def without_arms(text, left_out):
+    """A definition without the arms of these constructors: equations and constructors, with the lines behind them that go on with one."""
+    head = re.compile(rf"(\s*)(?:[\w']+ \((?:{'|'.join(left_out)})\b|(?:{'|'.join(left_out)}) :)")
+    kept, within = [], None
+    for line in text.split("\n"):
+        found = head.match(line)
+        if found:
+            within = len(found.group(1))
+        elif within is None or not line.strip() or len(line) - len(line.lstrip()) <= within:
+            within = None
+            kept.append(line)
+    return "\n".join(kept)
+
+
 class Definitions:
     """Which definitions each definition names, and each contract: a crate, a module and the number of its item there, or a public type."""
 
-    def __init__(self, crates):
+    def __init__(self, crates, commands=()):
         self.crates = crates
+        kept = {"answers", *commands, *(COMMANDS[it] for it in commands), *(SUBJECTS.get(it) for it in commands)}
+        self.left_out = sorted({*COMMANDS, *COMMANDS.values(), *SUBJECTS.values()} - kept) if commands else []
         self.of_kit = set()
         self.known = {}
 
@@ -94,8 +125,13 @@ class Definitions:
                 self.known[node] = self.of_contract(crate, crate.file_of[node[2]], crate.seen_as(node[2]))
             else:
                 module = crate.modules[node[1]]
-                self.known[node] = self.in_text(module.texts[node[2]], module.imports, (crate.name, module))
+                self.known[node] = self.in_text(self.text_of(node), module.imports, (crate.name, module))
         return self.known[node]
+
+    def text_of(self, node):
+        """What is read of a definition."""
+        text = self.crates[node[0]].modules[node[1]].texts[node[2]]
+        return without_arms(text, self.left_out) if self.left_out and (node[0], node[1]) in WITH_ARMS else text
 
     def reached(self, nodes):
         """These definitions, and those that are reached from them."""
@@ -175,17 +211,22 @@ def lines_of(text):
     return sum(1 for line in text.split("\n") if line.strip())
 
 
-def one_item(crates, wanted):
+def one_item(crates, wanted, commands):
     name, _, item = wanted.partition("::")
     if name not in crates or item not in crates[name].public:
         sys.exit(f"{wanted} is no public item with a contract")
-    reading = Reading(crates)
-    reading.of_item(crates[name], item, crates[name].public[item])
+    if not set(commands) <= set(COMMANDS):
+        sys.exit(f"the commands are {', '.join(COMMANDS)}")
+    reading = Reading(crates, Definitions(crates, commands))
+    contract = crates[name].public[item]
+    if commands and not set(commands) & {"compile", "list", "exec", "trace", "widen"}:
+        contract = contract.replace(OF_IMAGES, "")
+    reading.of_item(crates[name], item, contract)
     of_modules, of_definitions = 0, 0
     reached = reading.reached
     for crate, module in sorted(modules_of(reached), key=lambda m: (list(crates).index(m[0]), m[1])):
         it = crates[crate].modules[module]
-        cited = sum(lines_of(it.texts[node[2]]) for node in reached if node[0] == crate and node[1] == module)
+        cited = sum(lines_of(reading.definitions.text_of(node)) for node in reached if node[0] == crate and node[1] == module)
         of_modules += it.lines
         of_definitions += cited
         print(f"{cited:6} of {it.lines:5} {crate} {module}")
@@ -196,7 +237,7 @@ def one_item(crates, wanted):
 def main():
     crates = read_crates()
     if len(sys.argv) > 1 and sys.argv[1] != "--write":
-        return one_item(crates, sys.argv[1])
+        return one_item(crates, sys.argv[1], sys.argv[2:])
     rows = listing(crates)
     if len(sys.argv) == 1:
         print("\n".join(rows))
