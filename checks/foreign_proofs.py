@@ -37,9 +37,7 @@ EXPECTED = {
     ("pair_channel", "machine_run::Stopping"),
     ("pair_channel", "machine_run::UpTo"),
     ("pair_channel", "machine_run::Writing"),
-    # what commands mean that need no file or one
-    ("vcp_core", "command_meaning::OneFile"),
-    ("vcp_core", "command_meaning::Performed"),
+    # why a row that is refused is so
     ("vcp_core", "vcp_inputs::Causes"),
 }
 

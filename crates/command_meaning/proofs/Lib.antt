@@ -1,3 +1,2 @@
 mod Causing
-pub mod OneFile
 pub mod Worked

@@ -32,7 +32,6 @@ use Rattle.vcp_inputs.specs.Lines.{input_status, input_text, refusal_text}
 use Rattle.vcp_inputs.specs.RowsOutcome.{RowsOutcome, opened, rows_outcome}
 use Rattle.vcp_inputs.specs.RowsRead.{AllRead, NoneRead, RowsBroken, at_header, at_row, graph_columns}
 use Rattle.vcp_inputs.specs.Scripts.{ScriptOf, NotScript}
-use Rattle.vcp_inputs.proofs.NotBytes.{script_not_bytes}
 use Rattle.command_meaning.specs.Abouts.{About, about, FileWord, rows_words, script_word, Among}
 use Rattle.command_meaning.specs.Answer.{Campaign}
 use Rattle.command_meaning.specs.CampaignKind.{CampaignDone, CampaignLeft, verdicts_answer, verdicts_meant}
@@ -188,12 +187,12 @@ lost_for Why held name most b mid n (input.Refused r) later h = h
 lost_for Why held name most b mid n input.Memory later h = tt
 
 -- where it is refused, it was read to its end, or it is too long
-pub script_taken : (m : List ℕ) (rows : Rows) (f : List ℕ) (held : Held) (g : Lists) (b n : ℕ) (i : NoInput) (rest : Option (List ℕ))
+pub script_taken : (m : List ℕ) (rows : Rows) (f : List ℕ) (held : Held) (i : NoInput) (rest : Option (List ℕ))
     → ((r : Refusal) → i ≡ input.Refused r → r ≢ refusal.Bytes → IsAtEnd rest)
-    → (i ≡ input.Refused refusal.Bytes → LeavesLong f most_source_bytes rest held) → FileLost (NotScript g) held f most_source_bytes b n i
-    → input_status i ≡ 1 → IsAtEnd rest ⊎ IsTooLong (about (inject m rows f)) held rest (input_text f i)
-script_taken m rows f held g b n i rest ends left h is =
-    file_taken (about (inject m rows f)) (NotScript g) f held b n (script_word f) (script_named m rows f) refl i rest ends (script_not_bytes g) left h is
+    → (i ≡ input.Refused refusal.Bytes → LeavesLong f most_source_bytes rest held) → input_status i ≡ 1
+    → IsAtEnd rest ⊎ IsTooLong (about (inject m rows f)) held rest (input_text f i)
+script_taken m rows f held i rest =
+    file_taken (about (inject m rows f)) f held (script_word f) (script_named m rows f) refl i rest
 
 -- ---- the lines of verdicts
 

@@ -12,6 +12,7 @@ pub mod ListedRuns
 pub mod Loaded
 pub mod LoadedRows
 pub mod Meanings
+pub mod OneFile
 pub mod OneText
 pub mod Performed
 pub mod Performing

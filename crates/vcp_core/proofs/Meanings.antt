@@ -47,7 +47,7 @@ use Rattle.command_meaning.specs.Kinds.{Task, lacks, answers, compiles, runs, ju
 use Rattle.command_meaning.specs.PairKind.{PairJob}
 use Rattle.command_meaning.specs.Reports.{end_told, run_status}
 use Rattle.command_meaning.specs.RunKind.{Job, job_answer, run_meant}
-use Rattle.command_meaning.proofs.OneFile.{one_file, file_has}
+use Rattle.vcp_core.proofs.OneFile.{one_file, file_has}
 use Rattle.vcp_core.specs.Tasks.{Audited, too_large, printed, FewRows, too_many, few, JudgedScript, WholeRows, Apart, same_seed, two_seeds, Compared, PairsRows, PairsScript, pair_job, TaskOf, PlainTask, RunTask, plain_answer, rows_job, words_job, ok_text, most_trace, table_code, listing, widened}
 use Rattle.vcp_core.specs.PerformedLaws.{RunMeansPlain}
 use Rattle.vcp_inputs.specs.RowsRead.{graph_columns}

@@ -9,7 +9,6 @@ use Rattle.vcp_outside.specs.Held.{Held}
 use Rattle.vcp_outside.specs.Seen.{FilesSeen, SinkSeen}
 use Rattle.vcp_outside.specs.Written.{AppendsFront, AppendsPart}
 use Rattle.input_rows.specs.RowsOf.{RowsLeft}
-use Rattle.op_graph.specs.Lists.{Lists}
 use Rattle.machine_run.specs.Moments.{Moment, moment}
 use Rattle.fault_script.specs.declared.act.Fault.{Fault as ScriptedFault}
 use Rattle.fault_script.specs.Groups.{line_of}
@@ -33,7 +32,6 @@ use Rattle.vcp_inputs.specs.Images.{ImageOf, NotImage}
 use Rattle.vcp_inputs.specs.Lines.{input_status, input_text, refusal_text}
 use Rattle.vcp_inputs.specs.RowsOutcome.{RowsOutcome, rows_outcome}
 use Rattle.vcp_inputs.specs.Scripts.{ScriptOf, NotScript}
-use Rattle.vcp_inputs.proofs.NotBytes.{script_not_bytes}
 use Rattle.command_meaning.specs.Abouts.{Among, FileWord, about, rows_words, script_word}
 use Rattle.command_meaning.specs.Answer.{Campaign}
 use Rattle.command_meaning.specs.Clauses.{IsTooLong}
@@ -125,13 +123,12 @@ module _ (m : List ℕ) (rows : Rows) (seed : ℕ) (f : List ℕ) (held : Held) 
         (pairs_ (campaign_of i list groups)) found refl)
 
 -- where the script is refused, it was read to its end, or it is too long
-pub script_taken : (m : List ℕ) (rows : Rows) (seed : ℕ) (f : List ℕ) (held : Held) (g : Lists) (b n : ℕ) (i : NoInput) (rest : Option (List ℕ))
+pub script_taken : (m : List ℕ) (rows : Rows) (seed : ℕ) (f : List ℕ) (held : Held) (i : NoInput) (rest : Option (List ℕ))
     → ((r : Refusal) → i ≡ input.Refused r → r ≢ refusal.Bytes → IsAtEnd rest)
-    → (i ≡ input.Refused refusal.Bytes → LeavesLong f most_source_bytes rest held) → FileLost (NotScript g) held f most_source_bytes b n i
-    → input_status i ≡ 1 → IsAtEnd rest ⊎ IsTooLong (about (pairs m rows seed f)) held rest (input_text f i)
-script_taken m rows seed f held g b n i rest ends left h is =
-    file_taken (about (pairs m rows seed f)) (NotScript g) f held b n (script_word f) (script_named m rows seed f) refl i rest ends (script_not_bytes g)
-    left h is
+    → (i ≡ input.Refused refusal.Bytes → LeavesLong f most_source_bytes rest held) → input_status i ≡ 1
+    → IsAtEnd rest ⊎ IsTooLong (about (pairs m rows seed f)) held rest (input_text f i)
+script_taken m rows seed f held i rest =
+    file_taken (about (pairs m rows seed f)) f held (script_word f) (script_named m rows seed f) refl i rest
 
 -- ---- the lines of verdicts
 

@@ -9,7 +9,7 @@ use Rattle.command_meaning.specs.Abouts.{Among, About, about, AllHeld}
 use Rattle.command_meaning.specs.Clauses.{IsEnd, IsTooLong, Keeps, MayHold, Serves, TellsTooLong, Completed, Completes, IsAccepted}
 use Rattle.command_meaning.specs.Endings.{Answered, known, given_up, Came, Causes, DoneHasStatus, DoneIsMeant, Ends, EndingsHaveCauses, Given, GivenUp, GivingUpHasCauses, HasOwnStatus, IsNoFault, NothingFailed, TellsLine}
 use Rattle.command_meaning.specs.Endings as ends
-use Rattle.command_meaning.specs.Kinds.{Task, lacks, answers, compiles, runs, judges, compares, pairs_, wires, Done, Meant, lack_answer}
+use Rattle.command_meaning.specs.Kinds.{Task, lacks, answers, compiles, runs, judges, compares, pairs_, wires, Done, Meant}
 use Rattle.command_meaning.specs.Performing.{Reaches, done, cut, wanting, unread, unmade, Performs}
 use Rattle.coded_unit.specs.Seen.{UnitSeen, StaysHonest}
 use Rattle.vcp_outside.specs.Seen.{SinkSeen}

@@ -15,7 +15,7 @@ use Rattle.vcp_inputs.specs.declared.refusal.Refusal.{Refusal}
 use Rattle.vcp_inputs.specs.declared.refusal.Refusal.TheVariants as refusal
 use Rattle.vcp_inputs.specs.declared.refusal.NoInput.{NoInput}
 use Rattle.vcp_inputs.specs.declared.refusal.NoInput.TheVariants as input
-use Rattle.vcp_inputs.specs.Files.{LeavesLong, NotLoaded, long, short}
+use Rattle.vcp_inputs.specs.Files.{LeavesLong, NotLoaded, long}
 use Rattle.vcp_inputs.specs.Lines.{input_text, input_status, memory_text, refusal_text, rows_text, write_fault_text}
 use Rattle.vcp_inputs.specs.Refusals.{IsCaused, no_rows}
 use Rattle.vcp_inputs.proofs.Causes.{row_caused}
@@ -32,7 +32,7 @@ use Rattle.vcp_core.specs.declared.ending.Ending.{Ending}
 use Rattle.vcp_core.specs.declared.ending.Ending.TheVariants as end
 use Rattle.vcp_core.specs.MachineRun.{RunsTo}
 use Rattle.vcp_core.specs.Reach.{end_status, run_code, run_line}
-use Rattle.vcp_core.proofs.Facts.{if_some_always, if_some_both, if_some_weaker, if_some_when}
+use Rattle.vcp_core.proofs.Facts.{if_some_always, if_some_weaker, if_some_when}
 use Rattle.vcp_core.proofs.PlainTurns.{appends-nothing}
 
 -- ---- the statuses of inputs that aren't there
@@ -257,26 +257,41 @@ module _ (c : About) (files files_after : FilesSeen) (before after : Moment) whe
   ran Comes j (Err run.Memory) late comes rose (inl s) = unmade s refl refl
   ran Comes j (Err run.Memory) late comes rose (inr left) = reached.wanting (runs j) comes left late refl refl
 
+bytes_or_not : (r : Refusal) → (r ≡ refusal.Bytes) ⊎ (r ≢ refusal.Bytes)
+bytes_or_not refusal.Bytes = inl refl
+bytes_or_not (refusal.Lexing f) = inr (λ is. cc)
+bytes_or_not (refusal.Parsing f) = inr (λ is. cc)
+bytes_or_not (refusal.Typing f) = inr (λ is. cc)
+bytes_or_not (refusal.Listing f) = inr (λ is. cc)
+bytes_or_not (refusal.Rows f) = inr (λ is. cc)
+bytes_or_not (refusal.Image f) = inr (λ is. cc)
+bytes_or_not refusal.Audit = inr (λ is. cc)
+bytes_or_not refusal.Trace = inr (λ is. cc)
+bytes_or_not refusal.Seed = inr (λ is. cc)
+bytes_or_not (refusal.Script f) = inr (λ is. cc)
+bytes_or_not (refusal.Wire f) = inr (λ is. cc)
+
 -- where it is refused, it was read to its end, or it is too long
-pub file_taken : (c : About) (Why : List ℕ → Refusal → Type 0) (name : List ℕ) (held : Held) (b n : ℕ) (word : FileWord) (named : Among word c.files)
-    (name_is : word.name ≡ name) (i : NoInput) (rest : Option (List ℕ)) → ((r : Refusal) → i ≡ input.Refused r → r ≢ refusal.Bytes → IsAtEnd rest)
-    → ((text : List ℕ) (r : Refusal) → Why text r → r ≢ refusal.Bytes) → (i ≡ input.Refused refusal.Bytes → LeavesLong name word.most rest held)
-    → NotLoaded Why held name word.most b n i → input_status i ≡ 1 → IsAtEnd rest ⊎ IsTooLong c held rest (input_text name i)
-file_taken c Why name held b n word named name_is input.Unread rest whole other left h is = absurd (omega (arith, is))
-file_taken c Why name held b n word named name_is (input.Refused r) rest whole other left (text, found, long l) is =
-    let (bytes, here, more, rest_is) = left refl in
-    inr (record {
-      word = word;
-      named = named;
-      bytes = bytes;
-      found = subst (λ (x : List ℕ). held x ≡ Some bytes) (sym name_is) here;
-      long = more;
-      left = rest_is;
-      line_is = subst (λ (x : List ℕ). refusal_text name refusal.Bytes ≡ refusal_text x refusal.Bytes) (sym name_is) refl;
-    })
-file_taken c Why name held b n word named name_is (input.Refused r) rest whole other left (text, found, short _ l why) is =
-    inl (whole r refl (other text r why))
-file_taken c Why name held b n word named name_is input.Memory rest whole other left h is = absurd (omega (arith, is))
+pub file_taken : (c : About) (name : List ℕ) (held : Held) (word : FileWord) (named : Among word c.files) (name_is : word.name ≡ name) (i : NoInput)
+    (rest : Option (List ℕ)) → ((r : Refusal) → i ≡ input.Refused r → r ≢ refusal.Bytes → IsAtEnd rest)
+    → (i ≡ input.Refused refusal.Bytes → LeavesLong name word.most rest held) → input_status i ≡ 1 → IsAtEnd rest ⊎ IsTooLong c held rest (input_text name i)
+file_taken c name held word named name_is input.Unread rest whole left is = absurd (omega (arith, is))
+file_taken c name held word named name_is (input.Refused r) rest whole left is =
+    elim (bytes_or_not r) [
+      | inl same ↦
+          let (bytes, here, more, rest_is) = left (ap input.Refused same) in
+          inr (record {
+            word = word;
+            named = named;
+            bytes = bytes;
+            found = subst (λ (x : List ℕ). held x ≡ Some bytes) (sym name_is) here;
+            long = more;
+            left = rest_is;
+            line_is = ap (refusal_text name) same ∙ ap (λ (x : List ℕ). refusal_text x refusal.Bytes) (sym name_is);
+          })
+      | inr other ↦ inl (whole r refl other)
+    ]
+file_taken c name held word named name_is input.Memory rest whole left is = absurd (omega (arith, is))
 
 -- the file was taken
 pub file_takes : {V : Type 0} (Is : List ℕ → V → Type 0) (Why : List ℕ → Refusal → Type 0) (most : ℕ) (Then : V → Task → Type 0) (name : List ℕ)
@@ -470,14 +485,12 @@ module _ (c : About) (Comes : Held → Task → Type 0) (files later : FilesSeen
 pub quiet_lost : (c : About) {V : Type 0} (Is : List ℕ → V → Type 0) (Why : List ℕ → Refusal → Type 0) (Then : Held → V → Task → Type 0) (word : FileWord)
     (files later : FilesSeen) (at : Moment) (i : NoInput) → Among word c.files → c.files ≢ [] → Among 1 c.ends → later.held ≡ files.held
     → IfSome files.held (λ h. NotLoaded Why h word.name word.most files.broken later.broken i)
-    → ((r : Refusal) → i ≡ input.Refused r → r ≢ refusal.Bytes → IsAtEnd later.rest) → ((text : List ℕ) (r : Refusal) → Why text r → r ≢ refusal.Bytes)
-    → (i ≡ input.Refused refusal.Bytes → IfSome files.held (LeavesLong word.name word.most later.rest))
+    → ((r : Refusal) → i ≡ input.Refused r → r ≢ refusal.Bytes → IsAtEnd later.rest) → (i ≡ input.Refused refusal.Bytes → IfSome files.held (LeavesLong word.name word.most later.rest))
     → (i ≡ input.Unread → Rose files.faults later.faults) → (i ≢ input.Unread → later.faults ≡ files.faults) → IsCaused i →
     Performs c (λ h task. TakenFile Is Why word.most (Then h) word.name (h word.name) task) files later at at (input_text word.name i) (input_status i)
-quiet_lost c Is Why Then word files later at i named reads one held lost whole other left rose stayed caused =
+quiet_lost c Is Why Then word files later at i named reads one held lost whole left rose stayed caused =
     files_lost c (λ h task. TakenFile Is Why word.most (Then h) word.name (h word.name) task) files later reads held one at word.name i
     (if_some_weaker files.held _ _ (λ h l. file_lost c files later at at Is Why word.most (Then h) word.name h word named refl (still at) i l) lost)
-    (λ is. if_some_both files.held files.held _ _ _ refl
-    (λ h l at_most. file_taken c Why word.name h files.broken later.broken word named refl i later.rest whole other at_most l is) lost
+    (λ is. if_some_weaker files.held _ _ (λ h at_most. file_taken c word.name h word named refl i later.rest whole at_most is)
     (if_some_when (i ≡ input.Refused refusal.Bytes) files.held files.held (LeavesLong word.name word.most later.rest) refl left))
     rose stayed (λ is. (word, named, refl)) caused (inl (word, named, refl))

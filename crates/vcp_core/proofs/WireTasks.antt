@@ -28,7 +28,7 @@ use Rattle.command_meaning.specs.Clauses.{IsEnd}
 use Rattle.command_meaning.specs.Kinds.{Task, wires}
 use Rattle.command_meaning.specs.Performing.{Reaches, done, cut, Performs}
 use Rattle.command_meaning.specs.WireKind.{WireDone, WireLeft, WritesTold, wire_answer}
-use Rattle.command_meaning.proofs.OneFile.{one_file}
+use Rattle.vcp_core.proofs.OneFile.{one_file}
 use Rattle.vcp_core.specs.Faults.{of_wire}
 use Rattle.vcp_core.specs.Reach.{end_status, fault_status, fault_text, wire_ending}
 use Rattle.vcp_core.specs.Tasks.{WireTask}

@@ -31,7 +31,6 @@ mod widen;
 mod wire;
 
 pub use laws::{
-    a_performed_command, one_task, stale_operands_are_seen, wires_deliver,
-    written_images_are_taken,
+    a_performed_command, one_task, stale_operands_are_seen, wires_deliver, written_images_are_taken,
 };
 pub use top::vcp;

@@ -3,7 +3,6 @@ use Rattle.std.proofs.lemmas.Result.{err_from_is_err_and}
 use Rattle.vcp_typed.specs.Size.{size}
 use Rattle.vcp_words.specs.Forms.{check}
 use Rattle.vcp_inputs.specs.Programs.{TypedOf, NotTyped}
-use Rattle.vcp_inputs.proofs.NotBytes.{typed_not_bytes}
 use Rattle.command_meaning.specs.Abouts.{about, source_word}
 use Rattle.command_meaning.specs.Answer.{printed as printed_answer}
 use Rattle.command_meaning.specs.Kinds.{prints}
@@ -21,7 +20,7 @@ returns-in-Err g c unit =
     rw c.bytes.ensures
     (quiet_lost (about (check p)) TypedOf NotTyped (λ h t x. x ≡ prints (ok_text (size t))) (source_word p) files later _ c.in-Err.input (inl refl)
     (λ none. cc) (inr (inl refl)) c.load_typed.ensures.held
-    c.in-Err.ensures.loads (λ r is. c.in-Err.ensures.whole r (ap Err is)) typed_not_bytes (λ is. c.in-Err.ensures.left (ap Err is))
+    c.in-Err.ensures.loads (λ r is. c.in-Err.ensures.whole r (ap Err is)) (λ is. c.in-Err.ensures.left (ap Err is))
     (λ is. c.in-Err.ensures.unread (ap Err is)) (λ no. c.in-Err.ensures.stayed (λ e. no cc))
     c.in-Err.ensures.caused)
 

@@ -5,7 +5,6 @@ use Rattle.vcp_words.specs.Forms.{compile, as_code}
 use Rattle.vcp_inputs.specs.Programs.{TypedOf, NotTyped}
 use Rattle.vcp_core.proofs.Facts.{if_some_weaker}
 use Rattle.image_file.specs.Image.{image_of}
-use Rattle.vcp_inputs.proofs.NotBytes.{typed_not_bytes}
 use Rattle.command_meaning.specs.Abouts.{about, source_word}
 use Rattle.command_meaning.specs.GraphsOf.{image_answer}
 use Rattle.command_meaning.specs.Kinds.{compiles as compiles_to}
@@ -22,7 +21,7 @@ returns-in-Err g c unit =
     rw c.bytes-in-Err.ensures
     (quiet_lost (about (compile p code)) TypedOf NotTyped (λ h t x. x ≡ compiles_to t code) (source_word p) files later _ c.in-Err.input (inl refl)
     (λ none. cc) (inr (inl refl)) c.load_typed.ensures.held
-    c.in-Err.ensures.loads (λ r is. c.in-Err.ensures.whole r (ap Err is)) typed_not_bytes (λ is. c.in-Err.ensures.left (ap Err is))
+    c.in-Err.ensures.loads (λ r is. c.in-Err.ensures.whole r (ap Err is)) (λ is. c.in-Err.ensures.left (ap Err is))
     (λ is. c.in-Err.ensures.unread (ap Err is)) (λ no. c.in-Err.ensures.stayed (λ e. no cc))
     c.in-Err.ensures.caused)
 

@@ -4,7 +4,6 @@ use Rattle.vcp_words.specs.Forms.{exec, rows_of}
 use Rattle.vcp_words.specs.Tables.{rows_name}
 use Rattle.machine_run.specs.Moments.{moment}
 use Rattle.vcp_inputs.specs.Images.{ImageOf, NotImage}
-use Rattle.vcp_inputs.proofs.NotBytes.{image_not_bytes}
 use Rattle.command_meaning.specs.Abouts.{about, image_word}
 use Rattle.command_meaning.specs.FileTasks.{TakenRows}
 use Rattle.command_meaning.specs.Kinds.{runs as runs_to}
@@ -41,7 +40,7 @@ returns-in-Err g c =
     (quiet_lost (about f) ImageOf NotImage (λ h i. TakenRows (λ left x. x ≡ runs_to (rows_job (rows_name rows) (table_code i.table) (image i.graph) left))
     rows h (graph_columns i.graph)) (image_word m) files mid _
     c.in-Err.input (inl refl) (λ none. cc) (inr (inl refl)) c.load_image.ensures.held
-    c.in-Err.ensures.loads (λ r is. c.in-Err.ensures.whole r (ap Err is)) image_not_bytes (λ is. c.in-Err.ensures.left (ap Err is))
+    c.in-Err.ensures.loads (λ r is. c.in-Err.ensures.whole r (ap Err is)) (λ is. c.in-Err.ensures.left (ap Err is))
     (λ is. c.in-Err.ensures.unread (ap Err is)) (λ no. c.in-Err.ensures.stayed (λ e. no cc))
     c.in-Err.ensures.caused)
 

@@ -4,7 +4,6 @@ use Rattle.vcp_base.specs.Limits.{most_source_bytes}
 use Rattle.vcp_words.specs.Forms.{format}
 use Rattle.vcp_inputs.specs.Programs.{IsProgram, NoProgram}
 use Rattle.vcp_core.proofs.Facts.{if_some_weaker}
-use Rattle.vcp_inputs.proofs.NotBytes.{program_not_bytes}
 use Rattle.command_meaning.specs.Abouts.{about, source_word}
 use Rattle.command_meaning.specs.Answer.{printed as printed_answer}
 use Rattle.command_meaning.specs.Kinds.{prints}
@@ -22,7 +21,7 @@ returns-in-Err g c unit =
     rw c.bytes-in-Err.ensures
     (quiet_lost (about (format p)) IsProgram NoProgram (λ h t x. x ≡ prints (canonical t)) (source_word p) files later _ c.in-Err.input (inl refl)
     (λ none. cc) (inr (inl refl)) c.load_program.ensures.held
-    c.in-Err.ensures.loads (λ r is. c.in-Err.ensures.whole r (ap Err is)) program_not_bytes (λ is. c.in-Err.ensures.left (ap Err is))
+    c.in-Err.ensures.loads (λ r is. c.in-Err.ensures.whole r (ap Err is)) (λ is. c.in-Err.ensures.left (ap Err is))
     (λ is. c.in-Err.ensures.unread (ap Err is)) (λ no. c.in-Err.ensures.stayed (λ e. no cc))
     c.in-Err.ensures.caused)
 

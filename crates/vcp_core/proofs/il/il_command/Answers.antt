@@ -8,7 +8,6 @@ use Rattle.vcp_typed.specs.Fitting.{input_columns}
 use Rattle.il_front.specs.Outcomes.{IsTypedIl}
 use Rattle.vcp_inputs.specs.Listings.{NotListing}
 use Rattle.vcp_inputs.specs.RowsOutcome.{source_outcome}
-use Rattle.vcp_inputs.proofs.NotBytes.{listing_not_bytes}
 use Rattle.command_meaning.specs.Abouts.{about, listing_word}
 use Rattle.command_meaning.specs.FileTasks.{OnRows, TakenRows}
 use Rattle.command_meaning.specs.Answer.{listed}
@@ -43,7 +42,7 @@ returns-in-Err g c =
     (performs_by (about f) _ (IlTask p rows code) (il_by p rows code) files mid _ _ _ _
     (quiet_lost (about f) IsTypedIl NotListing (λ h t. TakenRows (RunsHeld p rows code h) rows h (input_columns t.slots)) (listing_word p) files mid _
     c.in-Err.input (inl refl) (λ none. cc) (inr (inl refl)) c.load_il.ensures.held
-    c.in-Err.ensures.loads (λ r is. c.in-Err.ensures.whole r (ap Err is)) listing_not_bytes (λ is. c.in-Err.ensures.left (ap Err is))
+    c.in-Err.ensures.loads (λ r is. c.in-Err.ensures.whole r (ap Err is)) (λ is. c.in-Err.ensures.left (ap Err is))
     (λ is. c.in-Err.ensures.unread (ap Err is)) (λ no. c.in-Err.ensures.stayed (λ e. no cc))
     c.in-Err.ensures.caused))
 

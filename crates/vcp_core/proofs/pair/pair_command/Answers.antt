@@ -6,7 +6,6 @@ use Rattle.machine_run.specs.Moments.{moment}
 use Rattle.vcp_inputs.specs.declared.refusal.NoInput.TheVariants as input
 use Rattle.vcp_inputs.specs.declared.refusal.Refusal.TheVariants as refusal
 use Rattle.vcp_inputs.specs.Images.{ImageOf, NotImage}
-use Rattle.vcp_inputs.proofs.NotBytes.{image_not_bytes}
 use Rattle.command_meaning.specs.Abouts.{about, image_word}
 use Rattle.command_meaning.specs.Kinds.{compares}
 use Rattle.vcp_core.specs.ChannelsRun.{ComparesTo}
@@ -37,7 +36,7 @@ returns-in-Err g c =
     let mid = g.F.Files.seen c.load_image.new.files in
     rw c.bytes.ensures
     (quiet_lost (about f) ImageOf NotImage (λ h. Apart m c.args.seed (Compared rows h)) (image_word m) files mid _ c.in-Err.input (inl refl) (λ none. cc) (inr (inl refl))
-    c.load_image.ensures.held c.in-Err.ensures.loads (λ r is. c.in-Err.ensures.whole r (ap Err is)) image_not_bytes (λ is. c.in-Err.ensures.left (ap Err is))
+    c.load_image.ensures.held c.in-Err.ensures.loads (λ r is. c.in-Err.ensures.whole r (ap Err is)) (λ is. c.in-Err.ensures.left (ap Err is))
     (λ is. c.in-Err.ensures.unread (ap Err is)) (λ no. c.in-Err.ensures.stayed (λ e. no cc))
     c.in-Err.ensures.caused)
 

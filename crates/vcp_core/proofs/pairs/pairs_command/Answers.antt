@@ -10,7 +10,6 @@ use Rattle.vcp_inputs.specs.Files.{LeavesLong}
 use Rattle.vcp_inputs.specs.Images.{ImageOf, NotImage}
 use Rattle.vcp_inputs.specs.RowsOutcome.{rows_outcome, source_outcome}
 use Rattle.vcp_inputs.specs.Scripts.{NotScript}
-use Rattle.vcp_inputs.proofs.NotBytes.{image_not_bytes}
 use Rattle.command_meaning.specs.Abouts.{about, image_word, script_word}
 use Rattle.machine_run.specs.Moments.{moment}
 use Rattle.vcp_inputs.specs.RowsRead.{graph_columns}
@@ -44,7 +43,7 @@ returns-in-Err g c =
     let mid = g.F.Files.seen c.load_image.new.files in
     rw c.bytes.ensures
     (quiet_lost (about f) ImageOf NotImage (λ h. Apart m seed (PairsRows rows s h)) (image_word m) files mid _ c.in-Err.input (inl refl) (λ none. cc)
-    (inr (inl refl)) c.load_image.ensures.held c.in-Err.ensures.loads (λ r is. c.in-Err.ensures.whole r (ap Err is)) image_not_bytes (λ is. c.in-Err.ensures.left (ap Err is))
+    (inr (inl refl)) c.load_image.ensures.held c.in-Err.ensures.loads (λ r is. c.in-Err.ensures.whole r (ap Err is)) (λ is. c.in-Err.ensures.left (ap Err is))
     (λ is. c.in-Err.ensures.unread (ap Err is)) (λ no. c.in-Err.ensures.stayed (λ e. no cc))
     c.in-Err.ensures.caused)
 
@@ -159,10 +158,8 @@ returns-in-Err-load_script g c =
     (λ h l is. (l, ap (rows_outcome rows h) (sym c.in_ok-columns.ensures.columns) ∙ is)) c.in-Ok.ensures.loads c.in-Ok-load_rows.ensures.loads)
     c.in-Err-load_script.ensures.loads)
     (λ is. if_some_same files.held later.held _ (c.load_rows.ensures.held ∙ c.load_image.ensures.held)
-    (if_some_both later.held later.held _ _ _ refl
-    (λ h lost at_most. script_taken_all m rows seed s h i.graph later.broken final.broken e final.rest
-    (λ r why. c.in-Err-load_script.ensures.whole r (ap Err why)) at_most lost is)
-    c.in-Err-load_script.ensures.loads
+    (if_some_weaker later.held _ _
+    (λ h at_most. script_taken_all m rows seed s h e final.rest (λ r why. c.in-Err-load_script.ensures.whole r (ap Err why)) at_most is)
     (if_some_when (e ≡ input.Refused refusal.Bytes) later.held later.held (LeavesLong s most_source_bytes final.rest) refl
     (λ why. c.in-Err-load_script.ensures.left (ap Err why)))))
     (λ is. omega (arith, c.load_image.ensures.later, c.load_rows.ensures.later, c.in-Err-load_script.ensures.unread (ap Err is)))

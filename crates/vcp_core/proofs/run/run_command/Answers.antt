@@ -6,7 +6,6 @@ use Rattle.vcp_words.specs.Tables.{rows_name}
 use Rattle.machine_run.specs.Moments.{moment}
 use Rattle.vcp_typed.specs.Fitting.{input_columns}
 use Rattle.vcp_inputs.specs.Programs.{TypedOf, NotTyped}
-use Rattle.vcp_inputs.proofs.NotBytes.{typed_not_bytes}
 use Rattle.command_meaning.specs.Abouts.{about, source_word}
 use Rattle.command_meaning.specs.FileTasks.{TakenRows}
 use Rattle.command_meaning.specs.Answer.{source}
@@ -41,7 +40,7 @@ returns-in-Err g c =
     (quiet_lost (about f) TypedOf NotTyped (λ h t. TakenRows (λ left x. x ≡ runs_to (rows_job (rows_name rows) code (source t) left)) rows h
     (input_columns t.slots)) (source_word p) files mid _
     c.in-Err.input (inl refl) (λ none. cc) (inr (inl refl)) c.load_typed.ensures.held
-    c.in-Err.ensures.loads (λ r is. c.in-Err.ensures.whole r (ap Err is)) typed_not_bytes (λ is. c.in-Err.ensures.left (ap Err is))
+    c.in-Err.ensures.loads (λ r is. c.in-Err.ensures.whole r (ap Err is)) (λ is. c.in-Err.ensures.left (ap Err is))
     (λ is. c.in-Err.ensures.unread (ap Err is)) (λ no. c.in-Err.ensures.stayed (λ e. no cc))
     c.in-Err.ensures.caused)
 

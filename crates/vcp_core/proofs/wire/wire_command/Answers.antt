@@ -3,7 +3,6 @@ use Rattle.std.proofs.lemmas.Result.{err_from_is_err_and}
 use Rattle.vcp_base.specs.Limits.{most_source_bytes}
 use Rattle.vcp_words.specs.Forms.{wire}
 use Rattle.vcp_inputs.specs.Wires.{WireOf, NotWire}
-use Rattle.vcp_inputs.proofs.NotBytes.{wire_not_bytes}
 use Rattle.command_meaning.specs.Abouts.{about, script_word}
 use Rattle.command_meaning.specs.Kinds.{wires}
 use Rattle.vcp_core.proofs.Facts.{if_some_weaker}
@@ -20,7 +19,7 @@ returns-in-Err g c =
     rw c.bytes.ensures
     (quiet_lost (about (wire f)) WireOf NotWire (λ h s x. x ≡ wires s) (script_word f) files later _
     c.in-Err.input (inl refl) (λ none. cc) (inr (inl refl)) c.load_wire.ensures.held
-    c.in-Err.ensures.loads (λ r is. c.in-Err.ensures.whole r (ap Err is)) wire_not_bytes (λ is. c.in-Err.ensures.left (ap Err is))
+    c.in-Err.ensures.loads (λ r is. c.in-Err.ensures.whole r (ap Err is)) (λ is. c.in-Err.ensures.left (ap Err is))
     (λ is. c.in-Err.ensures.unread (ap Err is)) (λ no. c.in-Err.ensures.stayed (λ e. no cc))
     c.in-Err.ensures.caused)
 
