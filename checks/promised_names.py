@@ -12,8 +12,9 @@ in that of main contracts; each name of a crate, a file or a definition is there
 modules is the one that checks/cited_modules.py prints.
 Of docs/GLOSSARY.md: the names in the last column are there (of names that two crates have, checks/double_names.py tells).
 Of docs/UNITS.md: each line of code that it shows is a line of the crates coded_unit or worked_unit.
-Of docs/ASSESSOR.md: each step of the order of reading names modules that are there, and has as many lines as the top call rests on in its
-crates; each crate that the top call rests on has a step, or is told behind them; and there are as many edits as it says.
+Of docs/ASSESSOR.md: each family of commands has as many lines of definitions as it says; each step of the order of reading names modules that are there, and
+has as many lines as the top call rests on in its crates; each crate that the top call rests on has a step, or is told behind them; and there are as many edits
+as it says.
 
 What docs/CLAUSES.md names is there, since checks/clauses.py makes it. It ends with status 1 where there is something. It reads the sources and proves nothing.
 """
@@ -216,7 +217,7 @@ def faults_of_units():
 def lines_below_the_top_call():
     """How many lines the top call rests on, crate by crate."""
     found = {}
-    for lines, crate in re.findall(r"^ *(\d+) (\w+) \w+$", cited_modules("vcp_core::vcp"), re.M):
+    for lines, crate in re.findall(r"^ *\d+ of +(\d+) (\w+) \S+$", cited_modules("vcp_core::vcp"), re.M):
         found[crate] = found.get(crate, 0) + int(lines)
     return found
 
@@ -256,6 +257,21 @@ def faults_of_assessor():
         yield f"the top call rests on `{crate}`, which has no step"
 
 
+FAMILY = re.compile(r"^(\| .* \| )(\w+)( \| `\.\. ?([a-z ]*)` \|)$", re.M)
+
+
+def lines_of_family(commands):
+    """How many lines of definitions the top call rests on for these commands alone; for all of them where none are named."""
+    return int(cited_modules("vcp_core::vcp", *commands.split()).split("\n")[-3].split()[0])
+
+
+def faults_of_families():
+    for found in FAMILY.finditer(ASSESSOR.read_text()):
+        wanted = lines_of_family(found[4])
+        if found[2] != str(wanted):
+            yield f"the definitions of `{found[4]}` have {wanted} lines, and not {found[2]}"
+
+
 EDITS = re.compile(r"(\d+) edits stand in\s+`must-fail/`(.*?)(\d+) others stand in\s+`checks/edits/`", re.S)
 
 
@@ -283,6 +299,7 @@ def write_lines_of_assessor():
     text = STEP.sub(of_step, ASSESSOR.read_text())
     tried, by_hand = count_edits()
     text = EDITS.sub(lambda found: found[0].replace(found[1], str(tried), 1).replace(found[3] + " others", f"{by_hand} others"), text)
+    text = FAMILY.sub(lambda found: found[1] + str(lines_of_family(found[4])) + found[3], text)
     text = BESIDE.sub(lambda found: f"`{found[1]}` ({lines_of.get(found[1], found[2])} lines)", text)
     ASSESSOR.write_text(re.sub(r"(    \$ checks/cited_modules\.py (\S+) \| tail -n 1\n    ).*\n", of_command, text))
 
@@ -298,7 +315,7 @@ def main():
     faults += [f"GLOSSARY: {fault}" for fault in faults_of_glossary(listed, names)]
     faults += faults_of_rows()
     faults += [f"UNITS: {fault}" for fault in faults_of_units()]
-    faults += [f"ASSESSOR: {fault}" for fault in [*faults_of_assessor(), *faults_of_counts()]]
+    faults += [f"ASSESSOR: {fault}" for fault in [*faults_of_assessor(), *faults_of_families(), *faults_of_counts()]]
     print("\n".join(faults) or "promised_names: all is there")
     sys.exit(1 if faults else 0)
 
