@@ -3,7 +3,7 @@
 
     checks/cited_modules.py                  prints the list of docs/ARCHITECTURE.md, 'What an assessor reads'
     checks/cited_modules.py --write          puts it there, in the place of the one that stands there
-    checks/cited_modules.py vcp_core::vcp    the modules that one public item of a crate rests on, with the lines of what is cited of each, and of each
+    checks/cited_modules.py vcp_core::vcp    the modules that one public item of a crate rests on, with the lines of each, and of what is cited of it
     checks/cited_modules.py vcp_core::vcp exec audit    the same for these commands alone: without what only the arms of the others cite
 
 It reads the sources as they stand and proves nothing. Python 3 and its library are all that it needs.
@@ -52,7 +52,8 @@ COMMANDS = {
 that go kind by kind."""
 SUBJECTS = {"plain": "source", "run": "source", "demo": "source", "il": "listed", "exec": "image", "trace": "image"}
 """What is run by those that run something."""
-WITH_ARMS = {("vcp_words", "Forms"), ("vcp_core", "Tasks")} | {("command_meaning", it) for it in ("Abouts", "Answer", "Endings", "GraphsOf", "Kinds", "Reports")}
+BY_KIND = ("Abouts", "Answer", "Endings", "GraphsOf", "Kinds", "Reports")
+WITH_ARMS = {("vcp_words", "Forms"), ("vcp_core", "Tasks"), *(("command_meaning", module) for module in BY_KIND)}
 
 
 OF_IMAGES = "WrittenImagesAreTaken"
@@ -211,27 +212,33 @@ def lines_of(text):
     return sum(1 for line in text.split("\n") if line.strip())
 
 
+def lines_read(crates, wanted, commands=()):
+    """Of a public item, for these commands alone: the crates and modules that it rests on, each with the lines that are cited of it and all of its lines."""
+    name, _, item = wanted.partition("::")
+    reading = Reading(crates, Definitions(crates, commands))
+    contract = crates[name].public[item]
+    if commands and not set(commands) & {"compile", "list", "exec", "trace", "widen"}:
+        contract = contract.replace(OF_IMAGES, "")
+    reading.of_item(crates[name], item, contract)
+    cited = {}
+    for node in reading.reached:
+        if node[0] != "type":
+            cited[node[:2]] = cited.get(node[:2], 0) + lines_of(reading.definitions.text_of(node))
+    order = list(crates)
+    return [(*it, cited[it], crates[it[0]].modules[it[1]].lines) for it in sorted(cited, key=lambda it: (order.index(it[0]), it[1]))]
+
+
 def one_item(crates, wanted, commands):
     name, _, item = wanted.partition("::")
     if name not in crates or item not in crates[name].public:
         sys.exit(f"{wanted} is no public item with a contract")
     if not set(commands) <= set(COMMANDS):
         sys.exit(f"the commands are {', '.join(COMMANDS)}")
-    reading = Reading(crates, Definitions(crates, commands))
-    contract = crates[name].public[item]
-    if commands and not set(commands) & {"compile", "list", "exec", "trace", "widen"}:
-        contract = contract.replace(OF_IMAGES, "")
-    reading.of_item(crates[name], item, contract)
-    of_modules, of_definitions = 0, 0
-    reached = reading.reached
-    for crate, module in sorted(modules_of(reached), key=lambda m: (list(crates).index(m[0]), m[1])):
-        it = crates[crate].modules[module]
-        cited = sum(lines_of(reading.definitions.text_of(node)) for node in reached if node[0] == crate and node[1] == module)
-        of_modules += it.lines
-        of_definitions += cited
-        print(f"{cited:6} of {it.lines:5} {crate} {module}")
-    print(f"{of_definitions:6} lines of the definitions that are cited, without comments, blank lines and imports")
-    print(f"{of_modules:6} lines of {len(reading.modules())} modules, without comments, blank lines and imports")
+    rows = lines_read(crates, wanted, commands)
+    for crate, module, cited, lines in rows:
+        print(f"{cited:6} of {lines:5} {crate} {module}")
+    print(f"{sum(row[2] for row in rows):6} lines of the definitions that are cited, without comments, blank lines and imports")
+    print(f"{sum(row[3] for row in rows):6} lines of {len(rows)} modules, without comments, blank lines and imports")
 
 
 def main():

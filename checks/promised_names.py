@@ -4,8 +4,8 @@
     checks/promised_names.py            prints what isn't
     checks/promised_names.py --write    puts the numbers of lines and of edits right in docs/PROMISES.md and docs/ASSESSOR.md, and then prints
 
-Of docs/PROMISES.md, each claim: its clauses and its edits are there, named with their crates, an edit that the gate doesn't try is called so, and the definitions
-to be read have so many lines; and all that is named so elsewhere on that page is there.
+Of docs/PROMISES.md, each claim: its clauses and its edits are there, named with their crates, an edit that the gate doesn't try is called so, and the
+definitions to be read have so many lines; and all that is named so elsewhere on that page is there.
 Of crates/play_sessions and play_rows: each text of data/ is in args, and stdout has its line.
 Of docs/ARCHITECTURE.md: each crate stands in a layer and on none above it, and has its row in the table of crates and, but for those of tests,
 in that of main contracts; each name of a crate, a file or a definition is there; and the list of
@@ -23,6 +23,7 @@ import subprocess
 import sys
 
 sys.dont_write_bytecode = True
+from cited_modules import lines_read  # noqa: E402
 from sources import CRATES, TOP, is_for_tests, listed_crates, read_crates  # noqa: E402
 
 CHECKS = TOP / "checks"
@@ -214,11 +215,11 @@ def faults_of_units():
             yield f"no line of code is `{line.strip()}`"
 
 
-def lines_below_the_top_call():
+def lines_below_the_top_call(crates):
     """How many lines the top call rests on, crate by crate."""
     found = {}
-    for lines, crate in re.findall(r"^ *\d+ of +(\d+) (\w+) \S+$", cited_modules("vcp_core::vcp"), re.M):
-        found[crate] = found.get(crate, 0) + int(lines)
+    for crate, _, _, lines in lines_read(crates, "vcp_core::vcp"):
+        found[crate] = found.get(crate, 0) + lines
     return found
 
 
@@ -235,8 +236,8 @@ def crates_of_step(found):
     return re.findall(r"^ +- `(\w+)`:", found[4], re.M)
 
 
-def faults_of_assessor():
-    lines_of = lines_below_the_top_call()
+def faults_of_assessor(crates):
+    lines_of = lines_below_the_top_call(crates)
     text = ASSESSOR.read_text().partition("\n## The order of reading\n")[2].partition("\n## ")[0]
     told = set()
     for found in STEP.finditer(text):
@@ -260,14 +261,14 @@ def faults_of_assessor():
 FAMILY = re.compile(r"^(\| .* \| )(\w+)( \| `\.\. ?([a-z ]*)` \|)$", re.M)
 
 
-def lines_of_family(commands):
+def lines_of_family(crates, commands):
     """How many lines of definitions the top call rests on for these commands alone; for all of them where none are named."""
-    return int(cited_modules("vcp_core::vcp", *commands.split()).split("\n")[-3].split()[0])
+    return sum(row[2] for row in lines_read(crates, "vcp_core::vcp", commands.split()))
 
 
-def faults_of_families():
+def faults_of_families(crates):
     for found in FAMILY.finditer(ASSESSOR.read_text()):
-        wanted = lines_of_family(found[4])
+        wanted = lines_of_family(crates, found[4])
         if found[2] != str(wanted):
             yield f"the definitions of `{found[4]}` have {wanted} lines, and not {found[2]}"
 
@@ -287,8 +288,8 @@ def faults_of_counts():
         yield f"the gate tries {tried} edits, and {by_hand} are tried by hand"
 
 
-def write_lines_of_assessor():
-    lines_of = lines_below_the_top_call()
+def write_lines_of_assessor(crates):
+    lines_of = lines_below_the_top_call(crates)
 
     def of_step(found):
         return f"{found[1]}{found[2]} {sum(lines_of.get(crate, 0) for crate in crates_of_step(found))} lines:\n{found[4]}"
@@ -299,23 +300,23 @@ def write_lines_of_assessor():
     text = STEP.sub(of_step, ASSESSOR.read_text())
     tried, by_hand = count_edits()
     text = EDITS.sub(lambda found: found[0].replace(found[1], str(tried), 1).replace(found[3] + " others", f"{by_hand} others"), text)
-    text = FAMILY.sub(lambda found: found[1] + str(lines_of_family(found[4])) + found[3], text)
+    text = FAMILY.sub(lambda found: found[1] + str(lines_of_family(crates, found[4])) + found[3], text)
     text = BESIDE.sub(lambda found: f"`{found[1]}` ({lines_of.get(found[1], found[2])} lines)", text)
     ASSESSOR.write_text(re.sub(r"(    \$ checks/cited_modules\.py (\S+) \| tail -n 1\n    ).*\n", of_command, text))
 
 
 def main():
+    listed, crates = listed_crates(), read_crates()
     if "--write" in sys.argv[1:]:
         write_lines_of_claims()
-        write_lines_of_assessor()
-    listed, crates = listed_crates(), read_crates()
+        write_lines_of_assessor(crates)
     names = defined() | in_code(crates)
     faults = [f"PROMISES: {fault}" for fault in [*faults_of_claims(crates), *faults_of_cited_names(crates)]]
     faults += [f"ARCHITECTURE: {fault}" for fault in faults_of_architecture(listed, names)]
     faults += [f"GLOSSARY: {fault}" for fault in faults_of_glossary(listed, names)]
     faults += faults_of_rows()
     faults += [f"UNITS: {fault}" for fault in faults_of_units()]
-    faults += [f"ASSESSOR: {fault}" for fault in [*faults_of_assessor(), *faults_of_families(), *faults_of_counts()]]
+    faults += [f"ASSESSOR: {fault}" for fault in [*faults_of_assessor(crates), *faults_of_families(crates), *faults_of_counts()]]
     print("\n".join(faults) or "promised_names: all is there")
     sys.exit(1 if faults else 0)
 
