@@ -1,5 +1,5 @@
 -- Performed: from how far a command came, and what became of its line, to how it serves, what it keeps and that it completes.
-use Rattle.std.proofs.Common.{ℕ, ◌≡◌, ◌≢◌, ◌≤◌, lit≤, ◌⊎◌, inl, inr, refl, sym, ap, subst, ◌∙◌, Bool, true, false, List, [], ◌∷◌, ◌++◌, Option, Some, None, IfSome, All, arith}
+use Rattle.std.proofs.Common.{ℕ, ◌≡◌, ◌≢◌, ◌≤◌, lit≤, ◌⊎◌, inl, inr, refl, sym, ap, subst, ◌∙◌, Bool, true, false, List, [], ◌∷◌, ◌++◌, Option, Some, None, IfSome, arith}
 use Rattle.std.specs.Io.KnownBytes.{Appends, IsAtEnd}
 use Rattle.vcp_outside.specs.Counts.{Rose}
 use Rattle.vcp_outside.specs.Held.{Held}
@@ -238,7 +238,11 @@ two_own n ends two own =
     (subst (λ (m : ℕ). Among m (ends ++ 5 ∷ 6 ∷ 7 ∷ [])) two own)
 
 -- its status is none of words that are no command
-among_small : (n : ℕ) (ends : List ℕ) → All (λ end. end ≤ 3) ends → Among n (ends ++ 5 ∷ 6 ∷ 7 ∷ []) → (n ≤ 7) × (n ≢ 4)
+abbrev AreSmall : List ℕ → Type 0
+AreSmall [] = Unit {0}
+AreSmall (end ∷ ends) = (end ≤ 3) × AreSmall ends
+
+among_small : (n : ℕ) (ends : List ℕ) → AreSmall ends → Among n (ends ++ 5 ∷ 6 ∷ 7 ∷ []) → (n ≤ 7) × (n ≢ 4)
 among_small n [] small (inl is) = (omega (arith, is), λ four. omega (arith, is, four))
 among_small n [] small (inr (inl is)) = (omega (arith, is), λ four. omega (arith, is, four))
 among_small n [] small (inr (inr (inl is))) = (omega (arith, is), λ four. omega (arith, is, four))
@@ -246,23 +250,23 @@ among_small n [] small (inr (inr (inr none))) = absurd none
 among_small n (end ∷ ends) small (inl is) = (omega (arith, is, small.0), λ four. omega (arith, is, small.0, four))
 among_small n (end ∷ ends) small (inr h) = among_small n ends small.1 h
 
-ends_small : (f : Form) → All (λ end. end ≤ 3) (about f).ends
-ends_small (check p) = (lit≤ tt, lit≤ tt, tt)
-ends_small (format p) = (lit≤ tt, lit≤ tt, tt)
-ends_small (plain p rows) = (lit≤ tt, lit≤ tt, lit≤ tt, tt)
-ends_small (run p rows code) = (lit≤ tt, lit≤ tt, lit≤ tt, lit≤ tt, tt)
-ends_small (il p rows code) = (lit≤ tt, lit≤ tt, lit≤ tt, lit≤ tt, tt)
-ends_small (compile p code) = (lit≤ tt, lit≤ tt, tt)
-ends_small (list m) = (lit≤ tt, lit≤ tt, tt)
-ends_small (exec m rows) = (lit≤ tt, lit≤ tt, lit≤ tt, lit≤ tt, tt)
-ends_small (trace m rows n) = (lit≤ tt, lit≤ tt, lit≤ tt, lit≤ tt, tt)
-ends_small (widen m) = (lit≤ tt, lit≤ tt, tt)
-ends_small (audit m horizon) = (lit≤ tt, lit≤ tt, tt)
-ends_small (inject m rows g) = (lit≤ tt, lit≤ tt, tt)
-ends_small (pair m rows seed) = (lit≤ tt, lit≤ tt, lit≤ tt, lit≤ tt, tt)
-ends_small (pairs m rows seed g) = (lit≤ tt, lit≤ tt, tt)
-ends_small (wire g) = (lit≤ tt, lit≤ tt, lit≤ tt, tt)
-ends_small (demo n) = (lit≤ tt, lit≤ tt, lit≤ tt, lit≤ tt, tt)
+ends_small : (f : Form) → AreSmall (about f).ends
+ends_small (check p) = (lit≤ tt, (lit≤ tt, tt))
+ends_small (format p) = (lit≤ tt, (lit≤ tt, tt))
+ends_small (plain p rows) = (lit≤ tt, (lit≤ tt, (lit≤ tt, tt)))
+ends_small (run p rows code) = (lit≤ tt, (lit≤ tt, (lit≤ tt, (lit≤ tt, tt))))
+ends_small (il p rows code) = (lit≤ tt, (lit≤ tt, (lit≤ tt, (lit≤ tt, tt))))
+ends_small (compile p code) = (lit≤ tt, (lit≤ tt, tt))
+ends_small (list m) = (lit≤ tt, (lit≤ tt, tt))
+ends_small (exec m rows) = (lit≤ tt, (lit≤ tt, (lit≤ tt, (lit≤ tt, tt))))
+ends_small (trace m rows n) = (lit≤ tt, (lit≤ tt, (lit≤ tt, (lit≤ tt, tt))))
+ends_small (widen m) = (lit≤ tt, (lit≤ tt, tt))
+ends_small (audit m horizon) = (lit≤ tt, (lit≤ tt, tt))
+ends_small (inject m rows g) = (lit≤ tt, (lit≤ tt, tt))
+ends_small (pair m rows seed) = (lit≤ tt, (lit≤ tt, (lit≤ tt, (lit≤ tt, tt))))
+ends_small (pairs m rows seed g) = (lit≤ tt, (lit≤ tt, tt))
+ends_small (wire g) = (lit≤ tt, (lit≤ tt, (lit≤ tt, tt)))
+ends_small (demo n) = (lit≤ tt, (lit≤ tt, (lit≤ tt, (lit≤ tt, tt))))
 
 pub performed_known : (f : Form) (before after : Outside) (status : ℕ) → Performed f before after status → (status ≤ 7) × (status ≢ 4)
 performed_known f before after status did = among_small status (about f).ends (ends_small f) (performed_keeps f before after status did).statuses
