@@ -5,7 +5,7 @@
 -- judged, for runs of two channels, also with faults in one, and for wires; what all deliver that a wire's
 -- script hands; what is printed of a run; how a command ends, the causes of the statuses, and what every
 -- command keeps.
-use Rattle.std.specs.Prelude.{ℕ, ◌≡◌, List, [], Option}
+use Rattle.std.specs.Prelude.{ℕ, ◌≡◌, List, []}
 use Rattle.op_graph.specs.Lists.{Lists}
 use Rattle.vcp_typed.specs.SourceRun.{Program}
 use Rattle.vcp_words.specs.Forms.{Code}
