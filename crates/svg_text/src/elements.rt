@@ -6,7 +6,7 @@ ghost use Rattle.vcp_outside.specs.Gathering.{IsGathered, GathersTo};
 ghost use Rattle.svg_text.specs.Characters.{piece_bytes};
 ghost use Rattle.svg_text.specs.Elements.{attribute_text, attribute_of, given_text, element, element_text, beginning, ending};
 
-use crate::characters::{Piece, then_pieces};
+use crate::characters::{Escaping, Piece, then_pieces};
 use crate::names::{Name, Tag, attribute_name, tag_name};
 use vcp_outside::{Failed, Line, Sink};
 
@@ -18,7 +18,7 @@ fn then_attribute<O: Sink>(line: &mut Line, out: &mut O, name: Name, value: &[Pi
     line.text(out, b" ");
     line.text(out, attribute_name(name));
     line.text(out, b"=\"");
-    then_pieces(line, out, value);
+    then_pieces(line, out, Escaping::Markup, value);
     line.text(out, b"\"");
 }
 
@@ -50,7 +50,7 @@ pub fn then_element<O: Sink>(
     line.text(out, tag_name(tag));
     then_attributes(line, out, attributes);
     line.text(out, b">");
-    then_pieces(line, out, content);
+    then_pieces(line, out, Escaping::Markup, content);
     line.text(out, b"</");
     line.text(out, tag_name(tag));
     line.text(out, b">\n");
