@@ -1,11 +1,12 @@
 -- Numbers: the value of a number's text.
-use Rattle.std.proofs.Common.{◌≡◌, ℕ, suc, ◌+◌, ◌-◌, ◌*◌, ◌/◌, ◌%◌, ◌^◌, ◌<◌, ◌≤◌, ◌==◌, ◌&&◌, Bool, true, false, cond, List, [], ◌∷◌, ◌++◌, refl, ap, ◌∙◌, arith, Option, Some, None, ℤ, pos, negsuc, neg_ℤ, decimal}
+use Rattle.std.proofs.Common.{◌≡◌, ℕ, suc, ◌+◌, ◌-◌, ◌*◌, ◌/◌, ◌%◌, ◌^◌, ◌<◌, ◌≤◌, ◌==◌, ◌&&◌, Bool, true, false, cond, List, [], ◌∷◌, ◌++◌, length, refl, ap, ◌∙◌, arith, Option, Some, None, ℤ, pos, negsuc, neg_ℤ, decimal}
 use Rattle.std.specs.Option.{option_map, option_and_then}
 use Rattle.std.specs.Fmt.{signed_decimal}
 use Rattle.std.specs.Char.{is_ascii_digit}
 use Rattle.std.specs.List.{list_all, fold}
 use Rattle.std.proofs.lemmas.Bool.Decides.{nat_tests}
-use Rattle.std.proofs.lemmas.Fmt.{decimal_by_steps}
+use Rattle.std.proofs.lemmas.Fmt.{decimal_by_steps, decimal_is_IsNumeral, length-decimal-le}
+use Rattle.std.proofs.lemmas.Int.Digits.{digits_value-lt}
 use Rattle.std.proofs.lemmas.Slice.Eq.{bytes_eq-Decides}
 use Rattle.vcp_base.specs.Types.{fits}
 use Rattle.vcp_base.specs.declared.ty.Ty.TheVariants as ty
@@ -108,3 +109,13 @@ pub value_is_read : (v : ℤ) → fits ty.Lint v ≡ true → printed_value (sig
 value_is_read v h =
     ap (λ (o : Option ℤ). option_and_then (printed_as (signed_decimal v)) (option_and_then (in_type ty.Lint) o)) (spelled v h)
     ∙ (ap (λ (o : Option ℤ). option_and_then (printed_as (signed_decimal v)) o) (if_fits v h) ∙ as_itself (signed_decimal v) v refl)
+
+-- no number has more digits than a greater one
+below : (m n most : ℕ) → m ≤ n → n < most → m < most
+below m n most le lt = omega arith
+
+pub digits_grow : (m n : ℕ) → m ≤ n → n < 2 ^ 64 → length (decimal m) ≤ length (decimal n)
+digits_grow m n le lt =
+    let is = decimal_is_IsNumeral n lt in
+    let most = rw is.1 at (digits_value-lt 10 (decimal n) is.0.1) in
+    length-decimal-le (length (decimal n)) m is.0.0 (below m n (10 ^ length (decimal n)) le most) (below m n (2 ^ 64) le lt)

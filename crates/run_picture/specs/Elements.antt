@@ -1,5 +1,5 @@
 -- Elements: how the values, the names, the cycles and the end of a run are drawn, and the text of the picture.
-use Rattle.std.specs.Prelude.{◌≡◌, ◌<◌, ℕ, ◌+◌, ◌*◌, ◌==◌, Bool, cond, ◌&&◌, ◌||◌, not, List, [], ◌∷◌, ◌++◌, length, codes, decimal, flat_map, slice_index_or, ℤ, pos}
+use Rattle.std.specs.Prelude.{◌≡◌, ◌<◌, ◌≤◌, ℕ, ◌+◌, ◌*◌, ◌==◌, Bool, cond, ◌&&◌, ◌||◌, not, List, [], ◌∷◌, ◌++◌, length, codes, decimal, flat_map, slice_index_or, ℤ, pos}
 use Rattle.std.specs.Fmt.{signed_decimal}
 use Rattle.std.specs.Ordering.{int_eq}
 use Rattle.svg_text.specs.declared.names.Tag.TheVariants as tag
@@ -11,7 +11,7 @@ use Rattle.run_picture.specs.declared.ending.Ending.{Ending}
 use Rattle.run_picture.specs.declared.layout.Layout.{Layout}
 use Rattle.run_picture.specs.declared.shown.Shown.{Shown}
 use Rattle.run_picture.specs.RunOf.{Recorded}
-use Rattle.run_picture.specs.Drawn.{lanes}
+use Rattle.run_picture.specs.Drawn.{lanes, value_at}
 use Rattle.svg_text.specs.Drawing.{each_below}
 
 -- the distance of a cycle's begin from the left, and of a column's upper side from above
@@ -138,8 +138,21 @@ height_of run = top_of (length run.names) + 24
 abbrev pub waves_text : Layout → Recorded → List ℕ
 waves_text l run = picture_text (width_of l run) (height_of run) (waves_elements l run)
 
--- a text is a timing diagram of the run, in which each cycle has its own room
+-- the width of a character, in pixels
+abbrev pub character : ℕ
+character = 7
+
+-- a text that is written 4 pixels behind the begin of a cycle is no wider than the cycle
+abbrev pub HasRoom : Layout → List ℕ → Type 0
+HasRoom l text = 4 + length text * character ≤ l.cell
+
+-- each cycle is wide enough for its value in each column, and for its number
+pub record HaveRoom (run : Recorded) (l : Layout) : Type 0 where
+  pub values : (column cycle : ℕ) → column < length run.names → cycle < length run.rows → HasRoom l (signed_decimal (value_at run column cycle))
+  pub numbers : (cycle : ℕ) → cycle < length run.rows → HasRoom l (decimal cycle)
+
+-- a text is a timing diagram of the run, in which each cycle is as wide as its text needs
 pub record IsPictureOf (run : Recorded) (text : List ℕ) : Type 0 where
   pub layout : Layout
-  pub wide : 0 < layout.cell
+  pub wide : HaveRoom run layout
   pub told : text ≡ waves_text layout run

@@ -1,8 +1,10 @@
 //! Where cycles stand in a picture. Each has the same width, in which the longest value has room.
 
-ghost use Rattle.std.specs.Prelude.{◌≡◌, ◌≤◌, ◌<◌, length};
+ghost use Rattle.std.specs.Fmt.{signed_decimal};
+ghost use Rattle.std.specs.Prelude.{◌≡◌, ◌≤◌, ◌<◌, ◌*◌, ℕ, decimal, length};
 ghost use Rattle.vcp_base.specs.Limits.{most_cycles};
-ghost use Rattle.run_picture.specs.Elements.{start_of, top_of};
+ghost use Rattle.run_picture.specs.Drawn.{value_at};
+ghost use Rattle.run_picture.specs.Elements.{start_of, top_of, character, HaveRoom};
 
 use crate::run::Run;
 use itoa::Buffer;
@@ -24,9 +26,14 @@ const CHARACTER: u16 = 7;
 // The width in which so many characters have room; of more than this, as many.
 fn width_of(characters: usize, most: u16) -> u16
     requires { most ≤ 1000 }
-    ensures { result ≤ 7000 }
+    ensures few { result ≤ 7000 }
+    ensures room { characters ≤ most → result ≡ characters * character }
 {
-    characters.min(most as usize) as u16 * CHARACTER
+    if characters < most as usize {
+        characters as u16 * CHARACTER
+    } else {
+        most * CHARACTER
+    }
 }
 
 // The most characters that the name of a column has.
@@ -38,36 +45,60 @@ fn longest_name(run: &Run) -> usize {
     longest
 }
 
+// How many characters a value has.
+fn characters_of(value: i64) -> usize
+    ensures text { result ≡ length (signed_decimal value) }
+    ensures few { result ≤ 20 }
+{
+    Buffer::new().format(value).len()
+}
+
+// How many characters a number of cycles has.
+fn digits_of(cycles: u32) -> usize
+    ensures text { result ≡ length (decimal cycles) }
+    ensures few { result ≤ 20 }
+{
+    Buffer::new().format(cycles).len()
+}
+
 // The most characters that a value of a column has.
 fn longest_value_of(run: &Run, column: u32) -> usize
     requires { column < length run.now.names }
+    ensures values { (cycle : ℕ) → cycle < length run.now.rows → length (signed_decimal (value_at run.now column cycle)) ≤ result }
+    ensures few { result ≤ 20 }
 {
     let mut longest = 0;
     'cycles: for cycle in 0..run.cycles() {
-        longest = Buffer::new()
-            .format(run.value(column, cycle))
-            .len()
-            .max(longest);
+        let characters = characters_of(run.value(column, cycle));
+        longest = characters.max(longest);
     }
     longest
 }
 
-// The most characters that a value has, or the number of a cycle.
-fn longest_value(run: &Run) -> usize {
-    let mut longest = Buffer::new().format(run.cycles()).len();
-    'columns: for column in 0..run.columns() {
-        longest = longest_value_of(run, column).max(longest);
-    }
-    longest
-}
-
-/// A layout in which names, values and the last line have room, as far as they are not too long.
-pub(crate) fn layout_for(run: &Run) -> Layout
-    ensures { 0 < result.cell }
+// The most characters that a value has, or the number of a cycle: that of all of them is no shorter.
+fn longest_value(run: &Run) -> usize
+    ensures values { (column cycle : ℕ) → column < length run.now.names → cycle < length run.now.rows
+        → length (signed_decimal (value_at run.now column cycle)) ≤ result }
+    ensures numbers { (cycle : ℕ) → cycle < length run.now.rows → length (decimal cycle) ≤ result }
+    ensures few { result ≤ 20 }
 {
+    let mut longest = digits_of(run.cycles());
+    'columns: for column in 0..run.columns() {
+        let characters = longest_value_of(run, column);
+        longest = characters.max(longest);
+    }
+    longest
+}
+
+/// A layout in which values and numbers of cycles have room, and names and the last line, as far as they are not too long.
+pub(crate) fn layout_for(run: &Run) -> Layout
+    ensures { HaveRoom run.now result }
+{
+    let longest = longest_value(run).max(2);
+    let text = width_of(longest, 20);
     Layout {
         left: 16 + width_of(longest_name(run), 60),
-        cell: 10 + width_of(longest_value(run).max(2), 20),
+        cell: 10 + text,
         room: 16 + width_of(run.ending().text.len(), 200),
     }
 }

@@ -29,7 +29,7 @@ fn write_in<O: Sink>(out: &mut O, layout: Layout, run: &Run) -> Result<(), Faile
 /// Writes the timing diagram of a run: each value once, in its column and its cycle, columns of 0 and 1 as
 /// levels and others as numbers; the columns' names, the cycles, and the end. It takes no memory. After
 /// `Failed` a part of the picture is written. The end has the words of the last line. The layout is free;
-/// each cycle has its own room.
+/// each cycle is as wide as its values and its number need.
 pub fn write_waves<O: Sink>(out: &mut O, run: &Run) -> Result<(), Failed>
     ensures { (text : List ℕ) × IsPictureOf run.now text
         × WritesTo (O.seen out.old) (O.seen out.new) text result }
