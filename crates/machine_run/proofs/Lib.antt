@@ -1,5 +1,6 @@
 pub mod Exits
 pub mod Failing
+pub mod FirstRows
 pub mod Longer
 pub mod Outs
 pub mod Overall

@@ -1,4 +1,5 @@
 pub mod Cycles
+pub mod FirstRows
 pub mod Leaves
 pub mod Moments
 pub mod Refusals

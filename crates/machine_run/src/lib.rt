@@ -3,9 +3,11 @@
 #![tactic(auto)]
 
 mod fault;
+mod laws;
 mod released;
 mod run;
 
 pub use fault::RunFault;
+pub use laws::rows_before_a_wrong_answer_follow_the_graph;
 pub use released::ReleasedRows;
 pub use run::run_rows;
