@@ -10,7 +10,8 @@
 -- each also with 5, 6 and 7.
 -- With any unit, status 2 of `run`, `il`, `exec`, `trace`, `pair` and `demo` comes only where the log ends in
 -- a stop: its last answer is one, or an output's word in the last cycle has a value outside its type and only
--- words came after it. For files in memory, the printed stop is that one.
+-- words came after it; and where the last line that was written is that of a stop of the same kind in the same
+-- cycle. For files in memory, its place and its turns are those of the operation, too.
 -- Status 3 comes only where the unit's count of wrong answers rose; in memory, with a kept log, exactly where
 -- the run that the log's answers give ends refused, or the channels of `pair` disagree by them, or a sending
 -- of `wire` is answered by no word, unless the status is 5 or 6.
@@ -35,6 +36,7 @@ use Rattle.std.specs.Prelude.{ℕ, ◌≡◌, ◌≢◌, ◌⊎◌, ◌+◌, ◌
 use Rattle.std.specs.Io.KnownBytes.{Appends, IsAtEnd}
 use Rattle.vcp_outside.specs.Counts.{Rose}
 use Rattle.vcp_outside.specs.Held.{Held}
+use Rattle.run_report.specs.Lines.{stop_text}
 use Rattle.vcp_words.specs.Forms.{usage_text}
 use Rattle.vcp_inputs.specs.declared.refusal.Refusal.TheVariants as refusal
 use Rattle.vcp_inputs.specs.declared.refusal.Refusal.{Refusal}
@@ -44,10 +46,10 @@ use Rattle.command_meaning.specs.Answer.{Answer}
 use Rattle.command_meaning.specs.Abouts.{Among, About, FileWord, AllHeld}
 use Rattle.command_meaning.specs.Endings.{Answered, Came, Causes, NothingFailed, TellsLine}
 use Rattle.command_meaning.specs.Kinds.{Task, Meant}
-use Rattle.machine_run.specs.Stops.{GrowsToSomeStop}
+use Rattle.machine_run.specs.Stops.{TellsSomeStop}
 use Rattle.vcp_outside.specs.Seen.{SinkSeen}
 use Rattle.coded_unit.specs.Seen.{StaysHonest}
-use Rattle.command_meaning.specs.Seen.{Outside}
+use Rattle.command_meaning.specs.Seen.{Outside, moment_of}
 
 -- ---- words that are no command
 
@@ -125,7 +127,7 @@ pub record Keeps (c : About) (before after : Outside) (status : ℕ) : Type 0 wh
   pub files : c.files ≡ [] → after.files ≡ before.files
   pub ended : c.files ≢ [] → IsEnd status → IsAtEnd after.files.rest
   pub taken : c.files ≢ [] → status ≡ 1 → IfSome before.files.held (λ h. IsAtEnd after.files.rest ⊎ TellsTooLong c h after.files.rest before.err after.err)
-  pub stopped : c.calls ≡ true → status ≡ 2 → GrowsToSomeStop before.unit.log after.unit.log
+  pub stopped : c.calls ≡ true → status ≡ 2 → TellsSomeStop stop_text (moment_of before) (moment_of after)
   pub refused : status ≡ 3 → Rose before.unit.wrong after.unit.wrong
   pub read : status ≡ 5 → Rose before.files.faults after.files.faults
   pub write : status ≡ 6 → LosesOutput before after

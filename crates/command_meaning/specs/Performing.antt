@@ -4,12 +4,13 @@ use Rattle.std.specs.Io.KnownBytes.{Appends, IsAtEnd}
 use Rattle.vcp_outside.specs.Counts.{Rose}
 use Rattle.vcp_outside.specs.Held.{Held}
 use Rattle.vcp_outside.specs.Written.{AppendsFront, AppendsPart}
+use Rattle.run_report.specs.Lines.{stop_text}
 use Rattle.vcp_inputs.specs.Lines.{memory_text, read_fault_text, write_fault_text}
 use Rattle.command_meaning.specs.Answer.{Answer}
 use Rattle.command_meaning.specs.Abouts.{Among, About, FileWord}
 use Rattle.command_meaning.specs.Clauses.{IsEnd, IsLine, IsTooLong, MayHold}
 use Rattle.command_meaning.specs.Kinds.{Task, Done, Left}
-use Rattle.machine_run.specs.Stops.{GrowsToSomeStop}
+use Rattle.machine_run.specs.Stops.{TellsSomeStop}
 use Rattle.vcp_outside.specs.Seen.{FilesSeen}
 use Rattle.machine_run.specs.Moments.{Moment}
 use Rattle.command_meaning.specs.Seen.{Still}
@@ -38,7 +39,7 @@ pub record Performs (c : About) (Comes : Held → Task → Type 0) (files files_
   pub stay : c.files ≡ [] → files_after ≡ files
   pub ended : c.files ≢ [] → IsEnd code → IsAtEnd files_after.rest
   pub taken : c.files ≢ [] → code ≡ 1 → IfSome files.held (λ h. IsAtEnd files_after.rest ⊎ IsTooLong c h files_after.rest line)
-  pub stopped : c.calls ≡ true → code ≡ 2 → GrowsToSomeStop before.unit.log after.unit.log
+  pub stopped : c.calls ≡ true → code ≡ 2 → TellsSomeStop stop_text before after
   pub refused : code ≡ 3 → Rose before.unit.wrong after.unit.wrong
   pub read : code ≡ 5 → Rose files.faults files_after.faults
   pub write : code ≡ 6 → Rose before.out.faults after.out.faults

@@ -12,15 +12,19 @@
 -- What `trace` prints are, in order, the words among the answers to the calls of its cycle, each with its
 -- value, its residue and the residue that is expected, and then `released` or the line of the run's end;
 -- where an earlier cycle ended the run, that line alone, and where a row is refused before, nothing.
+-- Where all answers in the first cycles of a run are right, the rows that these released are the first of the
+-- run that is meant, whatever was answered later: so are the rows of all cycles before the one in which the
+-- first wrong answer came.
 -- Where no answer was wrong, the run that the answers give is the meaning of the program; in `il` the run of
 -- the instruction list on the accumulator; in `exec` and `trace` the run of the image's graph on plain
 -- integers; and each word of `trace` has the value of its operation in that run, and the expected residue.
-use Rattle.std.specs.Prelude.{ℕ, ◌≡◌, List, length}
+use Rattle.std.specs.Prelude.{ℕ, ℤ, ◌≡◌, List, ◌++◌, length}
 use Rattle.input_rows.specs.RowsOf.{RowsLeft}
 use Rattle.coded_unit.specs.declared.call.Answer.{Answer as UnitAnswer}
 use Rattle.coded_unit.specs.Log.{Entry, GrowsBy}
 use Rattle.op_graph.specs.Lists.{Lists}
 use Rattle.signature_table.specs.Signatures.{Numbers, table_of}
+use Rattle.coded_machine.specs.Calls.{AllRight}
 use Rattle.coded_machine.specs.CycleEnds.{initial_words}
 use Rattle.coded_machine.specs.Runs.{AllCycles, calls_over, outcome_over}
 use Rattle.machine_run.specs.RowRuns.{EarlierPrinted, SomeCycles}
@@ -75,9 +79,16 @@ job_answer j r = told_answer j.printing (subject_outputs j.subject) j.rows_name 
 abbrev pub meant_answer : Job → Answer
 meant_answer j = job_answer j (run_meant j)
 
+-- where all answers in the first of these cycles are right, the rows that these released are the first of the run that is meant
+abbrev pub FirstAsMeant : Job → Lists → List (List UnitAnswer) → Type 0
+FirstAsMeant j g cycles =
+    (first rest : List (List UnitAnswer)) → cycles ≡ first ++ rest → AllRight (calls_of j g first) →
+    (later : List (List ℤ)) × ((run_meant j).rows ≡ (run_read j g first).rows ++ later)
+
 -- A whole run: some graph that may be run for the subject, and a cycle for each row up to the first that is not released. Where the log is
 -- told, it grew by the calls of these cycles with the answers that the unit gave, and by nothing else; where it is not, these are some
--- answers of that form. What is answered is read off them; and where no answer was wrong, the run is the one that is meant.
+-- answers of that form. What is answered is read off them; the rows before the first wrong answer are those that are meant; and where no answer
+-- was wrong, the run is the one that is meant.
 pub record RunDone (j : Job) (before after : UnitSeen) (x : Answer) : Type 0 where
   pub graph : Lists
   pub cycles : List (List UnitAnswer)
@@ -85,6 +96,7 @@ pub record RunDone (j : Job) (before after : UnitSeen) (x : Answer) : Type 0 whe
   pub all : AllCycles graph (numbers j graph) 0 j.rows.rows cycles
   pub log : GrowsBy before.log after.log (calls_of j graph cycles)
   pub read : x ≡ job_answer j (run_read j graph cycles)
+  pub front : FirstAsMeant j graph cycles
   pub honest : StaysHonest before after → run_read j graph cycles ≡ run_meant j
 
 -- ---- a run that was cut off
@@ -94,8 +106,8 @@ abbrev pub MayFollow : Job → List (List UnitAnswer) → Report → Type 0
 MayFollow j cycles later = length cycles ≡ length j.rows.rows → later ≡ no_report
 
 -- A run that was cut off between two of its cycles, where `Writes` says how much was written: so much of what is printed of it, whatever
--- would have come later, with all that stands before the last cycle. The unit was asked nothing more than these cycles' calls. Where no
--- answer was wrong, it is so much of what is printed of the run that is meant.
+-- would have come later, with all that stands before the last cycle. The unit was asked nothing more than these cycles' calls. The rows before
+-- the first wrong answer are those that are meant; and where no answer was wrong, it is so much of what is printed of the run that is meant.
 pub record RunLeft (j : Job) (Writes : Appending) (before after : Moment) : Type 0 where
   pub graph : Lists
   pub cycles : List (List UnitAnswer)
@@ -105,4 +117,5 @@ pub record RunLeft (j : Job) (Writes : Appending) (before after : Moment) : Type
   pub text : (later : Report) → MayFollow j cycles later
       → Writes before.out.written after.out.written (job_answer j (run_then (run_read j graph cycles) later)).out
   pub earlier : EarlierPrinted graph j.printing.header j.printing.row cycles before.out.written after.out.written
+  pub front : FirstAsMeant j graph cycles
   pub honest : StaysHonest before.unit after.unit → Writes before.out.written after.out.written (meant_answer j).out

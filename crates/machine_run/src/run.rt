@@ -73,8 +73,8 @@ fn run_cycle<U: Unit, O: Sink, R: ReleasedRows>(
 /// one. Where no answer was wrong, the rows and the end are those of the graph's run on plain integers over the same rows, and of a
 /// run that was given up a front of them. The machine has the same graph and table then, counts the cycles
 /// that were released, is between two cycles, and its answers are those of the last one. A stop is answered
-/// only where a kept log ends in that stop; a refused output only where the unit's count of wrong answers
-/// rose.
+/// only where a kept log ends in that stop, in the cycle after those that the machine counts; a refused
+/// output only where the unit's count of wrong answers rose.
 pub fn run_rows<U: Unit, O: Sink, R: ReleasedRows>(
     alloc: Global,
     machine: &mut Machine<'_>,
@@ -95,7 +95,8 @@ pub fn run_rows<U: Unit, O: Sink, R: ReleasedRows>(
         (R.Keeps released.old) (R.Keeps released.new) machine.new result }
     ensures later { (O.seen out.old).faults ≤ (O.seen out.new).faults }
     ensures stayed { result ≢ Err fault.Write → (O.seen out.new).faults ≡ (O.seen out.old).faults }
-    ensures stopped { (k : ℕ) (why : StopKind) → result ≡ Ok (end.Stopped k why) → GrowsToStop (U.seen unit.old).log (U.seen unit.new).log k why }
+    ensures stopped { (k : ℕ) (why : StopKind) → result ≡ Ok (end.Stopped k why)
+        → GrowsToStop (U.seen unit.old).log (U.seen unit.new).log machine.new.cycles k why }
     ensures placed { (k : ℕ) (why : StopKind) → result ≡ Ok (end.Stopped k why) → k < length machine.old.graph.operations }
     ensures refused { (i found expected : ℕ) → result ≡ Ok (end.Refused i found expected) → Rose (U.seen unit.old).wrong (U.seen unit.new).wrong }
     ensures numbered { (i found expected : ℕ) → result ≡ Ok (end.Refused i found expected) → i < length machine.old.graph.outputs }

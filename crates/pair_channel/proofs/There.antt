@@ -1,5 +1,5 @@
 -- There: the operation and the output that a pair's end names are the graph's.
-use Rattle.std.proofs.Common.{ℕ, ◌≡◌, refl, ap, subst, sym, List, length, arith, ℤ, Option}
+use Rattle.std.proofs.Common.{ℕ, ◌≡◌, refl, ap, subst, sym, ◌∙◌, List, length, arith, ℤ, Option}
 use Rattle.std.proofs.lemmas.List.{length-map}
 use Rattle.std.proofs.lemmas.Option.{slice_get_within}
 use Rattle.vcp_base.specs.declared.kind.StopKind.{StopKind}
@@ -19,7 +19,7 @@ use Rattle.machine_run.proofs.Stopping.{refusal_numbered, stop_placed, stopped_l
 use Rattle.pair_channel.specs.declared.pair_end.PairEnd.{PairEnd}
 use Rattle.pair_channel.specs.declared.pair_end.PairEnd.TheVariants as pair
 use Rattle.pair_channel.specs.PairEnds.{PairCause}
-use Rattle.pair_channel.specs.PairStates.{PairState}
+use Rattle.pair_channel.specs.PairStates.{PairState, after_pair}
 use Rattle.pair_channel.specs.PairTurns.{PairTurn}
 use Rattle.pair_channel.specs.PairDone.{IsNumbered, PairIsThere}
 
@@ -51,11 +51,13 @@ is_there laws g p q row out_before out_now (pair.Differ i a b) x y z w graph one
 
 -- the calls of the first channel end in the stop that both channels have
 pub stops_log : EntryLaws → (g : Lists) (p q : PairState) (row out_before out_now : List ℤ) (e : PairEnd) (op : ℕ) (why : StopKind) (x y z w : UnitSeen)
-    (start : Option (List Entry)) (earlier : List Entry) → IsGraph g → p.first.graph ≡ g → PairTurn p q row e out_before out_now x y z w →
-    e ≡ pair.Stopped op why → GrowsBy start x.log earlier → GrowsToStop start y.log op why
-stops_log laws g p q row out_before out_now e op why x y z w start earlier graph one turn is h =
+    (start : Option (List Entry)) (earlier : List Entry) → IsGraph g → p.first.graph ≡ g → p.first.cycles ≡ p.cycles →
+    PairTurn p q row e out_before out_now x y z w → e ≡ pair.Stopped op why → GrowsBy start x.log earlier → GrowsToStop start y.log q.cycles op why
+stops_log laws g p q row out_before out_now e op why x y z w start earlier graph one together turn is h =
     let cause : PairCause turn.first_end turn.second_end (outputs_of p.first.graph q.first.answers) (outputs_of p.second.graph q.second.answers)
     (pair.Stopped op why) =
     subst (PairCause turn.first_end turn.second_end (outputs_of p.first.graph q.first.answers) (outputs_of p.second.graph q.second.answers)) is turn.cause in
-    stopped_log laws p.first q.first row turn.first_end op why start x.log y.log earlier x.wrong y.wrong (subst IsGraph (sym one) graph) turn.first
-    turn.first_cause cause.0 h
+    let count : q.cycles ≡ p.cycles = ap (λ (r : PairState). r.cycles) (turn.pair_is ∙ ap (after_pair p q.first q.second) is) in
+    subst (λ (n : ℕ). GrowsToStop start y.log n op why) (together ∙ sym count)
+    (stopped_log laws p.first q.first row turn.first_end op why start x.log y.log earlier x.wrong y.wrong (subst IsGraph (sym one) graph) turn.first
+    turn.first_cause cause.0 h)

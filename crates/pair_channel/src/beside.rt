@@ -4,8 +4,9 @@ ghost use Rattle.std.specs.Prelude.{ℕ, ◌≡◌, ◌≢◌, ◌≤◌, Ok, Er
 ghost use Rattle.vcp_base.specs.Limits.{most_cycles};
 ghost use Rattle.vcp_base.specs.declared.kind.StopKind.{StopKind};
 ghost use Rattle.signature_table.specs.Signatures.{IsTableOf};
+ghost use Rattle.run_report.specs.Lines.{stop_text};
 ghost use Rattle.machine_run.specs.Moments.{moment};
-ghost use Rattle.machine_run.specs.Stops.{GrowsToStop};
+ghost use Rattle.machine_run.specs.Stops.{TellsStop};
 ghost use Rattle.machine_run.specs.declared.fault.RunFault.TheVariants as fault;
 ghost use Rattle.pair_channel.specs.declared.pair_end.PairEnd.TheVariants as ends;
 ghost use Rattle.pair_channel.specs.BesideDone.{BesideRunsTo};
@@ -27,7 +28,7 @@ use vcp_outside::Sink;
 /// So the rows are the first of that run, whatever the unit answered; the channels disagree only where its
 /// count rose; and where no answer was wrong, the outcome is the graph's run, and what was written of a run
 /// that was cut off is a part of what is printed of that. A stop is answered only where a kept log ends in
-/// that stop.
+/// that stop, and its line is the last that was written.
 pub fn run_beside<U: Unit, O: Sink>(
     alloc: Global,
     graph: &Graph,
@@ -44,7 +45,8 @@ pub fn run_beside<U: Unit, O: Sink>(
     requires width { length rows.old.types ≡ length graph.now.inputs }
     ensures ran { BesideRunsTo graph.now table.now rows.old (moment (U.seen unit.old) (O.seen out.old)) (moment (U.seen unit.new) (O.seen out.new)) result }
     ensures stayed { result ≢ Err fault.Write → (O.seen out.new).faults ≡ (O.seen out.old).faults }
-    ensures stopped { (op : ℕ) (why : StopKind) → result ≡ Ok (ends.Stopped op why) → GrowsToStop (U.seen unit.old).log (U.seen unit.new).log op why }
+    ensures stopped { (op : ℕ) (why : StopKind) → result ≡ Ok (ends.Stopped op why)
+        → TellsStop stop_text (moment (U.seen unit.old) (O.seen out.old)) (moment (U.seen unit.new) (O.seen out.new)) op why }
 {
     // What the law below and these calls ensure is known of the run.
     one_honest_channel_holds_the_pair();

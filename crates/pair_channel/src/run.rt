@@ -6,9 +6,10 @@ ghost use Rattle.vcp_base.specs.declared.kind.StopKind.{StopKind};
 ghost use Rattle.vcp_outside.specs.Written.{WritesTo};
 ghost use Rattle.signature_table.specs.Signatures.{IsTableOf};
 ghost use Rattle.coded_machine.specs.CycleEnds.{outputs_of};
-ghost use Rattle.run_report.specs.Lines.{row_text};
+ghost use Rattle.run_report.specs.Lines.{row_text, stop_text};
+ghost use Rattle.machine_run.specs.Moments.{moment};
 ghost use Rattle.machine_run.specs.RowRuns.{texts_from};
-ghost use Rattle.machine_run.specs.Stops.{GrowsToStop};
+ghost use Rattle.machine_run.specs.Stops.{GrowsToStop, TellsStop};
 ghost use Rattle.machine_run.specs.declared.fault.RunFault.TheVariants as fault;
 ghost use Rattle.pair_channel.specs.declared.pair_end.PairEnd.{PairEnd as PairEndOf};
 ghost use Rattle.pair_channel.specs.declared.pair_end.PairEnd.TheVariants as ends;
@@ -82,7 +83,8 @@ fn run_rows<U: Unit, V: Unit, O: Sink>(
         (pair_moment (U.seen first.old) (V.seen second.old) (O.seen out.old))
         (pair_moment (U.seen first.new) (V.seen second.new) (O.seen out.new)) pair.new.cycles result }
     ensures there { (e : PairEndOf) → result ≡ Ok e → PairIsThere graph.now e }
-    ensures stopped { (op : ℕ) (why : StopKind) → result ≡ Ok (ends.Stopped op why) → GrowsToStop (U.seen first.old).log (U.seen first.new).log op why }
+    ensures stopped { (op : ℕ) (why : StopKind) → result ≡ Ok (ends.Stopped op why)
+        → GrowsToStop (U.seen first.old).log (U.seen first.new).log pair.new.cycles op why }
 {
     // What the laws below and these calls ensure is known of each cycle.
     pairs_follow_their_answers();
@@ -129,7 +131,8 @@ fn print_end<O: Sink>(out: &mut O, graph: &Graph, cycles: u32, end: &PairEnd) ->
 /// of them where the rows ended or the run stopped, and a stop is its stop; the channels disagree only where
 /// one of the counts rose. Where writing failed, which comes only where the sink's count rose, a proper part
 /// of all that may be printed was written, with the lines of all cycles before the last one; else that count
-/// is as it was. A stop is answered only where a kept log of the first unit ends in that stop.
+/// is as it was. A stop is answered only where a kept log of the first unit ends in that stop, and its line is
+/// the last that was written.
 pub fn run_pair<U: Unit, V: Unit, O: Sink>(
     alloc: Global,
     graph: &Graph,
@@ -149,7 +152,8 @@ pub fn run_pair<U: Unit, V: Unit, O: Sink>(
         (pair_moment (U.seen first.old) (V.seen second.old) (O.seen out.old))
         (pair_moment (U.seen first.new) (V.seen second.new) (O.seen out.new)) result }
     ensures stayed { result ≢ Err fault.Write → (O.seen out.new).faults ≡ (O.seen out.old).faults }
-    ensures stopped { (op : ℕ) (why : StopKind) → result ≡ Ok (ends.Stopped op why) → GrowsToStop (U.seen first.old).log (U.seen first.new).log op why }
+    ensures stopped { (op : ℕ) (why : StopKind) → result ≡ Ok (ends.Stopped op why)
+        → TellsStop stop_text (moment (U.seen first.old) (O.seen out.old)) (moment (U.seen first.new) (O.seen out.new)) op why }
 {
     // What the laws below and these calls ensure is known of the run.
     pairs_follow_their_answers();

@@ -31,7 +31,7 @@ use Rattle.command_meaning.specs.Reports.{RunEnd, complete, end_read, output_nam
 use Rattle.command_meaning.specs.RunKind.{Job, numbers, run_read}
 use Rattle.run_report.specs.SummaryLine.{summary_text}
 use Rattle.vcp_core.specs.declared.ending.Ending.{Ending}
-use Rattle.vcp_core.specs.MachineRun.{IsThere, PrintsLast}
+use Rattle.vcp_core.specs.MachineRun.{EndsAtStop, IsThere, PrintsLast}
 use Rattle.vcp_core.proofs.JobRun.{complete-is}
 use Rattle.coded_unit.specs.declared.call.Answer.{Answer as Given}
 use Rattle.signature_table.specs.Signatures.{Numbers}
@@ -110,10 +110,11 @@ early number names n last sum (stopped s) not = refl
 early number names n last sum (refused i f w) not = refl
 
 pub ended-early : (m : State) (names : List (List ℕ)) (number : ℕ) (last sum : ℤ) (e : CycleEnd) (a b : SinkSeen) (r : Result Ending Failed)
-    → e ≢ cycle.Released → IsThere m.graph e → PrintsLast (last_text names m.cycles (end_read m.graph e) None) m.graph e a b r
-    → PrintsLast (summed_text m names number last sum e) m.graph e a b r
-ended-early m names number last sum e a b (Ok end) not there (w, status, stayed) =
-    (rw (early number names m.cycles last sum (end_read m.graph e) (λ is. not (complete-is m.graph e there is))) at w, status, stayed)
+    → e ≢ cycle.Released → IsThere m.graph e → PrintsLast (last_text names m.cycles (end_read m.graph e) None) m.cycles m.graph e a b r
+    → PrintsLast (summed_text m names number last sum e) m.cycles m.graph e a b r
+ended-early m names number last sum e a b (Ok end) not there (w, status, stayed, stop) =
+    let text = early number names m.cycles last sum (end_read m.graph e) (λ is. not (complete-is m.graph e there is)) in
+    (rw text at w, status, stayed, subst (λ (l : List ℕ). EndsAtStop l m.cycles e) text stop)
 ended-early m names number last sum e a b (Err why) not there (rose, part) =
     (rose, rw (early number names m.cycles last sum (end_read m.graph e) (λ is. not (complete-is m.graph e there is))) at part)
 

@@ -1,6 +1,8 @@
 -- What the calls of a job's run give, as its lemmas take it.
-use Rattle.std.proofs.Common.{ℕ, suc, [], ◌∷◌, ◌≡◌, ◌≢◌, ◌<◌, refl, sym, ap, subst, ◌∙◌, List, length, map, slice_get, Option, None, Some, Result, Ok, Err, All, arith, ℤ}
+use Rattle.std.proofs.Common.{ℕ, suc, [], ◌∷◌, ◌++◌, append_assoc, ◌≡◌, ◌≢◌, ◌<◌, ◌≤◌, refl, sym, ap, subst, ◌∙◌, List, length, map, slice_get, Option, None, Some, Result, Ok, Err, All, arith, ℤ}
 use Rattle.std.proofs.lemmas.List.{length-map}
+use Rattle.std.specs.Io.KnownBytes.{Appends}
+use Rattle.vcp_base.specs.Limits.{most_cycles}
 use Rattle.vcp_base.specs.Types.{AreIn}
 use Rattle.vcp_base.specs.declared.columns.Column.{Column}
 use Rattle.vcp_base.specs.declared.kind.StopKind.{StopKind}
@@ -8,24 +10,31 @@ use Rattle.vcp_base.specs.declared.ty.Ty.{Ty}
 use Rattle.vcp_typed.specs.Fitting.{AreRows, input_types}
 use Rattle.vcp_typed.specs.SourceRun.{Program}
 use Rattle.input_rows.specs.RowsOf.{RowsLeft}
+use Rattle.coded_unit.specs.declared.call.Answer.{Answer}
 use Rattle.op_graph.specs.declared.op.Op.{Op}
 use Rattle.op_graph.specs.Lists.{Lists, column, output_column}
-use Rattle.signature_table.specs.Signatures.{Numbers, table_of}
+use Rattle.op_graph.specs.Rules.{IsGraph}
+use Rattle.signature_table.specs.Signatures.{IsTable, Numbers, table_of}
 use Rattle.coded_machine.specs.declared.cycle_end.CycleEnd.{CycleEnd}
 use Rattle.coded_machine.specs.declared.cycle_end.CycleEnd.TheVariants as cycle
 use Rattle.coded_machine.specs.State.{State, fresh}
 use Rattle.flat_expr.specs.Told.{Means, halted_at}
 use Rattle.machine_run.specs.declared.fault.RunFault.{RunFault}
 use Rattle.machine_run.specs.declared.fault.RunFault.TheVariants as given_up
-use Rattle.machine_run.specs.RowRuns.{RunsRows}
+use Rattle.machine_run.specs.FirstRows.{FirstRowsFollow, FirstRowsLaw}
+use Rattle.machine_run.specs.RowRuns.{RunsRows, SomeCycles}
+use Rattle.machine_run.specs.Stops.{GrowsToStop, TellsStop}
+use Rattle.run_report.specs.Lines.{stop_text}
 use Rattle.vcp_outside.specs.Counts.{Rose}
+use Rattle.vcp_outside.specs.Seen.{SinkSeen}
 use Rattle.machine_run.specs.Leaves.{Leaves}
 use Rattle.machine_run.specs.Moments.{Moment}
 use Rattle.vcp_words.specs.Forms.{Code}
 use Rattle.command_meaning.specs.Answer.{Subject, source}
 use Rattle.command_meaning.specs.GraphsOf.{StandsFor}
 use Rattle.command_meaning.specs.Reports.{end_read, end_told, subject_outputs, run_status}
-use Rattle.vcp_core.specs.MachineRun.{CarriesOut, HasCauses, IsThere, StandsAs}
+use Rattle.vcp_core.specs.MachineRun.{CarriesOut, EndsAtStop, HasCauses, IsThere, StandsAs}
+use Rattle.vcp_core.proofs.JobRun.{append-all}
 use Rattle.vcp_core.proofs.PlainNames.{inputs-count}
 
 -- rows of values of these types, as a list of rows
@@ -72,6 +81,11 @@ pub leaves-shown : (n : State) (g : Lists) (t : Numbers) (left : RowsLeft) (text
 leaves-shown n g t left text shown before after kept_before kept_after r is h =
     subst (λ (x : ℕ → List ℤ → List ℕ). Leaves g t left x before after kept_before kept_after n r) is h
 
+-- the rows before a wrong answer, by the numbers of a job's code
+pub first-rows : FirstRowsLaw → (g : Lists) (t u : Numbers) (rows : List (List ℤ)) → IsGraph g → IsTable t → t ≡ u → length rows ≤ most_cycles →
+    (cycles : List (List Answer)) → SomeCycles g u 0 rows cycles → FirstRowsFollow g u rows cycles
+first-rows law g t u rows graph table is few cycles = law g u rows cycles graph (subst IsTable is table) few
+
 -- a run that failed has cause, where the count rose if a write failed
 pub failed-causes : (before after : Moment) (why : RunFault) → (why ≡ given_up.Write → Rose before.out.faults after.out.faults)
     → (why ≢ given_up.Write → after.out.faults ≡ before.out.faults) → HasCauses before after (Err why)
@@ -81,6 +95,23 @@ failed-causes before after why rose stayed = record {
   stopped = λ is. absurd cc;
   stayed = λ no. stayed (λ is. no (ap Err is));
 }
+
+-- what is printed first, of the rows and last was written, where the log grew to the stop at which the run ended
+pub stop-told : (before after : Moment) (x y : SinkSeen) (first rows last : List ℕ) (n k : ℕ) (why : StopKind) (e : CycleEnd) →
+    Appends before.out.written x.written first → Appends x.written y.written rows → Appends y.written after.out.written last → EndsAtStop last n e →
+    e ≡ cycle.Stopped k why → GrowsToStop before.unit.log after.unit.log n k why → TellsStop stop_text before after k why
+stop-told before after x y first rows last n k why e head lines end ends is grows =
+    let stop : EndsAtStop last n (cycle.Stopped k why) = subst (EndsAtStop last n) is ends in
+    record {
+      cycle = n;
+      told = stop.1;
+      kind = stop.2;
+      front = (first ++ rows) ++ stop.0;
+      log = grows;
+      written = append-all before.out.written y.written after.out.written (first ++ rows) last _
+          (append-all before.out.written x.written y.written first rows _ head lines refl) end
+          (append_assoc (first ++ rows) stop.0 (stop_text n stop.1) ∙ ap (λ l. (first ++ rows) ++ l) (sym stop.3));
+    }
 
 -- a row couldn't be written
 pub rows-rose : (g : Lists) (t : Numbers) (left : RowsLeft) (text : ℕ → List ℤ → List ℕ) (before after : Moment) (why : RunFault)

@@ -25,7 +25,7 @@ use Rattle.flat_expr.specs.Told.{graph_end, halted_at}
 use Rattle.machine_run.specs.RowRuns.{SomeCycles}
 use Rattle.command_meaning.specs.Reports.{RunEnd, complete, stopped, refused, end_told, end_read, behind_text, run_status}
 use Rattle.vcp_core.specs.EndLines.{last_text}
-use Rattle.vcp_core.specs.MachineRun.{IsThere}
+use Rattle.vcp_core.specs.MachineRun.{EndsAtStop, IsThere}
 
 -- ---- the graph's run as it is told
 
@@ -156,6 +156,17 @@ module _ (g : Lists) (names : List (List ℕ)) (n : ℕ) (why : StopKind) (old n
 
 pub stop-status : (g : Lists) (k : ℕ) (why : StopKind) → k < length g.operations → 2 ≡ run_status (end_read g (cycle.Stopped k why)) None
 stop-status g k why below = let s = told-stop g why (slice_get g.operations k) (not-there g.operations k below) in ap (λ e. run_status e None) (sym s.1)
+
+-- what is printed last of a run that stopped is the line of that stop
+ends-by : (g : Lists) (names : List (List ℕ)) (n : ℕ) (why : StopKind) (o : Option Op) → o ≢ None →
+    (front : List ℕ) × (told : ToldStop) × (told.kind ≡ why) × (last_text names n (end_told (halted_at g why o)) None ≡ front ++ stop_text n told)
+ends-by g names n why None some = absurd (some refl)
+ends-by g names n why (Some op) some = ([], told_stop g.names why op.spot (turns_of g op.turn), refl, refl)
+
+pub ends-at-stop : (g : Lists) (names : List (List ℕ)) (n : ℕ) (e : CycleEnd) → IsThere g e → EndsAtStop (last_text names n (end_read g e) None) n e
+ends-at-stop g names n cycle.Released there = tt
+ends-at-stop g names n (cycle.Stopped k why) there = ends-by g names n why (slice_get g.operations k) (not-there g.operations k there)
+ends-at-stop g names n (cycle.Refused i f w) there = tt
 
 -- the name of an output
 pub name-at : (columns : List Column) (i : ℕ) (c : Column) → slice_get columns i ≡ Some c → slice_index_or (map (λ (x : Column). x.name) columns) i [] ≡ c.name

@@ -8,9 +8,10 @@ use Rattle.vcp_outside.specs.Written.{AppendsPart}
 use Rattle.input_rows.specs.declared.fault.RowFault.{RowFault}
 use Rattle.input_rows.specs.declared.fault.RowFault.TheVariants as row
 use Rattle.machine_run.specs.Moments.{Moment}
-use Rattle.machine_run.specs.Stops.{GrowsToSomeStop}
+use Rattle.machine_run.specs.Stops.{TellsSomeStop}
 use Rattle.machine_run.specs.declared.fault.RunFault.{RunFault}
 use Rattle.machine_run.specs.declared.fault.RunFault.TheVariants as run
+use Rattle.run_report.specs.Lines.{stop_text}
 use Rattle.vcp_inputs.specs.declared.refusal.Refusal.{Refusal}
 use Rattle.vcp_inputs.specs.declared.refusal.Refusal.TheVariants as refusal
 use Rattle.vcp_inputs.specs.declared.refusal.NoInput.{NoInput}
@@ -350,7 +351,7 @@ module _ (c : About) (Comes : Held → Task → Type 0) (files later : FilesSeen
     pub run_performs : (before after : Moment) (name : List ℕ) (r : Result Ending RunFault) → ((e : Ending) → r ≡ Ok e → Among (end_status e) c.ends) →
         ((h : Held) → MayHold c files.held h → Reaches c (Comes h) files later before after (run_line name r) (run_code r)) →
         (c.files ≢ [] → IsAtEnd later.rest) → (c.calls ≡ false → after.unit ≡ before.unit) →
-        (c.calls ≡ true → r ≡ Ok end.Stopped → GrowsToSomeStop before.unit.log after.unit.log) →
+        (c.calls ≡ true → r ≡ Ok end.Stopped → TellsSomeStop stop_text before after) →
         (r ≡ Ok end.Refused → Rose before.unit.wrong after.unit.wrong) → (r ≡ Err run.Write → Rose before.out.faults after.out.faults) →
         later.faults ≡ files.faults → (r ≢ Err run.Write → after.out.faults ≡ before.out.faults) → MayName c name →
         Performs c Comes files later before after (run_line name r) (run_code r)
@@ -395,7 +396,7 @@ module _ (c : About) (Comes : Held → Task → Type 0) (files later : FilesSeen
   pub files_run : Among 1 c.ends → (before after : Moment) (name : List ℕ) (r : Result Ending RunFault) →
       ((e : Ending) → r ≡ Ok e → Among (end_status e) c.ends)
       → IfSome files.held (λ h. Reaches c (Comes h) files later before after (run_line name r) (run_code r)) → IsAtEnd later.rest →
-      (c.calls ≡ false → after.unit ≡ before.unit) → (c.calls ≡ true → r ≡ Ok end.Stopped → GrowsToSomeStop before.unit.log after.unit.log) →
+      (c.calls ≡ false → after.unit ≡ before.unit) → (c.calls ≡ true → r ≡ Ok end.Stopped → TellsSomeStop stop_text before after) →
       (r ≡ Ok end.Refused → Rose before.unit.wrong after.unit.wrong) → (r ≡ Err run.Write → Rose before.out.faults after.out.faults) →
       later.faults ≡ files.faults → (r ≢ Err run.Write → after.out.faults ≡ before.out.faults) → MayName c name →
       Performs c Comes files later before after (run_line name r) (run_code r)

@@ -19,7 +19,8 @@ use Rattle.coded_machine.specs.Runs.{Outcome, AllCycles, outcome_over, outcome_f
 use Rattle.flat_expr.specs.Told.{Told, told_graph}
 use Rattle.machine_run.specs.declared.fault.RunFault.{RunFault}
 use Rattle.machine_run.specs.declared.fault.RunFault.TheVariants as given_up
-use Rattle.machine_run.specs.RowRuns.{texts_from, IsFront, CameToEnd, RunsRows}
+use Rattle.machine_run.specs.FirstRows.{FirstRowsFollow}
+use Rattle.machine_run.specs.RowRuns.{texts_from, IsFront, CameToEnd, RunsRows, SomeCycles}
 use Rattle.vcp_inputs.specs.Lines.{rows_text}
 use Rattle.command_meaning.specs.GraphsOf.{MayRun}
 use Rattle.command_meaning.specs.Reports.{RunEnd, complete, stopped, refused, end_told, end_read, told_of, subject_outputs, behind_text, run_status}
@@ -30,7 +31,7 @@ use Rattle.vcp_core.specs.EndLines.{last_text}
 use Rattle.vcp_core.specs.Shown.{Shows}
 use Rattle.vcp_core.specs.Tasks.{rows_job}
 use Rattle.command_meaning.specs.Printing.{Report, Printing, every_row, goes_on, no_report, run_text, run_then, last_part}
-use Rattle.command_meaning.specs.RunKind.{Job, RunLeft, numbers, calls_of, run_read, run_meant, job_answer}
+use Rattle.command_meaning.specs.RunKind.{Job, FirstAsMeant, RunLeft, numbers, calls_of, run_read, run_meant, job_answer}
 use Rattle.machine_run.specs.Moments.{Moment, moment}
 use Rattle.vcp_core.specs.declared.ending.Ending.{Ending}
 use Rattle.vcp_core.specs.Reach.{end_status}
@@ -103,7 +104,9 @@ told-by j row.Memory before after of h = absurd of
 
 module _ (j : Job) (g : Lists) (may : MayRun j.subject g) (agrees : told_graph g j.rows.rows ≡ told_of j.subject j.rows.rows)
     (words_right : (cycles : List (List UnitAnswer)) → AllRight (calls_of j g cycles) → AllCycles g (numbers j g) 0 j.rows.rows cycles
-    → j.words.read cycles ≡ j.words.meant j.rows.rows) (u0 u1 : UnitSeen) where
+    → j.words.read cycles ≡ j.words.meant j.rows.rows)
+    (first_rows : (cycles : List (List UnitAnswer)) → SomeCycles g (numbers j g) 0 j.rows.rows cycles → FirstRowsFollow g (numbers j g) j.rows.rows cycles)
+    (u0 u1 : UnitSeen) where
   abbrev names : List (List ℕ)
   names = subject_outputs j.subject
 
@@ -127,13 +130,19 @@ module _ (j : Job) (g : Lists) (may : MayRun j.subject g) (agrees : told_graph g
       ∙ ap (λ (ws : List ℤ). record { rows = (told_of j.subject j.rows.rows).rows; end = end_told (told_of j.subject j.rows.rows).end; words = ws })
       (words_right cycles right all)
 
+  -- so are the rows of the first cycles, where the answers in these are right
+  first-meant : (cycles : List (List UnitAnswer)) → SomeCycles g t 0 j.rows.rows cycles → FirstAsMeant j g cycles
+  first-meant cycles some first rest is right =
+      let p = first_rows cycles some first rest is right in (p.0, sym (ap (λ (x : Told). x.rows) agrees) ∙ p.1)
+
   -- all was written of a run that came to its end
   reached : (cycles : List (List UnitAnswer)) (e : CycleEnd) (s0 s3 : SinkSeen) → Carried (calls_of j g cycles) u0.log u1.log u0.wrong u1.wrong
-      → CameToEnd g t j.rows.rows cycles e → (u1.wrong ≡ u0.wrong → u0.wrong < 2 ^ 64 - 1 → outcome_is cycles ≡ outcome_for (graph_run g j.rows.rows)) →
+      → SomeCycles g t 0 j.rows.rows cycles → CameToEnd g t j.rows.rows cycles e →
+      (u1.wrong ≡ u0.wrong → u0.wrong < 2 ^ 64 - 1 → outcome_is cycles ≡ outcome_for (graph_run g j.rows.rows)) →
       Appends s0.written s3.written (front_of cycles ++ last_part j.printing names (run_read j g cycles) (end_read g e) j.rows.refusal) →
       RunAnswers j (behind_text j.rows_name (end_read g e) j.rows.refusal) (run_status (end_read g e) j.rows.refusal) (moment u0 s0)
       (moment u1 s3)
-  reached cycles e s0 s3 carried came follows w =
+  reached cycles e s0 s3 carried some came follows w =
       let text : run_text j.printing names (run_read j g cycles) j.rows.refusal
       ≡ front_of cycles ++ last_part j.printing names (run_read j g cycles) (end_read g e) j.rows.refusal =
       text-last j.printing names (run_read j g cycles) j.rows.refusal
@@ -146,6 +155,7 @@ module _ (j : Job) (g : Lists) (may : MayRun j.subject g) (agrees : told_graph g
           all = came.all;
           log = carried.told;
           read = refl;
+          front = first-meant cycles some;
           honest = λ h. read-meant cycles (carried.honest h.0 h.1) came.all (follows h.0 h.1);
         },
         subst (λ (l : List ℕ). Appends s0.written s3.written l) (sym text) w,
@@ -187,6 +197,7 @@ module _ (j : Job) (g : Lists) (may : MayRun j.subject g) (agrees : told_graph g
     log = grows-none u0.log;
     text = λ later comes. part-of s0.written s1.written j.printing.header _ _ part refl;
     earlier = λ earlier last is. no-last earlier last is;
+    front = first-meant [] tt;
     honest = λ h. part-of s0.written s1.written j.printing.header _ _ part refl;
   }
 
@@ -210,6 +221,7 @@ module _ (j : Job) (g : Lists) (may : MayRun j.subject g) (agrees : told_graph g
             let m = earlier-rows g t 0 j.rows.rows run.cycles earlier last run.some is in
             earlier-written run.cycles s0.written s2.written [] (subst (λ (l : List ℕ). Appends s0.written s2.written l)
             (sym (append-nil (front_of run.cycles))) w) earlier m.0 m.1;
+        front = first-meant run.cycles run.some;
         honest = λ h. let m = meant-front o (run.follows h.0 h.1) in front-of s0.written s2.written (front_of run.cycles) m.0 _ w m.1;
       }
 
@@ -232,6 +244,7 @@ module _ (j : Job) (g : Lists) (may : MayRun j.subject g) (agrees : told_graph g
             (later-text j.printing names o.rows (end_read g o.end) (j.words.read run.cycles) later j.rows.refusal (ap (end_read g) run.given_up));
         earlier = λ earlier last is. let m = earlier_lines earlier last is in
             (m.0, append-all s0.written s1.written s2.written j.printing.header _ _ head m.1 (append_assoc j.printing.header _ m.0));
+        front = first-meant run.cycles run.some;
         honest = λ h. let m = meant-front o (run.follows h.0 h.1) in part-of s0.written s2.written (front_of run.cycles) m.0 _ w m.1;
       }
 
@@ -246,7 +259,8 @@ module _ (j : Job) (g : Lists) (may : MayRun j.subject g) (agrees : told_graph g
       (texts_from j.printing.row 0 o.rows) _ head lines refl in
       let text : front_of run.cycles ++ last_part j.printing names (run_read j g run.cycles) complete j.rows.refusal ≡ front_of run.cycles =
       ap (λ (b : Option RowFault). front_of run.cycles ++ last_part j.printing names (run_read j g run.cycles) complete b) is ∙ append-nil _ in
-      let all = reached run.cycles cycle.Released s0 s2 run.carried came run.follows (subst (λ (l : List ℕ). Appends s0.written s2.written l) (sym text) w) in
+      let all = reached run.cycles cycle.Released s0 s2 run.carried run.some came run.follows
+      (subst (λ (l : List ℕ). Appends s0.written s2.written l) (sym text) w) in
       let line : behind_text j.rows_name complete j.rows.refusal ≡ rows_text j.rows_name f = ap (behind_text j.rows_name complete) is in
       let code_is : run_status complete j.rows.refusal ≡ 1 = ap (run_status complete) is in
       (all.0, all.1, all.2, all.3 ∙ line, all.4 ∙ code_is)
@@ -299,6 +313,7 @@ module _ (j : Job) (g : Lists) (may : MayRun j.subject g) (agrees : told_graph g
               let (front, rest, cut, some, taken) = part in
               earlier-written run.cycles s0.written s3.written front (append-all s0.written s2.written s3.written (front_of run.cycles) front _
               rows-written taken refl) earlier m.0 m.1;
+          front = first-meant run.cycles run.some;
           honest = λ h. subst (λ (r : Report). AppendsPart s0.written s3.written (job_answer j r).out)
               (read-meant run.cycles (run.carried.honest h.0 h.1) came.all (run.follows h.0 h.1)) whole;
         }
@@ -309,7 +324,7 @@ module _ (j : Job) (g : Lists) (may : MayRun j.subject g) (agrees : told_graph g
     ended-run end last status =
         let (came, none, lines) = run.ends in
         let behind : end_read g e ≡ complete → j.rows.refusal ≡ None = λ c. none (complete-is g e there c) in
-        let all = reached run.cycles e s0 s3 run.carried came run.follows
+        let all = reached run.cycles e s0 s3 run.carried run.some came run.follows
         (append-all s0.written s2.written s3.written (front_of run.cycles) _ _ rows-written last refl) in
         let line : behind_text j.rows_name (end_read g e) j.rows.refusal ≡ [] =
         no-behind-by g names j.rows_name (end_read g e) j.rows.refusal behind in

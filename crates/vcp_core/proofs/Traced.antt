@@ -9,11 +9,12 @@ use Rattle.vcp_outside.specs.declared.failed.Failed.{Failed}
 use Rattle.coded_machine.specs.declared.cycle_end.CycleEnd.{CycleEnd}
 use Rattle.coded_machine.specs.declared.cycle_end.CycleEnd.TheVariants as cycle
 use Rattle.coded_machine.specs.State.{State}
+use Rattle.run_report.specs.Lines.{stop_text}
 use Rattle.command_meaning.specs.CycleWords.{word_lines}
 use Rattle.command_meaning.specs.Reports.{RunEnd, complete, end_read, refused, stopped}
 use Rattle.vcp_core.specs.EndLines.{last_text}
 use Rattle.vcp_core.specs.declared.ending.Ending.{Ending}
-use Rattle.vcp_core.specs.MachineRun.{IsThere, PrintsLast}
+use Rattle.vcp_core.specs.MachineRun.{EndsAtStop, IsThere, PrintsLast}
 use Rattle.vcp_core.specs.TraceRun.{answered_words, traced_text, words_then}
 use Rattle.vcp_core.proofs.JobRun.{complete-is}
 
@@ -36,6 +37,13 @@ pub not-released : (e : CycleEnd)
 not-released e (inl (k, why, is)) released = let no : cycle.Stopped k why ≡ cycle.Released = sym is ∙ released in cc
 not-released e (inr (i, found, wanted, is)) released = let no : cycle.Refused i found wanted ≡ cycle.Released = sym is ∙ released in cc
 
+-- the line of a stop is the last behind other lines, too
+stop-behind : (lines last text : List ℕ) (n : ℕ) (e : CycleEnd) → text ≡ lines ++ last → EndsAtStop last n e → EndsAtStop text n e
+stop-behind lines last text n cycle.Released is h = tt
+stop-behind lines last text n (cycle.Stopped k why) is h =
+    (lines ++ h.0, h.1, h.2, is ∙ ap (λ l. lines ++ l) h.3 ∙ sym (append_assoc lines h.0 (stop_text n h.1)))
+stop-behind lines last text n (cycle.Refused i f w) is h = tt
+
 module _ (m : State) (names : List (List ℕ)) (n : ℕ) (a b c : SinkSeen) where
   -- the lines of the words in a machine
   abbrev lines : List ℕ
@@ -43,7 +51,7 @@ module _ (m : State) (names : List (List ℕ)) (n : ℕ) (a b c : SinkSeen) wher
 
   -- the words couldn't be written
   pub words-cut : (e : CycleEnd) (why : Failed) → WritesTo {T = Unit {0}} {E = Failed} a b lines (Err why)
-      → PrintsLast (traced_text m names n e) m.graph e a b (Err why)
+      → PrintsLast (traced_text m names n e) m.cycles m.graph e a b (Err why)
   words-cut e why failure =
       let (more, all) = lines-first lines names m.cycles (end_read m.graph e) in
       let (front, rest, is, some, taken) = failure.part in
@@ -52,7 +60,7 @@ module _ (m : State) (names : List (List ℕ)) (n : ℕ) (a b c : SinkSeen) wher
 
   pub released-cut : (why : Failed) → WritesTo {T = Unit {0}} {E = Failed} a b lines (Ok tt)
       → WritesTo {T = Unit {0}} {E = Failed} b c (codes "released\n") (Err why)
-      → PrintsLast (traced_text m names n cycle.Released) m.graph cycle.Released a c (Err why)
+      → PrintsLast (traced_text m names n cycle.Released) m.cycles m.graph cycle.Released a c (Err why)
   released-cut why before failure =
       let (front, rest, is, some, taken) = failure.part in
       let whole : traced_text m names n cycle.Released ≡ (lines ++ front) ++ rest = ap (λ l. lines ++ l) is ∙ sym (append_assoc lines front rest) in (
@@ -69,13 +77,15 @@ module _ (m : State) (names : List (List ℕ)) (n : ℕ) (a b c : SinkSeen) wher
 
   -- the run's last line was written, or a part of it
   pub ended-on : (e : CycleEnd) (r : Result Ending Failed) → e ≢ cycle.Released → IsThere m.graph e → WritesTo {T = Unit {0}} {E = Failed} a b lines (Ok tt)
-      → PrintsLast (last_text names m.cycles (end_read m.graph e) None) m.graph e b c r → PrintsLast (traced_text m names n e) m.graph e a c r
-  ended-on e (Ok end) not there before (w, status, stayed) =
+      → PrintsLast (last_text names m.cycles (end_read m.graph e) None) m.cycles m.graph e b c r
+      → PrintsLast (traced_text m names n e) m.cycles m.graph e a c r
+  ended-on e (Ok end) not there before (w, status, stayed, stop) =
       let text : traced_text m names n e ≡ lines ++ last_text names m.cycles (end_read m.graph e) None =
       then-last lines names m.cycles (end_read m.graph e) (λ is. not (complete-is m.graph e there is)) in (
         rw text (Appends-trans a.written b.written c.written lines (last_text names m.cycles (end_read m.graph e) None) before.whole w),
         status,
         stayed ∙ before.cause.stayed,
+        stop-behind lines (last_text names m.cycles (end_read m.graph e) None) (traced_text m names n e) m.cycles e text stop,
       )
   ended-on e (Err why) not there before (rose, (front, rest, is, some, taken)) =
       let text : traced_text m names n e ≡ lines ++ last_text names m.cycles (end_read m.graph e) None =

@@ -1,6 +1,7 @@
 -- MachineRun: how far the run of a job came on the machine.
-use Rattle.std.specs.Prelude.{ℕ, ◌≡◌, ◌≢◌, ◌<◌, ◌⊎◌, List, [], length, map, None, Result, Ok, Err}
+use Rattle.std.specs.Prelude.{ℕ, ◌≡◌, ◌≢◌, ◌<◌, ◌⊎◌, List, [], ◌++◌, length, map, None, Result, Ok, Err}
 use Rattle.std.specs.Io.KnownBytes.{Appends}
+use Rattle.vcp_base.specs.Stops.{ToldStop}
 use Rattle.vcp_outside.specs.Counts.{Rose}
 use Rattle.vcp_outside.specs.Seen.{SinkSeen}
 use Rattle.vcp_outside.specs.Written.{AppendsFront, AppendsPart}
@@ -11,6 +12,7 @@ use Rattle.signature_table.specs.Signatures.{Numbers, table_of}
 use Rattle.flat_expr.specs.Told.{told_graph, told_source}
 use Rattle.vcp_typed.specs.SourceRun.{Program}
 use Rattle.vcp_words.specs.Forms.{Code}
+use Rattle.run_report.specs.Lines.{stop_text}
 use Rattle.coded_machine.specs.declared.cycle_end.CycleEnd.{CycleEnd}
 use Rattle.coded_machine.specs.declared.cycle_end.CycleEnd.TheVariants as cycle
 use Rattle.machine_run.specs.declared.fault.RunFault.{RunFault}
@@ -23,7 +25,7 @@ use Rattle.command_meaning.specs.Seen.{Still}
 use Rattle.command_meaning.specs.Reports.{end_read, output_names, subject_outputs, run_status, told_of}
 use Rattle.command_meaning.specs.RunKind.{Job, RunDone, RunLeft}
 use Rattle.machine_run.specs.Moments.{Moment}
-use Rattle.machine_run.specs.Stops.{GrowsToSomeStop}
+use Rattle.machine_run.specs.Stops.{TellsSomeStop}
 use Rattle.vcp_core.specs.declared.ending.Ending.{Ending}
 use Rattle.vcp_core.specs.declared.ending.Ending.TheVariants as end
 use Rattle.vcp_core.specs.Reach.{end_status}
@@ -62,15 +64,21 @@ IsThere g cycle.Released = Unit {0}
 IsThere g (cycle.Stopped k why) = k < length g.operations
 IsThere g (cycle.Refused output found wanted) = output < length g.outputs
 
--- this was printed last of a graph's run that ended so; or a part of it, where the sink failed
-abbrev pub PrintsLast : List ℕ → Lists → CycleEnd → SinkSeen → SinkSeen → Result Ending Failed → Type 0
-PrintsLast text g e before after (Ok end) =
-    Appends before.written after.written text × (end_status end ≡ run_status (end_read g e) None) × (after.faults ≡ before.faults)
-PrintsLast text g e before after (Err why) = Rose before.faults after.faults × AppendsPart before.written after.written text
+-- what is printed last of a run that stopped so in cycle n ends with the line of a stop of this kind in that cycle; of other ends nothing is said
+abbrev pub EndsAtStop : List ℕ → ℕ → CycleEnd → Type 0
+EndsAtStop text n cycle.Released = Unit {0}
+EndsAtStop text n (cycle.Stopped k why) = (front : List ℕ) × (told : ToldStop) × (told.kind ≡ why) × (text ≡ front ++ stop_text n told)
+EndsAtStop text n (cycle.Refused output found wanted) = Unit {0}
 
--- a run that ended so had cause: a write failed, which comes to nothing else, an answer was wrong, or the log grew to a stop
+-- this was printed last of a graph's run of n released cycles that ended so; or a part of it, where the sink failed
+abbrev pub PrintsLast : List ℕ → ℕ → Lists → CycleEnd → SinkSeen → SinkSeen → Result Ending Failed → Type 0
+PrintsLast text n g e before after (Ok end) =
+    Appends before.written after.written text × (end_status end ≡ run_status (end_read g e) None) × (after.faults ≡ before.faults) × EndsAtStop text n e
+PrintsLast text n g e before after (Err why) = Rose before.faults after.faults × AppendsPart before.written after.written text
+
+-- a run that ended so had cause: a write failed, which comes to nothing else, an answer was wrong, or the log grew to the stop that is told
 pub record HasCauses (before after : Moment) (result : Result Ending RunFault) : Type 0 where
   pub write : result ≡ Err run.Write → Rose before.out.faults after.out.faults
   pub refused : result ≡ Ok end.Refused → Rose before.unit.wrong after.unit.wrong
-  pub stopped : result ≡ Ok end.Stopped → GrowsToSomeStop before.unit.log after.unit.log
+  pub stopped : result ≡ Ok end.Stopped → TellsSomeStop stop_text before after
   pub stayed : result ≢ Err run.Write → after.out.faults ≡ before.out.faults

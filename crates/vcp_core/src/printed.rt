@@ -25,7 +25,7 @@ use crate::graphs::graph_of;
 use coded_machine::{CycleEnd, Machine};
 use coded_unit::Unit;
 use input_rows::Rows;
-use machine_run::{ReleasedRows, RunFault, run_rows};
+use machine_run::{ReleasedRows, RunFault, rows_before_a_wrong_answer_follow_the_graph, run_rows};
 use op_graph::Graph;
 use run_report::{end_line, graph_stop_line, refused_line};
 use signature_table::Table;
@@ -52,7 +52,8 @@ pub trait Printed<R> {
     fn print_first<O: Sink>(&self, out: &mut O, outputs: &Columns) -> Result<(), Failed>
         ensures { WritesTo (O.seen out.old) (O.seen out.new) (first self.now (map (λ c. c.name) outputs.now)) result };
 
-    /// Prints what comes after the last row of a run that ended so. After `Failed` a part of it is written.
+    /// Prints what comes after the last row of a run that ended so; of one that stopped, the line of that stop comes last. After `Failed`
+    /// a part of it is written.
     fn print_last<O: Sink>(
         &self,
         out: &mut O,
@@ -66,7 +67,8 @@ pub trait Printed<R> {
         requires outputs { length outputs.now ≡ length machine.now.graph.outputs }
         requires table { length machine.now.table.corrections ≡ length machine.now.graph.operations }
         requires whole { (machine.now.answers ≡ []) ⊎ Whole machine.now.graph.operations machine.now.answers }
-        ensures { PrintsLast (last self.now rows.now machine.now (map (λ c. c.name) outputs.now) end.now) machine.now.graph end.now
+        ensures { PrintsLast (last self.now rows.now machine.now (map (λ c. c.name) outputs.now) end.now) machine.now.cycles
+            machine.now.graph end.now
             (O.seen out.old) (O.seen out.new) result };
 }
 
@@ -81,7 +83,7 @@ pub fn print_end<O: Sink>(
 ) -> Result<Ending, Failed>
     requires there { IsThere graph.now end.now }
     requires outputs { length outputs.now ≡ length graph.now.outputs }
-    ensures { PrintsLast (last_text (map (λ c. c.name) outputs.now) cycles (end_read graph.now end.now) None) graph.now end.now
+    ensures { PrintsLast (last_text (map (λ c. c.name) outputs.now) cycles (end_read graph.now end.now) None) cycles graph.now end.now
         (O.seen out.old) (O.seen out.new) result }
 {
     match end {
@@ -129,6 +131,10 @@ pub fn run_printed<U: Unit, O: Sink, R: ReleasedRows, P: Printed<R>>(
         (moment (U.seen unit.old) (O.seen out.old)) (moment (U.seen unit.new) (O.seen out.new)) result }
     ensures causes { HasCauses (moment (U.seen unit.old) (O.seen out.old)) (moment (U.seen unit.new) (O.seen out.new)) result }
 {
+    // So the rows before a wrong answer are those that are meant.
+    rows_before_a_wrong_answer_follow_the_graph();
+    let _rules = graph.len();
+    let _ranges = table.step();
     let mut machine = Machine::new(alloc, graph, table)?;
     let outputs = graph.output_columns(alloc)?;
     printed.print_first(out, &outputs)?;

@@ -7,7 +7,7 @@ use Rattle.op_graph.specs.Rules.{IsGraph}
 use Rattle.signature_table.specs.Signatures.{IsTable}
 use Rattle.machine_run.proofs.Exits.{memory_exit, row_exit, last_exit, cycle_exit, write_exit, refused_rose}
 use Rattle.machine_run.proofs.Overall.{Fair}
-use Rattle.machine_run.proofs.Stopping.{stopped_log, stop_placed, refusal_numbered}
+use Rattle.machine_run.proofs.Stopping.{stopped_counted, stop_placed, refusal_numbered}
 use Rattle.machine_run.proofs.UpTo.{up_to_first, up_to_next, cycles_left}
 use Rattle.machine_run.proofs.run.run_rows.Goals as goal
 
@@ -84,7 +84,9 @@ returns-in_err-end-clause-leaves g c =
     let one = c.in_ok-next.ensures.row c.if-branch.true in
     let cycle = c.in_err-end.ensures in
     rw (p.1, p.2)
-    (write_exit so_far.runs so_far.honest m.graph m.table c.args.rows.now c.cycles.rows c.next.new.self g.R.ReleasedRows.text _ _ _ (g.R.ReleasedRows.Keeps c.args.released.now) (g.R.ReleasedRows.Keeps c.cycles.released) (g.R.ReleasedRows.Keeps c.run_cycle.new.released) c.cycles.machine c.run_cycle.new.machine c.next.new.out so_far.fair so_far.so_far one cycle.turn cycle.between cycle.written.part cycle.written.cause.failed)
+    (write_exit so_far.runs so_far.honest m.graph m.table c.args.rows.now c.cycles.rows c.next.new.self g.R.ReleasedRows.text _ _ _
+    (g.R.ReleasedRows.Keeps c.args.released.now) (g.R.ReleasedRows.Keeps c.cycles.released) (g.R.ReleasedRows.Keeps c.run_cycle.new.released) c.cycles.machine
+    c.run_cycle.new.machine c.next.new.out so_far.fair so_far.so_far one cycle.turn cycle.between cycle.written.part cycle.written.cause.failed)
 
 pub cycles-smaller : goal.cycles-smaller
 cycles-smaller g c = omega (arith, ap (λ (x : RowsLeft). length x.rows) (c.in_ok-next.ensures.row c.if-branch.true))
@@ -102,7 +104,10 @@ cycles-preserved g c =
       inputs = c.next.ensures.width ∙ so_far.inputs ∙ ap (λ (x : RowsLeft). length x.types) one;
       outputs = cycle.width ∙ so_far.outputs;
       so_far =
-          up_to_next so_far.runs m.graph m.table c.args.rows.now c.cycles.rows c.next.new.self g.R.ReleasedRows.text _ _ _ (g.R.ReleasedRows.Keeps c.args.released.now) (g.R.ReleasedRows.Keeps c.cycles.released) (g.R.ReleasedRows.Keeps c.run_cycle.new.released) c.cycles.machine c.run_cycle.new.machine c.next.new.out c.in_ok-end.end so_far.so_far c.in-Released.is one cycle.turn cycle.between cycle.written.whole cycle.written.cause.stayed cycle.kept;
+          up_to_next so_far.runs m.graph m.table c.args.rows.now c.cycles.rows c.next.new.self g.R.ReleasedRows.text _ _ _
+          (g.R.ReleasedRows.Keeps c.args.released.now) (g.R.ReleasedRows.Keeps c.cycles.released) (g.R.ReleasedRows.Keeps c.run_cycle.new.released) c.cycles.machine
+          c.run_cycle.new.machine c.next.new.out c.in_ok-end.end so_far.so_far c.in-Released.is one cycle.turn cycle.between cycle.written.whole
+          cycle.written.cause.stayed cycle.kept;
     }
 
 pub returns-in_default-clause-leaves : goal.returns-in_default-clause-leaves
@@ -111,7 +116,10 @@ returns-in_default-clause-leaves g c =
     let so_far = c.cycles.invariant in
     let one = c.in_ok-next.ensures.row c.if-branch.true in
     let cycle = c.in_ok-end.ensures in
-    cycle_exit so_far.runs so_far.honest m.graph m.table c.args.rows.now c.cycles.rows c.next.new.self g.R.ReleasedRows.text _ _ _ (g.R.ReleasedRows.Keeps c.args.released.now) (g.R.ReleasedRows.Keeps c.cycles.released) (g.R.ReleasedRows.Keeps c.run_cycle.new.released) c.cycles.machine c.run_cycle.new.machine c.next.new.out c.in_ok-end.end so_far.fair so_far.so_far c.in_default.not-Released one cycle.turn cycle.between cycle.written.whole cycle.kept
+    cycle_exit so_far.runs so_far.honest m.graph m.table c.args.rows.now c.cycles.rows c.next.new.self g.R.ReleasedRows.text _ _ _
+    (g.R.ReleasedRows.Keeps c.args.released.now) (g.R.ReleasedRows.Keeps c.cycles.released) (g.R.ReleasedRows.Keeps c.run_cycle.new.released) c.cycles.machine
+    c.run_cycle.new.machine c.next.new.out c.in_ok-end.end so_far.fair so_far.so_far c.in_default.not-Released one cycle.turn cycle.between
+    cycle.written.whole cycle.kept
 
 pub returns-clause-leaves : goal.returns-clause-leaves
 returns-clause-leaves g c =
@@ -127,7 +135,7 @@ returns-in_default-clause-stopped g c = λ k why is.
     let cycle = c.in_ok-end.ensures in
     let graph = subst IsGraph (sym so_far.so_far.run.graph) so_far.fair.graph in
     let entries = c.entries_keep_their_rules.ensures in
-    stopped_log entries c.cycles.machine c.run_cycle.new.machine c.next.new.out c.in_ok-end.end k why _ _ _ _ _ _ graph cycle.turn cycle.cause
+    stopped_counted entries c.cycles.machine c.run_cycle.new.machine c.next.new.out c.in_ok-end.end k why _ _ _ _ _ _ graph cycle.turn cycle.cause
     (cc) so_far.so_far.run.carried.told
 
 pub returns-in_default-clause-refused : goal.returns-in_default-clause-refused

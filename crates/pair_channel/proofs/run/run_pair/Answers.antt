@@ -1,13 +1,17 @@
-use Rattle.std.proofs.Common.{refl, subst, sym, ap, ◌∙◌, map, None, Ok, Err}
+use Rattle.std.proofs.Common.{◌≡◌, refl, subst, sym, ap, ◌∙◌, map, None, Ok, Err}
 use Rattle.std.proofs.lemmas.Result.{err_from_is_err_and}
 use Rattle.vcp_base.specs.declared.columns.Column.{Column}
 use Rattle.std.specs.Io.KnownBytes.{Appends}
 use Rattle.vcp_outside.specs.Written.{AppendsPart}
-use Rattle.run_report.specs.Lines.{header_text}
+use Rattle.run_report.specs.Lines.{header_text, row_text}
+use Rattle.machine_run.specs.Moments.{moment}
+use Rattle.machine_run.specs.RowRuns.{texts_from}
+use Rattle.pair_channel.specs.declared.pair_end.PairEnd.TheVariants as pair
 use Rattle.pair_channel.specs.PairStates.{PairState, fresh_pair}
 use Rattle.pair_channel.specs.PairLines.{pair_header, pair_last}
 use Rattle.pair_channel.specs.PairMoments.{pair_moment}
 use Rattle.pair_channel.proofs.Done.{Fair, nothing_done, header_cut, of_tables, rows_cut, last_cut, ended}
+use Rattle.pair_channel.proofs.Last.{stop_told}
 use Rattle.pair_channel.proofs.run.run_pair.Goals as goal
 
 pub returns-in_err-pair-clause-ran : goal.returns-in_err-pair-clause-ran
@@ -142,3 +146,22 @@ returns-in_err-print_end-clause-stayed g c = λ other.
 pub returns-clause-stayed : goal.returns-clause-stayed
 returns-clause-stayed g c = λ other.
     c.in_ok-print_end.ensures.cause.stayed ∙ (c.in_ok-end.ensures.rows.stayed (λ e. cc) ∙ c.in_ok-header_line.ensures.cause.stayed)
+
+-- ---- a stop
+
+pub returns-clause-stopped : goal.returns-clause-stopped
+returns-clause-stopped g c = λ op why is.
+    let graph = c.args.graph.now in
+    let e = c.in_ok-end.end in
+    let stopped : e ≡ pair.Stopped op why = cc in
+    let n = c.run_rows.new.pair.cycles in
+    let a = g.O.Sink.seen c.args.out.now in
+    let h = g.O.Sink.seen c.header_line.new.out in
+    let r = g.O.Sink.seen c.run_rows.new.out in
+    let z = g.O.Sink.seen c.print_end.new.out in
+    let header : Appends a.written h.written (pair_header graph) =
+    subst (λ ns. Appends a.written h.written (header_text (map (λ (x : Column). x.name) ns))) c.in_ok-names.ensures c.in_ok-header_line.ensures.whole in
+    let whole = subst (λ k. Appends r.written z.written (pair_last graph k e None)) c.cycles.ensures.value c.in_ok-print_end.ensures.whole in
+    stop_told graph n op why e (moment (g.U.Unit.seen c.args.first.now) a) (moment (g.U.Unit.seen c.run_rows.new.first) z) h r (pair_header graph)
+    (texts_from row_text 0 c.in_ok-end.ensures.rows.outputs) stopped (c.in_ok-end.ensures.there e refl) header c.in_ok-end.ensures.rows.ends.3 whole
+    (c.in_ok-end.ensures.stopped op why (ap Ok stopped))

@@ -119,7 +119,7 @@ returns-in_default-clause-stopped g c = λ op why is.
     let run = c.cycles.invariant.so_far.run in
     let stopped : c.in_ok-end.end ≡ ends.Stopped op why = cc in
     stops_log c.entries_keep_their_rules.ensures c.args.graph.now c.cycles.pair c.run_cycle.new.pair c.next.new.out _ _ c.in_ok-end.end op why _ _ _ _ _ _
-    c.len-operations.ensures.rules run.first.graph c.in_ok-end.ensures.turn stopped run.first.carried.told
+    c.len-operations.ensures.rules run.first.graph (run.first.many_cycles ∙ sym run.cycles) c.in_ok-end.ensures.turn stopped run.first.carried.told
 
 pub returns-clause-rows : goal.returns-clause-rows
 returns-clause-rows g c =

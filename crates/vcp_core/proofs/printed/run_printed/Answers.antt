@@ -6,6 +6,7 @@ use Rattle.vcp_outside.specs.Written.{AppendsPart}
 use Rattle.signature_table.specs.Signatures.{Numbers}
 use Rattle.op_graph.specs.Lists.{Lists}
 use Rattle.coded_machine.specs.State.{State}
+use Rattle.machine_run.specs.Moments.{moment}
 use Rattle.machine_run.specs.declared.fault.RunFault.TheVariants as given_up
 use Rattle.command_meaning.specs.Reports.{end_read, run_status}
 use Rattle.vcp_core.specs.declared.ending.Ending.TheVariants as ending
@@ -13,7 +14,7 @@ use Rattle.vcp_core.specs.MachineRun.{IsThere}
 use Rattle.vcp_core.specs.Reach.{end_status}
 use Rattle.vcp_core.specs.Shown.{job_of}
 use Rattle.vcp_core.proofs.ImageLoaded.{corrections-long}
-use Rattle.vcp_core.proofs.JobFacts.{names-are, leaves-here, leaves-shown, there-is, stopped-is, refused-is, failed-causes, rows-rose}
+use Rattle.vcp_core.proofs.JobFacts.{first-rows, names-are, leaves-here, leaves-shown, there-is, stop-told, stopped-is, refused-is, failed-causes, rows-rose}
 use Rattle.vcp_core.proofs.Performing.{still}
 use Rattle.vcp_core.proofs.PrintedRun.{header-left, given-up-run, last-left, ended-run}
 use Rattle.vcp_core.proofs.WordsRun.{answers-whole}
@@ -91,8 +92,15 @@ returns-clause-causes g c = record {
       c.in_ok-end.ensures.refused i found wanted (ap Ok e);
   stopped = λ is.
       let same : c.in_ok-print_last.field-0 ≡ ending.Stopped = cc in
-      let (k, why, e) = stopped-is c.run_rows.new.machine.graph c.in_ok-end.end (ap end_status (sym same) ∙ c.in_ok-print_last.ensures.1) in
-      (k, why, c.in_ok-end.ensures.stopped k why (ap Ok e));
+      let (k, why, e) = stopped-is c.run_rows.new.machine.graph c.in_ok-end.end (ap end_status (sym same) ∙ c.in_ok-print_last.ensures.1) in (
+        k,
+        why,
+        stop-told (moment (g.U.Unit.seen c.args.unit.now) (g.O.Sink.seen c.args.out.now))
+            (moment (g.U.Unit.seen c.run_rows.new.unit) (g.O.Sink.seen c.print_last.new.out)) (g.O.Sink.seen c.print_first.new.out)
+            (g.O.Sink.seen c.run_rows.new.out) _ _ _ c.run_rows.new.machine.cycles k why c.in_ok-end.end c.in_ok-print_first.ensures.whole
+            c.in_ok-end.ensures.leaves.run.ends.2 c.in_ok-print_last.ensures.0 c.in_ok-print_last.ensures.3 e
+            (c.in_ok-end.ensures.stopped k why (ap Ok e)),
+      );
   stayed = λ no. c.in_ok-print_last.ensures.2 ∙ (c.in_ok-end.ensures.stayed (λ e. cc) ∙ c.in_ok-print_first.ensures.cause.stayed);
 }
 
@@ -111,9 +119,13 @@ returns-in_err-outputs-clause-ran g c s code name p words carries shows =
 pub returns-in_err-print_first-clause-ran : goal.returns-in_err-print_first-clause-ran
 returns-in_err-print_first-clause-ran g c s code name p words carries shows =
     let q = err_from_is_err_and c.from_residual-in_err-print_first.result c.from_residual-in_err-print_first.ensures.1 in
-    let names = names-are c.args.graph.now c.args.table.now c.args.rows.now s code c.in_ok-outputs.outputs carries c.in_ok-outputs.ensures in
+    let graph = c.args.graph.now in
+    let left = c.args.rows.now in
+    let names = names-are graph c.args.table.now left s code c.in_ok-outputs.outputs carries c.in_ok-outputs.ensures in
     rw (q.1, q.2)
-    (header-left (job_of s code c.args.rows.now name p words) c.args.graph.now carries.may carries.told shows.words_are (g.U.Unit.seen c.args.unit.now)
+    (header-left (job_of s code left name p words) graph carries.may carries.told shows.words_are
+    (first-rows c.rows_before_a_wrong_answer_follow_the_graph.ensures graph c.args.table.now _ left.rows c.len-rules.ensures.rules
+    c.step-ranges.ensures.ranges carries.numbers c.requires.few) (g.U.Unit.seen c.args.unit.now)
     (g.U.Unit.seen c.args.unit.now) _ _
     (rw (names, shows.first_is) at c.in_err-print_first.ensures.part))
 
@@ -127,7 +139,9 @@ returns-in_err-end-clause-ran g c s code name p words carries shows =
     (leaves-here c.in_ok-machine.machine _ graph c.args.table.now _ left _ _ _ _ _ _ c.in_ok-machine.ensures.fresh carries.numbers
     c.in_err-end.ensures.leaves) in
     rw (q.1, q.2)
-    (given-up-run (job_of s code left name p words) graph carries.may carries.told shows.words_are (g.U.Unit.seen c.args.unit.now)
+    (given-up-run (job_of s code left name p words) graph carries.may carries.told shows.words_are
+    (first-rows c.rows_before_a_wrong_answer_follow_the_graph.ensures graph c.args.table.now _ left.rows c.len-rules.ensures.rules
+    c.step-ranges.ensures.ranges carries.numbers c.requires.few) (g.U.Unit.seen c.args.unit.now)
     (g.U.Unit.seen c.run_rows.new.unit) _ (g.O.Sink.seen c.args.out.now) (g.O.Sink.seen c.print_first.new.out) (g.O.Sink.seen c.run_rows.new.out)
     c.requires.behind
     (rw (names, shows.first_is) at c.in_ok-print_first.ensures.whole) leaves.run)
@@ -146,7 +160,9 @@ returns-in_err-print_last-clause-ran g c s code name p words carries shows =
     let last = shows.last_is c.run_rows.new.released leaves.run.cycles c.run_rows.new.machine c.in_ok-end.end
     (record { came = leaves.run.ends.0; all_taken = leaves.run.ends.1; machine = leaves.machine; keeps = leaves.kept; there = there }) in
     rw (q.1, q.2)
-    (last-left (job_of s code left name p words) graph carries.may carries.told shows.words_are (g.U.Unit.seen c.args.unit.now)
+    (last-left (job_of s code left name p words) graph carries.may carries.told shows.words_are
+    (first-rows c.rows_before_a_wrong_answer_follow_the_graph.ensures graph c.args.table.now _ left.rows c.len-rules.ensures.rules
+    c.step-ranges.ensures.ranges carries.numbers c.requires.few) (g.U.Unit.seen c.args.unit.now)
     (g.U.Unit.seen c.run_rows.new.unit) c.in_ok-end.end (g.O.Sink.seen c.args.out.now) (g.O.Sink.seen c.print_first.new.out)
     (g.O.Sink.seen c.run_rows.new.out) (g.O.Sink.seen c.print_last.new.out)
     (rw (names, shows.first_is) at c.in_ok-print_first.ensures.whole) leaves.run there
@@ -165,7 +181,9 @@ returns-clause-ran g c s code name p words carries shows =
     (ap (λ (m : State). m.graph) c.in_ok-machine.ensures.fresh) c.in_ok-end.ensures.placed c.in_ok-end.ensures.numbered in
     let last = shows.last_is c.run_rows.new.released leaves.run.cycles c.run_rows.new.machine c.in_ok-end.end
     (record { came = leaves.run.ends.0; all_taken = leaves.run.ends.1; machine = leaves.machine; keeps = leaves.kept; there = there }) in
-    ended-run (job_of s code left name p words) graph carries.may carries.told shows.words_are (g.U.Unit.seen c.args.unit.now)
+    ended-run (job_of s code left name p words) graph carries.may carries.told shows.words_are
+    (first-rows c.rows_before_a_wrong_answer_follow_the_graph.ensures graph c.args.table.now _ left.rows c.len-rules.ensures.rules
+    c.step-ranges.ensures.ranges carries.numbers c.requires.few) (g.U.Unit.seen c.args.unit.now)
     (g.U.Unit.seen c.run_rows.new.unit) c.in_ok-end.end (g.O.Sink.seen c.args.out.now) (g.O.Sink.seen c.print_first.new.out)
     (g.O.Sink.seen c.run_rows.new.out) (g.O.Sink.seen c.print_last.new.out)
     (rw (names, shows.first_is) at c.in_ok-print_first.ensures.whole) leaves.run there c.in_ok-print_last.field-0
