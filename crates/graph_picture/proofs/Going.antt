@@ -4,7 +4,10 @@ use Rattle.std.proofs.lemmas.Grind.{flat_map-append}
 use Rattle.std.proofs.lemmas.List.{append-nil}
 use Rattle.vcp_outside.specs.Gathering.{Gathered, Gathers}
 use Rattle.svg_text.specs.Elements.{Element, element_text}
+use Rattle.svg_text.specs.Characters.{escaped_in}
+use Rattle.svg_text.specs.declared.characters.Escaping.TheVariants as escaping
 use Rattle.svg_text.specs.Drawing.{each_below}
+use Rattle.graph_picture.specs.DotText.{written}
 
 -- nothing
 pub unmoved : {a : Option (List ℕ)} {f : ℕ} {l : Gathered} → Gathers a a f f l l []
@@ -13,7 +16,7 @@ unmoved start before text is = rw (append-nil text) is
 -- two pieces are one
 pub both : {a b c : Option (List ℕ)} {f g h : ℕ} {l m n : Gathered} (whole s t : List ℕ)
     → Gathers a b f g l m s → Gathers b c g h m n t → whole ≡ s ++ t → Gathers a c f h l n whole
-both whole s t first second is start before text written = rw (is, ← (append_assoc text s t)) (second start before _ (first start before text written))
+both whole s t first second is start before text so_far = rw (is, ← (append_assoc text s t)) (second start before _ (first start before text so_far))
 
 -- the text of what is drawn for things
 abbrev pub drawn_text : {X : Type 0} → (X → List Element) → List X → List ℕ
@@ -64,3 +67,15 @@ pub parts : (start end : List ℕ) (a b c : List Element)
     → start ++ (flat_map element_text (a ++ (b ++ c)) ++ end)
     ≡ start ++ flat_map element_text a ++ flat_map element_text b ++ flat_map element_text c ++ end
 parts start end a b c = rw (flat_map-append element_text a (b ++ c), flat_map-append element_text b c) (simp append_assoc)
+
+-- the text of one number more
+pub one_text_more : {X : Type 0} (h : X → List ℕ) (f : ℕ → List X) (n : ℕ)
+    → flat_map h (each_below f (n + 1)) ≡ flat_map h (each_below f n) ++ flat_map h (f n)
+one_text_more h f n = rw (add-one n) (flat_map-append h (each_below f n) (f n))
+
+-- the pieces of a label in three and in four parts
+pub in_three : (a b c : List (List ℕ)) → written (a ++ (b ++ c)) ≡ written a ++ (written b ++ written c)
+in_three a b c = rw (flat_map-append (escaped_in escaping.Quoted) a (b ++ c), flat_map-append (escaped_in escaping.Quoted) b c) refl
+
+pub in_four : (a b c d : List (List ℕ)) → written (a ++ (b ++ (c ++ d))) ≡ written a ++ (written b ++ (written c ++ written d))
+in_four a b c d = flat_map-append (escaped_in escaping.Quoted) a (b ++ (c ++ d)) ∙ ap (λ t. written a ++ t) (in_three b c d)

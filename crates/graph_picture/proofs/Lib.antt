@@ -1,9 +1,9 @@
+mod ByDepth
 mod Going
 mod Lines
 mod OwnRows
 mod Seen
 mod WholeDrawing
 mod WholeText
-mod DotGoing
 mod Counted
 mod WorstIs

@@ -7,7 +7,7 @@ use Rattle.op_graph.specs.declared.op.Op.{Op}
 use Rattle.op_graph.specs.Lists.{Lists}
 use Rattle.op_graph.specs.Reads.{named, Reads}
 use Rattle.op_graph.specs.Rules.{reads_as}
-use Rattle.graph_picture.specs.declared.layout.Place.{Place}
+use Rattle.graph_picture.specs.declared.layout.BoxPlace.{BoxPlace}
 use Rattle.graph_picture.specs.Arrangement.{place_at}
 use Rattle.graph_picture.specs.Drawn.{Wire, wire_of, wires_of, wires_at, wires_below}
 use Rattle.graph_picture.specs.Whole.{is_line, times, DrawsReads}
@@ -51,7 +51,7 @@ unequal : (m n : ℕ) → m ≢ n → (t : Bool) → (m == n) ≡ t → t ≡ fa
 unequal m n ne true e = absurd (ne (eqb-true m n e))
 unequal m n ne false e = refl
 
-module _ (places : List Place) (q k j n : ℕ) (op : Op) where
+module _ (places : List BoxPlace) (q k j n : ℕ) (op : Op) where
   -- what operand i adds
   abbrev adds : ℕ → ℕ
   adds i = drawn_once (is_some (reads_as op.kind op.from i)) (i == j && (n == q && named op i == k))
@@ -68,7 +68,7 @@ module _ (places : List Place) (q k j n : ℕ) (op : Op) where
       (times_both q k j (wire_of places n op 1) (wire_of places n op 2) ∙ ap₂ (λ a b. a + b) (times_of_wire 1) (times_of_wire 2))
 
 -- the lines of another operation are others
-others : (places : List Place) (q k j n : ℕ) (op : Op) → n ≢ q → times q k j (wires_of places n (Some op)) ≡ 0
+others : (places : List BoxPlace) (q k j n : ℕ) (op : Op) → n ≢ q → times q k j (wires_of places n (Some op)) ≡ 0
 others places q k j n op ne =
     let none : (n == q) ≡ false = unequal n q ne (n == q) refl in
     let none_at : (i : ℕ) → adds places q k j n op i ≡ 0 = λ i.
@@ -76,14 +76,14 @@ others places q k j n op ne =
     times_of places q k j n op ∙ ap₂ (λ a b. a + b) (none_at 0) (ap₂ (λ a b. a + b) (none_at 1) (none_at 2))
 
 -- no operation has a fourth operand
-no_fourth : (places : List Place) (q k j n : ℕ) (op : Op) → 3 ≤ j → times q k j (wires_of places n (Some op)) ≡ 0
+no_fourth : (places : List BoxPlace) (q k j n : ℕ) (op : Op) → 3 ≤ j → times q k j (wires_of places n (Some op)) ≡ 0
 no_fourth places q k j n op le =
     let off : (i : ℕ) → i < 3 → (i == j) ≡ false = λ i lt. unequal i j (λ e. omega (arith, e, lt, le)) (i == j) refl in
     let none_at : (i : ℕ) → i < 3 → adds places q k j n op i ≡ 0 = λ i lt. rw (off i lt) (none_drawn (is_some (reads_as op.kind op.from i))) in
     times_of places q k j n op ∙ ap₂ (λ a b. a + b) (none_at 0 (omega arith)) (ap₂ (λ a b. a + b) (none_at 1 (omega arith)) (none_at 2 (omega arith)))
 
 -- of the operation itself, those of operand j
-own_lines : (places : List Place) (q k j : ℕ) (op : Op) → j < 3
+own_lines : (places : List BoxPlace) (q k j : ℕ) (op : Op) → j < 3
     → times q k j (wires_of places q (Some op)) ≡ drawn_once (is_some (reads_as op.kind op.from j)) (q == q && named op j == k)
 own_lines places q k zero op lt =
     let second : adds places q k 0 q op 1 ≡ 0 = none_drawn (is_some (reads_as op.kind op.from 1)) in
@@ -101,7 +101,7 @@ own_lines places q k (suc (suc (suc j))) op lt = absurd (omega (arith, lt))
 
 -- ---- the lines of all
 
-module _ (g : Lists) (places : List Place) (q k j : ℕ) where
+module _ (g : Lists) (places : List BoxPlace) (q k j : ℕ) where
   abbrev drawn : ℕ → ℕ
   drawn n = times q k j (wires_below g places n)
 
@@ -164,17 +164,17 @@ module _ (g : Lists) (places : List Place) (q k j : ℕ) where
         names = eqb-true (named op.0 j) k (both_true (q == q) (named op.0 j == k) tells.1).1;
       }
 
-nothing_there : (g : Lists) (places : List Place) (q k j : ℕ) → length g.operations ≤ q → 0 < times q k j (wires_below g places (length g.operations)) → ⊥
+nothing_there : (g : Lists) (places : List BoxPlace) (q k j : ℕ) → length g.operations ≤ q → 0 < times q k j (wires_below g places (length g.operations)) → ⊥
 nothing_there g places q k j le some = omega (arith, some, none_yet g places q k j (length g.operations) le (omega arith))
 
-within : (g : Lists) (places : List Place) (q k j : ℕ) → 0 < times q k j (wires_below g places (length g.operations)) → j < 3
+within : (g : Lists) (places : List BoxPlace) (q k j : ℕ) → 0 < times q k j (wires_below g places (length g.operations)) → j < 3
 within g places q k j some = elim (cases_order j 3) [
   | inl e ↦ absurd (omega (arith, some, none_at_all g places q k j (length g.operations) (omega (arith, e)) (omega arith)))
   | inr (inl l) ↦ l
   | inr (inr l) ↦ absurd (omega (arith, some, none_at_all g places q k j (length g.operations) (omega (arith, l)) (omega arith)))
 ]
 
-pub draws_reads : (g : Lists) (places : List Place) → DrawsReads g (wires_below g places (length g.operations))
+pub draws_reads : (g : Lists) (places : List BoxPlace) → DrawsReads g (wires_below g places (length g.operations))
 draws_reads g places = record {
   once = λ q k j lt reads. once g places q k j lt reads;
   only = λ q k j some. elim (cases_order q (length g.operations)) [

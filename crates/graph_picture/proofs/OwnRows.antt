@@ -2,23 +2,24 @@
 use Rattle.std.proofs.Common.{◌≡◌, ◌≢◌, ◌⊎◌, inl, inr, ℕ, zero, suc, ◌+◌, ◌<◌, ◌≤◌, List, [], ◌∷◌, ◌++◌, length, replicate, Some, slice_get, slice_index_or, slice_set, refl, sym, ap, ◌∙◌, arith, length-append}
 use Rattle.std.proofs.lemmas.Bool.{cases_order}
 use Rattle.std.proofs.lemmas.List.{get_or-set_same, get_or-set_other, get_or-replicate, get_or_past, length-replicate}
-use Rattle.graph_picture.specs.declared.layout.Place.{Place}
+use Rattle.graph_picture.specs.declared.layout.BoxPlace.{BoxPlace}
 use Rattle.graph_picture.specs.Arrangement.{HaveOwnRows}
 
 -- what is known of the next row of each column while places are given: it is below those of the column
-pub record IsFilled (next : List ℕ) (places : List Place) : Type 0 where
-  pub under : (i : ℕ) (p : Place) → slice_get places i ≡ Some p → p.row < slice_index_or next p.column 0
+pub record IsFilled (next : List ℕ) (places : List BoxPlace) : Type 0 where
+  pub under : (i : ℕ) (p : BoxPlace) → slice_get places i ≡ Some p → p.row < slice_index_or next p.column 0
   pub own : HaveOwnRows places
   pub few : (c : ℕ) → slice_index_or next c 0 ≤ length places
 
 -- an element of a list with one behind it
-last_or : (xs : List Place) (p q : Place) (i : ℕ) → slice_get (xs ++ p ∷ []) i ≡ Some q → (slice_get xs i ≡ Some q) ⊎ ((i ≡ length xs) × (q ≡ p))
+pub last_or : {X : Type 0} (xs : List X) (p q : X) (i : ℕ) → slice_get (xs ++ p ∷ []) i ≡ Some q → (slice_get xs i ≡ Some q) ⊎ ((i ≡ length xs) × (q ≡ p))
 last_or [] p q zero e = let same : q ≡ p = cc in inr (refl, same)
 last_or [] p q (suc i) e = absurd cc
 last_or (x ∷ xs) p q zero e = inl e
 last_or (x ∷ xs) p q (suc i) e = elim (last_or xs p q i e) [ inl h ↦ inl h | inr h ↦ inr (ap suc h.0, h.1) ]
 
-none_at : (i : ℕ) (p : Place) → slice_get [] i ≡ Some p → ⊥
+-- nothing is an element of the empty list
+pub none_at : {X : Type 0} (i : ℕ) (p : X) → slice_get [] i ≡ Some p → ⊥
 none_at zero p e = cc
 none_at (suc i) p e = cc
 
@@ -61,15 +62,15 @@ few_more : (next : List ℕ) (c row d n : ℕ) → c < length next → row ≤ n
 few_more next c row d n lt first second = elim (changed next c row d lt) [ inl h ↦ omega (arith, first, h.1) | inr h ↦ omega (arith, second, h.1) ]
 
 -- a row above the next one of its column
-other_row : (next : List ℕ) (p q : Place) → p.row < slice_index_or next p.column 0 → p.column ≡ q.column → slice_index_or next q.column 0 ≤ q.row
+other_row : (next : List ℕ) (p q : BoxPlace) → p.row < slice_index_or next p.column 0 → p.column ≡ q.column → slice_index_or next q.column 0 ≤ q.row
     → p.row ≢ q.row
 other_row next p q lt same is = λ e.
     let at : slice_index_or next p.column 0 ≡ slice_index_or next q.column 0 = ap (λ k. slice_index_or next k 0) same in
     omega (arith, lt, at, is, e)
 
-module _ (next : List ℕ) (places : List Place) (p : Place) (filled : IsFilled next places) (inside : p.column < length next)
+module _ (next : List ℕ) (places : List BoxPlace) (p : BoxPlace) (filled : IsFilled next places) (inside : p.column < length next)
     (below : slice_index_or next p.column 0 ≤ p.row) (few : p.row ≤ length places) where
-  below_last : (q : Place) → q ≡ p → slice_index_or next q.column 0 ≤ q.row
+  below_last : (q : BoxPlace) → q ≡ p → slice_index_or next q.column 0 ≤ q.row
   below_last q e = rw e below
 
   own_more : HaveOwnRows (places ++ p ∷ [])
@@ -87,7 +88,7 @@ module _ (next : List ℕ) (places : List Place) (p : Place) (filled : IsFilled 
             ]
       ]
 
-  under_more : (i : ℕ) (a : Place) → slice_get (places ++ p ∷ []) i ≡ Some a → a.row < slice_index_or (raised next p.column p.row) a.column 0
+  under_more : (i : ℕ) (a : BoxPlace) → slice_get (places ++ p ∷ []) i ≡ Some a → a.row < slice_index_or (raised next p.column p.row) a.column 0
   under_more i a e =
       elim (last_or places p a i e) [
         | inl h ↦ omega (arith, filled.under i a h, grows next p.column p.row a.column inside below)
@@ -106,5 +107,5 @@ module _ (next : List ℕ) (places : List Place) (p : Place) (filled : IsFilled 
   }
 
 -- the row of a box is below the number of them
-pub below_count : (next : List ℕ) (places : List Place) → IsFilled next places → (k : ℕ) (p : Place) → slice_get places k ≡ Some p → p.row ≤ length places
+pub below_count : (next : List ℕ) (places : List BoxPlace) → IsFilled next places → (k : ℕ) (p : BoxPlace) → slice_get places k ≡ Some p → p.row ≤ length places
 below_count next places filled k p there = omega (arith, filled.under k p there, filled.few p.column)

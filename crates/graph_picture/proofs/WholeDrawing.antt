@@ -4,7 +4,7 @@ use Rattle.std.proofs.lemmas.Bool.{cases_order}
 use Rattle.std.proofs.lemmas.Option.{slice_get_within}
 use Rattle.op_graph.specs.declared.op.Op.{Op}
 use Rattle.op_graph.specs.Lists.{Lists}
-use Rattle.graph_picture.specs.declared.layout.Place.{Place}
+use Rattle.graph_picture.specs.declared.layout.BoxPlace.{BoxPlace}
 use Rattle.graph_picture.specs.Arrangement.{place_at}
 use Rattle.svg_text.specs.Drawing.{each_below}
 use Rattle.graph_picture.specs.Drawn.{box_of, box_drawn, box_at, boxes_below}
@@ -44,7 +44,7 @@ there_is [] i lt = absurd (omega (arith, lt))
 there_is (x ∷ xs) zero lt = (x, refl)
 there_is (x ∷ xs) (suc i) lt = there_is xs i (omega (arith, lt))
 
-module _ {L : Type 0} (g : Lists) (MayLook : ℕ → L → Type 0) (looks : ℕ → L) (places : List Place)
+module _ {L : Type 0} (g : Lists) (MayLook : ℕ → L → Type 0) (looks : ℕ → L) (places : List BoxPlace)
     (look : (n : ℕ) → n < length g.operations → MayLook n (looks n)) where
   box_is : (n : ℕ) (op : Op) → slice_get g.operations n ≡ Some op → box_at g looks places n ≡ box_of g n (looks n) (place_at places n) op ∷ []
   box_is n op there = ap (box_drawn g n (looks n) (place_at places n)) there

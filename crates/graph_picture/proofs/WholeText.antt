@@ -12,7 +12,7 @@ use Rattle.svg_text.specs.Elements.{Element}
 use Rattle.svg_text.specs.WellFormed.{HasEachOnce}
 use Rattle.graph_picture.specs.declared.colours.Colour.{Colour}
 use Rattle.graph_picture.specs.declared.colours.Colour.TheVariants as colour
-use Rattle.graph_picture.specs.declared.layout.Place.{Place}
+use Rattle.graph_picture.specs.declared.layout.BoxPlace.{BoxPlace}
 use Rattle.graph_picture.specs.declared.looks.Look.{Look}
 use Rattle.graph_picture.specs.declared.looks.Look.TheVariants as look
 use Rattle.graph_picture.specs.Constants.{is_constant}
@@ -30,17 +30,17 @@ all_flat : {X : Type 0} (f : X → List Element) → ((x : X) → All (f x)) →
 all_flat f each [] = tt
 all_flat f each (x ∷ xs) = all_both (f x) (flat_map f xs) (each x) (all_flat f each xs)
 
-of_blindness : (g : Lists) (c : Colour) (p : Place) → All (blindness g c p)
+of_blindness : (g : Lists) (c : Colour) (p : BoxPlace) → All (blindness g c p)
 of_blindness g colour.Unreached p = tt
 of_blindness g colour.Plain p = tt
 of_blindness g (colour.Blind output after) p = (refl, tt)
 
-of_note : (g : Lists) (l : Look) (p : Place) → All (note g l p)
+of_note : (g : Lists) (l : Look) (p : BoxPlace) → All (note g l p)
 of_note g (look.Shown c) p = of_blindness g c p
 of_note g look.Untried p = tt
 of_note g (look.Tried w some all) p = (refl, tt)
 
-of_bar : (k : Kind) (p : Place) → All (cell_bar k p)
+of_bar : (k : Kind) (p : BoxPlace) → All (cell_bar k p)
 of_bar kind.Input p = tt
 of_bar kind.Const p = tt
 of_bar kind.Load p = (refl, tt)
@@ -66,12 +66,12 @@ all_if true xs ys h k = h
 all_if false xs ys h k = k
 
 module _ (g : Lists) (looks : ℕ → Look) where
-  of_constant : (p : Place) (which k : ℕ) (o : Option Op) → All (constant_of g looks p which k o)
+  of_constant : (p : BoxPlace) (which k : ℕ) (o : Option Op) → All (constant_of g looks p which k o)
   of_constant p which k None = tt
   of_constant p which k (Some op) =
       all_if (is_constant op.kind) (constant_elements p which k (looks k) (own_of g op.kind op.imm)) [] (refl, (refl, tt)) tt
 
-  of_operand : (p : Place) (op : Op) (which : ℕ) → All (constant_at g looks p op which)
+  of_operand : (p : BoxPlace) (op : Op) (which : ℕ) → All (constant_at g looks p op which)
   of_operand p op which =
       all_if (is_some (reads_as op.kind op.from which)) (constant_of g looks p which (named op which) (slice_get g.operations (named op which))) []
       (of_constant p which (named op which) (slice_get g.operations (named op which))) tt

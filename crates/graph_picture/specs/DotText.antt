@@ -15,7 +15,12 @@ use Rattle.graph_picture.specs.declared.colours.Colour.TheVariants as colour
 use Rattle.graph_picture.specs.Colours.{colours}
 use Rattle.graph_picture.specs.Constants.{is_constant}
 use Rattle.graph_picture.specs.Drawn.{Box, Wire, Drawing, drawing, own_of}
-use Rattle.graph_picture.specs.Characters.{written}
+use Rattle.svg_text.specs.declared.characters.Escaping.TheVariants as escaping
+use Rattle.svg_text.specs.Characters.{escaped_in}
+
+-- pieces of a label as they are written between double quotes
+abbrev pub written : List (List ℕ) → List ℕ
+written pieces = flat_map (escaped_in escaping.Quoted) pieces
 
 -- ---- the names of nodes
 

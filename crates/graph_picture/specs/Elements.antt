@@ -15,7 +15,7 @@ use Rattle.svg_text.specs.declared.names.Name.TheVariants as name
 use Rattle.svg_text.specs.Elements.{Element, attribute, element, picture_text}
 use Rattle.graph_picture.specs.declared.colours.Colour.{Colour}
 use Rattle.graph_picture.specs.declared.colours.Colour.TheVariants as colour
-use Rattle.graph_picture.specs.declared.layout.Place.{Place}
+use Rattle.graph_picture.specs.declared.layout.BoxPlace.{BoxPlace}
 use Rattle.graph_picture.specs.declared.legend.Sample.{Sample}
 use Rattle.graph_picture.specs.declared.looks.Look.{Look}
 use Rattle.graph_picture.specs.declared.looks.Look.TheVariants as look
@@ -48,34 +48,34 @@ class_of look.Untried = codes "plain"
 class_of (look.Tried w some all) = worst_class w
 
 -- the rectangle of an operation in its class
-abbrev pub outline : ℕ → Look → Place → Element
+abbrev pub outline : ℕ → Look → BoxPlace → Element
 outline n l p = element tag.Rect
     (attribute name.Operation (decimal n) ∷ attribute name.Class (class_of l) ∷ attribute name.X (decimal (left_of p))
     ∷ attribute name.Y (decimal (top_of p)) ∷ attribute name.Width (decimal box_width) ∷ attribute name.Height (decimal box_height) ∷ []) []
 
 -- words inside a box, so far below its upper side
-abbrev pub words : Place → ℕ → List (List ℕ) → Element
+abbrev pub words : BoxPlace → ℕ → List (List ℕ) → Element
 words p below pieces = element tag.Text (attribute name.X (decimal (left_of p + 5)) ∷ attribute name.Y (decimal (top_of p + below)) ∷ []) pieces
 
 -- the number and the kind
-abbrev pub head : ℕ → Kind → Place → Element
+abbrev pub head : ℕ → Kind → BoxPlace → Element
 head n k p = words p 12 (decimal n ∷ codes " " ∷ kind_name k ∷ [])
 
 -- the own name or value, and the place in the source
-abbrev pub own : List ℕ → Place → Element
+abbrev pub own : List ℕ → BoxPlace → Element
 own text p = words p 23 (text ∷ [])
 
-abbrev pub source : Spot → Place → Element
+abbrev pub source : Spot → BoxPlace → Element
 source spot p = words p 34 (codes "at " ∷ decimal spot.line ∷ codes ":" ∷ decimal spot.col ∷ [])
 
 -- in the last line of a box: of a blind operation, the output for which it is and the number of borders; and where faults stand, the worst that came of
 -- them, and of how many of how many
-abbrev pub blindness : Lists → Colour → Place → List Element
+abbrev pub blindness : Lists → Colour → BoxPlace → List Element
 blindness g colour.Unreached p = []
 blindness g colour.Plain p = []
 blindness g (colour.Blind output after) p = words p 45 (output_name g output ∷ codes " " ∷ decimal after ∷ []) ∷ []
 
-abbrev pub note : Lists → Look → Place → List Element
+abbrev pub note : Lists → Look → BoxPlace → List Element
 note g (look.Shown c) p = blindness g c p
 note g look.Untried p = []
 note g (look.Tried w some all) p = words p 45 (worst_class w ∷ codes " " ∷ decimal some ∷ codes "/" ∷ decimal all ∷ []) ∷ []
@@ -87,7 +87,7 @@ bar x y = element tag.Rect
     ∷ attribute name.Width (decimal 4) ∷ attribute name.Height (decimal box_height) ∷ []) []
 
 -- the bar of a cell: left of its LOAD, and right of its STORE
-abbrev pub cell_bar : Kind → Place → List Element
+abbrev pub cell_bar : Kind → BoxPlace → List Element
 cell_bar kind.Load p = bar (left_of p) (top_of p) ∷ []
 cell_bar kind.Store p = bar (left_of p + 92) (top_of p) ∷ []
 cell_bar _ p = []
@@ -95,27 +95,27 @@ cell_bar _ p = []
 -- ---- constants
 
 -- a small rectangle in a box, for operand `which`, in the class of the look of this constant
-abbrev pub patch : Place → ℕ → ℕ → Look → Element
+abbrev pub patch : BoxPlace → ℕ → ℕ → Look → Element
 patch p which k l = element tag.Rect
     (attribute name.Operand (decimal k) ∷ attribute name.Place (decimal which) ∷ attribute name.Class (class_of l) ∷ attribute name.X (decimal (left_of p + 52))
     ∷ attribute name.Y (decimal (top_of p + 2 + which * 11)) ∷ attribute name.Width (decimal 42) ∷ attribute name.Height (decimal 11) ∷ []) []
 
 -- the value in it
-abbrev pub patch_value : Place → ℕ → List ℕ → Element
+abbrev pub patch_value : BoxPlace → ℕ → List ℕ → Element
 patch_value p which value = element tag.Text
     (attribute name.X (decimal (left_of p + 54)) ∷ attribute name.Y (decimal (top_of p + 11 + which * 11)) ∷ []) (value ∷ [])
 
 -- a constant in the box of an operation that reads it as this operand
-abbrev pub constant_elements : Place → ℕ → ℕ → Look → List ℕ → List Element
+abbrev pub constant_elements : BoxPlace → ℕ → ℕ → Look → List ℕ → List Element
 constant_elements p which k l value = patch p which k l ∷ patch_value p which value ∷ []
 
 -- the operand of an operation, where that is this constant
-abbrev pub constant_of : Lists → (ℕ → Look) → Place → ℕ → ℕ → Option Op → List Element
+abbrev pub constant_of : Lists → (ℕ → Look) → BoxPlace → ℕ → ℕ → Option Op → List Element
 constant_of g looks p which k None = []
 constant_of g looks p which k (Some op) = cond (is_constant op.kind) (constant_elements p which k (looks k) (own_of g op.kind op.imm)) []
 
 -- operand `which` of an operation, where that is a constant
-abbrev pub constant_at : Lists → (ℕ → Look) → Place → Op → ℕ → List Element
+abbrev pub constant_at : Lists → (ℕ → Look) → BoxPlace → Op → ℕ → List Element
 constant_at g looks p op which =
     cond (is_some (reads_as op.kind op.from which)) (constant_of g looks p which (named op which) (slice_get g.operations (named op which))) []
 
@@ -202,7 +202,7 @@ abbrev pub graph_text : Lists → Audit → ℕ → Arrangement → List ℕ
 graph_text g a horizon l = picture_of g (audit_looks g a (horizon + 1)) audit_legend l
 
 -- a text is a picture of the graph up to a horizon
-pub record IsPictureOf (g : Lists) (horizon : ℕ) (text : List ℕ) : Type 0 where
+pub record IsGraphPicture (g : Lists) (horizon : ℕ) (text : List ℕ) : Type 0 where
   pub audit : Audit
   pub is : IsAudit g horizon audit
   pub arrangement : Arrangement

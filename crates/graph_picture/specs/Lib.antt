@@ -1,11 +1,11 @@
 pub mod Arrangement
 pub mod Colours
 pub mod Constants
+pub mod Depths
 pub mod Drawn
 pub mod Elements
 pub mod Looks
 pub mod Whole
-pub mod Characters
 pub mod DotText
 pub mod FaultsText
 pub mod VerdictLooks

@@ -3,12 +3,12 @@ use Rattle.std.specs.Prelude.{◌≡◌, ◌<◌, ℕ, ◌+◌, ◌==◌, ◌&&�
 use Rattle.op_graph.specs.declared.op.Op.{Op}
 use Rattle.op_graph.specs.Lists.{Lists}
 use Rattle.op_graph.specs.Reads.{Reads}
-use Rattle.graph_picture.specs.declared.layout.Place.{Place}
+use Rattle.graph_picture.specs.declared.layout.BoxPlace.{BoxPlace}
 use Rattle.graph_picture.specs.Arrangement.{place_at}
 use Rattle.graph_picture.specs.Drawn.{Box, Wire, Drawing, own_of}
 
 -- the box of operation n: with its number, what it is, its own name or value, a look that it may have, and at its place
-pub record IsBoxOf {L : Type 0} (g : Lists) (MayLook : ℕ → L → Type 0) (places : List Place) (n : ℕ) (op : Op) (b : Box L) : Type 0 where
+pub record IsBoxOf {L : Type 0} (g : Lists) (MayLook : ℕ → L → Type 0) (places : List BoxPlace) (n : ℕ) (op : Op) (b : Box L) : Type 0 where
   pub number : b.number ≡ n
   pub operation : b.op ≡ op
   pub own : b.own ≡ own_of g op.kind op.imm
@@ -16,7 +16,7 @@ pub record IsBoxOf {L : Type 0} (g : Lists) (MayLook : ℕ → L → Type 0) (pl
   pub place : b.place ≡ place_at places n
 
 -- the boxes are those of the operations, one for each, in order
-pub record DrawsOperations {L : Type 0} (g : Lists) (MayLook : ℕ → L → Type 0) (places : List Place) (boxes : List (Box L)) : Type 0 where
+pub record DrawsOperations {L : Type 0} (g : Lists) (MayLook : ℕ → L → Type 0) (places : List BoxPlace) (boxes : List (Box L)) : Type 0 where
   pub many : length boxes ≡ length g.operations
   pub each : (n : ℕ) (op : Op) → slice_get g.operations n ≡ Some op → (b : Box L) × (slice_get boxes n ≡ Some b) × IsBoxOf g MayLook places n op b
 
@@ -35,6 +35,6 @@ pub record DrawsReads (g : Lists) (wires : List Wire) : Type 0 where
   pub only : (q k j : ℕ) → 0 < times q k j wires → Reads g.operations q k j
 
 -- what is drawn of a graph is whole, where each operation may have such looks
-pub record IsWhole {L : Type 0} (g : Lists) (MayLook : ℕ → L → Type 0) (places : List Place) (d : Drawing L) : Type 0 where
+pub record IsWhole {L : Type 0} (g : Lists) (MayLook : ℕ → L → Type 0) (places : List BoxPlace) (d : Drawing L) : Type 0 where
   pub operations : DrawsOperations g MayLook places d.boxes
   pub reads : DrawsReads g d.wires

@@ -9,7 +9,7 @@ ghost use Rattle.graph_picture.specs.Elements.{colour_class as colour_class_of, 
 
 use crate::colours::Colour;
 use crate::constants::then_constant_at;
-use crate::layout::{Layout, Place, left, top};
+use crate::layout::{BoxPlace, GraphLayout, left, top};
 use crate::looks::{Look, Looks, Worst};
 use crate::names::{is_constant, own_piece};
 use op_graph::{Graph, Op};
@@ -54,7 +54,7 @@ pub(crate) fn class(look: Look) -> &'static [u8]
 }
 
 /// Draws the rectangle of operation `n`.
-fn then_outline<O: Sink>(line: &mut Line, out: &mut O, n: u32, look: Look, place: Place)
+fn then_outline<O: Sink>(line: &mut Line, out: &mut O, n: u32, look: Look, place: BoxPlace)
     ensures { GathersTo (O.seen out.old) (O.seen out.new) line.old line.new
         (element_text (outline n look place)) }
 {
@@ -75,7 +75,13 @@ fn then_outline<O: Sink>(line: &mut Line, out: &mut O, n: u32, look: Look, place
 }
 
 /// Draws words inside a box, so far below its upper side.
-fn then_words<O: Sink>(line: &mut Line, out: &mut O, place: Place, below: u64, pieces: &[Piece<'_>])
+fn then_words<O: Sink>(
+    line: &mut Line,
+    out: &mut O,
+    place: BoxPlace,
+    below: u64,
+    pieces: &[Piece<'_>],
+)
     requires { below ≤ 50 }
     ensures { GathersTo (O.seen out.old) (O.seen out.new) line.old line.new
         (element_text (words place below (map piece_bytes pieces.now))) }
@@ -93,7 +99,7 @@ fn then_words<O: Sink>(line: &mut Line, out: &mut O, place: Place, below: u64, p
 }
 
 /// Draws the number and the kind of operation `n`.
-fn then_head<O: Sink>(line: &mut Line, out: &mut O, n: u32, kind: Kind, place: Place)
+fn then_head<O: Sink>(line: &mut Line, out: &mut O, n: u32, kind: Kind, place: BoxPlace)
     ensures { GathersTo (O.seen out.old) (O.seen out.new) line.old line.new
         (element_text (head n kind place)) }
 {
@@ -111,7 +117,7 @@ fn then_head<O: Sink>(line: &mut Line, out: &mut O, n: u32, kind: Kind, place: P
 }
 
 /// Draws an operation's own name or value.
-fn then_own<O: Sink>(line: &mut Line, out: &mut O, text: Piece<'_>, place: Place)
+fn then_own<O: Sink>(line: &mut Line, out: &mut O, text: Piece<'_>, place: BoxPlace)
     ensures { GathersTo (O.seen out.old) (O.seen out.new) line.old line.new
         (element_text (own (piece_bytes text.entry) place)) }
 {
@@ -119,7 +125,7 @@ fn then_own<O: Sink>(line: &mut Line, out: &mut O, text: Piece<'_>, place: Place
 }
 
 /// Draws the place of an operation in the source.
-fn then_source<O: Sink>(line: &mut Line, out: &mut O, spot: Spot, place: Place)
+fn then_source<O: Sink>(line: &mut Line, out: &mut O, spot: Spot, place: BoxPlace)
     ensures { GathersTo (O.seen out.old) (O.seen out.new) line.old line.new
         (element_text (source spot place)) }
 {
@@ -143,7 +149,7 @@ fn then_blindness<O: Sink>(
     out: &mut O,
     graph: &Graph,
     colour: Colour,
-    place: Place,
+    place: BoxPlace,
 )
     ensures { GathersTo (O.seen out.old) (O.seen out.new) line.old line.new
         (flat_map element_text (blindness graph.now colour place)) }
@@ -171,7 +177,7 @@ fn then_share<O: Sink>(
     worst: Worst,
     some: u32,
     all: u64,
-    place: Place,
+    place: BoxPlace,
 )
     ensures { GathersTo (O.seen out.old) (O.seen out.new) line.old line.new
         (element_text (words place 45 (worst_class_of worst ∷ codes " " ∷ decimal some ∷ codes "/" ∷ decimal all ∷ []))) }
@@ -192,7 +198,7 @@ fn then_share<O: Sink>(
 }
 
 /// Draws what is noted in the last line of a box, where anything is.
-fn then_note<O: Sink>(line: &mut Line, out: &mut O, graph: &Graph, look: Look, place: Place)
+fn then_note<O: Sink>(line: &mut Line, out: &mut O, graph: &Graph, look: Look, place: BoxPlace)
     ensures { GathersTo (O.seen out.old) (O.seen out.new) line.old line.new
         (flat_map element_text (note graph.now look place)) }
 {
@@ -224,7 +230,7 @@ fn then_bar<O: Sink>(line: &mut Line, out: &mut O, x: u64, y: u64)
 }
 
 /// Draws the bar of a cell, of its LOAD at the left side, and of its STORE at the right.
-fn then_cell_bar<O: Sink>(line: &mut Line, out: &mut O, kind: Kind, place: Place)
+fn then_cell_bar<O: Sink>(line: &mut Line, out: &mut O, kind: Kind, place: BoxPlace)
     ensures { GathersTo (O.seen out.old) (O.seen out.new) line.old line.new
         (flat_map element_text (cell_bar kind place)) }
 {
@@ -243,7 +249,7 @@ fn then_body<O: Sink, L: Looks>(
     looks: &L,
     n: u32,
     look: Look,
-    place: Place,
+    place: BoxPlace,
     op: &Op,
 )
     requires tells { L.IsFor looks.now graph.now }
@@ -269,7 +275,7 @@ fn then_box<O: Sink, L: Looks>(
     looks: &L,
     n: u32,
     look: Look,
-    place: Place,
+    place: BoxPlace,
     op: &Op,
 )
     requires tells { L.IsFor looks.now graph.now }
@@ -287,7 +293,7 @@ pub(crate) fn then_boxes<O: Sink, L: Looks>(
     out: &mut O,
     graph: &Graph,
     looks: &L,
-    layout: &Layout,
+    layout: &GraphLayout,
 )
     requires tells { L.IsFor looks.now graph.now }
     ensures { GathersTo (O.seen out.old) (O.seen out.new) line.old line.new

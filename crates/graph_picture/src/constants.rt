@@ -9,7 +9,7 @@ ghost use Rattle.graph_picture.specs.Drawn.{own_of};
 ghost use Rattle.graph_picture.specs.Elements.{patch, patch_value, constant_elements, constant_of, constant_at};
 
 use crate::boxes::class;
-use crate::layout::{Place, left, top};
+use crate::layout::{BoxPlace, left, top};
 use crate::looks::{Look, Looks};
 use crate::names::{is_constant, own_piece};
 use op_graph::{Graph, Op, reads_operation};
@@ -17,7 +17,14 @@ use svg_text::{Name, Piece, Tag, then_element};
 use vcp_outside::{Line, Sink};
 
 /// Draws the small rectangle of constant `k` in a box that stands so, for operand `which`.
-fn then_patch<O: Sink>(line: &mut Line, out: &mut O, place: Place, which: u32, k: u32, look: Look)
+fn then_patch<O: Sink>(
+    line: &mut Line,
+    out: &mut O,
+    place: BoxPlace,
+    which: u32,
+    k: u32,
+    look: Look,
+)
     requires { which < 3 }
     ensures { GathersTo (O.seen out.old) (O.seen out.new) line.old line.new (element_text (patch place which k look)) }
 {
@@ -39,7 +46,7 @@ fn then_patch<O: Sink>(line: &mut Line, out: &mut O, place: Place, which: u32, k
 }
 
 /// Draws the value in it.
-fn then_value<O: Sink>(line: &mut Line, out: &mut O, place: Place, which: u32, value: Piece<'_>)
+fn then_value<O: Sink>(line: &mut Line, out: &mut O, place: BoxPlace, which: u32, value: Piece<'_>)
     requires { which < 3 }
     ensures { GathersTo (O.seen out.old) (O.seen out.new) line.old line.new
         (element_text (patch_value place which (piece_bytes value.entry))) }
@@ -61,7 +68,7 @@ fn then_constant<O: Sink>(
     line: &mut Line,
     out: &mut O,
     graph: &Graph,
-    place: Place,
+    place: BoxPlace,
     which: u32,
     k: u32,
     look: Look,
@@ -81,7 +88,7 @@ fn then_constant_of<O: Sink, L: Looks>(
     out: &mut O,
     graph: &Graph,
     looks: &L,
-    place: Place,
+    place: BoxPlace,
     which: u32,
     k: u32,
 )
@@ -105,7 +112,7 @@ pub(crate) fn then_constant_at<O: Sink, L: Looks>(
     out: &mut O,
     graph: &Graph,
     looks: &L,
-    place: Place,
+    place: BoxPlace,
     op: &Op,
     which: u32,
     k: u32,

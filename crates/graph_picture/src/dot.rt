@@ -6,7 +6,6 @@
 //! red, as in the picture of the graph. The text is written piece by piece.
 
 mod cells;
-mod characters;
 mod edges;
 mod labels;
 mod laws;

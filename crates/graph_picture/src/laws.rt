@@ -6,7 +6,7 @@ ghost use Rattle.op_graph.specs.Lists.{Lists};
 ghost use Rattle.weight_audit.specs.Audit.{Audit, IsAudit};
 ghost use Rattle.svg_text.specs.Elements.{Element};
 ghost use Rattle.svg_text.specs.WellFormed.{HasEachOnce, IsDocument};
-ghost use Rattle.graph_picture.specs.declared.layout.Place.{Place as PlaceOf};
+ghost use Rattle.graph_picture.specs.declared.layout.BoxPlace.{BoxPlace as PlaceOf};
 ghost use Rattle.graph_picture.specs.declared.looks.Look.{Look as LookOf};
 ghost use Rattle.graph_picture.specs.Arrangement.{Arrangement};
 ghost use Rattle.graph_picture.specs.Colours.{colours, IsColour};

@@ -3,8 +3,8 @@
 ghost use Rattle.std.specs.Prelude.{◌≡◌, ◌<◌, ◌≤◌, ◌^◌, IfOk};
 ghost use Rattle.graph_picture.specs.Arrangement.{left_of, top_of, place_at, IsArranged};
 
-use crate::columns::columns_of;
-use crate::rows::{corner, places_in};
+use crate::columns::depths_of;
+use crate::rows::{corner, places_by};
 use op_graph::Graph;
 use std::alloc::Global;
 use std::marker::Model;
@@ -12,7 +12,7 @@ use vcp_base::Memory;
 
 /// The place of a box: its column from the left and its row from above, counted from 0.
 #[derive(Clone, Copy, Debug, PartialEq, Eq)]
-pub struct Place {
+pub struct BoxPlace {
     /// The column.
     pub column: u32,
     /// The row.
@@ -20,7 +20,7 @@ pub struct Place {
 }
 
 /// The distance of a box from the left, in pixels.
-pub(crate) fn left(place: Place) -> u64
+pub(crate) fn left(place: BoxPlace) -> u64
     ensures value { result ≡ left_of place }
     ensures few { result < 2 ^ 41 }
 {
@@ -28,7 +28,7 @@ pub(crate) fn left(place: Place) -> u64
 }
 
 /// The distance of a box from above, in pixels.
-pub(crate) fn top(place: Place) -> u64
+pub(crate) fn top(place: BoxPlace) -> u64
     ensures value { result ≡ top_of place }
     ensures few { result < 2 ^ 41 }
 {
@@ -37,13 +37,13 @@ pub(crate) fn top(place: Place) -> u64
 
 /// The places of the boxes of a graph's operations, in order, and the size of the picture in pixels.
 #[derive(Debug, Drop)]
-pub struct Layout {
-    places: Vec<Place>,
+pub struct GraphLayout {
+    places: Vec<BoxPlace>,
     width: u64,
     height: u64,
 }
 
-impl Model for Layout {
+impl Model for GraphLayout {
     ghost use Rattle.graph_picture.specs.Arrangement.{Arrangement};
 
     ghost Value = { Arrangement };
@@ -51,14 +51,14 @@ impl Model for Layout {
     ghost view = { λ l. record { places = l.places.items; width = l.width; height = l.height } };
 }
 
-impl Layout {
+impl GraphLayout {
     /// The place of the box of operation `n`; the first one where there is no such operation.
-    pub(crate) fn place(&self, n: u32) -> Place
+    pub(crate) fn place(&self, n: u32) -> BoxPlace
         ensures { result ≡ place_at self.now.places n }
     {
         match self.places.get(n as usize) {
             Some(place) => *place,
-            None => Place { column: 0, row: 0 },
+            None => BoxPlace { column: 0, row: 0 },
         }
     }
 
@@ -87,13 +87,13 @@ fn with_legend(width: u64) -> u64
 /// The places of the boxes of a graph's operations: in columns by depth, what leaves the cycle in the last one; in the row of the
 /// first operand that is no constant, or below it where boxes of the column stand there. Each is inside the picture, but those of constants, which are drawn
 /// in others; and no two of a column overlap. The time is linear in the number of operations.
-pub fn layout_of(alloc: Global, graph: &Graph) -> Result<Layout, Memory>
+pub fn layout_of(alloc: Global, graph: &Graph) -> Result<GraphLayout, Memory>
     ensures { IfOk result (IsArranged graph.now) }
 {
-    let columns = columns_of(alloc, graph)?;
-    let places = places_in(alloc, graph, columns.as_slice())?;
+    let depths = depths_of(alloc, graph)?;
+    let places = places_by(alloc, graph, depths.as_slice())?;
     let end = corner(graph, places.as_slice());
-    Ok(Layout {
+    Ok(GraphLayout {
         places,
         width: with_legend(left(end) + 104),
         height: top(end) + 58,

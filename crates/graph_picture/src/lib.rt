@@ -25,7 +25,7 @@ mod wires;
 pub use colours::{Colour, colour_of};
 pub use dot::{a_text_draws_all, write_dot};
 pub use laws::a_graph_is_drawn_whole;
-pub use layout::{Layout, Place, layout_of};
+pub use layout::{BoxPlace, GraphLayout, layout_of};
 pub use legend::Sample;
 pub use looks::{Look, Looks, Worst};
 pub use names::{is_constant, own_piece};

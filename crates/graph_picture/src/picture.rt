@@ -7,7 +7,7 @@ ghost use Rattle.weight_audit.specs.Audit.{IsAudit};
 ghost use Rattle.graph_picture.specs.Elements.{graph_text, legend_of, picture_of};
 
 use crate::boxes::then_boxes;
-use crate::layout::Layout;
+use crate::layout::GraphLayout;
 use crate::legend::{Sample, then_legend};
 use crate::looks::{AuditLooks, Looks};
 use crate::wires::then_wires;
@@ -33,7 +33,7 @@ pub fn write_looks<O: Sink, L: Looks>(
     looks: &L,
     rules: &[u8],
     samples: &[Sample<'_>],
-    layout: &Layout,
+    layout: &GraphLayout,
 ) -> Result<(), Failed>
     requires tells { L.IsFor looks.now graph.now }
     ensures { WritesTo (O.seen out.old) (O.seen out.new)
@@ -55,7 +55,7 @@ pub fn write_picture<O: Sink>(
     graph: &Graph,
     weights: &Weights,
     horizon: u32,
-    layout: &Layout,
+    layout: &GraphLayout,
 ) -> Result<(), Failed>
     requires horizon { horizon ≤ most_horizon }
     requires audit { IsAudit graph.now horizon weights.now }

@@ -1,13 +1,14 @@
 //! The rows of operations: each of a column has its own.
 
 ghost use Rattle.std.specs.Prelude.{◌≡◌, ◌<◌, ◌≤◌, ◌^◌, ◌+◌, ℕ, length, slice_get, slice_index_or, slice_set, replicate, true, false, Some, IfOk, IfSome};
-ghost use Rattle.graph_picture.specs.declared.layout.Place.{Place as PlaceOf};
+ghost use Rattle.graph_picture.specs.declared.layout.BoxPlace.{BoxPlace as PlaceOf};
 ghost use Rattle.op_graph.specs.declared.op.Op.{Op as OpOf};
 ghost use Rattle.graph_picture.specs.Arrangement.{HaveOwnRows, IsWithin};
 ghost use Rattle.graph_picture.specs.Constants.{is_constant as is_constant_of};
+ghost use Rattle.graph_picture.specs.Depths.{depths_of, AreBelowTheirNumber, StandByDepth};
 
-use crate::columns::greater;
-use crate::layout::Place;
+use crate::columns::{column_of, deepest, depth_at, greater};
+use crate::layout::BoxPlace;
 use crate::names::is_constant;
 use op_graph::{Graph, reads_operation};
 use std::alloc::Global;
@@ -15,7 +16,7 @@ use std::marker::Model;
 use vcp_base::Memory;
 
 /// The place of operation `n` among these.
-fn place_of(places: &[Place], n: u32) -> Place
+fn place_of(places: &[BoxPlace], n: u32) -> BoxPlace
     requires { n < length places.now }
     ensures { slice_get places.now n ≡ Some result }
 {
@@ -23,14 +24,14 @@ fn place_of(places: &[Place], n: u32) -> Place
 }
 
 /// The greatest column and the greatest row of these and of the place of another operation, unless that is a constant.
-fn with_place(corner: Place, place: Place, constant: bool) -> Place
+fn with_place(corner: BoxPlace, place: BoxPlace, constant: bool) -> BoxPlace
     ensures earlier { (p : PlaceOf) → IsWithin corner p → IsWithin result p }
     ensures last { constant ≡ false → IsWithin result place }
 {
     if constant {
         corner
     } else {
-        Place {
+        BoxPlace {
             column: greater(corner.column, place.column),
             row: greater(corner.row, place.row),
         }
@@ -38,12 +39,12 @@ fn with_place(corner: Place, place: Place, constant: bool) -> Place
 }
 
 /// The greatest column and the greatest row of the places of a graph's operations that are no constants, and 0 where there are none.
-pub(crate) fn corner(graph: &Graph, places: &[Place]) -> Place
+pub(crate) fn corner(graph: &Graph, places: &[BoxPlace]) -> BoxPlace
     requires { length places.now ≡ length graph.now.operations }
     ensures { (i : ℕ) (op : OpOf) (p : PlaceOf) → slice_get graph.now.operations i ≡ Some op → is_constant_of op.kind ≡ false
         → slice_get places.now i ≡ Some p → IsWithin result p }
 {
-    let mut corner = Place { column: 0, row: 0 };
+    let mut corner = BoxPlace { column: 0, row: 0 };
     'places: for i in 0..graph.len() {
         let constant = is_constant(graph.operation(i).kind);
         let place = place_of(places, i);
@@ -52,15 +53,8 @@ pub(crate) fn corner(graph: &Graph, places: &[Place]) -> Place
     corner
 }
 
-/// A column, and the last one in the place of a later one.
-fn within(column: u32, last: u32) -> u32
-    ensures { result ≤ last }
-{
-    if column < last { column } else { last }
-}
-
 /// The row of operation `n`, whose place is among these, where it is drawn and `reads` says that it is read.
-fn row_of(graph: &Graph, places: &[Place], n: u32, reads: bool, most: u32) -> Option<u32>
+fn row_of(graph: &Graph, places: &[BoxPlace], n: u32, reads: bool, most: u32) -> Option<u32>
     requires rows { (k : ℕ) (p : PlaceOf) → slice_get places.now k ≡ Some p → p.row ≤ most }
     ensures { IfSome result (λ row. row ≤ most) }
 {
@@ -94,7 +88,7 @@ fn first_row(first: Option<u32>, second: Option<u32>, third: Option<u32>, most: 
 
 /// The row in which operation `i` would best stand: that of its first operand that is no constant, whose place is among
 /// these, and the first one where it has none.
-fn wanted_row(graph: &Graph, places: &[Place], i: u32) -> u32
+fn wanted_row(graph: &Graph, places: &[BoxPlace], i: u32) -> u32
     requires there { i < length graph.now.operations }
     requires rows { (k : ℕ) (p : PlaceOf) → slice_get places.now k ≡ Some p → p.row ≤ i }
     ensures { result ≤ i }
@@ -132,7 +126,7 @@ impl FreeRows {
 
     /// Takes a place in a column, behind `count` boxes in all: in the wanted row, or below the boxes
     /// of the column.
-    fn take(&mut self, column: u32, wanted: u32, count: u32) -> Place
+    fn take(&mut self, column: u32, wanted: u32, count: u32) -> BoxPlace
         requires column { column < length self.old }
         requires few { count < 2 ^ 17 }
         requires rows { slice_index_or self.old column 0 ≤ count }
@@ -144,22 +138,31 @@ impl FreeRows {
     {
         let row = greater(self.rows[column as usize], wanted);
         self.rows[column as usize] = row + 1;
-        Place { column, row }
+        BoxPlace { column, row }
     }
 }
 
-/// The places of a graph's operations in these columns.
-pub(crate) fn places_in(alloc: Global, graph: &Graph, columns: &[u32]) -> Result<Vec<Place>, Memory>
-    requires { length columns.now ≡ length graph.now.operations }
+/// The places of a graph's operations, which have these depths.
+pub(crate) fn places_by(
+    alloc: Global,
+    graph: &Graph,
+    depths: &[u32],
+) -> Result<Vec<BoxPlace>, Memory>
+    requires value { depths.now ≡ depths_of graph.now.operations }
+    requires many { length depths.now ≡ length graph.now.operations }
+    requires low { AreBelowTheirNumber depths.now }
     ensures many { IfOk result (λ places. length places.items ≡ length graph.now.operations) }
     ensures apart { IfOk result (λ places. HaveOwnRows places.items) }
+    ensures columns { IfOk result (λ places. StandByDepth graph.now.operations places.items) }
 {
     let count = graph.len();
+    let last = deepest(depths);
     let mut free = FreeRows::new(alloc, count as usize + 1)?;
     let mut places = Vec::new(alloc);
     'operations: for i in 0..count {
         let wanted = wanted_row(graph, places.as_slice(), i);
-        let place = free.take(within(columns[i as usize], count), wanted, i);
+        let column = column_of(graph.operation(i).kind, depth_at(depths, i), last, count);
+        let place = free.take(column, wanted, i);
         places.push(place)?;
     }
     Ok(places)

@@ -7,7 +7,7 @@ ghost use Rattle.svg_text.specs.Elements.{element_text};
 ghost use Rattle.graph_picture.specs.Drawn.{wire_of, wires_of, wires_below};
 ghost use Rattle.graph_picture.specs.Elements.{wire_element, line_from, wire_elements};
 
-use crate::layout::{Layout, Place, left, top};
+use crate::layout::{BoxPlace, GraphLayout, left, top};
 use crate::names::is_constant;
 use op_graph::{Graph, Op, reads_operation};
 use svg_text::{Name, Piece, Tag, then_element};
@@ -21,8 +21,8 @@ fn then_line<O: Sink>(
     operand: u32,
     reader: u32,
     which: u32,
-    from: Place,
-    to: Place,
+    from: BoxPlace,
+    to: BoxPlace,
 )
     requires { which < 3 }
     ensures { GathersTo (O.seen out.old) (O.seen out.new) line.old line.new
@@ -53,8 +53,8 @@ fn then_line_from<O: Sink>(
     operand: u32,
     reader: u32,
     which: u32,
-    from: Place,
-    to: Place,
+    from: BoxPlace,
+    to: BoxPlace,
 )
     requires { which < 3 }
     ensures { GathersTo (O.seen out.old) (O.seen out.new) line.old line.new
@@ -76,7 +76,7 @@ fn then_wire<O: Sink>(
     line: &mut Line,
     out: &mut O,
     graph: &Graph,
-    layout: &Layout,
+    layout: &GraphLayout,
     n: u32,
     op: &Op,
     j: u32,
@@ -93,7 +93,7 @@ fn then_wire<O: Sink>(
 }
 
 /// Draws the lines to the operands of operation `n`.
-fn then_operands<O: Sink>(line: &mut Line, out: &mut O, graph: &Graph, layout: &Layout, n: u32)
+fn then_operands<O: Sink>(line: &mut Line, out: &mut O, graph: &Graph, layout: &GraphLayout, n: u32)
     requires { n < length graph.now.operations }
     ensures { GathersTo (O.seen out.old) (O.seen out.new) line.old line.new
         (flat_map element_text (flat_map (wire_elements graph.now) (wires_of layout.now.places n (slice_get graph.now.operations n)))) }
@@ -105,7 +105,7 @@ fn then_operands<O: Sink>(line: &mut Line, out: &mut O, graph: &Graph, layout: &
 }
 
 /// Draws the lines to the operands of a graph's operations.
-pub(crate) fn then_wires<O: Sink>(line: &mut Line, out: &mut O, graph: &Graph, layout: &Layout)
+pub(crate) fn then_wires<O: Sink>(line: &mut Line, out: &mut O, graph: &Graph, layout: &GraphLayout)
     ensures { GathersTo (O.seen out.old) (O.seen out.new) line.old line.new
         (flat_map element_text (flat_map (wire_elements graph.now) (wires_below graph.now layout.now.places (length graph.now.operations)))) }
 {

@@ -13,7 +13,7 @@ use Rattle.vcp_inputs.specs.declared.refusal.Refusal.TheVariants as refusal
 use Rattle.vcp_inputs.specs.Files.{NotLoaded}
 use Rattle.vcp_inputs.specs.Images.{ImageOf, NotImage}
 use Rattle.graph_picture.specs.Arrangement.{Arrangement, IsArranged}
-use Rattle.graph_picture.specs.Elements.{IsPictureOf, graph_text}
+use Rattle.graph_picture.specs.Elements.{IsGraphPicture, graph_text}
 use Rattle.graph_picture.specs.DotText.{IsDotOf, dot_text}
 use Rattle.vcp_study_core.specs.declared.graph.Weighed.{Weighed}
 use Rattle.vcp_study_core.specs.declared.fault.Fault.{Fault}
@@ -80,7 +80,7 @@ module _ (IsTextOf : Lists → ℕ → List ℕ → Type 0) (name : List ℕ) (h
 
 -- the texts of a graph
 pub picture : (g : Lists) (horizon : ℕ) (a : Audit) → IsAudit g horizon a → (l : Arrangement) → IsArranged g l
-    → IsPictureOf g horizon (graph_text g a horizon l)
+    → IsGraphPicture g horizon (graph_text g a horizon l)
 picture g horizon a is l arranged = record { audit = a; is = is; arrangement = l; arranged = arranged; told = refl }
 
 pub dot_of : (g : Lists) (horizon : ℕ) (a : Audit) → IsAudit g horizon a → IsDotOf g horizon (dot_text g a horizon)

@@ -20,7 +20,7 @@ use Rattle.vcp_inputs.specs.Files.{IsRefused}
 use Rattle.vcp_inputs.specs.Images.{ImageOf, NotImage}
 use Rattle.vcp_inputs.specs.Lines.{memory_text, write_fault_text, input_text, input_status}
 use Rattle.op_graph.specs.Lists.{Lists}
-use Rattle.graph_picture.specs.Elements.{IsPictureOf}
+use Rattle.graph_picture.specs.Elements.{IsGraphPicture}
 use Rattle.graph_picture.specs.DotText.{IsDotOf}
 use Rattle.vcp_study_core.specs.RunLines.{run_text}
 use Rattle.vcp_study_core.specs.ScriptLines.{refused_line_text}
@@ -73,7 +73,7 @@ ReachesDrawn IsTextOf name horizon held old new b n (Err _) = ⊥
 
 -- How far `graph M HORIZON` comes, and `dot M HORIZON`.
 abbrev pub ReachesGraph : List ℕ → ℕ → Held → Option (List ℕ) → Option (List ℕ) → ℕ → ℕ → Result (Unit {0}) Fault → Type 0
-ReachesGraph name horizon held old new b n result = ReachesDrawn IsPictureOf name horizon held old new b n result
+ReachesGraph name horizon held old new b n result = ReachesDrawn IsGraphPicture name horizon held old new b n result
 
 abbrev pub ReachesDot : List ℕ → ℕ → Held → Option (List ℕ) → Option (List ℕ) → ℕ → ℕ → Result (Unit {0}) Fault → Type 0
 ReachesDot name horizon held old new b n result = ReachesDrawn IsDotOf name horizon held old new b n result

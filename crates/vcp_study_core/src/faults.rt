@@ -13,7 +13,7 @@ ghost use Rattle.vcp_study_core.specs.declared.fault.Fault.TheVariants as fault;
 use crate::fault::Fault;
 use crate::told::{Telling, told_command};
 use fault_script::Script;
-use graph_picture::{Layout, layout_of, write_faults};
+use graph_picture::{GraphLayout, layout_of, write_faults};
 use op_graph::Graph;
 use std::alloc::Global;
 use vcp_base::{Memory, Text};
@@ -25,7 +25,7 @@ fn draw<O: Sink>(
     graph: &Graph,
     script: &Script,
     verdicts: &Verdicts,
-    layout: &Layout,
+    layout: &GraphLayout,
     out: &mut O,
 ) -> Result<(), Fault>
     requires few { length script.now ≤ most_faults }

@@ -3,15 +3,13 @@
 ghost use Rattle.std.specs.Prelude.{[], ◌∷◌, codes, decimal};
 ghost use Rattle.vcp_outside.specs.Gathering.{GathersTo};
 ghost use Rattle.graph_picture.specs.Drawn.{own_of};
-ghost use Rattle.graph_picture.specs.Characters.{written};
-ghost use Rattle.graph_picture.specs.DotText.{head, named, source, blindness, label, constant_label};
+ghost use Rattle.graph_picture.specs.DotText.{written, head, named, source, blindness, label, constant_label};
 
-use crate::dot::characters::then_pieces;
 use crate::dot::words::has_name;
 use crate::{Colour, own_piece};
 use op_graph::{Graph, Op};
 use run_report::variable_name;
-use svg_text::Piece;
+use svg_text::{Escaping, Piece, then_pieces};
 use vcp_base::{Kind, Spot, kind_name};
 use vcp_outside::{Line, Sink};
 
@@ -22,6 +20,7 @@ fn then_head<O: Sink>(line: &mut Line, out: &mut O, n: u32, kind: Kind)
     then_pieces(
         line,
         out,
+        Escaping::Quoted,
         &[
             Piece::Count(n as u64),
             Piece::Bytes(b" "),
@@ -38,6 +37,7 @@ fn then_named<O: Sink>(line: &mut Line, out: &mut O, graph: &Graph, op: &Op)
         then_pieces(
             line,
             out,
+            Escaping::Quoted,
             &[Piece::Bytes(b"\n"), own_piece(graph, op.kind, op.imm)],
         );
     }
@@ -50,6 +50,7 @@ fn then_source<O: Sink>(line: &mut Line, out: &mut O, before: &[u8], spot: Spot)
     then_pieces(
         line,
         out,
+        Escaping::Quoted,
         &[
             Piece::Bytes(before),
             Piece::Bytes(b"at "),
@@ -69,6 +70,7 @@ fn then_blindness<O: Sink>(line: &mut Line, out: &mut O, graph: &Graph, colour: 
         Colour::Blind { output, after } => then_pieces(
             line,
             out,
+            Escaping::Quoted,
             &[
                 Piece::Bytes(b"\nblind: "),
                 Piece::Bytes(variable_name(graph, Kind::Out, output as u64)),
@@ -104,6 +106,7 @@ fn then_value<O: Sink>(line: &mut Line, out: &mut O, graph: &Graph, n: u32, op: 
     then_pieces(
         line,
         out,
+        Escaping::Quoted,
         &[
             own_piece(graph, op.kind, op.imm),
             Piece::Bytes(b"\n"),

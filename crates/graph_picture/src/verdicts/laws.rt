@@ -5,7 +5,7 @@ ghost use Rattle.op_graph.specs.Lists.{Lists};
 ghost use Rattle.svg_text.specs.WellFormed.{IsDocument};
 ghost use Rattle.fault_script.specs.declared.act.Fault.{Fault as FaultOf};
 ghost use Rattle.fault_injector.specs.declared.verdict.Verdict.{Verdict as VerdictOf};
-ghost use Rattle.graph_picture.specs.declared.layout.Place.{Place as PlaceOf};
+ghost use Rattle.graph_picture.specs.declared.layout.BoxPlace.{BoxPlace as PlaceOf};
 ghost use Rattle.graph_picture.specs.Arrangement.{Arrangement};
 ghost use Rattle.graph_picture.specs.Drawn.{drawing};
 ghost use Rattle.graph_picture.specs.Whole.{IsWhole};

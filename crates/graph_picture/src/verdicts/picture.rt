@@ -7,7 +7,7 @@ ghost use Rattle.graph_picture.specs.Elements.{legend_of};
 ghost use Rattle.graph_picture.specs.FaultsText.{faults_legend, faults_style, faults_text};
 
 use crate::verdicts::looks::VerdictLooks;
-use crate::{Layout, Sample, write_looks};
+use crate::{GraphLayout, Sample, write_looks};
 use fault_injector::Totals;
 use fault_script::Script;
 use op_graph::Graph;
@@ -78,7 +78,7 @@ pub fn write_faults<O: Sink>(
     graph: &Graph,
     script: &Script,
     verdicts: &Verdicts,
-    layout: &Layout,
+    layout: &GraphLayout,
 ) -> Result<(), Failed>
     requires few { length script.now ≤ most_faults }
     requires many { length verdicts.now ≡ length script.now }

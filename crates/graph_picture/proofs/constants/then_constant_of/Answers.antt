@@ -3,7 +3,7 @@ use Rattle.std.proofs.lemmas.Option.{slice_get_past}
 use Rattle.op_graph.specs.declared.op.Op.{Op}
 use Rattle.op_graph.specs.Lists.{Lists}
 use Rattle.svg_text.specs.Elements.{element_text}
-use Rattle.graph_picture.specs.declared.layout.Place.{Place}
+use Rattle.graph_picture.specs.declared.layout.BoxPlace.{BoxPlace}
 use Rattle.graph_picture.specs.declared.looks.Look.{Look}
 use Rattle.graph_picture.specs.Constants.{is_constant}
 use Rattle.graph_picture.specs.Drawn.{own_of}
@@ -11,7 +11,7 @@ use Rattle.graph_picture.specs.Elements.{constant_elements, constant_of}
 use Rattle.graph_picture.proofs.Going.{same, unmoved}
 use Rattle.graph_picture.proofs.constants.then_constant_of.Goals as goal
 
-module _ (g : Lists) (looks : ℕ → Look) (p : Place) (which k : ℕ) (op : Op) where
+module _ (g : Lists) (looks : ℕ → Look) (p : BoxPlace) (which k : ℕ) (op : Op) where
   of_constant : is_constant op.kind ≡ true
       → constant_of g looks p which k (Some op) ≡ constant_elements p which k (looks k) (own_of g op.kind op.imm)
   of_constant is = ap (λ t. cond t (constant_elements p which k (looks k) (own_of g op.kind op.imm)) []) is

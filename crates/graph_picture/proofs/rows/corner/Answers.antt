@@ -2,7 +2,7 @@ use Rattle.std.proofs.Common.{◌≡◌, inl, inr, false, length, Option, Some, 
 use Rattle.std.proofs.lemmas.Bool.{cases_order}
 use Rattle.std.proofs.lemmas.Option.{slice_get_within}
 use Rattle.op_graph.specs.declared.op.Op.{Op}
-use Rattle.graph_picture.specs.declared.layout.Place.{Place}
+use Rattle.graph_picture.specs.declared.layout.BoxPlace.{BoxPlace}
 use Rattle.graph_picture.specs.Arrangement.{IsWithin}
 use Rattle.graph_picture.specs.Constants.{is_constant}
 use Rattle.graph_picture.proofs.rows.corner.Goals as goal
@@ -21,7 +21,7 @@ places-preserved c = λ k op p lt there is at.
           same_there (slice_get c.args.places.now c.places.i) c.place_of-place.result p c.place_of-place.ensures
           (ap (slice_get c.args.places.now) (sym e) ∙ at) in
           let plain : c.is_constant-constant.result ≡ false = c.is_constant-constant.ensures ∙ (ap (λ (o : Op). is_constant o.kind) op_is ∙ is) in
-          subst (λ (q : Place). IsWithin c.with_place-corner.result q) place_is (c.with_place-corner.ensures.last plain)
+          subst (λ (q : BoxPlace). IsWithin c.with_place-corner.result q) place_is (c.with_place-corner.ensures.last plain)
       | inr (inl l) ↦ c.with_place-corner.ensures.earlier p (c.places.invariant k op p l there is at)
       | inr (inr l) ↦ absurd (omega (arith, l, lt))
     ]

@@ -1,6 +1,6 @@
 use Rattle.std.proofs.Common.{◌≡◌, length, add-one, arith}
 use Rattle.op_graph.specs.Lists.{cells}
-use Rattle.graph_picture.proofs.DotGoing.{and_then, unmoved}
+use Rattle.graph_picture.proofs.Going.{and_then, unmoved}
 use Rattle.graph_picture.proofs.dot.cells.then_cells.Goals as goal
 
 pub cells-init : goal.cells-init

@@ -1,7 +1,8 @@
 use Rattle.std.proofs.Common.{ap, ◌++◌, ◌∙◌, [], flat_map}
 use Rattle.graph_picture.specs.Drawn.{wire_of}
 use Rattle.graph_picture.specs.DotText.{wire_text}
-use Rattle.graph_picture.proofs.DotGoing.{and_then, same, more}
+use Rattle.std.proofs.lemmas.Grind.{flat_map-append}
+use Rattle.graph_picture.proofs.Going.{and_then, same}
 use Rattle.graph_picture.proofs.dot.edges.then_operands.Goals as goal
 
 pub returns : goal.returns
@@ -13,4 +14,4 @@ returns g c =
     let second = wire_of [] c.args.n op 1 in
     let third = wire_of [] c.args.n op 2 in
     rw c.operation-op.ensures
-    (same all (more drawn first (second ++ third) ∙ ap (λ t. flat_map drawn first ++ t) (more drawn second third)))
+    (same all (flat_map-append drawn first (second ++ third) ∙ ap (λ t. flat_map drawn first ++ t) (flat_map-append drawn second third)))

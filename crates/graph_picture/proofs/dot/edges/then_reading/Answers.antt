@@ -6,7 +6,7 @@ use Rattle.weight_audit.specs.Audit.{Audit}
 use Rattle.graph_picture.specs.Colours.{colour_of}
 use Rattle.graph_picture.specs.Constants.{is_constant}
 use Rattle.graph_picture.specs.DotText.{node_name, edge_line, constant_text, reading_text}
-use Rattle.graph_picture.proofs.DotGoing.{same}
+use Rattle.graph_picture.proofs.Going.{same}
 use Rattle.graph_picture.proofs.dot.edges.then_reading.Goals as goal
 
 -- the line from a constant

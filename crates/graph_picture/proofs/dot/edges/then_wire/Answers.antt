@@ -2,7 +2,7 @@ use Rattle.std.proofs.Common.{◌≡◌, true, sym, ◌∙◌}
 use Rattle.std.proofs.lemmas.List.{append-nil}
 use Rattle.std.specs.Option.{is_some}
 use Rattle.op_graph.specs.Rules.{reads_as}
-use Rattle.graph_picture.proofs.DotGoing.{same}
+use Rattle.graph_picture.proofs.Going.{same}
 use Rattle.graph_picture.proofs.dot.edges.then_wire.Goals as goal
 
 pub returns-then-reads_operation : goal.returns-then-reads_operation

@@ -1,7 +1,7 @@
 use Rattle.std.proofs.Common.{codes, decimal, ◌∷◌, []}
 use Rattle.graph_picture.specs.Drawn.{own_of}
 use Rattle.graph_picture.specs.DotText.{source, blindness}
-use Rattle.graph_picture.proofs.DotGoing.{and_then, same, in_three}
+use Rattle.graph_picture.proofs.Going.{and_then, same, in_three}
 use Rattle.graph_picture.proofs.dot.labels.then_constant_label.Goals as goal
 
 pub returns : goal.returns

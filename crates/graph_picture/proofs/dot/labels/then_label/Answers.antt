@@ -1,6 +1,6 @@
 use Rattle.graph_picture.specs.DotText.{head, named, source, blindness}
 use Rattle.std.proofs.Common.{codes}
-use Rattle.graph_picture.proofs.DotGoing.{and_then, same, in_four}
+use Rattle.graph_picture.proofs.Going.{and_then, same, in_four}
 use Rattle.graph_picture.proofs.dot.labels.then_label.Goals as goal
 
 pub returns : goal.returns

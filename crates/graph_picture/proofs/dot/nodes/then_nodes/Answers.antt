@@ -5,7 +5,7 @@ use Rattle.graph_picture.specs.Arrangement.{place_at}
 use Rattle.graph_picture.specs.Colours.{colours}
 use Rattle.graph_picture.specs.Drawn.{box_at, box_drawn}
 use Rattle.graph_picture.specs.DotText.{box_text}
-use Rattle.graph_picture.proofs.DotGoing.{and_then, same, one_more, unmoved}
+use Rattle.graph_picture.proofs.Going.{and_then, same, one_text_more, unmoved}
 use Rattle.graph_picture.proofs.dot.nodes.then_nodes.Goals as goal
 
 pub operations-init : goal.operations-init
@@ -19,7 +19,7 @@ operations-preserved g c =
     let boxes = box_at graph looks [] in
     let drawn = rw (c.colour_of-colour.ensures, c.outputs.ensures) at c.then_node.ensures in
     same (and_then c.operations.invariant drawn)
-    (one_more (box_text graph) boxes n ∙ ap (λ t. flat_map (box_text graph) (each_below boxes n) ++ t)
+    (one_text_more (box_text graph) boxes n ∙ ap (λ t. flat_map (box_text graph) (each_below boxes n) ++ t)
     (ap (λ o. flat_map (box_text graph) (box_drawn graph n (looks n) (place_at [] n) o)) c.operation.ensures ∙ append-nil _))
 
 pub returns : goal.returns

@@ -1,4 +1,4 @@
-use Rattle.graph_picture.proofs.DotGoing.{and_then}
+use Rattle.graph_picture.proofs.Going.{and_then}
 use Rattle.graph_picture.proofs.dot.nodes.then_operation.Goals as goal
 
 pub returns : goal.returns

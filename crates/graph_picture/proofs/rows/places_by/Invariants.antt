@@ -1,10 +1,12 @@
 use Rattle.std.proofs.Common.{◌≡◌, ◌+◌, length}
+use Rattle.graph_picture.specs.Depths.{StandByDepth}
 use Rattle.graph_picture.proofs.OwnRows.{IsFilled}
-use Rattle.graph_picture.proofs.rows.places_in.Given as goal
+use Rattle.graph_picture.proofs.rows.places_by.Given as goal
 
 abbrev pub invariant-operations : goal.invariant-operations
 invariant-operations l = record {
   many : length l.places.items ≡ l.i;
-  columns : length l.free ≡ l.count + 1;
+  free : length l.free ≡ l.count + 1;
   filled : IsFilled l.free l.places.items;
+  stand : StandByDepth l.graph.operations l.places.items;
 }

@@ -1,9 +1,0 @@
-use Rattle.std.proofs.Common.{take, flat_map}
-use Rattle.vcp_outside.specs.Gathering.{GathersTo}
-use Rattle.svg_text.specs.Characters.{piece_bytes}
-use Rattle.graph_picture.specs.Characters.{escaped}
-use Rattle.graph_picture.proofs.dot.characters.then_pieces.Given as goal
-
-abbrev pub invariant-pieces : goal.invariant-pieces
-invariant-pieces g l = GathersTo (g.O.Sink.seen l.fn.out) (g.O.Sink.seen l.out)
-    l.fn.line l.line (flat_map (λ piece. escaped (piece_bytes piece)) (take l.i l.pieces))
