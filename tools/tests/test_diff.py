@@ -3,7 +3,10 @@ from __future__ import annotations
 
 import unittest
 
-from vcp_tools.read.image import read_image
+from vcp_tools.compare.diff import Comparison
+from vcp_tools.read.given import Given
+from vcp_tools.read.image import Image, Operation, Slot, read_image
+from vcp_tools.read.source import Source
 from vcp_tools.refusal import Refusal
 from tests.support import EXAMPLES, InFolder, needs_program
 
@@ -116,6 +119,53 @@ class Differences(InFolder):
         self.assertIn("seed and step are 305419896 and 1 in A, 7 and 1 in B", printed)
         self.write("bad.st", "PROGRAM p r = 1; END_PROGRAM")
         self.assertIn("S4 Syntax", self.tool("diff", "a.st", "bad.st", status=2))
+
+
+class Readers(unittest.TestCase):
+    """What is told where it is read, of graphs that are made by hand."""
+
+    def compared(self, old: str, new: str, first: list[Operation], second: list[Operation]) -> list[str]:
+        """What is said of two graphs with two inputs and two outputs, which are the last operations."""
+        given = []
+        for text, operations in ((old, first), (new, second)):
+            kind = operations[0].type
+            inputs = [Slot(name, kind, number) for number, name in enumerate("ab")]
+            outputs = [Slot(name, operations[-2 + number].type, len(operations) - 2 + number) for number, name in enumerate("mn")]
+            given.append(Given("p.st", Image(1, 1, 0, inputs, outputs, [], operations), b"", Source(text.encode())))
+        return list(Comparison(*given).differences())
+
+    def test_a_constant_that_stands_elsewhere(self) -> None:
+        text = "\n\n\nm := a + 3;\nn := b + 3;\n"
+        both = [made(0, "INPUT", 0, "1:1"), made(1, "INPUT", 1, "1:2"), made(2, "CONST", 3, "4:10"), made(3, "ADD", 0, "4:8", 0, 2)]
+        first = [*both, made(4, "ADD", 0, "5:8", 1, 2), made(5, "OUT", 0, "2:1", 3), made(6, "OUT", 1, "2:2", 4)]
+        second = [*both, made(4, "CONST", 4, "5:10"), made(5, "ADD", 0, "5:8", 1, 4), made(6, "OUT", 0, "2:1", 3), made(7, "OUT", 1, "2:2", 5)]
+        self.assertEqual(self.compared(text, text.replace("b + 3", "b + 4"), first, second), [
+            "output n: in A operation 4, ADD at 5:8 for n, which reads CONST 3; in B operation 5, ADD at 5:8 for n, which reads CONST 4\n"
+            "    A: n := b + 3;\n    B: n := b + 4;"])
+
+    def test_operands_that_both_sides_have(self) -> None:
+        text = "\n\n\nm := a + a;\nn := (m - 1) - (b + b);\n"
+        both = [made(0, "INPUT", 0, "1:1"), made(1, "INPUT", 1, "1:2"), made(2, "ADD", 0, "4:8", 0, 0), made(3, "CONST", 1, "5:11"),
+                made(4, "ADD", 0, "5:19", 1, 1), made(5, "SUB", 0, "5:9", 2, 3)]
+        first = [*both, made(6, "SUB", 0, "5:14", 5, 4), made(7, "OUT", 0, "2:1", 2), made(8, "OUT", 1, "2:2", 6)]
+        second = [*both, made(6, "SUB", 0, "5:14", 5, 2), made(7, "OUT", 0, "2:1", 2), made(8, "OUT", 1, "2:2", 6)]
+        told = self.compared(text, text.replace("(b + b)", "m"), first, second)
+        self.assertEqual(told[0], "output n: in A operation 6, SUB at 5:14 for n, which reads operation 4, ADD at 5:19 for n; in B operation 6, SUB at 5:14 "
+                                  "for n, which reads operation 2, ADD at 4:8\n    A: n := (m - 1) - (b + b);\n    B: n := (m - 1) - m;")
+
+    def test_exchanged_operands(self) -> None:
+        text = "\n\n\nm := a + b;\nn := a;\n"
+        both = [made(0, "INPUT", 0, "1:1"), made(1, "INPUT", 1, "1:2")]
+        ends = [made(3, "OUT", 0, "2:1", 2), made(4, "OUT", 1, "2:2", 0)]
+        first, second = [*both, made(2, "ADD", 0, "4:8", 0, 1), *ends], [*both, made(2, "ADD", 0, "4:8", 1, 0), *ends]
+        self.assertEqual(self.compared(text, text.replace("a + b", "b + a"), first, second), [
+            "output m: in A operation 2, ADD at 4:8; in B operation 2, ADD at 4:8, the same operands in another order\n    A: m := a + b;\n    B: m := b + a;"])
+
+
+def made(number: int, kind: str, own: int, place: str, *operands: int) -> Operation:
+    """An operation of INT."""
+    line, column = map(int, place.split(":"))
+    return Operation(number, kind, "INT", "INT", operands, own, line, column, (), 0)
 
 
 if __name__ == "__main__":

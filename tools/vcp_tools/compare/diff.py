@@ -76,6 +76,16 @@ class Pair:
     b: Cell
 
 
+@dataclass(frozen=True)
+class Parting:
+    """The operations at which two graphs part, of A and of B, and those that read them there."""
+
+    a: Operation
+    b: Operation
+    reader_a: Operation
+    reader_b: Operation
+
+
 class Comparison:
     """Two graphs side by side."""
 
@@ -88,6 +98,7 @@ class Comparison:
         self.parted: tuple[set[int], set[int]] = (set(), set())
         self.trees_a = trees.of(a.image, names_a)
         self.trees_b = trees.of(b.image, names_b)
+        self.known_a, self.known_b = frozenset(self.trees_a), frozenset(self.trees_b)
 
     def notes(self) -> Iterator[str]:
         """What differs and is no operation: the code, and names of cells."""
@@ -128,31 +139,51 @@ class Comparison:
         by_name = {slot.name.upper(): slot for slot in self.b.image.outputs}
         ends = [(f"output {slot.name}", slot.operation, by_name[slot.name.upper()].operation) for slot in self.a.image.outputs if slot.name.upper() in by_name]
         ends += [(f"kept value {pair.a.name}", pair.a.store, pair.b.store) for pair in self.pairs]
-        parts: dict[tuple[int, int], list[str]] = {}
+        parts: dict[str, list[str]] = {}
         for what, first, second in ends:
-            place = self._parting(first, second)
-            if place is not None:
-                parts.setdefault(place, []).append(what)
-        for (a, b), names in parts.items():
-            one, other = self.a.image.operations[a], self.b.image.operations[b]
-            self.parted[0].add(a)
-            self.parted[1].add(b)
-            exchanged = ", the same operands in another order" if self._is_exchanged(one, other) else ""
-            lines = [f"{', '.join(names)}: in A {self.a.told(one)}; in B {self.b.told(other)}{exchanged}"]
-            lines += [f"    {side}: {text}" for side, text in (("A", self.a.line_of(one)), ("B", self.b.line_of(other))) if text]
-            yield "\n".join(lines)
+            parting = self._parting(first, second)
+            if parting is not None:
+                self.parted[0].add(parting.a.number)
+                self.parted[1].add(parting.b.number)
+                parts.setdefault(self._parting_told(parting), []).append(what)
+        for told, names in parts.items():
+            yield f"{', '.join(names)}: {told}"
 
-    def _parting(self, first: int, second: int) -> tuple[int, int] | None:
-        """Where the operations behind an OUT or STORE part, if they do: the first place on the way from the end to the inputs."""
-        a, b = self.a.image.operations[first].operands[0], self.b.image.operations[second].operands[0]
-        if self.trees_a[a] == self.trees_b[b]:
+    def _parting_told(self, parting: Parting) -> str:
+        """Where the sides part, with the line of each."""
+        is_exchanged = self._is_exchanged(parting.a, parting.b)
+        by_readers = not is_exchanged and self._is_told_by_readers(parting)
+        (in_a, line_a), (in_b, line_b) = (
+            given.told_with(it, reader) if by_readers else (given.told(it), given.line_of(it))
+            for given, it, reader in ((self.a, parting.a, parting.reader_a), (self.b, parting.b, parting.reader_b)))
+        exchanged = ", the same operands in another order" if is_exchanged else ""
+        lines = [f"in A {in_a}; in B {in_b}{exchanged}"]
+        return "\n".join([*lines, *(f"    {side}: {line}" for side, line in (("A", line_a), ("B", line_b)) if line)])
+
+    def _parting(self, first: int, second: int) -> Parting | None:
+        """Where the operations behind an OUT or STORE part, if they do: the first place on the way from the end to the inputs, but where both sides know
+        what the other one has there, the place at which another one of these is read."""
+        reader_a, reader_b = self.a.image.operations[first], self.b.image.operations[second]
+        a, b = (given.image.operations[it.operands[0]] for given, it in ((self.a, reader_a), (self.b, reader_b)))
+        if self.trees_a[a.number] == self.trees_b[b.number]:
             return None
-        while self._same_head(self.a.image.operations[a], self.b.image.operations[b]):
-            if self._is_exchanged(self.a.image.operations[a], self.b.image.operations[b]):
-                break
-            operands = zip(self.a.image.operations[a].operands, self.b.image.operations[b].operands)
-            a, b = next((x, y) for x, y in operands if self.trees_a[x] != self.trees_b[y])
-        return a, b
+        while self._same_head(a, b) and not self._is_exchanged(a, b) and not self._both_know(a, b):
+            reader_a, reader_b = a, b
+            x, y = next((x, y) for x, y in zip(a.operands, b.operands) if self.trees_a[x] != self.trees_b[y])
+            a, b = self.a.image.operations[x], self.b.image.operations[y]
+        return Parting(a, b, reader_a, reader_b)
+
+    def _both_know(self, one: Operation, other: Operation) -> bool:
+        """Whether each side has the other one's operation, too, so that neither is new."""
+        return self.trees_a[one.number] in self.known_b and self.trees_b[other.number] in self.known_a
+
+    def _is_told_by_readers(self, parting: Parting) -> bool:
+        """Whether what parts is told where it is read: where neither is new, or one is a constant that stands elsewhere for the first time. Of an OUT or
+        STORE, whose place is the declaration, it isn't."""
+        pairs = (parting.a, parting.reader_a), (parting.b, parting.reader_b)
+        if any(not reader.line or reader.kind in ("OUT", "STORE") for _, reader in pairs):
+            return False
+        return self._both_know(parting.a, parting.b) or any(it.kind == "CONST" and it.line != reader.line for it, reader in pairs)
 
     def _is_exchanged(self, one: Operation, other: Operation) -> bool:
         """Whether two operations of one kind have the same operands in another order."""
@@ -168,8 +199,7 @@ class Comparison:
     def stops_alone(self) -> tuple[list[Operation], list[Operation]]:
         """The operations of each side that may stop by their kind, and that the other side doesn't have."""
         found: list[list[Operation]] = []
-        for given, trees, others in ((self.a, self.trees_a, self.trees_b), (self.b, self.trees_b, self.trees_a)):
-            known = set(others)
+        for given, trees, known in ((self.a, self.trees_a, self.known_b), (self.b, self.trees_b, self.known_a)):
             found.append([it for it in given.image.operations if it.kind in MAY_STOP and trees[it.number] not in known])
         return found[0], found[1]
 

@@ -38,6 +38,12 @@ class Given:
         place += f" {assigned}" if assigned else ""
         return f"operation {operation.number}, {operation.kind}{' ' + name if name else ''}{place}"
 
+    def told_with(self, operation: Operation, reader: Operation) -> tuple[str, str]:
+        """An operation in words, by one that reads it; and that one's line."""
+        name = self.image.name_of(operation)
+        read = f"{operation.kind} {name}" if name else self.told(operation)
+        return f"{self.told(reader)}, which reads {read}", self.line_of(reader)
+
     def line_of(self, operation: Operation) -> str:
         """The line of the source at an operation's place; empty where there is none."""
         if self.source is None or not operation.line:
