@@ -1,6 +1,6 @@
 """A program made up for tests of what calls `vcp` and `vcp_study`: it prints the lines of docs/FORMATS.md, and its verdicts mean nothing.
 
-    made_up.py vcp (exec M ROWS | inject M ROWS F)
+    made_up.py vcp (exec M ROWS | inject M ROWS F), with `--cycles N` for ROWS, too
     made_up.py vcp_study (ranges M | sites M CYCLES CLASS [FROM COUNT | --count] | sum M SCRIPT VERDICTS [ROWS])
 
 FOUND=1 before it is the status where something is found, as before there was one of its own; else that is 9.
@@ -59,9 +59,9 @@ def verdict(faults: Sequence[Sequence[str]]) -> str:
     return ("wrong" if number == 5 else "ran-on" if number == 7 else "stopped" if number == 9 else "refused") if number % 2 else "same"
 
 
-def verdict_line(number: int, faults: Sequence[Sequence[str]]) -> str:
-    """The line of a group's verdict."""
-    found, cycle = verdict(faults), faults[0][1]
+def verdict_line(number: int, faults: Sequence[Sequence[str]], cycles: int = 1 << 30) -> str:
+    """The line of a group's verdict over so many cycles."""
+    found, cycle = verdict_over(faults, cycles), faults[0][1]
     rest = {"same": "", "wrong": f" {cycle} y got 1 want 0", "ran-on": f" {cycle}", "refused": f" {cycle} y found 1 expected 2", "stopped": f" {cycle} 2 RANGE"}
     return f"{number} {found}{rest[found]}"
 
@@ -80,6 +80,16 @@ def end_of(faults: Sequence[Sequence[str]], cycles: int) -> str:
 def rows_of(file: str) -> int:
     """The cycles of a rows file."""
     return len([line for line in Path(file).read_text(encoding="utf-8").splitlines() if line]) - 1
+
+
+def cycles_over(words: Sequence[str]) -> int:
+    """The cycles that words stand for which begin with ROWS, or with `--cycles N`."""
+    return int(words[1]) if words[0] == "--cycles" else rows_of(words[0])
+
+
+def verdict_over(faults: Sequence[Sequence[str]], cycles: int) -> str:
+    """The verdict on a group over so many cycles: a group that isn't reached is `same`."""
+    return verdict(faults) if int(faults[0][1]) < cycles else "same"
 
 
 def sums(script: str, told: Sequence[str], cycles: int | None) -> Iterator[str]:
@@ -113,10 +123,12 @@ def main(words: Sequence[str]) -> int:
     command, image = words[1], Path(words[2]).read_bytes()
     found = int(os.environ.get("FOUND", "9"))
     if command == "exec":
-        cycles = rows_of(words[3])
+        cycles = cycles_over(words[3:])
         sys.stdout.write("cycle,y\n" + "".join(f"{cycle},0\n" for cycle in range(cycles)) + f"end {cycles}\n")
     elif command == "inject":
-        told = [(verdict_line(number, faults), verdict(faults)) for number, faults in groups(Path(words[4]).read_text(encoding="utf-8"))]
+        cycles = cycles_over(words[3:])
+        found_groups = groups(Path(words[-1]).read_text(encoding="utf-8"))
+        told = [(verdict_line(number, faults, cycles), verdict_over(faults, cycles)) for number, faults in found_groups]
         sys.stdout.write("".join(line + "\n" for line, _ in told) + totals_of([it for _, it in told]) + "\n")
     elif command == "ranges":
         stops = len(image) % 2

@@ -3,6 +3,7 @@ from __future__ import annotations
 
 import contextlib
 import os
+import re
 import shutil
 import signal
 import subprocess
@@ -14,6 +15,7 @@ from unittest import mock
 
 from tests.made_up import IMAGE, OPERATIONS, install
 from tests.support import InFolder
+from vcp_tools.needs import INSTALL
 from vcp_tools.program import TOP
 from vcp_tools.read.range_lines import ranges_of
 from vcp_tools.refusal import Refusal
@@ -97,6 +99,16 @@ class MadeUp(InFolder):
         """The answers of the whole that stand in the campaigns' folders."""
         return [file.name for folder in (at or self.folder).glob("campaign.*") for file in folder.glob("[tv]*") if file.name in ("tables", "verdicts")]
 
+    def without_parallel(self) -> str:
+        """A folder of programs in which GNU parallel isn't."""
+        at = self.folder / "bin"
+        at.mkdir()
+        for folder in os.environ["PATH"].split(":"):
+            for file in Path(folder).glob("*"):
+                if file.name != "parallel" and not (at / file.name).is_symlink():
+                    (at / file.name).symlink_to(file)
+        return str(at)
+
 
 class Statuses(MadeUp):
     """9 where something was found, by both programs of the repository and by those from before."""
@@ -108,6 +120,35 @@ class Statuses(MadeUp):
         self.write("seen.faults", "".join(f"skip {cycle} 1\n" for cycle in range(1, 9) if (7 * cycle + 3) % 12 not in (5, 7)))
         self.words[3] = "seen.faults"
         self.assertIn(" wrong 0 ran-on 0 ", self.run_to(0))
+
+    def test_copies_stand_in_the_callers_folder(self) -> None:
+        self.wrap("vcp", f'[ "$1" != exec ] || echo "$2" >>"{self.folder}/asked"\nexec REAL "$@"\n')
+        self.run_to(9)
+        (self.folder / "out").mkdir()
+        self.run_to(9, "--out", "out/here")
+        images = [Path(line) for line in (self.folder / "asked").read_text().splitlines()]
+        self.assertEqual([image.parent.parent for image in images], [self.folder, self.folder / "out"])
+        self.assertEqual([file for at in (self.folder, self.folder / "out") for file in at.glob(".campaign-*")], [])
+
+    def test_progress_and_quiet(self) -> None:
+        self.wrap("vcp", '[ "$1" != inject ] || sleep 0.2\nexec REAL "$@"\n')
+        for at in range(2):
+            quiet = ["--quiet"] * at
+            call = [sys.executable, "-c", f"from vcp_tools.campaign import engine; engine.SECONDS = 0.3; {CALL}", *self.words[:4], "--jobs", "1", *quiet]
+            done = subprocess.run(call, cwd=self.folder, capture_output=True, text=True, stdin=subprocess.DEVNULL, check=False)
+            self.assertEqual(done.returncode, 9, done.stderr)
+            said = re.findall(r"^campaign: (\d+) of 10 parts(?:, about \d+ s left)?$", done.stderr, re.M)
+            self.assertEqual(said, sorted(said, key=int))
+            self.assertEqual((bool(said), " s left" in done.stderr), (not at, not at), done.stderr)
+            self.clear()
+
+    def test_without_parallel(self) -> None:
+        self.write("hosts", "2/far\n")
+        with mock.patch.dict(os.environ, {"PATH": self.without_parallel()}):
+            for words in (["--hosts", "hosts"], ["--bar"], ["--stroe", "s.db"]):
+                self.assertIn(f"goes to GNU parallel, which isn't installed: {INSTALL}", self.run_to(2, *words))
+            self.assertIn("GNU parallel isn't installed: the parts run in a pool of 3", self.run_to(9, "--jobs", "3"))
+            self.whole()
 
     def test_statuses_that_say_another_thing(self) -> None:
         for script, said in (('[ "$1" != sum ] || { REAL "$@"; exit 0; }', "isn't judged"), ('[ "$1" != sum ] || { REAL "$@"; exit 4; }', "isn't judged"),
@@ -188,7 +229,7 @@ class Failures(MadeUp):
                 self.unwrap("vcp")
                 for folder in self.folder.glob("campaign.*"):
                     self.assertEqual(len(list(folder.glob("parts/*.done"))), 3)
-                    subprocess.run(["flock", "--nonblock", str(folder / "lock"), "true"], check=True)
+                    subprocess.run(["flock", "--timeout", "10", str(folder / "lock"), "true"], check=True)
                     shutil.rmtree(folder)
                 self.run_to(9)
                 self.whole()
@@ -267,16 +308,6 @@ class Failures(MadeUp):
         self.assertIn("\nfaults 201 same ", told[0])
         self.assertEqual(*told)
 
-    def without_parallel(self) -> str:
-        """A folder of programs in which GNU parallel isn't."""
-        at = self.folder / "bin"
-        at.mkdir()
-        for folder in os.environ["PATH"].split(":"):
-            for file in Path(folder).glob("*"):
-                if file.name != "parallel" and not (at / file.name).is_symlink():
-                    (at / file.name).symlink_to(file)
-        return str(at)
-
     def wait_for(self, file: Path) -> None:
         """Waits until a file is there."""
         for _ in range(300):
@@ -303,6 +334,13 @@ class Hosts(MadeUp):
         self.assertIn(TOTALS, self.run_to(9, "--hosts", "hosts"))
         self.whole()
         self.assertEqual(list((self.folder / "far/home").iterdir()), [])
+
+    def test_options_that_go_to_parallel(self) -> None:
+        self.write("hosts", "2/far\n")
+        for words in (["--bar"], ["--eta"], ["--progress", "--jobs", "2"], ["-j2"], ["--jobs", "3"], ["--sshloginfile", "hosts"], ["--load", "1000%"]):
+            self.assertIn(TOTALS, self.run_to(9, *words))
+            self.whole()
+            self.clear()
 
     def test_a_host_that_is_lost(self) -> None:
         self.write("hosts", "2/far\n")

@@ -4,6 +4,8 @@ from __future__ import annotations
 import os
 import shutil
 import subprocess
+import sys
+from pathlib import Path
 from unittest import mock
 
 from tests.support import EXAMPLES, InFolder, needs_program
@@ -24,6 +26,8 @@ CAMPAIGN_CALLS = (("campaign", "@", "a.csv", "skip"), ("campaign", "a.img", "@",
                   ("campaign", "a.img", "skip", "--rows", "a.csv", "--rows", "@"), ("explain", "--source", "@", "inject", "a.img", "a.csv", "f.txt"))
 CAMPAIGN_WRITES = (("campaign", "a.img", "a.csv", "f.txt", "--quiet", "--store", "@"), ("campaign", "a.img", "a.csv", "f.txt", "--quiet", "--out", "@"))
 """The same of campaigns, and of an image's verdicts."""
+PRINTING = (("rows", "make", "a.stim"), ("rows", "stimuli", "a.csv"), ("rows", "check", "a.csv"), ("help",), ("--version",), ("rows", "--help"), ("--help",))
+"""Calls that print something, and need no program."""
 
 
 class Files(InFolder):
@@ -48,7 +52,7 @@ class Files(InFolder):
             for file in ("nowhere", "folder", "nowhere/x"):
                 with self.subTest((words, file)):
                     self.refused(words, file)
-        self.assertEqual({words[0] for words in CALLS} | {"explain", "help", "campaign"}, set(TOOLS) | {"campaign"})
+        self.assertEqual({words[0] for words in (*CALLS, *CAMPAIGN_CALLS)}, set(TOOLS) - {"help"})
 
     @needs_program
     def test_files_that_cannot_be_written(self) -> None:
@@ -70,29 +74,85 @@ class Files(InFolder):
                 with self.subTest((words, file)):
                     self.refused(words, file)
 
-    def test_a_disk_that_is_full(self) -> None:
-        done = subprocess.run(f"{TOP}/vcp_tools rows stimuli a.csv >/dev/full", shell=True, cwd=self.folder, capture_output=True, text=True, check=False)
+    def call(self, words: tuple[str, ...], more: str) -> subprocess.CompletedProcess[str]:
+        """A tool as a user calls it from a shell, with some redirection, and with a buffer whatever the caller's environment says."""
+        called = ["sh", "-c", f'exec "$@" {more}', "sh", str(TOP / "vcp_tools"), *words]
+        given = {name: value for name, value in os.environ.items() if name != "PYTHONUNBUFFERED"}
+        return subprocess.run(called, cwd=self.folder, env=given, capture_output=True, text=True, stdin=subprocess.DEVNULL, check=False)
+
+    def unwritten(self, words: tuple[str, ...]) -> None:
+        """A tool whose output can't be written ends with one line and status 2, on a full disk and where the caller has closed it."""
+        for more, said in ((">/dev/full", "standard output: No space left on device"), (">&-", "standard output is closed")):
+            with self.subTest((words, more)):
+                done = self.call(words, more)
+                # GNU parallel may warn before, as of a missing HOME.
+                lines = [line for line in done.stderr.split("\n") if not line.startswith("parallel: Warning: ")]
+                self.assertEqual((done.returncode, lines), (2, [f"vcp_tools: {said}", ""]))
+
+    def test_output_that_cannot_be_written(self) -> None:
+        for words in PRINTING:
+            self.unwritten(words)
+        self.assertEqual(self.call(("rows", "check", "nowhere"), ">/dev/full").stderr, "vcp_tools: nowhere: there is no such file\n")
+        done = self.call(("explain",), "<&-")
         self.assertEqual((done.returncode, done.stderr.count("\n")), (2, 1), done.stderr)
-        self.assertNotIn("Traceback", done.stderr)
+        self.assertEqual(self.call(("rows", "stimuli", "a.csv"), "| true").stderr, "")
+
+    def test_empty_words(self) -> None:
+        for words in (("report", "a.st", "a.csv", "--faults", ""), ("report", "a.st", "a.csv", "--check", ""), ("report", "a.st", "a.csv", "-o", ""),
+                      ("table", "a.st", "a.csv", "--cycle-time", ""), ("table", "a.st", "a.csv", "--changes-of", ""), ("lint", ""), ("diff", "", "a.st"),
+                      ("explain", "--source", "", "inject", "a", "b", "c"), ("rows", "make", "a.stim", ""), ("rows", "--cycle-time", "", "make", "a.stim"),
+                      *(("campaign", "m", "r", "skip", option, "") for option in ("--source", "--store", "--out", "--rows", "--hosts"))):
+            self.assertRegex(self.tool(*words, status=2), "^vcp_tools: [a-z]+: an empty word stands [^\n]*\n$", words)
+
+    def test_a_tool_that_is_interrupted(self) -> None:
+        with mock.patch("vcp_tools.rows.command.run", side_effect=KeyboardInterrupt):
+            self.assertEqual(self.tool("rows", "check", "a.csv", status=130), "")
+        with mock.patch("vcp_tools.rows.command.run", side_effect=MemoryError):
+            self.assertEqual(self.tool("rows", "check", "a.csv", status=2), "vcp_tools: there is no memory left\n")
+
+    def test_texts_that_the_locale_cannot_spell(self) -> None:
+        self.write("p\u00e4.csv", "x\n1\n\n2\n")
+        with mock.patch.dict(os.environ, {"PYTHONIOENCODING": "ascii"}):
+            done = self.call(("rows", "check", "p\u00e4.csv"), "")
+            self.assertEqual((done.returncode, done.stderr), (9, ""))
+            self.assertIn("p\\xe4.csv:3:1: ", done.stdout)
+            done = self.call(("explain",), "<bytes")
+            self.write("bytes", b"no\xff.st:1:2 S4 Syntax\n")
+            done = self.call(("explain",), "<bytes")
+            self.assertEqual((done.returncode, done.stderr), (9, ""))
 
 
 class Launchers(InFolder):
     """The launchers of the repository."""
 
+    def linked(self, file: Path) -> Path:
+        """A link to a link to a launcher."""
+        folder = self.folder / "bin"
+        folder.mkdir(exist_ok=True)
+        one, two = (folder / f"{name}_{file.name}" for name in ("one", "two"))
+        one.symlink_to(os.path.relpath(file, folder))
+        two.symlink_to(one.name)
+        return two
+
     def test_links_are_followed(self) -> None:
-        program = self.write("vcp", "#!/bin/sh\necho ran \"$@\"\n")
-        program.chmod(0o755)
-        (self.folder / "top/crates/vcp/out").mkdir(parents=True)
-        shutil.copy(program, self.folder / "top/crates/vcp/out/vcp")
-        for name in ("launch.sh", "vcp"):
-            shutil.copy(TOP / name, self.folder / "top" / name)
-        self.write("top/crates.txt", "vcp:\n")
-        os.utime(self.folder / "top/crates.txt", (0, 0))
-        (self.folder / "bin").mkdir()
-        (self.folder / "bin/one").symlink_to("../top/vcp")
-        (self.folder / "bin/two").symlink_to("one")
-        done = subprocess.run([self.folder / "bin/two", "check", "p"], capture_output=True, text=True, check=False)
-        self.assertEqual(done.stdout, "ran check p\n", done.stderr)
+        top = self.folder / "top"
+        for name in ("vcp", "vcp_study"):
+            (top / f"crates/{name}/out").mkdir(parents=True)
+            (top / f"crates/{name}/out/{name}").write_text(f'#!/bin/sh\necho {name} ran "$@"\n', encoding="ascii")
+            (top / f"crates/{name}/out/{name}").chmod(0o755)
+        for name in ("launch.sh", "vcp", "vcp_study"):
+            shutil.copy(TOP / name, top / name)
+        self.write("top/crates.txt", "vcp:\nvcp_study:\n")
+        os.utime(top / "crates.txt", (0, 0))
+        self.write("rt", "#!/bin/sh\necho tried\n").chmod(0o755)
+        for file, words, said in ((top / "vcp", ("check", "p"), "vcp ran check p\n"), (top / "vcp_study", ("ranges", "m"), "vcp_study ran ranges m\n"),
+                                  (TOP / "vcp_tools", ("--version",), "vcp_tools "), (TOP / "campaign.sh", ("--help",), "usage: vcp_tools campaign "),
+                                  (TOP / "try", ("check", "p"), "tried\n")):
+            with self.subTest(file.name):
+                done = subprocess.run([self.linked(file), *words], capture_output=True, text=True, check=False, cwd=self.folder,
+                                      env={**os.environ, "PATH": f"{self.folder}:{os.environ['PATH']}"})
+                self.assertTrue(done.stdout.startswith(said), done.stdout + done.stderr)
+                self.assertEqual(done.returncode, 0)
 
     def test_an_unproved_run_that_ends_at_its_limit(self) -> None:
         (self.folder / "bin").mkdir()
@@ -111,6 +171,18 @@ class Launchers(InFolder):
 
     def test_a_missing_program_says_what_makes_it(self) -> None:
         with mock.patch.dict(os.environ, {"VCP": "/nowhere", "VCP_STUDY": "/nowhere"}):
-            printed = self.tool("lint", "p.st", status=2)
-            self.assertIn("run ./vcp once", printed)
-            self.assertIn("docs/MEASURES.md", printed)
+            for words in (("lint", "p.st"), ("table", "p.st", "r.csv"), ("explain", "check", "p.st"), ("campaign", "m", "r", "skip")):
+                printed = self.tool(*words, status=2)
+                self.assertIn("run ./vcp once", printed)
+                self.assertIn("docs/MEASURES.md", printed)
+        with mock.patch.dict(os.environ, {"VCP": sys.executable, "VCP_STUDY": "/nowhere"}):
+            done = subprocess.run([TOP / "campaign.sh", "m", "r", "skip"], capture_output=True, text=True, check=False)
+            self.assertEqual((done.returncode, done.stderr.count("\n")), (2, 1), done.stderr)
+            for said in ("run ./vcp_study once", "which proves and builds it (20 minutes or more on 4 processors", "or set VCP_STUDY=FILE"):
+                self.assertIn(said, done.stderr)
+
+    def test_the_documents_say_where_programs_come_from(self) -> None:
+        told = " ".join((TOP / "docs/CAMPAIGNS.md").read_text(encoding="utf-8").split())
+        self.assertIn("or those of `VCP=FILE` and `VCP_STUDY=FILE`, and says which command makes a missing one, and how long that takes", told)
+        told = " ".join((TOP / "docs/PORTING.md").read_text(encoding="utf-8").split())
+        self.assertIn("`./vcp` and `./vcp_study` prove and build their programs when first called, which takes 20 minutes or more each", told)

@@ -2,7 +2,10 @@
 from __future__ import annotations
 
 import argparse
+import contextlib
+import errno
 import importlib
+import io
 import os
 import sys
 from types import ModuleType
@@ -31,6 +34,8 @@ MODULES = {
 """The module of each tool."""
 VALUED = frozenset(("--changes-of", "--cycles", "--cycle-time", "--faults", "--horizon", "--check", "-o", "--allow"))
 """The options that a word follows."""
+INTERRUPTED = 128 + 2
+"""The status of a tool that a Ctrl-C has ended, as shells tell it."""
 USAGE = ("statuses: 0 nothing was found, 9 a fault, a difference or a likely mistake was found, 2 the words or a file can't be used; "
          "explain gives vcp's own")
 
@@ -71,23 +76,60 @@ def _options_first(words: list[str]) -> list[str]:
     return [words[0], *options, *rest]
 
 
+def _run(words: list[str]) -> int:
+    """Runs the tool that the words name, to the last byte of what it prints."""
+    try:
+        given = parser().parse_args(words[:1] + ["--", *words[1:]] if _are_words_of_vcp(words) else _options_first(words))
+    except SystemExit:
+        sys.stdout.flush()  # a help or a version, of which argparse keeps to itself that it couldn't be written
+        raise
+    empty = [name for name, value in vars(given).items() if value == ""]
+    if empty:
+        raise Refusal(f"{given.tool}: an empty word stands in the place of {empty[0].upper().replace('_', '-')}")
+    status: int = _module(given.tool).run(given)
+    sys.stdout.flush()
+    return status
+
+
 def main(words: list[str]) -> int:
     """Runs the tool that the words name, and gives its status."""
-    given = parser().parse_args(words[:1] + ["--", *words[1:]] if _are_words_of_vcp(words) else _options_first(words))
+    if sys.stdout is None:
+        print("vcp_tools: standard output is closed", file=sys.stderr)
+        return UNUSABLE
+    if isinstance(sys.stdout, io.TextIOWrapper):
+        sys.stdout.reconfigure(errors="backslashreplace")  # names of files and texts that the caller's locale can't spell
+    if isinstance(sys.stdin, io.TextIOWrapper):
+        sys.stdin.reconfigure(errors="surrogateescape")
     try:
-        status: int = _module(given.tool).run(given)
-        sys.stdout.flush()
-        return status
+        return _run(words)
     except Refusal as refusal:
-        sys.stdout.flush()
-        print(f"vcp_tools: {refusal}", file=sys.stderr)
-        return UNUSABLE
+        return _unusable(str(refusal))
+    except MemoryError:
+        return _unusable("there is no memory left")
+    except KeyboardInterrupt:
+        return INTERRUPTED
     except OSError as error:
-        if not isinstance(error, BrokenPipeError):
-            print(f"vcp_tools: {error.filename or 'standard output'}: {error.strerror}", file=sys.stderr)
+        if isinstance(error, BrokenPipeError):
+            _flush_or_drop()
             return UNUSABLE
-        os.dup2(os.open(os.devnull, os.O_WRONLY), sys.stdout.fileno())
-        return UNUSABLE
+        where = error.filename or ("" if error.errno == errno.ENOENT else "standard output")
+        return _unusable(f"{where}: {error.strerror}" if where else str(error.strerror))
+
+
+def _unusable(why: str) -> int:
+    """Says in one line, behind what was printed, why a tool couldn't look."""
+    _flush_or_drop()
+    print("vcp_tools: " + why.replace("\n", "\\n"), file=sys.stderr)
+    return UNUSABLE
+
+
+def _flush_or_drop() -> None:
+    """Writes what is left of the output, or drops it where that fails, so that the interpreter doesn't try it again at its end."""
+    try:
+        sys.stdout.flush()
+    except OSError:
+        with contextlib.suppress(OSError):
+            os.dup2(os.open(os.devnull, os.O_WRONLY), sys.stdout.fileno())
 
 
 def command() -> int:

@@ -22,7 +22,7 @@ from vcp_tools.campaign.sites import CLASSES, Faults, cycles_of
 from vcp_tools.campaign.store import Store
 from vcp_tools.campaign.traced import BITS, TOLD_BY_WORDS, faults_of
 from vcp_tools.campaign.words import USAGE, Words, check_words, read_words
-from vcp_tools.files import read_bytes
+from vcp_tools.files import read_bytes, write_bytes
 from vcp_tools.program import Program
 from vcp_tools.read import script as script_form
 from vcp_tools.read.assigned import Assigned
@@ -138,7 +138,7 @@ class Campaign:
             files["rows"] = Path(self.rows)
         if not self.is_class:
             files["script"] = Path(self.words.faults)
-        copies, digests = copies_of(files, Path(self.words.out).absolute().parent)
+        copies, digests = copies_of(files, Path(self.words.out or "campaign").absolute().parent)
         try:
             self.take_cycles(copies)
             asked = self.asked(digests)
@@ -150,9 +150,10 @@ class Campaign:
             shutil.rmtree(copies, ignore_errors=True)
 
     def asked(self, digests: dict[str, str]) -> str:
-        """What a campaign is named by: all that its answer may rest on."""
+        """What a campaign is named by: all that its answer may rest on. With `--then`, pairs are drawn, and of the class itself nothing is."""
         bits = f"{self.words.bits} " if self.words.bits != BITS else ""
-        of_class = f"{self.words.faults} {bits}{self.cycles} {self.words.draw} {self.words.seed}" if self.is_class else ""
+        drawn = "None 0" if self.words.then else f"{self.words.draw} {self.words.seed}"
+        of_class = f"{self.words.faults} {bits}{self.cycles} {drawn}" if self.is_class else ""
         return f"{FORM} {self.words.cycles} {of_class} " + " ".join(f"{name}={digests[name]}" for name in sorted(digests))
 
     def prepared(self, folder: Folder, asked: str, copies: Path, image_digest: str) -> Manifest:
@@ -245,7 +246,7 @@ class Campaign:
             base.with_suffix("." + end).unlink(missing_ok=True)
         script = base.with_suffix(".faults")
         if not script.is_file() or digest(script.read_bytes()) != manifest.parts[number].digest:
-            script.write_bytes(self.part_again(folder, manifest.parts[number], number))
+            write_bytes(script, self.part_again(folder, manifest.parts[number], number))
 
     def part_again(self, folder: Folder, part: PartOf, number: int) -> bytes:
         """The script of a part, from the whole script."""

@@ -15,8 +15,13 @@ from concurrent.futures import ThreadPoolExecutor
 from pathlib import Path
 from typing import Sequence
 
+from vcp_tools.needs import INSTALL
+from vcp_tools.refusal import Refusal
+
 TRIES = 3
 """So often a part is tried."""
+SECONDS = 5.0
+"""So often it is said how many parts are judged."""
 _SENDING = ("-S", "--sshlogin", "--slf")
 _SENT = ("vcp", "study", "judge", "image", "rows")
 
@@ -30,6 +35,8 @@ def judge(folder: Path, parts: Sequence[str], jobs: int | None, words: Sequence[
     try:
         if shutil.which("parallel"):
             _parallel(folder, parts, jobs, words, lock)
+        elif words:
+            raise Refusal(f"campaign: `{' '.join(words)}` goes to GNU parallel, which isn't installed: {INSTALL}")
         else:
             number = jobs or os.cpu_count() or 1
             print(f"campaign: GNU parallel isn't installed: the parts run in a pool of {number}", file=sys.stderr)
@@ -153,7 +160,7 @@ class Clock:
         self.thread.start()
 
     def _run(self) -> None:
-        while not self.ended.wait(5):
+        while not self.ended.wait(SECONDS):
             done = sum(file.exists() for file in self.files)
             past = time.monotonic() - self.began
             left = f", about {past / done * (len(self.files) - done):.0f} s left" if done else ""

@@ -201,6 +201,8 @@ class Folder:
 def copies_of(files: dict[str, Path], where: Path) -> tuple[Path, dict[str, str]]:
     """A folder with copies of files under these names, and the digest of each copy. It stands beside that of the campaign, from which programs are run,
     too. The caller removes it."""
+    if not where.is_dir():
+        raise Refusal(f"{where}: there is no such folder")
     try:
         folder = Path(tempfile.mkdtemp(prefix=".campaign-", dir=where))
     except OSError as error:

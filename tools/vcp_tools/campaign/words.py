@@ -6,6 +6,7 @@ from typing import Sequence
 
 from vcp_tools.campaign.sites import CLASSES
 from vcp_tools.campaign.traced import BITS, MOST_BIT, TOLD_BY_WORDS
+from vcp_tools.files import read_bytes
 from vcp_tools.refusal import Refusal
 
 USAGE = """usage: vcp_tools campaign M (SCRIPT | CLASS) (--rows ROWS [--rows ROWS].. | --cycles N) [OPTION]..
@@ -103,6 +104,8 @@ def check_words(found: Words) -> None:
 
 def _take(found: Words, word: str, value: str) -> None:
     """Takes an option with its value."""
+    if not value:
+        raise Refusal(f"campaign: an empty word stands behind `{word}`")
     if word == "--rows":
         found.rows.append(value)
     elif word == "--bits":
@@ -111,6 +114,7 @@ def _take(found: Words, word: str, value: str) -> None:
             raise Refusal(f"campaign: `{value}` stands behind `--bits`, and two numbers of 0 to {MOST_BIT} are wanted, as 0..{MOST_BIT}")
         found.bits = int(low), int(high)
     elif word == "--hosts":
+        read_bytes(value)
         found.parallel = ["--sshloginfile", value, *found.parallel]
     elif word in ("--out", "--store", "--source", "--then"):
         setattr(found, word[2:], value)

@@ -10,7 +10,7 @@ from vcp_tools.explain.foreign import foreign, told
 from vcp_tools.explain.hint import Hint, Repair
 from vcp_tools.explain.hints_source import source_hint
 from vcp_tools.explain.hints_types import Typed, step_over
-from vcp_tools.files import read_bytes
+from vcp_tools.files import read_bytes, write_bytes
 from vcp_tools.program import Program
 from vcp_tools.read.source import Source, Token
 from vcp_tools.explain.stuck import Stuck
@@ -101,7 +101,7 @@ def _next_fault(program: Program, data: bytes) -> FaultLine | None:
     """The program's fault of a text; None where it is a program, or where something else than a fault came."""
     with tempfile.TemporaryDirectory() as folder:
         at = Path(folder) / "source.st"
-        at.write_bytes(data)
+        write_bytes(at, data)
         outcome = program.call("check", at)
     fault = read_fault(outcome.fault) if outcome.fault else None
     return fault if fault is not None and fault.code[0] in "STL" else None

@@ -339,6 +339,8 @@ def explain_call(words: Sequence[str], of: str | None = None) -> int:
 def explain_lines() -> int:
     """Explains each line of error that stands on standard input; other lines are printed as they are. The status is 9 where there is one."""
     status = FINE
+    if sys.stdin is None:
+        raise Refusal("explain: words are missing, and standard input, from which lines of error are read without them, is closed")
     for line in sys.stdin:
         line = line.rstrip("\n")
         fault, ending = read_fault(line), read_ending(line)

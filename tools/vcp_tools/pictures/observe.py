@@ -16,7 +16,7 @@ from typing import Mapping, Sequence
 from vcp_tools.wording import listed, nearest
 from vcp_tools.explain.hints_rows import silent_faults
 from vcp_tools.read.image import Image, read_image
-from vcp_tools.files import read_bytes
+from vcp_tools.files import read_bytes, write_bytes
 from vcp_tools.pictures.runs import side_by_side
 from vcp_tools.program import Outcome, Program
 from vcp_tools.refusal import Refusal
@@ -70,7 +70,7 @@ def observe(program: Program, file: str, rows: Sequence[str], traced: bool = Fal
     source = Source(read_bytes(file))
     with tempfile.TemporaryDirectory() as folder:
         at = Path(folder) / "opened.st"
-        at.write_bytes(opened(source))
+        write_bytes(at, opened(source))
         calls: dict[str, Sequence[str]] = {"run": ("run", file, *rows), "run with variables": ("run", str(at), *rows), **(also or {})}
         outcomes = side_by_side(program, calls, rows)
         run = read_run(program.taken(outcomes["run"], calls["run"], (0, 2, 3)).text)
@@ -141,8 +141,9 @@ def _compare_with_trace(program: Program, file: str, rows: Sequence[str], found:
         raise Refusal(f"--trace: {found.cycles} cycles are more than {MOST_TRACED}: take fewer rows")
     with tempfile.TemporaryDirectory() as folder:
         at = Path(folder) / "image"
-        at.write_bytes(program.must("compile", file).output)
-        seen = _seen(read_image(at.read_bytes(), str(at)))
+        compiled = program.must("compile", file).output
+        write_bytes(at, compiled)
+        seen = _seen(read_image(compiled, str(at)))
         columns = {column.name: column for column in found.columns}
         for cycle in range(found.cycles):
             words, _ = read_trace(program.must("trace", at, *rows, str(cycle)).text)

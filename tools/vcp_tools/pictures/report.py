@@ -59,7 +59,7 @@ def make(
     image_bytes = program.must("compile", file).output
     with tempfile.TemporaryDirectory() as folder:
         image = Path(folder) / "image"
-        image.write_bytes(image_bytes)
+        write_bytes(image, image_bytes)
         found = observe(program, file, rows, traced, {"plain": ("plain", file, *rows), "exec": ("exec", str(image), *rows)})
     case = Case(program, file, rows, horizon, faults, source, image_bytes, read_image(image_bytes, file), found, period)
     case.note("check", file)

@@ -121,7 +121,7 @@ def _files(case: Case) -> str:
 def _tool(case: Case) -> str:
     """The program and the tools."""
     rows = [
-        ("program vcp", code(digest(case.program.file.read_bytes()))),
+        ("program vcp", code(digest(read_bytes(case.program.file)))),
         ("vcp_tools, all files", code(tools_digest())),
         ("toolchain of the proof", toolchain_told(promised_toolchain(), present_toolchain())),
     ]

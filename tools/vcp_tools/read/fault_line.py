@@ -95,7 +95,7 @@ def meanings() -> dict[str, str]:
     """What docs/ERRORS.md says of each code that refuses a file, by the code."""
     found: dict[str, str] = {}
     document = TOP / "docs" / "ERRORS.md"
-    for row in document.read_text().split("\n") if document.is_file() else []:
+    for row in document.read_text(encoding="utf-8").split("\n") if document.is_file() else []:
         match = re.match(r"\| `FILE\S*(?: ([A-Z]\d) [^`]*)` \| (.*) \|\Z", row)
         if match:
             found.setdefault(match[1], match[2])

@@ -6,6 +6,7 @@ import tempfile
 from dataclasses import dataclass
 from pathlib import Path
 
+from vcp_tools.files import write_bytes
 from vcp_tools.program import Program
 from vcp_tools.refusal import Refusal
 
@@ -37,7 +38,7 @@ def ranges_of(image: bytes) -> Ranges:
     """What the built program says of an image; a refusal where none is built."""
     with tempfile.TemporaryDirectory() as folder:
         at = Path(folder) / "image"
-        at.write_bytes(image)
+        write_bytes(at, image)
         outcome = Program.found("vcp_study").must("ranges", at, or_found=True, shown=("ranges", "M"))
         found = read_ranges(outcome.text)
         if outcome.has_found != (found.named > 0):
