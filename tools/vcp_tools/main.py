@@ -22,6 +22,8 @@ TOOLS: dict[str, str] = {
     "diff": "whether two programs or images have the same operations, and where they part",
     "lint": "what is lawful and likely a mistake",
     "report": "one HTML file that tells a program and its run, to be filed",
+    "lower": "a program of the profile that does what a text as controllers have it does: timers, edges, counters, blocks, arrays, TIME",
+    "simulate": "the run of such a text as it stands, in a plain interpreter: the second reading of what `lower` writes",
     "campaign": "every fault of a class or a script, tried on an image, and what became of each",
     "help": "where to read on",
 }
@@ -29,10 +31,11 @@ TOOLS: dict[str, str] = {
 MODULES = {
     "explain": "explain.command", "rows": "rows.command", "table": "pictures.table", "vcd": "pictures.vcd", "expect": "compare.expect",
     "diff": "compare.diff", "lint": "lint.command", "report": "pictures.report",
+    "lower": "lower.command", "simulate": "simulate.command",
     "campaign": "campaign.command", "help": "guide",
 }
 """The module of each tool."""
-VALUED = frozenset(("--changes-of", "--cycles", "--cycle-time", "--faults", "--horizon", "--check", "-o", "--allow"))
+VALUED = frozenset(("--changes-of", "--cycles", "--cycle-time", "--faults", "--horizon", "--check", "-o", "--allow", "--from"))
 """The options that a word follows."""
 INTERRUPTED = 128 + 2
 """The status of a tool that a Ctrl-C has ended, as shells tell it."""

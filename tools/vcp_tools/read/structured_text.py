@@ -141,13 +141,13 @@ class Builder:
         return token
 
 
-def parsed(text: str, name: str, start: str, builder: type, postlex: type | None = None) -> Any:
+def parsed(text: str, name: str, start: str, builder: type, postlex: type | None = None, lexer: str = "basic") -> Any:
     """What a builder makes of a text by a grammar; raises SyntaxFault at the first token that the grammar doesn't take."""
     exceptions = need_module("lark").exceptions
     if text.startswith(_BOM):
         text = "   " + text[3:]
     try:
-        return reader(name, start, builder, postlex).parse(text)
+        return reader(name, start, builder, postlex, lexer).parse(text)
     except exceptions.UnexpectedCharacters as error:
         raise SyntaxFault(error.pos_in_stream, text[error.pos_in_stream]) from None
     except exceptions.UnexpectedToken as error:
