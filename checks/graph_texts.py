@@ -108,7 +108,7 @@ def main():
     wrong = 0
     with tempfile.TemporaryDirectory() as folder:
         image = f"{folder}/image"
-        programs = sorted((TOP / "examples").rglob("*.st"))
+        programs = sorted(it for it in (TOP / "examples").rglob("*.st") if it.parent.name != "controllers")
         for program in programs:
             with open(image, "wb") as out:
                 subprocess.run([vcp, "compile", program], stdout=out, check=True)

@@ -27,16 +27,25 @@ Near := ABS(apart) < 3;
 IF Near THEN count := MIN(count + 1, 50); END_IF
 total := apart;
 END_FUNCTION
+FUNCTION Shift : INT
+VAR_INPUT x : INT; END_VAR
+VAR CONSTANT BY_THIS : INT := 3; END_VAR
+total := LIMIT(-90, total + x, 90);
+Shift := LIMIT(-90, x, 90) + BY_THIS;
+END_FUNCTION
 FUNCTION_BLOCK Axis
+VAR CONSTANT STEPS : INT := 2; END_VAR
 VAR_INPUT go : BOOL; way : INT := 4; END_VAR
 VAR_OUTPUT at_end : BOOL; place : INT; END_VAR
-VAR t : TON := (PT := T#300ms); edge : R_TRIG; END_VAR
+VAR t : TON := (PT := T#300ms); edge : R_TRIG; past : ARRAY[1..STEPS] OF INT := [STEPS, 0]; END_VAR
 VAR_TEMP now : INT; END_VAR
 edge(CLK := go);
 IF edge.Q THEN place := 0; END_IF
 t(IN := go);
 now := now + 1;
 IF NOT go THEN RETURN; END_IF
+past[1] := past[STEPS];
+past[2] := place;
 place := MIN(place + now, way);
 at_end := t.Q AND place = way;
 END_FUNCTION_BLOCK
@@ -143,7 +152,7 @@ class Maker:
     def statement(self, depth: int) -> str:
         """One statement of any kind."""
         makers = [self.assignment, self.assignment, self.habit, self.block, self.block, self.block, self.time, self.kinds, self.bits, self.arrays, self.arrays,
-                  self.units, self.units]
+                  self.units, self.units, self.risk]
         if depth < 3:
             makers += [self.choice, self.choice, self.loop, self.loop]
         return self.draw.choice(makers)(depth)
@@ -183,7 +192,8 @@ class Maker:
             return f"{target} := DINT_TO_{name}(LIMIT(0, d, {min(most, 250)}));\n"
         if self.draw.random() < 0.5:
             return f"{target} := MIN({target} + {self.draw.randrange(4)}, {kept[target]});\n"
-        return f"{target} := {self.number(_TARGETS[target], 1)};\n"
+        value = self.number(_TARGETS[target], 1)
+        return f"{target} := {value if any(it.isalpha() for it in value) else f'MIN({target}, 5)'};\n"
 
     def bits(self, depth: int) -> str:
         """Logic of a string of bits with a constant mask."""
@@ -265,9 +275,20 @@ class Maker:
         self.count("whole array")
         return "again := ar;\nz := again[2];\n"
 
+    def risk(self, depth: int) -> str:
+        """What often stops, or would without a guard."""
+        self.count("stop")
+        return self.any_of("y := 10 / i1;\n", "z := ar[i0];\n", "us := us + 100;\n", "few := few + 1;\n", "ar[few] := 3;\n", "x := Twice(6 / i1, b1);\n",
+                           "si := DINT_TO_SINT(d0);\n",
+                           "f := x >= 0 AND_THEN x < 4 AND_THEN ar[x] > 1;\n", "f := i1 = 0 OR_ELSE 6 MOD i1 = 0 OR_ELSE Twice(i1, b0) > 3;\n",
+                           "pairs[SEL(b2, 0, 1)].deep[i1] := us;\n", "k := 0;\nWHILE k < i0 DO (*@ bound 5 *) k := k + 1; END_WHILE\n")
+
     def units(self, depth: int) -> str:
         """Functions and function blocks of the user."""
-        kind = self.draw.randrange(4)
+        kind = self.draw.randrange(5)
+        if kind == 4:
+            self.count("FUNCTION")
+            return f"{self.any_of('y', 'total')} := LIMIT(-99, total + Shift({self.any_of('x', '2', 'Shift(1)')}) + total * 2, 99);\n"
         if kind == 0:
             self.count("FUNCTION")
             return f"x := Twice({self.any_of('y', 'Twice(i0, b0)', '3')}, {self.truth(1)}) + z MOD 5;\n"

@@ -163,6 +163,22 @@ class Compared(InFolder):
         self.assertIn("both readings are the same: end 1", self.tool("lower", "p.st", "--check", "in.csv"))
 
     @needs_program
+    def test_tools_show_the_names_and_lines_of_the_original(self) -> None:
+        declared = "VAR t : TON := (PT := T#200ms); v : ARRAY[0..1] OF INT; END_VAR\n"
+        self.write("p.st", HEAD + declared + "t(IN := a);\nq := t.Q;\nv[1] := n;\ny := 100 / v[1];\nEND_PROGRAM\n")
+        self.write("in.csv", "a,b,n\n1,0,5\n1,0,4\n1,0,2\n1,0,0\n")
+        self.tool("lower", "p.st", "--cycle-time", "100ms", "-o", "low.st")
+        printed = self.tool("table", "low.st", "in.csv", "t.ET", "v[1]", "q", "--from", "p.st", status=9)
+        self.assertEqual([" ".join(line.split()) for line in printed.split("\n")[:4]], ["cycle t.ET v[1] q", "0 0 5 0", "1 100 4 0", "2 200 2 1"])
+        self.assertIn(" t.elapsed $end\n", self.tool("vcd", "low.st", "in.csv", "--from", "p.st", status=9))
+        printed = self.tool("explain", "--from", "p.st", "run", "low.st", "in.csv", status=2)
+        self.assertIn("      from p.st:8: y := 100 / v[1];\n", printed)
+        printed = self.tool("lint", "low.st", "--from", "p.st", status=9)
+        self.assertIn("the input `b` is never read", printed)
+        self.assertIn("      from p.st:2: VAR_INPUT a, b : BOOL; n : INT; END_VAR\n", printed)
+        self.assertIn("`lower` has not written this text", self.tool("lint", "p.st", "--from", "low.st", status=2))
+
+    @needs_program
     def test_made_texts(self) -> None:
         """Random texts over random rows; the count of each construct is printed where MADE_TEXTS asks for more than the usual number."""
         counted: Counter[str] = Counter()

@@ -25,6 +25,7 @@ from vcp_tools.program import Program
 from vcp_tools.read.verdict_lines import faults_of_group, never_reached, read_verdicts
 from vcp_tools.refusal import FINE, FOUND, REFUSED, Refusal
 from vcp_tools.read.rows_file import line_of, record_of
+from vcp_tools.read.origin import WORDS, Origin
 from vcp_tools.read.source import Source
 from vcp_tools.read.syntax import Declaration
 
@@ -311,17 +312,19 @@ def said_by_program(line: str, code: str) -> list[str]:
     return [f"vcp:  {line}", *wrapped]
 
 
-def explain_call(words: Sequence[str], of: str | None = None) -> int:
-    """Runs the program with these words, and explains what it says; `of` is the source of the image, where it is given. The status is the program's own."""
+def explain_call(words: Sequence[str], of: str | None = None, origin: Origin | None = None) -> int:
+    """Runs the program with these words, and explains what it says; `of` is the source of the image, and `origin` the text from which the program was
+    written, where they are given. The status is the program's own."""
     outcome = Program.found().call(*words)
     explainer = Explainer(words)
     fault = read_fault(outcome.fault) if outcome.fault else None
     lines = outcome.text.rstrip("\n").split("\n")
     ending = read_ending(lines[-1])
     if fault is not None:
-        _print(explainer.fault(fault).lines() + said_by_program(fault.text if fault.code != "usage" else outcome.errors.split("\n")[0], fault.code))
+        told = fault.text if fault.code != "usage" else outcome.errors.split("\n")[0]
+        _print(_with_origin(explainer.fault(fault).lines(), origin) + said_by_program(told, fault.code))
     elif ending is not None and outcome.status in (2, 3):
-        _print(explainer.ending(ending).lines() + [f"vcp:  {ending.text}"])
+        _print(_with_origin(explainer.ending(ending).lines(), origin) + [f"vcp:  {ending.text}"])
     else:
         accepted = [*explainer.unreached(outcome.text), *explainer.unseen(outcome.text, of)] if outcome.status == 0 else []
         for warning in [*explainer.silent_rows(), *accepted]:
@@ -377,6 +380,12 @@ def explain_all(words: Sequence[str]) -> int:
     return REFUSED
 
 
+def _with_origin(lines: list[str], origin: Origin | None) -> list[str]:
+    """What is printed of a fault, with the line of the text from which the program was written, where that is given."""
+    place = re.match(r"[^\n]*?:(\d+):\d+: ", lines[0])
+    return lines if origin is None or place is None else [origin.renamed(lines[0]), *lines[1:], *origin.told(int(place[1]))]
+
+
 def _print(lines: Sequence[str]) -> None:
     print("\n".join(lines))
 
@@ -385,6 +394,7 @@ def add_words(parser: argparse.ArgumentParser) -> None:
     """The words of `explain`."""
     parser.add_argument("--all", action="store_true", help="go on behind each fault of a source that can be stepped over, but of none of an instruction list")
     parser.add_argument("--source", metavar="P", help="the source of the image, by which faults that aren't seen are told with their variables")
+    parser.add_argument("--from", dest="original", metavar="ORIGINAL", help=WORDS)
     parser.add_argument("words", nargs=argparse.REMAINDER, help="words of vcp, as `check P`; without any, lines of error are read from standard input")
 
 
@@ -393,4 +403,6 @@ def run(given: argparse.Namespace) -> int:
     words = given.words[1:] if given.words[:1] == ["--"] else given.words
     if not words:
         return explain_lines()
-    return explain_all(words) if given.all else explain_call(words, given.source)
+    if given.all:
+        return explain_all(words)
+    return explain_call(words, given.source, None if given.original is None or len(words) < 2 else Origin(words[1], given.original))

@@ -10,6 +10,7 @@ from vcp_tools.lint.tree_findings import Finding, tree_findings
 from vcp_tools.program import Program
 from vcp_tools.read.given import Given, load
 from vcp_tools.refusal import FINE, FOUND, Refusal
+from vcp_tools.read.origin import WORDS, Origin
 from vcp_tools.read.source import Source
 from vcp_tools.read.structured_text import parse
 
@@ -28,6 +29,7 @@ _SPELLED = {"AND": ("AND", "&"), "OR": ("OR",), "SEL": ("SEL",)}
 def add_words(parser: argparse.ArgumentParser) -> None:
     """The words of `lint`."""
     parser.add_argument("program", metavar="P", help="the source")
+    parser.add_argument("--from", dest="original", metavar="ORIGINAL", help=WORDS)
     parser.add_argument("--allow", action="append", default=[], metavar="KIND", help=f"leave findings of this kind out; the kinds are {', '.join(KINDS)}")
 
 
@@ -40,8 +42,12 @@ def run(given: argparse.Namespace) -> int:
     if loaded.source is None:
         raise Refusal(f"{given.program}: this is an image, and the source is wanted")
     found = [finding for finding in findings(loaded, loaded.source) if finding.kind not in given.allow]
+    origin = None if given.original is None else Origin(given.program, given.original)
     for finding in found:
-        print(f"{given.program}:{loaded.source.told(finding.at)}: {finding.message} [{finding.kind}]")
+        message = finding.message if origin is None else origin.renamed(finding.message)
+        print(f"{given.program}:{loaded.source.told(finding.at)}: {message} [{finding.kind}]")
+        for line in origin.told(loaded.source.place(finding.at)[0]) if origin is not None else ():
+            print(line)
     if not found:
         print(f"{given.program}: nothing that is likely a mistake")
     return FOUND if found else FINE

@@ -251,7 +251,7 @@ class Calls(Expressions):
         assert unit is not None
         self._enter(unit, act.at)
         given = self._given(unit, act.values, act.named, act.at)
-        frame = dict(node.nodes)
+        frame = {**self.constants_of(unit), **node.nodes}
         for it in given:
             if not it.is_output:
                 self._pass(unit, frame, it)

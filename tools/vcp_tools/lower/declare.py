@@ -40,12 +40,14 @@ class Declaring:
         self.declared: list[Declaration] = []
         self.constants: dict[str, Declaration] = {}
         self.timers: list[tuple[Leaf, int]] = []
+        self.inputs: set[str] = set()
         self.out: list[Line] = []
         self.depth = 1
         self.at = 0
         self.frame: dict[str, Node] = {}
         self.globals: dict[str, Node] = {}
         self._open_types: list[str] = []
+        self._constants_of: dict[str, dict[str, Node]] = {}
 
     def expression(self, term: Term) -> Code:
         """The code of an expression; what has to be done before it is written first."""
@@ -114,8 +116,23 @@ class Declaring:
             return Fields(name, tuple(FieldType(field, text.at, section, self._elementary(kind), None) for (field, kind), section in parts), standard=name)
         unit = self.units.get(name)
         if unit is not None and unit.kind == "FUNCTION_BLOCK":
-            return Fields(unit.name, self._fields(unit.declared), unit)
+            before, self.frame = self.frame, self.constants_of(unit)
+            try:
+                return Fields(unit.name, self._fields([it for it in unit.declared if not it.is_constant]), unit)
+            finally:
+                self.frame = before
         raise NotTaken(text.at, f"`{text.name}` is no type that is taken")
+
+    def constants_of(self, unit: Unit) -> dict[str, Node]:
+        """The constants of a function block, which all its instances share."""
+        name = unit.name.upper()
+        if name not in self._constants_of:
+            found: dict[str, Node] = {}
+            self._constants_of[name] = found
+            before, self.frame = self.frame, found
+            self.enter([it for it in unit.declared if it.is_constant], found, f"{unit.name}_", False)
+            self.frame = before
+        return self._constants_of[name]
 
     def _elementary(self, name: str) -> Scalar:
         found = self._named(TypeText("simple", 0, name))
@@ -194,8 +211,13 @@ class Declaring:
             raise NotTaken(initial.at, f"`{told}` begins with values by name, as `(PT := T#5s)`")
         found = Group(kind)
         for field in kind.fields:
-            of_field = given.pop(field.name.upper(), field.initial)
-            found.nodes[field.name.upper()] = self.make(field.type, f"{name}_{field.name}", f"{told}.{field.name}", declared, of_field, section)
+            of_field = given.pop(field.name.upper(), None)
+            before = self.frame
+            if of_field is None and kind.unit is not None:
+                self.frame = self.constants_of(kind.unit)
+            inner = f"{name}_{field.name}", f"{told}.{field.name}"
+            found.nodes[field.name.upper()] = self.make(field.type, *inner, declared, of_field or field.initial, section)
+            self.frame = before
         if given:
             raise NotTaken(declared.at, f"`{told}` has no `{next(iter(given))}`")
         if kind.standard and STANDARD[kind.standard].is_timer:
@@ -213,12 +235,15 @@ class Declaring:
             raise NotTaken(declared.at, f"`{told}` would be named `{name}`, and something else is")
         leaf = Leaf(kind, self.names.claim(name), declared.at, number if section == "VAR CONSTANT" else None)
         shown = "" if number == 0 or section == "VAR_INPUT" else _told_number(number, kind.stored)
-        remarks = [it for it in (told if told != leaf.name else "", f"AT {declared.address}" if declared.address else "") if it]
+        kept = [it for it in declared.attributes if it != "CONSTANT"]
+        remarks = [it for it in (told if told != leaf.name else "", f"AT {declared.address}" if declared.address else "", *kept) if it]
         made = Declaration(section, leaf.name, kind.stored, shown, declared.at, ", ".join(remarks))
         if section == "VAR CONSTANT":
             self.constants[leaf.name] = replace(made, initial=_told_number(number, kind.stored))
         else:
             self.declared.append(made)
+        if section == "VAR_INPUT":
+            self.inputs.add(leaf.name)
         return leaf
 
     def _first(self, kind: Scalar, term: Term) -> int:

@@ -40,6 +40,7 @@ class Expressions(Declaring):
         self.used: dict[str, int] = {}
         self._made: dict[str, int] = {}
         self.bounds: dict[str, tuple[int, int]] = {}
+        self.controls: set[str] = set()
         self.wants_stop = False
         self.called_units = 0
 
@@ -351,6 +352,10 @@ class Expressions(Declaring):
         kind = leaf.type
         if leaf.constant is not None:
             raise NotTaken(at, f"`{leaf.name}` is a constant")
+        if leaf.name in self.inputs:
+            raise NotTaken(at, f"`{leaf.name}` is an input: it gets its value from the rows")
+        if leaf.name in self.controls:
+            raise NotTaken(at, f"`{leaf.name}` is the control variable of a FOR that stands round this: it isn't set there")
         family = kind.base if kind.base in ("BOOL", "TIME") else "number"
         if value.family != family:
             raise NotTaken(at, f"{codes.told_type(value)} isn't assigned to {kind.base}")

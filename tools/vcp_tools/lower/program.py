@@ -11,6 +11,7 @@ from vcp_tools.lower.nodes import leaves
 from vcp_tools.lower.statements import Statements
 from vcp_tools.lower.text import Declaration, Line
 from vcp_tools.read.source import GREATEST, Source
+from vcp_tools.read.wider_text import blanked
 from vcp_tools.read.wider_tree import Act, Assign, Choose, Declared, File, Initial, Invoke, Repeat, Term, acts
 
 _SECTIONS = ("VAR_INPUT", "VAR_OUTPUT", "VAR CONSTANT", "VAR")
@@ -50,7 +51,7 @@ def lowered(file: File, source: Source, name: str, period: int, told_period: str
     work.out[begun:begun] = growing
     if work.wants_stop:
         work.declared.append(Declaration("VAR", "out_of_range", "INT", "", unit.at, "set where the run stops"))
-    return Lowered(_written(work, source, unit.name, unit.at, name, told_period), _notes(work, file))
+    return Lowered(_written(work, source, unit.name, unit.at, name, told_period), _notes(work, file, blanked(source.text)[1]))
 
 
 def _growing(work: Statements) -> Iterator[Line]:
@@ -85,11 +86,11 @@ def _is_named(text: str, name: str) -> bool:
     return re.search(rf"\b{re.escape(name)}\b", text, re.I) is not None
 
 
-def _notes(work: Statements, file: File) -> list[tuple[int, str]]:
-    """What the user is told: times that are rounded up."""
+def _notes(work: Statements, file: File, pragmas: list[int]) -> list[tuple[int, str]]:
+    """What the user is told: pragmas that are left out, and times that are rounded up."""
+    found = [(at, "a pragma is left out") for at in pragmas]
     if not work.period:
-        return []
-    found = []
+        return found
     for term, at in _times(file):
         time = time_of(term.text, at)
         if time % work.period:

@@ -10,7 +10,7 @@ from vcp_tools.lower.code import Code
 from vcp_tools.lower.nodes import Elements, Group, Leaf, Node
 from vcp_tools.lower.text import Declaration
 from vcp_tools.read.source import GREATEST, LEAST, TYPES
-from vcp_tools.read.wider_tree import Act, Assign, Case, Choose, Invoke, Leave, NotTaken, Repeat, Term, Unit, acts
+from vcp_tools.read.wider_tree import Act, Assign, Case, Choose, Invoke, Leave, NotTaken, Repeat, Term, Unit
 
 
 class Statements(Calls):
@@ -114,10 +114,6 @@ class Statements(Calls):
         def one(target: Node) -> None:
             if not isinstance(target, Leaf):
                 raise NotTaken(term.at, "a variable of one value is wanted here")
-            if target.name in self.inputs:
-                raise NotTaken(term.at, f"`{target.name}` is an input: it gets its value from the rows")
-            if target.name in self.bounds:
-                raise NotTaken(term.at, f"`{target.name}` is the control variable of a FOR that stands round this: it isn't set there")
             self.store(target, value, term.at)
 
         self.each(node, steps, one, term.at)
@@ -130,11 +126,6 @@ class Statements(Calls):
         """Stops where an input is outside its type."""
         low, high = LEAST[leaf.type.stored], GREATEST[leaf.type.stored]
         self.checked(codes.name_code(leaf.name, leaf.type.stored, leaf.type.base, low, high), leaf.type.low, leaf.type.high, leaf.name)
-
-    @property
-    def inputs(self) -> set[str]:
-        """The names of the inputs."""
-        return {it.name for it in self.declared if it.section == "VAR_INPUT"}
 
     def _condition(self, term: Term) -> Code:
         found = self.expression(term)
@@ -224,7 +215,7 @@ class Statements(Calls):
         control = self.direct(_needed(act.control))
         if not isinstance(control, Leaf) or control.type.base in ("BOOL", "TIME") or control.constant is not None or control.name in self.inputs:
             raise NotTaken(act.at, "the control variable of a FOR is a number's variable")
-        if control.name in self.bounds:
+        if control.name in self.controls:
             raise NotTaken(act.at, f"`{control.name}` is the control variable of a FOR that stands round this")
         ends = [self.expression(it) for it in act.bounds]
         step = ends[2].number if len(ends) > 2 else 1
@@ -279,22 +270,12 @@ class Statements(Calls):
         """The body of a loop, once."""
         if "CONTINUE" in words:
             self.emit(f"{self.loop[1]} := FALSE;")
-        before = dict(self.bounds)
+        before = dict(self.bounds), set(self.controls)
         if control is not None:
-            self._is_kept(act, control)
             self.bounds[control.name] = bounds
+            self.controls.add(control.name)
         self.body(act.body)
-        self.bounds = before
-
-    def _is_kept(self, act: Repeat, control: Leaf) -> None:
-        """Refuses a control variable that a call in the loop may set."""
-        for it in acts(act.body):
-            if isinstance(it, Invoke):
-                for argument in it.named:
-                    if argument.is_output and argument.value is not None and argument.value.form == "name":
-                        node = self.frame.get(argument.value.text.upper())
-                        if isinstance(node, Leaf) and node.name == control.name:
-                            raise NotTaken(argument.at, f"`{control.name}` is the control variable of a FOR that stands round this: it isn't set there")
+        self.bounds, self.controls = before
 
     def _open_for(self, act: Repeat, control: Leaf, ends: list[Code], step: int, words: set[str]) -> None:
         """A FOR whose bounds are computed, with a bound of turns: it counts in a wider variable, so that its last step stays in range."""

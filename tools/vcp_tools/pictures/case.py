@@ -39,6 +39,7 @@ class Case:
     image: Image
     run: Observation
     period: CycleTime | None = None
+    original: str | None = None
     found_something: bool = False
     commands: list[str] = field(default_factory=list)
 

@@ -8,7 +8,7 @@ from __future__ import annotations
 
 import tempfile
 from array import array
-from dataclasses import dataclass, field
+from dataclasses import dataclass, field, replace
 from itertools import islice
 from pathlib import Path
 from typing import Mapping, Sequence
@@ -21,6 +21,7 @@ from vcp_tools.pictures.runs import side_by_side
 from vcp_tools.program import Outcome, Program
 from vcp_tools.refusal import Refusal
 from vcp_tools.read.rows_file import Record, cell_value, stream_rows
+from vcp_tools.read.origin import Origin
 from vcp_tools.read.run_lines import PrintedRun, read_run, read_trace
 from vcp_tools.read.source import Source
 from vcp_tools.read.declarations import head_of_program
@@ -100,6 +101,14 @@ def opened(source: Source) -> bytes:
         if token.is_word("VAR") and not behind.is_word("CONSTANT"):
             data[token.start : behind.end if behind.is_word("RETAIN") else token.end] = b"VAR_OUTPUT"
     return bytes(data)
+
+
+def of_origin(found: Observation, program: str, original: str | None) -> Observation:
+    """The run with the names of the text from which a program was written, where that is given."""
+    if original is None:
+        return found
+    origin = Origin(program, original)
+    return replace(found, columns=[Column(replace(it.declaration, name=origin.name(it.name)), it.values) for it in found.columns])
 
 
 def _same_run(run: PrintedRun, found: PrintedRun) -> PrintedRun:

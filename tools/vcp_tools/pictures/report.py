@@ -10,7 +10,7 @@ from pathlib import Path
 from vcp_tools.pictures.case import Case
 from vcp_tools.cycle_time import CycleTime
 from vcp_tools.pictures.markup import page
-from vcp_tools.pictures.observe import observe, rows_words
+from vcp_tools.pictures.observe import observe, of_origin, rows_words
 from vcp_tools.files import read_bytes, write_bytes
 from vcp_tools.program import Program
 from vcp_tools.read.image import read_image
@@ -39,7 +39,7 @@ def run(given: argparse.Namespace) -> int:
     rows, rest = rows_words(given.rest, given.cycles)
     if rest:
         raise Refusal(f"`{rest[0]}` is left over behind ROWS")
-    made, found_something = make(given.program, rows, given.horizon, given.faults, given.trace, period_of(given))
+    made, found_something = make(given.program, rows, given.horizon, given.faults, given.trace, period_of(given), given.original)
     if given.check:
         return check(given.check, read_bytes(given.check).decode("utf-8", "replace"), made)
     if given.output:
@@ -51,7 +51,7 @@ def run(given: argparse.Namespace) -> int:
 
 
 def make(
-    file: str, rows: list[str], horizon: int, faults: str | None, traced: bool = False, period: CycleTime | None = None
+    file: str, rows: list[str], horizon: int, faults: str | None, traced: bool = False, period: CycleTime | None = None, original: str | None = None
 ) -> tuple[str, bool]:
     """The report, as one document, and whether it found something."""
     program = Program.found()
@@ -61,7 +61,8 @@ def make(
         image = Path(folder) / "image"
         write_bytes(image, image_bytes)
         found = observe(program, file, rows, traced, {"plain": ("plain", file, *rows), "exec": ("exec", str(image), *rows)})
-    case = Case(program, file, rows, horizon, faults, source, image_bytes, read_image(image_bytes, file), found, period)
+    found = of_origin(found, file, original)
+    case = Case(program, file, rows, horizon, faults, source, image_bytes, read_image(image_bytes, file), found, period, original)
     case.note("check", file)
     case.note("compile", file, into=case.image_name)
     parts = [part(case) for part in SECTIONS]

@@ -109,6 +109,8 @@ def _counted(case: Case, number: int, none: str) -> str:
 def _files(case: Case) -> str:
     """The files with their digests."""
     given = [("source", case.file, case.source.data)]
+    if case.original is not None:
+        given.append(("text from which the source was written", case.original, read_bytes(case.original)))
     if case.rows[0] != "--cycles":
         given.append(("rows", case.rows[0], read_bytes(case.rows[0])))
     if case.faults:

@@ -26,13 +26,13 @@ class Machine:
         self.file = file
         self.period = period
         self.now = 0
-        self.types = Types(file, _has_long_times(file), lambda term: self.value(term).number)
+        self.frames: list[Frame] = [{}]
+        self.types = Types(file, _has_long_times(file), lambda term: self.value(term).number, self.frames)
         self.functions = {it.name.upper(): it for it in file.units if it.kind == "FUNCTION"}
         programs = [it for it in file.units if it.kind == "PROGRAM"]
         if len(programs) != 1:
             raise NotTaken(programs[1].at if programs else 0, "one PROGRAM a file is taken")
         self.program: Unit = programs[0]
-        self.frames: list[Frame] = [{}]
         self.globals: Frame = {}
         for it in file.types:
             self.types.enter(it.name, it.type)

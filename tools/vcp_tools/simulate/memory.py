@@ -58,10 +58,11 @@ def milliseconds(text: str, at: int) -> int:
 class Types:
     """The types of a file, and what is made of them. `constant` gives the value of a constant expression."""
 
-    def __init__(self, file: File, is_long: bool, constant: Callable[[Term], int]) -> None:
+    def __init__(self, file: File, is_long: bool, constant: Callable[[Term], int], frames: list[Frame]) -> None:
         self.named = {it.name.upper(): it for it in file.types}
         self.blocks = {it.name.upper(): it for it in file.units if it.kind == "FUNCTION_BLOCK"}
         self.constant = constant
+        self.frames = frames
         self.symbols: dict[str, int] = {}
         self.by_type: dict[tuple[str, str], int] = {}
         self.time = Kind(-(2**63), 2**63 - 1, 64) if is_long else Kind.of("TIME")
@@ -140,8 +141,22 @@ class Types:
         return Array(ranges, elements)
 
     def frame(self, declared: list[Declared], initials: dict[str, Initial]) -> Frame:
-        """The things of declarations, with other initial values where these are given by name."""
-        return {it.name.upper(): self.make(it.type, initials.get(it.name.upper(), it.initial)) for it in declared if it.section != "VAR_IN_OUT"}
+        """The things of declarations, with other initial values where these are given by name. Their own initial values and types may name what is declared
+        before them."""
+        found: Frame = {}
+        for it in declared:
+            name = it.name.upper()
+            if it.section in ("VAR_IN_OUT", "VAR_EXTERNAL"):
+                continue
+            if name in initials:
+                found[name] = self.make(it.type, initials[name])
+                continue
+            self.frames.append(found)
+            try:
+                found[name] = self.make(it.type, it.initial)
+            finally:
+                self.frames.pop()
+        return found
 
     def _set(self, fields: dict[str, Variable], initials: dict[str, Initial]) -> None:
         for name, initial in initials.items():
