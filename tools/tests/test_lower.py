@@ -176,7 +176,7 @@ class Compared(InFolder):
         printed = self.tool("lint", "low.st", "--from", "p.st", status=9)
         self.assertIn("the input `b` is never read", printed)
         self.assertIn("      from p.st:2: VAR_INPUT a, b : BOOL; n : INT; END_VAR\n", printed)
-        self.assertIn("`lower` has not written this text", self.tool("lint", "p.st", "--from", "low.st", status=2))
+        self.assertIn("`lower` has not written this text", self.tool("lint", str(EXAMPLES / "points.st"), "--from", "p.st", status=2))
 
     @needs_program
     def test_made_texts(self) -> None:
