@@ -12,6 +12,7 @@ from tests.made_texts import Maker, made_rows
 from tests.support import EXAMPLES, InFolder, needs_program
 from tests.test_explain import FRAME
 from tests.test_simulate import HEAD, STEPS, block_text
+from vcp_tools import simulate
 from vcp_tools.lower.check import compared
 from vcp_tools.lower.program import lowered
 from vcp_tools.needs import find_module
@@ -120,6 +121,39 @@ class Written(InFolder):
             again = Source(found.encode("latin-1"))
             one, other = (list(simulated("p", *it, "100ms", rows)) for it in ((source, tree), (again, parse_wider(again.text))))
             self.assertEqual((compared(one, other), one[-1][:3]), ("", "end"), file.name)
+
+    def test_long_times_are_held_in_lint(self) -> None:
+        text = HEAD + "VAR t : TON; u : TIME := T#30d; END_VAR\nt(IN := a, PT := u);\nd := TIME_TO_DINT(t.ET);\nEND_PROGRAM\n"
+        printed = self.text(text, "--cycle-time", "1s")
+        self.assertIn("  t_ET : LINT;  // line 4: t.ET", printed)
+        self.assertIn("  u : LINT := 2592000000;  // line 4", printed)
+        self.assertIn("  d := LINT_TO_DINT(t_ET);  // line 6", printed)
+
+    def test_what_the_text_cannot_say_is_told(self) -> None:
+        printed = self.text(HEAD.replace("VAR_INPUT a", "{attribute 'x'} VAR_INPUT a AT %IX0.1") + "VAR RETAIN k : INT; END_VAR\nEND_PROGRAM\n")
+        self.assertIn("p.st:2:1: a pragma is left out", printed)
+        self.assertIn("  a : BOOL;  // line 2: AT %IX0.1", printed)
+        self.assertIn("  k : INT;  // line 4: RETAIN", printed)
+
+    def test_names_that_meet_are_told_apart(self) -> None:
+        printed = self.text(HEAD + "VAR t_Q : INT; t : R_TRIG; END_VAR\nt(CLK := a);\nt_Q := 3;\nEND_PROGRAM\n")
+        self.assertIn("  t_Q_2 : BOOL;  // line 4: t.Q", printed)
+        text = "PROGRAM p\nVAR_INPUT v_0 : INT; v : ARRAY[0..1] OF INT; END_VAR\nEND_PROGRAM\n"
+        self.assertIn("p.st:2:22: `v[0]` would be named `v_0`, and something else is", self.text(text, status=2))
+
+    def test_xml_that_is_not_taken(self) -> None:
+        whole = (CONTROLLERS / "garage.xml").read_text(encoding="utf-8")
+        for before, behind, said in (
+            ("<ST>", "<FBD>", "p.xml:22: the body of `Barrier` is in FBD"), ("pouType=\"program\"", "pouType=\"action\"", "`Garage` is no program"),
+            ("</project>", "", "this is no XML"), ("button_in AND", "button_out AND", "p.xml:82:14: `button_out` is declared nowhere"),
+        ):
+            text = whole.replace(before, behind)
+            self.write("p.xml", text.replace("</ST>", "</FBD>") if behind == "<FBD>" else text)
+            self.assertIn(said, self.tool("lower", "p.xml", "--cycle-time", "100ms", status=2))
+
+    def test_the_second_reading_takes_nothing_of_the_first(self) -> None:
+        for file in (Path(simulate.__file__).parent).glob("*.py"):
+            self.assertNotIn("vcp_tools.lower", file.read_text(encoding="utf-8"), file.name)
 
     def test_profile_programs_are_taken_too(self) -> None:
         for name in ("crossing", "two_hand", "route", "points", "two_tracks", "odometer"):

@@ -39,9 +39,9 @@ class Element:
         return next((it for it in self.inner if it.name == name), None)
 
     def whole_text(self) -> tuple[str, int]:
-        """The text of this element and of those in it, and the line in which it begins."""
-        found = [(self.text, self.text_line), *(it.whole_text() for it in self.inner)]
-        return "".join(text for text, _ in found), next((line for text, line in found if text), self.line)
+        """The text of this element and of those in it, blank ones left aside, and the line in which it begins."""
+        found = [(text, line) for text, line in ((self.text, self.text_line), *(it.whole_text() for it in self.inner)) if text.strip()]
+        return "".join(text for text, _ in found), found[0][1] if found else self.line
 
 
 class _Lines:
