@@ -18,9 +18,11 @@ CALLS = (
     ("table", "@", "a.csv"), ("table", "a.st", "@"), ("vcd", "@", "a.csv"), ("vcd", "a.st", "@"), ("expect", "@", "a.csv", "a.csv"),
     ("expect", "a.st", "@", "a.csv"), ("expect", "a.st", "a.csv", "@"), ("diff", "@", "a.st"), ("diff", "a.st", "@"), ("lint", "@"),
     ("report", "@", "a.csv"), ("report", "a.st", "@"), ("report", "a.st", "a.csv", "--faults", "@"), ("report", "a.st", "a.csv", "--check", "@"),
+    ("lower", "@", "--cycle-time", "100ms"), ("lower", "a.st", "--cycle-time", "100ms", "--check", "@"),
+    ("simulate", "@", "a.csv", "--cycle-time", "100ms"), ("simulate", "a.st", "@", "--cycle-time", "100ms"),
 )
 """Calls of all tools, with `@` in the place of a file that can't be read."""
-WRITES = (("report", "a.st", "a.csv", "-o", "@"),)
+WRITES = (("report", "a.st", "a.csv", "-o", "@"), ("lower", "a.st", "--cycle-time", "100ms", "-o", "@"))
 """Calls with `@` in the place of a file that can't be written."""
 CAMPAIGN_CALLS = (("campaign", "@", "a.csv", "skip"), ("campaign", "a.img", "@", "skip"), ("campaign", "a.img", "a.csv", "@"),
                   ("campaign", "a.img", "skip", "--rows", "a.csv", "--rows", "@"), ("explain", "--source", "@", "inject", "a.img", "a.csv", "f.txt"))

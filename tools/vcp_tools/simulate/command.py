@@ -7,7 +7,7 @@ from typing import Iterator, Sequence
 from vcp_tools.cycle_time import read_cycle_time
 from vcp_tools.files import read_bytes
 from vcp_tools.pictures.observe import rows_words
-from vcp_tools.read.rows_file import read_rows
+from vcp_tools.read.rows_file import Record, read_rows
 from vcp_tools.read.source import Source
 from vcp_tools.read.wider_file import source_and_tree
 from vcp_tools.read.wider_tree import File, NotTaken
@@ -61,9 +61,10 @@ def _lines(machine: Machine, source: Source, rows: Sequence[str]) -> Iterator[st
     declared = machine.declared()
     inputs = [leaf for it in declared if is_input(it) for leaf in leaves(it.name, machine.of_program(it))]
     outputs = [leaf for it in declared if is_output(it) for leaf in leaves(it.name, machine.of_program(it))]
+    cycles = _cells(rows, inputs)
     yield ",".join(["cycle", *(name for name, _ in outputs)])
     cycle = 0
-    for cells in _cells(rows, inputs):
+    for cells in cycles:
         try:
             for (_, variable), number in zip(inputs, cells):
                 if not variable.kind.low <= number <= variable.kind.high:
@@ -79,13 +80,11 @@ def _lines(machine: Machine, source: Source, rows: Sequence[str]) -> Iterator[st
 
 
 def _cells(rows: Sequence[str], inputs: Sequence[tuple[str, Variable]]) -> Iterator[list[int]]:
-    """The values of the inputs in each cycle, in the inputs' order."""
+    """The values of the inputs in each cycle, in the inputs' order; the names of the columns are looked at before the first."""
     if rows[0] == "--cycles":
         if inputs:
             raise Refusal("the program has inputs: a rows file is wanted in the place of --cycles")
-        for _ in range(int(rows[1])):
-            yield []
-        return
+        return ([] for _ in range(int(rows[1])))
     records = read_rows(read_bytes(rows[0]))
     heads = [it.upper() for it in records[0].cells] if records else []
     for name, _ in inputs:
@@ -94,8 +93,12 @@ def _cells(rows: Sequence[str], inputs: Sequence[tuple[str, Variable]]) -> Itera
     if len(heads) != len(inputs):
         raise Refusal(f"{rows[0]}: {len(heads)} columns, and {len(inputs)} are wanted")
     places = [heads.index(name.upper()) for name, _ in inputs]
-    for record in records[1:]:
-        try:
-            yield [int(record.cells[at]) for at in places]
-        except (ValueError, IndexError):
-            raise Refusal(f"{rows[0]}:{record.line}: this is no row of {len(inputs)} numbers") from None
+    return (_numbers(rows[0], record, places) for record in records[1:])
+
+
+def _numbers(file: str, record: Record, places: Sequence[int]) -> list[int]:
+    """The numbers of a record, in the inputs' order."""
+    try:
+        return [int(record.cells[at]) for at in places]
+    except (ValueError, IndexError):
+        raise Refusal(f"{file}:{record.line}: this is no row of {len(places)} numbers") from None
