@@ -16,15 +16,15 @@ has_module() {
 }
 
 has_all() {
-    has_module lark && has_module hypothesis && command -v parallel >/dev/null 2>&1 && command -v mypy >/dev/null 2>&1 && command -v flake8 >/dev/null 2>&1
+    has_module lark && has_module z3 && has_module hypothesis && command -v parallel >/dev/null 2>&1 && command -v mypy >/dev/null 2>&1 && command -v flake8 >/dev/null 2>&1
 }
 
 if ! has_all && [ "$(id -u)" = 0 ] && command -v apt-get >/dev/null 2>&1; then
-    for package in python3-lark parallel python3-hypothesis mypy flake8; do
+    for package in python3-lark python3-z3 parallel python3-hypothesis mypy flake8; do
         DEBIAN_FRONTEND=noninteractive apt-get install -y -qq "$package" >/dev/null 2>&1 || echo "tools: apt-get couldn't install $package"
     done
 fi
-for module in lark hypothesis; do
+for module in lark z3 hypothesis; do
     has_module $module || echo "tools: the module $module isn't installed: the tests that need it are skipped"
 done
 status=0
