@@ -8,7 +8,7 @@
 # `examples/` and `checks/`. What is printed has to be the transcript; the first document that differs is shown as a diff, and the status is then 1.
 #
 # It uses the programs that are built, or those of VCP=FILE and VCP_STUDY=FILE, and builds none: without `vcp` nothing is run and the status is 0.
-# Without `vcp_study` a transcript that runs it is left out, and without Python 3 one that runs a script of checks/ or a tool.
+# Without `vcp_study` a transcript that runs it is left out, without Python 3 one that runs a script of checks/ or a tool, and without z3 one that asks it.
 top=$(CDPATH='' cd -- "$(dirname -- "$0")/.." && pwd) || exit 1
 vcp=${VCP:-$top/crates/vcp/out/vcp}
 study=${VCP_STUDY:-$top/crates/vcp_study/out/vcp_study}
@@ -20,12 +20,15 @@ study=${VCP_STUDY:-$top/crates/vcp_study/out/vcp_study}
 work=$(mktemp -d) || exit 1
 trap 'rm -rf "$work"' EXIT
 command -v python3 >/dev/null 2>&1 && python=1 || python=0
+asks='vcp_tools never|vcp_tools witness|vcp_tools rows reach'
+python3 -c 'import sys; sys.path.append("/usr/lib/python3/dist-packages"); import z3' 2>/dev/null && solver=1 || solver=0
 [ -x "$study" ] && studies=1 || studies=0
 
 # The transcripts of a document, without their indentation, each ended by an empty line.
 shown() {
-    awk -v python="$python" -v studies="$studies" '
-        function flush() { if (block != "" && (python || block !~ /checks\/|vcp_tools/) && (studies || block !~ /vcp_study|campaign/)) print block; block = "" }
+    awk -v python="$python" -v studies="$studies" -v solver="$solver" -v asks="$asks" '
+        function is_run() { return (python || block !~ /checks\/|vcp_tools/) && (studies || block !~ "vcp_study|campaign|" asks) && (solver || block !~ asks) }
+        function flush() { if (block != "" && is_run()) print block; block = "" }
         /^    \$ / && !indented { inside = 1 }
         { indented = /^    / }
         inside && indented { block = block substr($0, 5) "\n"; next }

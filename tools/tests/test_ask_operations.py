@@ -20,6 +20,8 @@ from vcp_tools.read.source import GREATEST, LEAST
 
 MADE = int(os.environ.get("MADE", "400")) // 10
 """So many programs are made."""
+PROGRAMS = sorted([*EXAMPLES.glob("*.st"), *EXAMPLES.glob("patterns/*.st")])
+"""The examples that are programs of the language as they stand."""
 needs_study = unittest.skipUnless(find_program("vcp_study"), "no vcp_study is built, and VCP_STUDY=FILE names none")
 needs_z3 = unittest.skipUnless(find_module("z3"), "z3 isn't installed")
 
@@ -46,7 +48,7 @@ class Operations(InFolder):
 
     @needs_program
     def test_a_listing_has_the_operations_of_the_image(self) -> None:
-        for file in sorted(EXAMPLES.glob("**/*.st")):
+        for file in PROGRAMS:
             image = self.write("m.img", self.program("compile", str(file)))
             self.assertEqual(read_listing(self.program("list", "m.img").decode()), read_image(image.read_bytes(), "m.img").operations, file.name)
 

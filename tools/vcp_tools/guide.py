@@ -9,6 +9,7 @@ from vcp_tools.refusal import FINE
 PAGES = (
     ("docs/PORTING.md", "to bring a program here: the first steps, and what stands for timers, edges and the like"),
     ("docs/TOOLS.md", "each of these tools, with an example"),
+    ("docs/PROPERTIES.md", "whether something can ever come, and rows that reach everything"),
     ("docs/CAMPAIGNS.md", "every fault of a class tried on a program"),
     ("docs/LANGUAGE.md", "the language"),
     ("docs/FORMATS.md", "rows, scripts, images, and the words of vcp and vcp_study; `man docs/vcp.1`, `man docs/vcp_study.1`"),

@@ -19,6 +19,8 @@ TOOLS: dict[str, str] = {
     "table": "inputs, outputs and variables of a run side by side, cycle by cycle",
     "vcd": "the same as a VCD file, for GTKWave",
     "expect": "compares a run with wanted rows, and names the first difference",
+    "never": "whether a condition comes in any run: shown, or refuted by rows that replay",
+    "witness": "for each operation that may stop, rows by which it does",
     "diff": "whether two programs or images have the same operations, and where they part",
     "lint": "what is lawful and likely a mistake",
     "report": "one HTML file that tells a program and its run, to be filed",
@@ -30,17 +32,18 @@ TOOLS: dict[str, str] = {
 """The tools, with what their help says."""
 MODULES = {
     "explain": "explain.command", "rows": "rows.command", "table": "pictures.table", "vcd": "pictures.vcd", "expect": "compare.expect",
-    "diff": "compare.diff", "lint": "lint.command", "report": "pictures.report",
+    "never": "ask.never", "witness": "ask.witness", "diff": "compare.diff", "lint": "lint.command", "report": "pictures.report",
     "lower": "lower.command", "simulate": "simulate.command",
     "campaign": "campaign.command", "help": "guide",
 }
 """The module of each tool."""
-VALUED = frozenset(("--changes-of", "--cycles", "--cycle-time", "--faults", "--horizon", "--check", "-o", "--allow", "--from"))
+VALUED = frozenset(("--changes-of", "--cycles", "--cycle-time", "--faults", "--horizon", "--check", "-o", "--allow", "--from", "--assume", "--inputs",
+                    "--seconds"))
 """The options that a word follows."""
 INTERRUPTED = 128 + 2
 """The status of a tool that a Ctrl-C has ended, as shells tell it."""
-USAGE = ("statuses: 0 nothing was found, 9 a fault, a difference or a likely mistake was found, 2 the words or a file can't be used; "
-         "explain gives vcp's own")
+USAGE = ("statuses: 0 nothing was found, 9 a fault, a difference or a likely mistake was found, 2 the words or a file can't be used, "
+         "10 what is asked stays open; explain gives vcp's own")
 
 
 def _module(tool: str) -> ModuleType:
@@ -66,7 +69,8 @@ def _are_words_of_vcp(words: list[str]) -> bool:
 
 
 def _options_first(words: list[str]) -> list[str]:
-    """The words with the options of a tool behind its name, so that they may stand anywhere, as `--cycles N` in the place of ROWS does."""
+    """The words with the options of a tool behind its name, and of `rows` behind what it is to do, so that they may stand anywhere, as `--cycles N` in the
+    place of ROWS does."""
     if not words or words[0] in ("explain", "campaign"):
         return words
     options: list[str] = []
@@ -76,7 +80,8 @@ def _options_first(words: list[str]) -> list[str]:
         count = 2 if words[at] in VALUED else 1
         (options if words[at].startswith("-") else rest).extend(words[at : at + count])
         at += count
-    return [words[0], *options, *rest]
+    first = 1 if words[0] == "rows" else 0
+    return [words[0], *rest[:first], *options, *rest[first:]]
 
 
 def _run(words: list[str]) -> int:

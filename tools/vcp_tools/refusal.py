@@ -8,6 +8,8 @@ UNUSABLE = 2
 """The tool couldn't look: its words or a file that it was given are refused, and one line says why."""
 FOUND = 9
 """The tool looked at all, and found what it looks for: a fault, a difference, a likely mistake. `vcp_study` ends so, too."""
+OPEN = 10
+"""The tool looked as far as it was told to, and what is asked is neither shown nor refuted."""
 
 
 class Refusal(Exception):

@@ -10,6 +10,7 @@ from dataclasses import dataclass
 from pathlib import Path
 from typing import Mapping
 
+from vcp_tools.files import write_bytes
 from vcp_tools.program import Program
 from vcp_tools.read.image import Cell, Operation, Slot, read_image
 from vcp_tools.read.range_lines import MayStop, RangesOfAll, read_ranges_of_all
@@ -56,7 +57,7 @@ def graph_of(vcp: Program, study: Program, source: Path, shown: str) -> Graph:
     image = vcp.must("compile", source, shown=("compile", shown)).output
     with tempfile.TemporaryDirectory() as folder:
         at = Path(folder) / "image"
-        at.write_bytes(image)
+        write_bytes(at, image)
         operations = read_listing(vcp.must("list", at, shown=("list", "M")).text)
         told = read_ranges_of_all(study.must("ranges", at, "--all", or_found=True, shown=("ranges", "M", "--all")).text)
     return graph_with(operations, image, told)

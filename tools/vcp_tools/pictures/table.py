@@ -45,11 +45,11 @@ def run(given: argparse.Namespace) -> int:
         print(line, file=sys.stderr)
     columns = found.columns if given.all and not names else chosen(found, names)
     watched = chosen(found, given.changes_of.split(",")) if given.changes_of else columns if given.changes else None
-    sys.stdout.writelines(f"{line}\n" for line in _lines(found, columns, given.csv, watched, period))
+    sys.stdout.writelines(f"{line}\n" for line in table_lines(found, columns, given.csv, watched, period))
     return FINE if found.is_whole else FOUND
 
 
-def _lines(
+def table_lines(
     found: Observation, columns: Sequence[Column], with_commas: bool, watched: Sequence[Column] | None, period: CycleTime | None
 ) -> Iterator[str]:
     """The head, a line a cycle, or one for each cycle in which a watched column changes, and the last line of the run."""

@@ -1,9 +1,10 @@
-"""`rows`: stimuli to a rows file and back, and a check of what a rows file holds that is read in silence."""
+"""`rows`: stimuli to a rows file and back, a check of what a rows file holds that is read in silence, and rows that reach all of a program."""
 from __future__ import annotations
 
 import argparse
 import sys
 
+from vcp_tools.ask.reach import add_words as add_reach_words, run as run_reach
 from vcp_tools.explain.hints_rows import Looked, encoding_of
 from vcp_tools.files import read_bytes
 from vcp_tools.cycle_time import CycleTime, read_cycle_time
@@ -18,20 +19,24 @@ MOST_TOLD = 200
 
 def add_words(parser: argparse.ArgumentParser) -> None:
     """The words of `rows`."""
-    parser.add_argument("--cycle-time", metavar="TIME", help="of `make`: how long a cycle takes, as 500ms, where lines have times, as `3s approach=1`")
     below = parser.add_subparsers(dest="what", required=True, metavar="WHAT")
     make = below.add_parser("make", help="the rows file of stimuli, on standard output")
     make.add_argument("stimuli", help="lines as `6 approach=1`: for six cycles, from the first on with approach 1")
     make.add_argument("program", nargs="?", help="the source whose inputs these are: their order, names and types are kept to")
+    make.add_argument("--cycle-time", metavar="TIME", help="how long a cycle takes, as 500ms, where lines have times, as `3s approach=1`")
     back = below.add_parser("stimuli", help="the stimuli of a rows file, on standard output")
     back.add_argument("rows", help="a rows file")
     check = below.add_parser("check", help="what is wrong in a rows file, or read in silence")
     check.add_argument("rows", help="a rows file")
     check.add_argument("program", nargs="?", help="the source whose inputs these are: names and cells are looked at, too")
+    reach = below.add_parser("reach", help="rows by which each branch and label is taken, and each BOOL output turns; and what no row reaches")
+    add_reach_words(reach)
 
 
 def run(given: argparse.Namespace) -> int:
     """Does what the words of `rows` ask for."""
+    if given.what == "reach":
+        return run_reach(given)
     if given.what == "make":
         return _make(given.stimuli, given.program, read_cycle_time(given.cycle_time) if given.cycle_time else None)
     return _back(given.rows) if given.what == "stimuli" else _check(given.rows, given.program)
