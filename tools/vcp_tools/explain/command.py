@@ -374,6 +374,8 @@ def explain_all(words: Sequence[str]) -> int:
         told.add(kind)
     if not found.hints:
         return explain_call(words)
+    if any(not line and "REAL" not in hint.message for line, _, hint in found.hints):
+        print(f"{file}: `vcp_tools lower` writes a program for much of what the profile lacks, as timers, blocks and arrays (docs/TOOLS.md, 'lower')")
     tail = f"; {found.left_out}" if found.left_out else ""
     left = f"; {found.suspected} more may follow from these" if found.suspected else ""
     print(f"{file}: {len(found.hints)} to mend{left}{tail}")
