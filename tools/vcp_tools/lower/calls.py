@@ -1,6 +1,7 @@
 """Calls: functions of the standard as those of the profile; functions and function blocks of the user, taken in where they are called."""
 from __future__ import annotations
 
+from functools import partial
 from typing import Sequence
 
 from vcp_tools.lower import code as codes
@@ -52,7 +53,7 @@ class Calls(Expressions):
         least, most = _COUNTS[name]
         if not least <= len(terms) <= most:
             raise NotTaken(term.at, f"`{name}` has {least} arguments" + (" or more" if most > least else ""))
-        return self.several([lambda it=it: self.expression(it) for it in terms])  # type: ignore[misc]
+        return self.several([partial(self.expression, it) for it in terms])
 
     def _standard_function(self, name: str, given: list[Code], at: int) -> Code:
         if name == "SEL":
@@ -119,7 +120,7 @@ class Calls(Expressions):
         given = self._given(unit, values, named, at)
         sections = {it.name.upper(): it for it in unit.declared}
         single = [it for it in given if not it.is_output and isinstance(frame.get(it.name.upper()), Leaf)]
-        found = self.several([lambda it=it: self.expression(_needed(it)) for it in single])  # type: ignore[misc]
+        found = self.several([partial(self.expression, _needed(it)) for it in single])
         self._enter(unit, at)
         inner = dict(frame)
         for it in given:
@@ -227,7 +228,7 @@ class Calls(Expressions):
             if it.is_output and it.value is not None:
                 source = frame[(other or {}).get(it.name.upper(), it.name.upper())]
                 node, steps = self.root(it.value)
-                self.each(node, steps, lambda target, source=source, at=it.at: self.copy(target, source, at), it.at)  # type: ignore[misc]
+                self.each(node, steps, partial(self.copy, source=source, at=it.at), it.at)
 
     def invoke(self, act: Invoke) -> None:
         """A call as a statement."""

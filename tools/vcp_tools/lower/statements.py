@@ -2,6 +2,7 @@
 from __future__ import annotations
 
 from dataclasses import replace
+from functools import partial
 from typing import Callable, Sequence
 
 from vcp_tools.lower import code as codes
@@ -66,7 +67,7 @@ class Statements(Calls):
     def _assign(self, act: Assign) -> None:
         if act.how == ":=" and self._is_whole(act):
             for target in reversed(act.targets):
-                self._set(target, lambda it, at=target.at: self.copy(it, self.direct(act.value), at))  # type: ignore[misc]
+                self._set(target, partial(self._copied, act.value))
             return
         value = self.expression(act.value)
         if act.how != ":=":
@@ -103,6 +104,10 @@ class Statements(Calls):
         self.each(node, steps, found.append, act.value.at)
         del self.out[mark:]
         return isinstance(found[0], (Elements, Group))
+
+    def _copied(self, value: Term, target: Node) -> None:
+        """Gives an array or a structure the values of another."""
+        self.copy(target, self.direct(value), value.at)
 
     def _set(self, term: Term, act: Callable[[Node], None]) -> None:
         node, steps = self.root(term)
