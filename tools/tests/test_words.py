@@ -20,6 +20,7 @@ CALLS = (
     ("report", "@", "a.csv"), ("report", "a.st", "@"), ("report", "a.st", "a.csv", "--faults", "@"), ("report", "a.st", "a.csv", "--check", "@"),
     ("lower", "@", "--cycle-time", "100ms"), ("lower", "a.st", "--cycle-time", "100ms", "--check", "@"),
     ("simulate", "@", "a.csv", "--cycle-time", "100ms"), ("simulate", "a.st", "@", "--cycle-time", "100ms"),
+    ("never", "@", "y = 1"), ("never", "a.st", "y = 1", "--inputs", "@"), ("witness", "@"), ("witness", "a.st", "--inputs", "@"), ("rows", "reach", "@"),
 )
 """Calls of all tools, with `@` in the place of a file that can't be read."""
 WRITES = (("report", "a.st", "a.csv", "-o", "@"), ("lower", "a.st", "--cycle-time", "100ms", "-o", "@"))
