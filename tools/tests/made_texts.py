@@ -51,10 +51,10 @@ at_end := t.Q AND place = way;
 END_FUNCTION_BLOCK
 PROGRAM made
 VAR_INPUT b0, b1, b2 : BOOL; i0, i1 : INT; u0 : USINT; w0 : WORD; pt : TIME; d0 : DINT; v AT %IW3 : ARRAY[0..1] OF SINT; END_VAR
-VAR_OUTPUT qb0, qb1, qb2 : BOOL; qi0, qi1 : INT; qd0 : DINT; qv : ARRAY[0..2] OF INT; qt : TIME; qw : WORD; qe : E_MODE; END_VAR
+VAR_OUTPUT qb0, qb1, qb2 : BOOL; qi0, qi1 : INT; qd0 : DINT; qv : ARRAY[0..2] OF INT; qt : TIME; qw : WORD; qe : E_MODE; qsum : DINT; END_VAR
 VAR CONSTANT SPAN : INT := 2 + 1; TABLE : ARRAY[1..2, 1..3] OF INT := [1, 2, 3, 2(7), -4]; END_VAR
 VAR
-  x, y, z : INT := 1; i, j, k : INT; d : DINT; far : LINT; u : UINT; us : USINT; si : SINT; byt : BYTE; w : WORD; ud : UDINT; dw : DWORD;
+  x, y, z : INT := 1; i, j, k : INT; d, turn, sum : DINT; far : LINT; u : UINT; us : USINT; si : SINT; byt : BYTE; w : WORD; ud : UDINT; dw : DWORD;
   f, g, h AT %MX1.0 : BOOL; tm : TIME := T#1s500ms; state : (OPEN, SHUT, LOCKED) := SHUT; mode : E_MODE; small : T_SMALL := 2; few : INT (0..9) := 3;
   ar : ARRAY[0..3] OF INT := [4, 3, 2, 1]; grid : ARRAY[1..2, 1..3] OF INT; flags : ARRAY[-1..1] OF BOOL; pair, other : T_PAIR;
   pairs : ARRAY[0..1] OF T_PAIR; again : ARRAY[0..3] OF INT;
@@ -65,7 +65,7 @@ VAR RETAIN kept : INT; END_VAR
 """
 """Types, blocks and declarations of all made texts."""
 TAIL = """qb0 := f; qb1 := g; qb2 := h;
-qi0 := x; qi1 := y; qd0 := d; qv[0] := z; qv[1] := i; qv[2] := total; qt := tm; qw := w; qe := mode;
+qi0 := x; qi1 := y; qd0 := d; qv[0] := z; qv[1] := i; qv[2] := total; qt := tm; qw := w; qe := mode; qsum := sum;
 END_PROGRAM
 """
 _BOOLS = ("b0", "b1", "b2", "f", "g", "h", "seen", "pair.flag", "flags[0]", "one.Q", "on1.Q", "ax.at_end", "trig[1].Q")
@@ -199,7 +199,7 @@ class Maker:
         """Logic of a string of bits with a constant mask."""
         self.count("mask")
         target, bits = self.draw.choice((("w", 16), ("byt", 8), ("dw", 32)))
-        mask = self.draw.choice((1, 0x0F, 0xF0, 0xA5, 0xFF, self.draw.getrandbits(bits)))
+        mask = self.draw.choice((1, 0x0F, 0xF0, 0xA5, 0xFF, 1 << bits - 2, 3 << bits - 3, self.draw.getrandbits(bits)))
         source = self.any_of(target, f"NOT {target}", "w0" if target == "w" else target)
         if self.draw.random() < 0.3:
             return f"f := ({source} AND 16#{mask:X}) = {mask};\n"
@@ -323,19 +323,21 @@ class Maker:
         if self.draw.random() < 0.6:
             word = self.any_of("EXIT", "CONTINUE", "EXIT", "CONTINUE", "RETURN")
             self.count(word)
-            way = f"IF {self.truth(1)} THEN {word}; END_IF\n"
+            when = f"turn MOD 3 = {self.any_of('0', '1', '2')} {self.any_of('AND', 'OR')} {self.truth(1)}"
+            way = f"turn := turn + 1;\nIF {when} THEN {word}; END_IF\nsum := (sum * 3 + turn) MOD 10007;\n"
         body = f"{self.some(depth)}{way}ar[{control if kind == 'FOR' else '1'}] := LIMIT(-9, x, 9);\n" if way or kind == "FOR" else self.some(depth)
         self.controls.append(control)
         bound = self.any_of("(*@ bound 4 *)", "(*@ bound 6 *)")
+        before = "turn := 0;\n" if way else ""
         if kind == "FOR":
-            return f"FOR {control} := {self.any_of('0 TO 3', '3 TO 0 BY -1', '0 TO SPAN BY 2', '2 TO 1')} DO\n{body}END_FOR\n"
+            return f"{before}FOR {control} := {self.any_of('0 TO 3', '3 TO 0 BY -1', '0 TO SPAN BY 2', '2 TO 1')} DO\n{body}END_FOR\n"
         if kind == "computed FOR":
             last = self.any_of("few", "LIMIT(0, x, 3)", "3")
-            return f"FOR {control} := {self.any_of('0', 'few', 'LIMIT(0, y, 2)')} TO {last} DO {bound}\n{body}END_FOR\n"
+            return f"{before}FOR {control} := {self.any_of('0', 'few', 'LIMIT(0, y, 2)')} TO {last} DO {bound}\n{body}END_FOR\n"
         step = f"k := k + 1;\n{body}"
         if kind == "WHILE":
-            return f"k := 0;\nWHILE k < {self.any_of('3', 'few', '2')} AND {self.truth(1)} DO {bound}\n{step}END_WHILE\n"
-        return f"k := 0;\nREPEAT {bound}\n{step}UNTIL k >= {self.any_of('2', 'few')} OR {self.truth(1)} END_REPEAT\n"
+            return f"{before}k := 0;\nWHILE k < {self.any_of('3', 'few', '2')} AND {self.truth(1)} DO {bound}\n{step}END_WHILE\n"
+        return f"{before}k := 0;\nREPEAT {bound}\n{step}UNTIL k >= {self.any_of('2', 'few')} OR {self.truth(1)} END_REPEAT\n"
 
 
 NAMES = ("b0", "b1", "b2", "i0", "i1", "u0", "w0", "pt", "d0", "v_0", "v_1")

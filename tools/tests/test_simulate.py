@@ -13,7 +13,7 @@ STEPS: dict[str, tuple[str, str, str]] = {
     "SR": ("S1 R", "10 00 11 01 00", "Q1: 1 1 1 0 0"),
     "RS": ("S R1", "10 00 11 01 10", "Q1: 1 1 0 0 1"),
     "CTU": ("CU R", "10 10 00 10 01 11 10", "Q: 0 0 0 1 0 0 0; CV: 1 1 1 2 0 0 0"),
-    "CTD": ("CD LD", "01 10 00 10 00 10", "Q: 0 0 0 1 1 1; CV: 2 1 1 0 0 -1"),
+    "CTD": ("CD LD", "01 10 10 00 10 00 10", "Q: 0 0 0 0 1 1 1; CV: 2 1 1 1 0 0 -1"),
     "CTUD": ("CU CD R LD", "1000 0000 1100 0001 0100 0010", "QU: 0 0 0 1 0 0; QD: 0 0 0 0 0 1; CV: 1 1 1 2 1 0"),
     "TON": ("IN", "0 1 1 1 1 0 1 1 0", "Q: 0 0 0 0 1 0 0 0 0; ET: 0 0 100 200 300 0 0 100 0"),
     "TOF": ("IN", "0 1 0 0 0 0 0 1 0 1", "Q: 0 1 1 1 1 0 0 1 1 1; ET: 0 0 0 100 200 300 300 0 0 0"),
@@ -58,6 +58,13 @@ class Simulated(InFolder):
         for name in STEPS:
             text, rows, wanted = block_text(name)
             self.assertEqual(self.printed(text, rows), wanted, name)
+
+    def test_counters_stay_at_the_ends_of_INT(self) -> None:
+        counters = "VAR up : CTU := (PV := 32767); down : CTD; k : INT; END_VAR\n"
+        fast = "FOR k := 1 TO 32766 DO up(CU := TRUE); up(CU := FALSE); down(CD := TRUE); down(CD := FALSE); END_FOR\n"
+        body = f"IF b THEN\n{fast}END_IF\nup(CU := a); down(CD := a);\nq := up.Q; y := up.CV; d := down.CV;\n"
+        wanted = ["0,32766,-32766", "1,32767,-32767", "1,32767,-32767", "1,32767,-32768", "1,32767,-32768", "1,32767,-32768", "end 6"]
+        self.assertEqual(self.body(counters, body, ["0,1,0", "1,0,0", "0,0,0", "1,0,0", "0,0,0", "1,0,0"]), wanted)
 
     def test_a_timer_measures_time_and_not_calls(self) -> None:
         declared = "VAR t : TON := (PT := T#300ms); END_VAR\n"
