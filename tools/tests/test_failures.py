@@ -50,7 +50,8 @@ class MadeUp(InFolder):
 
     def setUp(self) -> None:
         super().setUp()
-        patch = mock.patch.dict(os.environ, {**install(self.folder), "PYTHONPATH": str(TOP / "tools"), "PYTHONDONTWRITEBYTECODE": "1"})
+        home = os.environ.get("HOME", str(self.folder))  # without one GNU parallel warns
+        patch = mock.patch.dict(os.environ, {**install(self.folder), "PYTHONPATH": str(TOP / "tools"), "PYTHONDONTWRITEBYTECODE": "1", "HOME": home})
         patch.start()
         self.addCleanup(patch.stop)
         self.write("m.img", IMAGE)
