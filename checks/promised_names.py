@@ -162,7 +162,7 @@ def faults_of_layers(text, crates):
     lines = re.findall(r"^    .*", text.partition("\n## The layers\n")[2].partition("\n## ")[0], re.M)
     layer_of = {crate: number for number, line in enumerate(lines) for crate in crates if re.search(rf"\b{crate}\b", line)}
     for crate, others in crates.items():
-        if crate not in layer_of and not is_for_tests(crate) and crate not in ("worked_unit", "bench_machine"):
+        if crate not in layer_of and not is_for_tests(crate) and crate != "worked_unit":
             yield f"the crate `{crate}` stands in no layer"
         for other in others:
             if layer_of.get(crate, 0) > layer_of.get(other, len(lines)):
