@@ -4,7 +4,7 @@
     checks/promised_names.py            prints what isn't
     checks/promised_names.py --write    puts the numbers of lines and of edits right in docs/PROMISES.md and docs/ASSESSOR.md, and then prints
 
-Of docs/PROMISES.md, each claim: its clauses and its edits are there, named with their crates, an edit that the gate doesn't try is called so, and the
+Of docs/PROMISES.md: as many contracts of C functions are named as are counted. Of each claim: its clauses and its edits are there, named with their crates, an edit that the gate doesn't try is called so, and the
 definitions to be read have so many lines; and all that is named so elsewhere on that page is there.
 Of crates/play_sessions and play_rows: each text of data/ is in args, and stdout has its line.
 Of docs/ARCHITECTURE.md: each crate stands in a layer and on none above it, and has its row in the table of crates and, but for those of tests,
@@ -15,6 +15,8 @@ Of docs/UNITS.md: each line of code that it shows is a line of the crates coded_
 Of docs/ASSESSOR.md: each family of commands has as many lines of definitions as it says; each step of the order of reading names modules that are there, and
 has as many lines as the top call rests on in its crates; each crate that the top call rests on has a step, or is told behind them; and there are as many edits
 as it says.
+
+Of README.md: the times that it says, in minutes and hours, are in docs/MEASURES.md.
 
 What docs/CLAUSES.md names is there, since checks/clauses.py makes it. It ends with status 1 where there is something. It reads the sources and proves nothing.
 """
@@ -131,6 +133,23 @@ def faults_of_cited_names(crates):
             yield f"`{cited}` isn't there"
 
 
+def faults_of_axioms():
+    """Whether docs/PROMISES.md names as many contracts of C functions as it counts."""
+    text = PROMISES.read_text().partition("\n## Taken without a proof\n")[2].partition("\n## ")[0]
+    named = {name for item in re.findall(r"^- (?:.*\n)(?:  .*\n)*", text, re.M) for name in quoted(item)}
+    for counted in re.findall(r"`axioms=(\d+)`|counts (\d+)", text):
+        if int("".join(counted)) != len(named):
+            yield f"{len(named)} contracts of C functions are named, and {''.join(counted)} are counted"
+
+
+def faults_of_times():
+    """The times of README that docs/MEASURES.md doesn't have."""
+    measured = (TOP / "docs" / "MEASURES.md").read_text()
+    for time in sorted(set(re.findall(r"\b(?:\d+ to )?\d+ (?:minutes|min|hours)\b", (TOP / "README.md").read_text()))):
+        if time not in " ".join(measured.split()):
+            yield f"docs/MEASURES.md has no time `{time}`"
+
+
 def lines_in(text):
     return sum(lines_of_module(crate, module) or 0 for crate, module in modules_in(text))
 
@@ -162,7 +181,7 @@ def faults_of_layers(text, crates):
     lines = re.findall(r"^    .*", text.partition("\n## The layers\n")[2].partition("\n## ")[0], re.M)
     layer_of = {crate: number for number, line in enumerate(lines) for crate in crates if re.search(rf"\b{crate}\b", line)}
     for crate, others in crates.items():
-        if crate not in layer_of and not is_for_tests(crate) and crate not in ("worked_unit", "bench_machine"):
+        if crate not in layer_of and not is_for_tests(crate) and crate != "worked_unit":
             yield f"the crate `{crate}` stands in no layer"
         for other in others:
             if layer_of.get(crate, 0) > layer_of.get(other, len(lines)):
@@ -311,7 +330,8 @@ def main():
         write_lines_of_claims()
         write_lines_of_assessor(crates)
     names = defined() | in_code(crates)
-    faults = [f"PROMISES: {fault}" for fault in [*faults_of_claims(crates), *faults_of_cited_names(crates)]]
+    faults = [f"PROMISES: {fault}" for fault in [*faults_of_claims(crates), *faults_of_cited_names(crates), *faults_of_axioms()]]
+    faults += [f"README: {fault}" for fault in faults_of_times()]
     faults += [f"ARCHITECTURE: {fault}" for fault in faults_of_architecture(listed, names)]
     faults += [f"GLOSSARY: {fault}" for fault in faults_of_glossary(listed, names)]
     faults += faults_of_rows()

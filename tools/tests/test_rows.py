@@ -1,4 +1,4 @@
-"""`rows`: stimuli, rows files, and what is read in silence."""
+"""`rows`: stimuli, rows files, and input that `vcp` accepts without warning."""
 from __future__ import annotations
 
 import unittest
@@ -59,7 +59,7 @@ class Stimuli(InFolder):
 
 
 class Check(InFolder):
-    """What is read in silence is named."""
+    """Input that `vcp` accepts without warning is named."""
 
     def test_each_silent_fault_has_its_line(self) -> None:
         self.write("p.st", PROGRAM)

@@ -172,7 +172,7 @@ class Launchers(InFolder):
 
     def test_help_and_version(self) -> None:
         self.assertRegex(self.tool("--version"), r"\Avcp_tools \d+\.\d+\n\Z")
-        self.assertIn("docs/PORTING.md", self.tool("help"))
+        self.assertIn("docs/START.md", self.tool("help"))
         for name in TOOLS:
             self.assertIn("statuses: ", " ".join(self.tool(name, "--help").split()), name)
 
@@ -191,5 +191,5 @@ class Launchers(InFolder):
     def test_the_documents_say_where_programs_come_from(self) -> None:
         told = " ".join((TOP / "docs/CAMPAIGNS.md").read_text(encoding="utf-8").split())
         self.assertIn("or those of `VCP=FILE` and `VCP_STUDY=FILE`, and says which command makes a missing one, and how long that takes", told)
-        told = " ".join((TOP / "docs/PORTING.md").read_text(encoding="utf-8").split())
+        told = " ".join((TOP / "docs/START.md").read_text(encoding="utf-8").split())
         self.assertIn("`./vcp` and `./vcp_study` prove and build their programs when first called, which takes 20 minutes or more each", told)

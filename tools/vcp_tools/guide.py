@@ -7,7 +7,8 @@ from vcp_tools.program import TOP, in_installation, in_repository
 from vcp_tools.refusal import FINE
 
 PAGES = (
-    ("docs/PORTING.md", "to bring a program here: the first steps, and what stands for timers, edges and the like"),
+    ("docs/START.md", "from your program to a report, on one page"),
+    ("docs/PORTING.md", "to bring a program here by hand: what to write for timers, edges and the like"),
     ("docs/TOOLS.md", "each of these tools, with an example"),
     ("docs/PROPERTIES.md", "whether something can ever come, and rows that reach everything"),
     ("docs/CAMPAIGNS.md", "every fault of a class tried on a program"),

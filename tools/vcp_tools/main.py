@@ -15,7 +15,7 @@ from vcp_tools.refusal import UNUSABLE, Refusal
 
 TOOLS: dict[str, str] = {
     "explain": "what a refusal means: the line, a caret, and the mistake that people make there",
-    "rows": "stimuli to a rows file and back, and a check of what is read in silence",
+    "rows": "stimuli to a rows file and back, and a check for input that vcp accepts without warning",
     "table": "inputs, outputs and variables of a run side by side, cycle by cycle",
     "vcd": "the same as a VCD file, for GTKWave",
     "expect": "compares a run with wanted rows, and names the first difference",

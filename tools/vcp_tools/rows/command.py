@@ -1,4 +1,4 @@
-"""`rows`: stimuli to a rows file and back, a check of what a rows file holds that is read in silence, and rows that reach all of a program."""
+"""`rows`: stimuli to a rows file and back, a check for input that `vcp` accepts without warning, and rows that reach all of a program."""
 from __future__ import annotations
 
 import argparse
@@ -26,7 +26,7 @@ def add_words(parser: argparse.ArgumentParser) -> None:
     make.add_argument("--cycle-time", metavar="TIME", help="how long a cycle takes, as 500ms, where lines have times, as `3s approach=1`")
     back = below.add_parser("stimuli", help="the stimuli of a rows file, on standard output")
     back.add_argument("rows", help="a rows file")
-    check = below.add_parser("check", help="what is wrong in a rows file, or read in silence")
+    check = below.add_parser("check", help="what is wrong in a rows file, or accepted without warning")
     check.add_argument("rows", help="a rows file")
     check.add_argument("program", nargs="?", help="the source whose inputs these are: names and cells are looked at, too")
     reach = below.add_parser("reach", help="rows by which each branch and label is taken, and each BOOL output turns; and what no row reaches")
@@ -85,5 +85,5 @@ def _check(file: str, program: str | None) -> int:
     if told > MOST_TOLD:
         print(f"{file}: and {told - MOST_TOLD} more")
     elif not told and looked.header is not None:
-        print(f"{file}: {looked.rows} rows of {len(looked.header.fields)} inputs, and nothing that is read in silence")
+        print(f"{file}: {looked.rows} rows of {len(looked.header.fields)} inputs, and nothing that vcp accepts without warning")
     return FOUND if told else FINE
