@@ -17,6 +17,7 @@ order names modules that are there, and has as many lines as the top call rests 
 after them; and there are as many edits as it says.
 
 Of README.md: the times that it says, in minutes and hours, are in docs/MEASURES.md.
+Of docs/SAFETY.md: the assumptions and the claims that it cites by their numbers are there, and each assumption is one that a hazard or another part cites.
 
 What docs/CLAUSES.md names is there, since checks/clauses.py makes it. It ends with status 1 where there is something. It reads the sources and proves nothing.
 """
@@ -147,6 +148,21 @@ def faults_of_times():
     for time in sorted(set(re.findall(r"\b(?:\d+ to )?\d+ (?:minutes|min|hours)\b", (TOP / "README.md").read_text()))):
         if time not in " ".join(measured.split()):
             yield f"docs/MEASURES.md has no time `{time}`"
+
+
+def faults_of_safety():
+    """The numbers of assumptions and claims that docs/SAFETY.md cites and that aren't there, and assumptions that nothing cites."""
+    text = (TOP / "docs" / "SAFETY.md").read_text()
+    stated = set(map(int, re.findall(r"^\*\*A(\d+)\.", text, re.M)))
+    rows = [row.split(" | ") for row in re.findall(r"^\| (H\d+ .*) \|$", text, re.M)]
+    cited = set(map(int, re.findall(r"(?<!\*)\bA(\d+)\b", text)))
+    for first, last in re.findall(r"\bA(\d+) to A(\d+)\b", text):
+        cited |= set(range(int(first), int(last) + 1))
+    yield from (f"the assumption A{number} isn't there" for number in sorted(cited - stated))
+    yield from (f"nothing cites the assumption A{number}" for number in sorted(stated - cited))
+    numbers = {int(number) for number, _ in claims()}
+    for said in [*re.findall(r"\bclaims? (\d+(?:(?:, | and | to )\d+)*)", " ".join(text.split())), *(row[1] for row in rows)]:
+        yield from (f"there is no claim {number}" for number in re.findall(r"\d+", said) if int(number) not in numbers)
 
 
 def lines_in(text):
@@ -331,6 +347,7 @@ def main():
     names = defined() | in_code(crates)
     faults = [f"PROMISES: {fault}" for fault in [*faults_of_claims(crates), *faults_of_cited_names(crates), *faults_of_axioms()]]
     faults += [f"README: {fault}" for fault in faults_of_times()]
+    faults += [f"SAFETY: {fault}" for fault in faults_of_safety()]
     faults += [f"ARCHITECTURE: {fault}" for fault in faults_of_architecture(listed, names)]
     faults += [f"GLOSSARY: {fault}" for fault in faults_of_glossary(listed, names)]
     faults += faults_of_rows()
