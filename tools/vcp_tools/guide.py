@@ -3,7 +3,7 @@ from __future__ import annotations
 
 import argparse
 
-from vcp_tools.program import TOP, in_repository
+from vcp_tools.program import TOP, in_installation, in_repository
 from vcp_tools.refusal import FINE
 
 PAGES = (
@@ -28,5 +28,5 @@ def run(given: argparse.Namespace) -> int:
     """Prints which document says what."""
     for page, about in PAGES:
         print(f"{page}: {about}")
-    print(f"they stand in {TOP}" if in_repository() else "they stand in the repository from which the tools were installed")
+    print(f"they stand in {TOP}" if in_repository() or in_installation() else "they stand in the repository from which the tools were installed")
     return FINE
