@@ -136,7 +136,7 @@ compare_toolchain() {
 # Proves the crates side by side, as `rt ci` does it, and takes the program that it has built of them.
 build() {
     command -v rt >/dev/null 2>&1 || {
-        echo "$name: the program isn't built, and the toolchain's command rt isn't there" >&2
+        echo "$name: no program that was proved from these sources is here, and the toolchain's command rt isn't there" >&2
         return 1
     }
     compare_toolchain

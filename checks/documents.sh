@@ -1,7 +1,7 @@
 #!/bin/sh
 # Whether the documents say what stands: `.ci/run` calls it after `rt ci`.
 #
-# Names: all that docs/PROMISES.md and docs/ARCHITECTURE.md name is there (promised_names.py); docs/CLAUSES.md is what the sources say (clauses.py); and
+# Names: all that docs/PROMISES.md and docs/dev/ARCHITECTURE.md name is there (promised_names.py); docs/CLAUSES.md is what the sources say (clauses.py); and
 # docs/GLOSSARY.md says of names that two crates have what they are (double_names.py).
 # Proofs: none takes anything from the proofs of another crate, beyond what is listed (foreign_proofs.py).
 # Sections: those that a document refers to are there (sections.py).

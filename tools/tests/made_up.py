@@ -14,6 +14,7 @@ from typing import Iterator, Sequence
 
 VERDICTS = ("same", "wrong", "ran-on", "refused", "stopped")
 OPERATIONS = 40
+STANDS = "stands in a cell"
 IMAGE = bytes.fromhex(
     "564350414e42440a" "0001" "0001" "00000000" "00000002" "00000001" "00000001" "00000000" "00000000" "00000004" "0000000178" "0000000179"
     "0000000002" "000000010200000003"
@@ -74,7 +75,7 @@ def totals_of(found: Sequence[str]) -> str:
 def end_of(faults: Sequence[Sequence[str]], cycles: int) -> str:
     """How some group that is `same` ends."""
     cycle, operation = int(faults[0][1]), int(faults[0][2])
-    return "never reached" if cycle >= cycles else "stands in a cell" if operation % 3 == 0 else "died out"
+    return "never reached" if cycle >= cycles else STANDS if operation % 3 == 0 else "died out"
 
 
 def rows_of(file: str) -> int:
@@ -115,6 +116,10 @@ def sums(script: str, told: Sequence[str], cycles: int | None) -> Iterator[str]:
     for line, (_, faults) in zip(told, found):
         if line.split()[1] in ("wrong", "ran-on"):
             yield line
+            yield from (f"  {' '.join(words)}: operation {words[2]} ADD at 4:8" for words in faults)
+    for line, (_, faults) in zip(told, found):
+        if line.split()[1] == "same" and cycles is not None and end_of(faults, cycles) == STANDS:
+            yield f"{line.split()[0]} {STANDS}"
             yield from (f"  {' '.join(words)}: operation {words[2]} ADD at 4:8" for words in faults)
 
 

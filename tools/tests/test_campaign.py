@@ -226,6 +226,17 @@ class Readers(unittest.TestCase):
         for harm in (text[:-30], text[:200], text.replace("output y", "output y\n" + end + "output z"), text.replace("2 wrong 1 y got 1 want 0\n", ""), ""):
             with self.assertRaises(Refusal):
                 read_sum(harm)
+        ends = (f"{head}by what the fault does\n{end.replace('1       0       1', '1       1       0')}skip\n"
+                f"{head}by how it ends where it shows nowhere\n{end.replace('1       0       1', '1       1       0')}stands in a cell\n"
+                "2 stands in a cell\n  skip 1 1: operation 1 ADD at 2:3\nfaults 1 same 1 wrong 0 ran-on 0 refused 0 stopped 0\n")
+        total = Sum()
+        for first in (0, 10):
+            add(total, read_sum(ends), first)
+        self.assertEqual([line for line, _ in total.standing], [2, 12])
+        self.assertIn("12 stands in a cell\n  skip 1 1: operation 1 ADD at 2:3\nfaults 2 same 2 ", sum_text(total, ["y"]))
+        for harm in (ends.replace("2 stands in a cell\n", ""), ends.replace("2 stands in a cell\n", "2 stands in a cell\n3 stands in a cell\n")):
+            with self.assertRaises(Refusal):
+                read_sum(harm)
 
     def test_intervals_of_the_literature(self) -> None:
         for found, tried, low, high in ((0, 10, 0, 0.308497), (3, 10, 0.066740, 0.652453), (10, 10, 0.691503, 1), (1, 100, 0.000253, 0.054459)):

@@ -48,7 +48,7 @@ class Filed(InFolder):
         said = self.summary()
         commit = self.made.run("git", "rev-parse", "HEAD").stdout.strip()
         for key, value in (("commit", commit), ("clean", "yes"), ("vcp proved by", "rt ci, of all crates"), ("vcp axioms", "39"), ("claims", "2"),
-                           ("toolchain present", "rattle-kit-1 logic a"), ("gate", "4 passed, 0 failed"), ("gate sources", "the present ones")):
+                           ("toolchain present", "rattle-kit-1 logic a"), ("gate", "4 passed, 0 failed; gate: status 0"), ("gate sources", "the present ones")):
             self.assertEqual(said[key], value)
         self.assertTrue(said["vcp"].endswith(", proved from the sources that are here"))
         self.assertIn("1. It ends\n    `base::ends.ok`, `base::ends.err`.\n", (self.folder / "e/claims.txt").read_text(encoding="utf-8"))
@@ -109,8 +109,8 @@ class Filed(InFolder):
 
     def test_what_does_not_belong_together(self) -> None:
         log = (self.made.top / "out/gate.log").read_text(encoding="utf-8")
-        for changed, said in ((log.replace("4 passed, 0", "3 passed, 1"), "the gate didn't pass: 3 passed, 1 failed"),
-                              (log + "FAILED (failures=1)\n", "the gate didn't pass"),
+        for changed, said in ((log.replace("4 passed, 0", "3 passed, 1"), "the gate didn't pass: 3 passed, 1 failed; gate: status 0"),
+                              (log.replace("status 0", "status 1"), "the gate didn't pass: 4 passed, 0 failed; gate: status 1"),
                               (log.replace("sources vcp ", "sources vcp 0"), "the gate's log is of other sources: OTHERS"),
                               (log.replace("sources ", "from "), "the gate's log is of other sources: not told")):
             self.write("other.log", changed)
@@ -166,8 +166,10 @@ class Logs(unittest.TestCase):
         self.assertEqual((axioms(log, "vcp"), axioms(log, "base"), axioms(log, "other")), ("39", "2", ""))
 
     def test_endings(self) -> None:
-        for text, passed in (("81 passed, 0 failed\n", True), ("81 passed, 0 failed (a and the crates below alone: not the gate)\n", False),
-                             ("80 passed, 1 failed\n", False), ("", False), ("81 passed, 0 failed\nRan 2 tests in 1s\nFAILED (errors=1)\n", False)):
+        end = "gate: status 0\n"
+        for text, passed in (("81 passed, 0 failed\n" + end, True), ("81 passed, 0 failed (a and the crates below alone: not the gate)\n" + end, False),
+                             ("81 passed, 0 failed\n", False), ("80 passed, 1 failed\n" + end, False), ("", False),
+                             ("81 passed, 0 failed\ngate: status 1\n", False)):
             self.assertEqual(GateLog.read(text.encode()).has_passed, passed, text)
 
 

@@ -123,7 +123,7 @@ class Installed(InFolder):
         self.assertRegex(self.ran("sh", "share/vcp/check.sh", top=top), r"\Aall \d+ files are as the list says, whose digest is ")
         self.assertRegex(self.ran("bin/vcp", top=top), r"\Avcp of [0-9a-f]{8}\n\Z")
         readme = (top / "README").read_text(encoding="utf-8")
-        self.assertRegex(readme, r"(?s)    vcp        [0-9a-f]{64}\n.*    gate       4 passed, 0 failed\n")
+        self.assertRegex(readme, r"(?s)    vcp        [0-9a-f]{64}\n.*    gate       4 passed, 0 failed; gate: status 0\n")
         self.assertNotIn("LACKS", readme)
         self.assertTrue((top / "share/vcp/evidence/toolchain.txt").is_file())
 

@@ -7,7 +7,7 @@ import unittest
 
 from tests.made_repository import Repository
 from tests.support import InFolder
-from vcp_tools.proved import lines_of, sources_digest, standing
+from vcp_tools.proved import TOLD, lines_of, sources_digest, standing, told_of
 
 RAN = r"\Avcp of [0-9a-f]{8} check p\n\Z"
 
@@ -113,6 +113,19 @@ class Records(InFolder):
         self.assertEqual((done.returncode, done.stdout), (1, ""))
         self.assertIn("error: it isn't proved", done.stderr)
         self.assertNotEqual(self.state(), "proved")
+
+    def test_what_is_told_of_a_program(self) -> None:
+        file = self.made.top / "crates/vcp/out/vcp"
+        self.ran(1)
+        with self.made.taken_for_ours():
+            self.assertEqual(told_of(file), TOLD["proved"])
+            for name, word in (("crates/vcp/out/vcp", "altered"), ("crates/vcp/src/main.rt", "changed")):
+                self.made.change(name)
+                self.assertEqual(told_of(file), TOLD[word])
+            file.with_name("vcp.proved").unlink()
+            self.assertEqual(told_of(file), TOLD["unrecorded"])
+            shutil.copy(file, self.folder / "vcp")
+            self.assertEqual(told_of(self.folder / "vcp"), TOLD["unknown"])
 
     def test_lines_of_crates(self) -> None:
         text = "# all\na may_abort=2: b kit # c\n\nb: \nc: a b\nd: c\n"

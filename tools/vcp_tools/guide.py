@@ -8,7 +8,7 @@ from vcp_tools.refusal import FINE
 
 PAGES = (
     ("docs/START.md", "from your program to a report, on one page"),
-    ("docs/PORTING.md", "to bring a program here by hand: what to write for timers, edges and the like"),
+    ("docs/PATTERNS.md", "to bring a program here by hand: what to write for timers, edges and the like"),
     ("docs/TOOLS.md", "each of these tools, with an example"),
     ("docs/PROPERTIES.md", "whether something can ever come, and rows that reach everything"),
     ("docs/CAMPAIGNS.md", "every fault of a class tried on a program"),

@@ -1,7 +1,7 @@
 -- ApartReach: how far `sum M SCRIPT VERDICTS ROWS` comes before its fault's line, if there is one, is printed.
 -- `sum M SCRIPT VERDICTS ROWS`: the same with one table more, in which the groups whose verdict is `same` are
--- told apart by their runs over all rows of ROWS: never reached, died out, or standing in a cell. ROWS is
--- read behind M; it is lacking or refused by its own name.
+-- told apart by their runs over all rows of ROWS: never reached, died out, or standing in a cell; the last are
+-- named. ROWS is read behind M; it is lacking or refused by its own name.
 use Rattle.std.specs.Prelude.{ℕ, ℤ, ◌≡◌, ◌≤◌, Bool, List, [], length, All, Option, Result, Err}
 use Rattle.std.specs.Io.KnownBytes.{Appends}
 use Rattle.vcp_base.specs.Limits.{most_cycles, most_image_bytes}

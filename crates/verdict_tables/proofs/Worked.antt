@@ -17,7 +17,7 @@ use Rattle.verdict_tables.specs.declared.tables.Table.TheVariants as table
 use Rattle.verdict_tables.specs.Reading.{verdicts_in}
 use Rattle.verdict_tables.specs.Remark.{is_for}
 use Rattle.verdict_tables.specs.declared.endless.ending.SameEnding.TheVariants as ends
-use Rattle.verdict_tables.specs.SameEndings.{endings_text}
+use Rattle.verdict_tables.specs.SameEndings.{endings_text, standing_below}
 use Rattle.verdict_tables.specs.SumText.{column_text, heading_text, sum_text}
 
 sum : Lists
@@ -112,6 +112,12 @@ endings : endings_text (Some ends.DiedOut ∷ None ∷ Some ends.Stands ∷ Some
     ++ codes "       1       1       0       0       0       0  stands in a cell\n")
 unfolding digits
 endings = refl
+
+-- of three groups the second stands
+standing : standing_below sum three (Some ends.DiedOut ∷ Some ends.Stands ∷ None ∷ []) 3
+    ≡ codes "2 stands in a cell\n  operand 0 2 1 from 0: operation 2 ADD at 4:8\n"
+unfolding digits sum three alone
+standing = refl
 
 -- ---- remarks
 

@@ -1,8 +1,10 @@
--- SameEndings: of the groups with the verdict `same`, how many are never reached, how many died out, and how many still stand in a cell at the end.
-use Rattle.std.specs.Prelude.{ℕ, ◌+◌, ◌==◌, Bool, true, false, cond, List, [], ◌∷◌, ◌++◌, length, codes, Option, Some, None, ℤ}
+-- SameEndings: of the groups with the verdict `same`, how many are never reached, how many died out, and how many still stand in a cell at the end, and
+-- which these are.
+use Rattle.std.specs.Prelude.{ℕ, zero, suc, ◌+◌, ◌==◌, Bool, true, false, cond, List, [], ◌∷◌, ◌++◌, length, slice_get, decimal, codes, flat_map, Option, Some, None, ℤ}
 use Rattle.op_graph.specs.Lists.{Lists}
 use Rattle.signature_table.specs.Signatures.{Numbers}
 use Rattle.fault_script.specs.declared.act.Fault.{Fault}
+use Rattle.fault_script.specs.Groups.{line_of}
 use Rattle.fault_injector.specs.declared.verdict.Verdict.{Verdict}
 use Rattle.fault_injector.specs.declared.verdict.Verdict.TheVariants as verdict
 use Rattle.verdict_tables.specs.declared.endless.ending.SameEnding.{SameEnding}
@@ -10,7 +12,7 @@ use Rattle.verdict_tables.specs.declared.endless.ending.SameEnding.TheVariants a
 use Rattle.verdict_tables.specs.Endings.{ending_of}
 use Rattle.fault_injector.specs.declared.lines.Totals.{Totals}
 use Rattle.fault_injector.specs.FaultLines.{totals_of, totals_text}
-use Rattle.verdict_tables.specs.SumText.{heading_of, row_text, tables_text, unseen_below}
+use Rattle.verdict_tables.specs.SumText.{fault_text, heading_of, row_text, tables_text, unseen_below}
 
 -- ---- the endings of groups
 
@@ -65,9 +67,29 @@ ended_row n endings = row_text (ending_name n) (same_only (ended_count n endings
 abbrev pub endings_text : List (Option SameEnding) → List ℕ
 endings_text endings = heading_of (codes "by how it ends where it shows nowhere") ++ (ended_row 0 endings ++ (ended_row 1 endings ++ ended_row 2 endings))
 
+-- ---- the groups that stand in a cell
+
+-- a group is one of them
+abbrev pub stands : Option SameEnding → Bool
+stands e = is_ended (ending_number ends.Stands) e
+
+-- the number of a group's line, and its faults, where it is one of them
+abbrev pub standing_text : Lists → Option (List Fault) → Option (Option SameEnding) → List ℕ
+standing_text g None e = []
+standing_text g (Some faults) None = []
+standing_text g (Some faults) (Some e) =
+    cond (stands e) (decimal (line_of faults) ++ (codes " stands in a cell\n" ++ flat_map (fault_text g) faults)) []
+
+-- the same of the groups below group n
+abbrev pub standing_below : Lists → List (List Fault) → List (Option SameEnding) → ℕ → List ℕ
+standing_below g groups endings zero = []
+standing_below g groups endings (suc n) = standing_below g groups endings n ++ standing_text g (slice_get groups n) (slice_get endings n)
+
 -- ---- the whole text
 
--- the tables and the one of endings, the verdicts that aren't seen, and the totals of all
+-- the tables and the one of endings, the verdicts that aren't seen, the groups that stand in a cell, and the totals of all
 abbrev pub sum_apart_text : Lists → List (List Fault) → List Verdict → List (Option SameEnding) → List ℕ
 sum_apart_text g groups vs endings =
-    tables_text g groups vs ++ (endings_text endings ++ (unseen_below g groups vs (length vs) ++ totals_text (totals_of vs)))
+    tables_text g groups vs
+    ++ (endings_text endings
+    ++ (unseen_below g groups vs (length vs) ++ (standing_below g groups endings (length endings) ++ totals_text (totals_of vs))))

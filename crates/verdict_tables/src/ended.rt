@@ -24,7 +24,7 @@ fn ending_number(ending: SameEnding) -> u32
 }
 
 /// Whether a group is in row `n`.
-fn is_ended(n: u32, ending: Option<SameEnding>) -> bool
+pub(crate) fn is_ended(n: u32, ending: Option<SameEnding>) -> bool
     ensures { result ≡ is_ended_of n ending }
 {
     match ending {

@@ -2,7 +2,8 @@
 //! late.
 //!
 //! `read_verdicts` reads what a campaign printed for the groups of a script, or tells the first line that doesn't belong to it, and
-//! `write_sum` writes the tables. `endings_of` tells the groups apart of which no output tells, and `write_sum_apart` writes a table of that, too.
+//! `write_sum` writes the tables. `endings_of` tells the groups apart of which no output tells, and `write_sum_apart` writes a table of that, too,
+//! and names those whose difference still stands in a cell.
 #![tactic(auto)]
 
 mod counts;
@@ -14,6 +15,7 @@ mod names;
 mod reading;
 mod remark;
 mod rows;
+mod standing;
 mod tables;
 mod text_sink;
 mod unseen;

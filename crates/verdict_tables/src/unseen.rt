@@ -32,7 +32,7 @@ fn then_fault<O: Sink>(line: &mut Line, out: &mut O, graph: &Graph, fault: Fault
 }
 
 /// Goes on with the faults of a group.
-fn then_faults<O: Sink>(line: &mut Line, out: &mut O, graph: &Graph, group: &Group)
+pub(crate) fn then_faults<O: Sink>(line: &mut Line, out: &mut O, graph: &Graph, group: &Group)
     ensures { GathersTo (O.seen out.old) (O.seen out.new) line.old line.new (flat_map (fault_text graph.now) group.now) }
 {
     'faults: for i in 0..group.len() {

@@ -13,6 +13,7 @@ use crate::counts::totals_of_all;
 use crate::ended::then_endings;
 use crate::endings::Endings;
 use crate::rows::then_table;
+use crate::standing::then_all_standing;
 use crate::tables::Table;
 use crate::unseen::then_all_unseen;
 use crate::verdicts::Verdicts;
@@ -65,7 +66,7 @@ pub fn write_sum<O: Sink>(
 }
 
 /// Writes the same, and behind the tables one more, in which the groups with the verdict `same` are told apart: how many are never reached, how
-/// many died out, and how many still stand in a cell at the end.
+/// many died out, and how many still stand in a cell at the end. These are named behind the verdicts, each with the faults of its group.
 pub fn write_sum_apart<O: Sink>(
     out: &mut O,
     graph: &Graph,
@@ -84,6 +85,7 @@ pub fn write_sum_apart<O: Sink>(
     then_tables(&mut line, out, graph, script, verdicts);
     then_endings(&mut line, out, endings);
     then_all_unseen(&mut line, out, graph, script, verdicts);
+    then_all_standing(&mut line, out, graph, script, endings);
     then_totals(&mut line, out, &totals_of_all(verdicts));
     line.end(out)
 }

@@ -12,7 +12,7 @@ from itertools import repeat
 from pathlib import Path
 from typing import Sequence
 
-from vcp_tools.campaign.dormant import Dormant, pairs_of
+from vcp_tools.campaign.dormant import dormant_of, pairs_of
 from vcp_tools.campaign.engine import judge
 from vcp_tools.campaign.folder import FORM, Folder, Manifest, PartOf, copies_of, digest
 from vcp_tools.campaign.interval import share
@@ -79,7 +79,7 @@ def _pairs(words: Words, first: "Done") -> "Done":
     folder = first.folder
     copies = {name: str(folder.at / name) for name in ("image", "rows", "pairs")}
     vcp, study = Program(folder.at / "vcp"), Program(folder.at / "study", "vcp_study")
-    dormant = Dormant(folder, first.script).found()
+    dormant = dormant_of(first.script, str(folder.at / "faults"), first.standing)
     print(f"dormant: {len(dormant)} of the {first.totals[0]} faults stand in a cell when the rows end")
     cycles = cycles_of(vcp, copies["image"], [copies["rows"]])
     behind = faults_of(words.then, (vcp, study), folder.at / "image", [copies["rows"]], cycles, words.bits)
@@ -112,6 +112,7 @@ class Done:
     tables: str
     verdicts: bytes
     totals: list[int]
+    standing: list[int]
     script: bytes
     image: bytes
     of: int
@@ -271,7 +272,7 @@ class Campaign:
         tables = assigned.named(tables) if assigned else tables
         folder.write("verdicts", verdicts + totals_line(total.totals).encode("ascii") + b"\n")
         folder.write("tables", tables.encode("utf-8"))
-        return Done(folder, tables, verdicts, total.totals, folder.read("faults"), image, self.of)
+        return Done(folder, tables, verdicts, total.totals, [line for line, _ in total.standing], folder.read("faults"), image, self.of)
 
 
 def _look(folder: Path, number: int, part: PartOf) -> Judged | str:

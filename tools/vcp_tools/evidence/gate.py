@@ -9,7 +9,7 @@ from vcp_tools.proved import PROGRAMS
 
 NONE = "no log of the gate is given"
 """What is said where there is no log."""
-_PASSED = re.compile(r"^[0-9]+ passed, 0 failed$")
+_PASSED = re.compile(r"[0-9]+ passed, 0 failed; gate: status 0\Z")
 
 
 @dataclass(frozen=True)
@@ -25,13 +25,14 @@ class GateLog:
 
     @property
     def ending(self) -> str:
-        """The last line of `rt ci`."""
-        return next((line for line in reversed(self.lines) if re.match(r"[0-9]+ passed, [0-9]+ failed", line)), "it has no line of its end")
+        """How it ended: the last line of `rt ci`, and the status of `.ci/run`, which also looks at documents and tools."""
+        proofs = next((line for line in reversed(self.lines) if re.match(r"[0-9]+ passed, [0-9]+ failed", line)), "no end of rt ci is told")
+        return f"{proofs}; {next((line for line in reversed(self.lines) if line.startswith('gate: status ')), 'gate: no status is told')}"
 
     @property
     def has_passed(self) -> bool:
-        """Whether `rt ci` passed, with all crates, and no test behind it failed."""
-        return _PASSED.match(self.ending) is not None and not any(line.startswith("FAILED") for line in self.lines)
+        """Whether `rt ci` passed, with all crates, and all behind it."""
+        return _PASSED.match(self.ending) is not None
 
     @property
     def sources(self) -> dict[str, str]:

@@ -15,15 +15,17 @@ _HEADING = re.compile(r"  faults    same   wrong  ran-on refused stopped  (by .*
 _ROW = re.compile(r" *(\d+) +(\d+) +(\d+) +(\d+) +(\d+) +(\d+)  (\S.*)")
 _TOTALS = re.compile(r"faults (\d+)" + "".join(rf" {name} (\d+)" for name in VERDICTS))
 _UNSEEN = re.compile(r"(\d+) ((?:wrong|ran-on) .*)")
+_STANDING = re.compile(rf"(\d+) {STANDS}")
 
 
 @dataclass
 class Sum:
     """Tables, each a title with its rows by their names; the faults that aren't seen, as a line's number, the rest of the line and the lines below it;
-    and the totals: all groups, and those of each verdict."""
+    those that stand in a cell, as a line's number and the lines below it; and the totals: all groups, and those of each verdict."""
 
     tables: dict[str, dict[str, list[int]]] = field(default_factory=dict)
     unseen: list[tuple[int, str, list[str]]] = field(default_factory=list)
+    standing: list[tuple[int, list[str]]] = field(default_factory=list)
     totals: list[int] = field(default_factory=lambda: [0] * 6)
 
 
@@ -48,17 +50,22 @@ def read_sum(text: str) -> Sum:
     lines = text[:-1].split("\n")
     found = Sum(totals=read_totals(lines[-1]))
     title = ""
+    below: list[str] | None = None
     for line in lines[:-1]:
-        heading, row, unseen = _HEADING.fullmatch(line), _ROW.fullmatch(line), _UNSEEN.fullmatch(line)
-        if heading:
+        heading, row, unseen, standing = (form.fullmatch(line) for form in (_HEADING, _ROW, _UNSEEN, _STANDING))
+        if heading and below is None:
             title = heading[1]
             found.tables[title] = {}
-        elif row and title and not found.unseen:
+        elif row and title and below is None:
             found.tables[title][row[7]] = [int(it) for it in row.groups()[:6]]
-        elif unseen:
-            found.unseen.append((int(unseen[1]), unseen[2], []))
-        elif found.unseen and line.startswith("  "):
-            found.unseen[-1][2].append(line)
+        elif unseen and not found.standing:
+            below = []
+            found.unseen.append((int(unseen[1]), unseen[2], below))
+        elif standing:
+            below = []
+            found.standing.append((int(standing[1]), below))
+        elif below is not None and line.startswith("  "):
+            below.append(line)
         else:
             raise Refusal(f"this is no line of tables: `{line[:60]}`")
     check(found)
@@ -79,6 +86,9 @@ def check(found: Sum) -> None:
             raise Refusal(f"the table `{title}` doesn't add up to {wanted}")
     if len(found.unseen) != wrong + ran_on:
         raise Refusal(f"{len(found.unseen)} faults are named as not seen, and {wrong + ran_on} are counted")
+    counted = found.tables.get(NOWHERE, {}).get(STANDS, [0])[0]
+    if len(found.standing) != counted:
+        raise Refusal(f"{len(found.standing)} faults are named as standing in a cell, and {counted} are counted")
 
 
 def add(into: Sum, part: Sum, first: int) -> None:
@@ -89,6 +99,7 @@ def add(into: Sum, part: Sum, first: int) -> None:
             before = table.get(name, [0] * 6)
             table[name] = [one + other for one, other in zip(before, numbers)]
     into.unseen += [(line + first, rest, more) for line, rest, more in part.unseen]
+    into.standing += [(line + first, more) for line, more in part.standing]
     into.totals = [one + other for one, other in zip(into.totals, part.totals)]
 
 
@@ -102,6 +113,8 @@ def sum_text(found: Sum, outputs: list[str]) -> str:
         lines += ["".join(f"{number:8d}" for number in numbers) + f"  {name}" for name, numbers in ordered]
     for line, rest, more in found.unseen:
         lines += [f"{line} {rest}", *more]
+    for line, more in found.standing:
+        lines += [f"{line} {STANDS}", *more]
     return "".join(f"{line}\n" for line in [*lines, totals_line(found.totals)])
 
 
