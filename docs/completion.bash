@@ -31,7 +31,7 @@ _vcp_study() {
     1:*) mapfile -t COMPREPLY < <(compgen -W "$_vcp_study_commands" -- "$word") ;;
     2:* | 3:faults | 4:faults | 3:script) mapfile -t COMPREPLY < <(compgen -f -- "$word") ;;
     3:ranges) mapfile -t COMPREPLY < <(compgen -W '--all' -- "$word") ;;
-    3:sum | 4:sum | 5:sum)
+    *:sum)
         case $word in
         -*) mapfile -t COMPREPLY < <(compgen -W '--cycles' -- "$word") ;;
         *) mapfile -t COMPREPLY < <(compgen -f -- "$word") ;;
