@@ -33,7 +33,7 @@ _vcp_study() {
     3:ranges) mapfile -t COMPREPLY < <(compgen -W '--all --inputs' -- "$word") ;;
     4:ranges) mapfile -t COMPREPLY < <(compgen -f -W '--inputs' -- "$word") ;;
     5:ranges) mapfile -t COMPREPLY < <(compgen -f -- "$word") ;;
-    3:sum | 4:sum | 5:sum)
+    *:sum)
         case $word in
         -*) mapfile -t COMPREPLY < <(compgen -W '--cycles' -- "$word") ;;
         *) mapfile -t COMPREPLY < <(compgen -f -- "$word") ;;

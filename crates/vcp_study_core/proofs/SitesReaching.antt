@@ -45,4 +45,5 @@ never_unread i cycles c which old new X (Err (fault.Source s)) w = absurd w
 never_unread i cycles c which old new X (Err (fault.Rows s)) w = absurd w
 never_unread i cycles c which old new X (Err (fault.Script s)) w = absurd w
 never_unread i cycles c which old new X (Err (fault.Verdicts s)) w = absurd w
+never_unread i cycles c which old new X (Err (fault.Part number why)) w = absurd w
 never_unread i cycles c which old new X (Err _) w = λ is. absurd is

@@ -80,6 +80,7 @@ module _ (T : Telling) (g : Lists) (groups : List (List FaultOf)) (vs : List Ver
   writes_fault fault.Image h = absurd h
   writes_fault (fault.NoVerdicts f) h = absurd h
   writes_fault (fault.Named r) h = absurd h
+  writes_fault (fault.Part number why) h = absurd h
 
 -- ---- what is written isn't for want of a file
 module _ (T : Telling) (g : Lists) (groups : List (List FaultOf)) (X : Type 0) (old new : Option (List ℕ)) where

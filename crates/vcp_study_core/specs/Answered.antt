@@ -15,7 +15,8 @@ use Rattle.vcp_study_core.specs.RunReach.{ReachesRun}
 use Rattle.vcp_study_core.specs.ScriptReach.{ReachesNames}
 use Rattle.vcp_study_core.specs.Seen.{Outside}
 use Rattle.vcp_study_core.specs.SitesReach.{ReachesSites}
-use Rattle.vcp_study_core.specs.ToldReach.{ReachesSum, ReachesFaults}
+use Rattle.vcp_study_core.specs.PartsReach.{ReachesSum}
+use Rattle.vcp_study_core.specs.ToldReach.{ReachesFaults}
 
 -- a command that draws looks for nothing: where the picture is written, nothing is found
 abbrev pub with_nothing : Result (Unit {0}) Fault → Result Bool Fault
@@ -42,10 +43,9 @@ Reaches (ranges m all) held files later out now result = ReachesRanges m all hel
 Reaches (sites m cycles classes which) held files later out now result =
     ReachesSites m cycles classes which held out.written now.written files.broken later.broken result
 Reaches (flips m rows which) held files later out now result = ReachesFlips m rows which held out.written now.written files.broken later.broken result
-Reaches (sum m script verdicts) held files later out now result =
-    ReachesSum m script verdicts held out.written now.written files.broken later.broken result
-Reaches (sum_apart m script verdicts rows) held files later out now result =
-    ReachesApart m rows script verdicts held out.written now.written files.broken later.broken result
+Reaches (sum m names) held files later out now result = ReachesSum m names held out.written now.written files.broken later.broken result
+Reaches (sum_apart m names rows) held files later out now result =
+    ReachesApart m rows names held out.written now.written files.broken later.broken result
 Reaches (faults m script verdicts) held files later out now result =
     ReachesFaults m script verdicts held out.written now.written files.broken later.broken result
 Reaches (script_named m named) held files later out now result = ReachesNames m named held out.written now.written files.broken later.broken result

@@ -2,6 +2,7 @@ pub mod Answered
 pub mod ApartReach
 pub mod FlipsReach
 pub mod Forms
+pub mod PartsReach
 pub mod RangesReach
 pub mod Reach
 pub mod RunLines
@@ -11,4 +12,5 @@ pub mod ScriptReach
 pub mod Seen
 pub mod SitesReach
 pub mod SumLines
+pub mod SumSteps
 pub mod ToldReach

@@ -28,6 +28,8 @@ use Rattle.vcp_study_core.specs.SumLines.{verdicts_text}
 use Rattle.vcp_study_core.specs.declared.graph.Weighed.{Weighed}
 use Rattle.vcp_study_core.specs.declared.fault.Fault.{Fault}
 use Rattle.vcp_study_core.specs.declared.fault.Fault.TheVariants as fault
+use Rattle.vcp_study_core.specs.declared.fault.PartFault.{PartFault}
+use Rattle.vcp_study_core.specs.declared.fault.PartFault.TheVariants as part
 
 -- the file under a name is this image, and no longer than it may be
 pub record IsImage (held : Held) (name : List ℕ) (i : Image) : Type 0 where
@@ -84,7 +86,22 @@ IsUnread (fault.Source i) = i ≡ input.Unread
 IsUnread (fault.Rows i) = i ≡ input.Unread
 IsUnread (fault.Script i) = i ≡ input.Unread
 IsUnread (fault.Verdicts i) = i ≡ input.Unread
+IsUnread (fault.Part number (part.Script i)) = i ≡ input.Unread
+IsUnread (fault.Part number (part.Verdicts i)) = i ≡ input.Unread
 IsUnread _ = ⊥
+
+-- the line where there is nothing of a part, and the status
+abbrev pub part_text : List ℕ → PartFault → List ℕ
+part_text name (part.Script i) = input_text name i
+part_text name (part.Verdicts i) = input_text name i
+part_text name part.Image = name ++ codes ":1 U1 Image\n"
+part_text name (part.NoVerdicts f) = verdicts_text name f
+
+abbrev pub part_status : PartFault → ℕ
+part_status (part.Script i) = input_status i
+part_status (part.Verdicts i) = input_status i
+part_status part.Image = 1
+part_status (part.NoVerdicts f) = 1
 
 -- the line of a fault, and the status
 abbrev pub fault_text : List ℕ → Fault → List ℕ
@@ -99,6 +116,7 @@ fault_text name (fault.Verdicts i) = input_text name i
 fault_text name fault.Image = name ++ codes ":1 U1 Image\n"
 fault_text name (fault.NoVerdicts f) = verdicts_text name f
 fault_text name (fault.Named r) = refused_line_text name r.line r.why
+fault_text name (fault.Part number why) = part_text name why
 
 abbrev pub fault_status : Fault → ℕ
 fault_status (fault.Source i) = input_status i
@@ -112,3 +130,4 @@ fault_status (fault.Verdicts i) = input_status i
 fault_status fault.Image = 1
 fault_status (fault.NoVerdicts f) = 1
 fault_status (fault.Named r) = 1
+fault_status (fault.Part number why) = part_status why

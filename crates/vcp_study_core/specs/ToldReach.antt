@@ -1,12 +1,10 @@
--- ToldReach: how far `sum M SCRIPT VERDICTS` and `faults M SCRIPT VERDICTS` come before their fault's line, if there is one, is printed.
--- `sum M SCRIPT VERDICTS`: the tables of the verdicts that VERDICTS tells of the groups of SCRIPT over the
--- image M are written, and it is told whether one of these is `wrong` or `ran-on`, so that a fault is unseen. Or nothing
--- is written, and the line and status tell why, by the first file of which there is nothing, in this order: M
--- is lacking or no image; SCRIPT is lacking, names another image by its remark, or is no script for this one;
--- VERDICTS is lacking, or a line of it is refused (1), the first one; or memory was lacking; or a proper part
--- was written where the sink failed.
--- `faults M SCRIPT VERDICTS`: the same with the picture of the image's graph in the place of the tables, each
--- operation in the colour of the worst of the verdicts of the groups that have a fault there.
+-- ToldReach: how far `faults M SCRIPT VERDICTS` comes before its fault's line, if there is one, is printed.
+-- `faults M SCRIPT VERDICTS`: the picture of the graph of the image M is written, each operation in the colour of
+-- the worst of the verdicts that VERDICTS tells of the groups of SCRIPT that have a fault there, and it is told
+-- whether one of these is `wrong` or `ran-on`, so that a fault is unseen. Or nothing is written, and the line and
+-- status tell why, by the first file of which there is nothing, in this order: M is lacking or no image; SCRIPT is
+-- lacking, names another image by its remark, or is no script for this one; VERDICTS is lacking, or a line of it is
+-- refused (1), the first one; or memory was lacking; or a proper part was written where the sink failed.
 use Rattle.std.specs.Prelude.{ℕ, ◌≡◌, ◌≢◌, ◌≤◌, Bool, List, [], length, All, true, false, Option, Some, Result, Ok, Err}
 use Rattle.std.specs.Io.KnownBytes.{Appends}
 use Rattle.vcp_base.specs.Limits.{most_image_bytes, most_rows_bytes, most_source_bytes}
@@ -24,7 +22,7 @@ use Rattle.verdict_tables.specs.declared.fault.VerdictsFault.{VerdictsFault}
 use Rattle.verdict_tables.specs.declared.fault.VerdictsFault.TheVariants as verdicts
 use Rattle.verdict_tables.specs.Reading.{verdicts_in}
 use Rattle.verdict_tables.specs.Remark.{is_for}
-use Rattle.verdict_tables.specs.SumText.{sum_text, shows_unseen}
+use Rattle.verdict_tables.specs.SumText.{shows_unseen}
 use Rattle.graph_picture.specs.FaultsText.{IsFaultsPicture}
 use Rattle.fault_sites.specs.Digest.{digest_of}
 use Rattle.vcp_inputs.specs.declared.images.Image.{Image}
@@ -78,10 +76,6 @@ pub data ReadsVerdicts (g : Lists) (groups : List (List FaultOf)) (text : List �
 abbrev pub Telling : Type 1
 Telling = Lists → List (List FaultOf) → List Verdict → List ℕ → Type 0
 
--- a text is the tables of these verdicts
-abbrev pub AreTables : Telling
-AreTables g groups vs text = text ≡ sum_text g groups vs
-
 -- how far such a text is written: whole, or a part where the sink failed, or nothing where memory was wanted
 abbrev pub WritesText : (List ℕ → Type 0) → Option (List ℕ) → Option (List ℕ) → Result (Unit {0}) Fault → Type 0
 WritesText Is old new (Ok _) = (text : List ℕ) × Is text × Appends old new text
@@ -134,10 +128,6 @@ pub data ReachesTold (Tells : Telling) (m script name : List ℕ) (held : Held)
       → ReachesTold Tells m script name held old new b n r
   lost_image : (why : NoInput) → NotLoaded NotImage held m most_image_bytes b n why → Appends old new []
       → ReachesTold Tells m script name held old new b n (Err (fault.Source why))
-
--- How far `sum M SCRIPT VERDICTS` comes: the tables are written, or a part of them, or nothing.
-abbrev pub ReachesSum : List ℕ → List ℕ → List ℕ → Held → Option (List ℕ) → Option (List ℕ) → ℕ → ℕ → Result Bool Fault → Type 0
-ReachesSum m script name held old new b n result = ReachesTold AreTables m script name held old new b n result
 
 -- How far `faults M SCRIPT VERDICTS` comes: the picture is written, or a part of it, or nothing.
 abbrev pub ReachesFaults : List ℕ → List ℕ → List ℕ → Held → Option (List ℕ) → Option (List ℕ) → ℕ → ℕ → Result Bool Fault → Type 0

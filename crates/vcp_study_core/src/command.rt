@@ -1,16 +1,20 @@
 //! From words to a command.
 
-ghost use Rattle.std.specs.Prelude.{◌≡◌, ◌≤◌, IfSome};
+ghost use Rattle.std.specs.Prelude.{ℕ, List, ◌≡◌, ◌≤◌, IfSome, drop, length};
 ghost use Rattle.std.specs.Option.{option_map};
 ghost use Rattle.vcp_base.specs.Limits.{most_cycles, most_horizon};
-ghost use Rattle.vcp_study_core.specs.Forms.{form, form_of, file_of, image_and_horizon as image_and_horizon_of, graph_form, dot_form, waves_form, ranges_form, all_of, IsSound, faults_form, told_file as told_file_of, sites_form, behind_form, class_form, cycles_in as cycles_in_of, flips, sum_form, apart_form, script_form, chosen_of, number_word, part_of};
+ghost use Rattle.vcp_study_core.specs.Forms.{form, form_of, file_of, image_and_horizon as image_and_horizon_of, graph_form, dot_form, waves_form, ranges_form, all_of, IsSound, faults_form, told_file as told_file_of, sites_form, behind_form, class_form, cycles_in as cycles_in_of, flips, names_of, next_of, behind_of, sum_with, sum_form, sum_file as sum_file_of, part_file as part_file_of, as_names, script_form, chosen_of, number_word, part_of};
+ghost use Rattle.vcp_study_core.specs.SumSteps.{as_next, as_behind, ended_of, IsFew, FewBehind};
+ghost use Rattle.verdict_tables.specs.Parts.{most_parts};
 ghost use Rattle.vcp_words.specs.Forms.{rows_of, AreFew};
 ghost use Rattle.vcp_words.specs.Tables.{rows_name as rows_name_of};
 
-use crate::fault::Fault;
+use crate::fault::{Fault, PartFault};
+use crate::part_words::{Named, PartWords};
 use fault_sites::{Chosen, Classes, Part, classes_named};
 use vcp_base::{MOST_CYCLES, MOST_HORIZON, Text, Words, numeral};
 use vcp_words::{CommandWords, RowsWord};
+use verdict_tables::MOST_PARTS;
 
 /// A command, with its own words. A name of a file isn't empty and doesn't begin with `-`.
 #[derive(Clone, Copy, Debug)]
@@ -61,23 +65,19 @@ pub enum StudyCommand<'a> {
         /// What is written.
         chosen: Chosen,
     },
-    /// `sum M SCRIPT VERDICTS`: tables of the verdicts that were printed on a script.
+    /// `sum M SCRIPT VERDICTS ..`: tables of the verdicts that were printed on scripts.
     Sum {
         /// The name of the image, M.
         image: &'a Text,
-        /// The name of the script.
-        script: &'a Text,
-        /// The name of what was printed on it.
-        verdicts: &'a Text,
+        /// The names of the scripts, and of what was printed on each.
+        parts: PartWords<'a>,
     },
-    /// `sum M SCRIPT VERDICTS ROWS`: the same with those that are `same` told apart by runs over ROWS.
+    /// `sum M SCRIPT VERDICTS .. ROWS`: the same with those that are `same` told apart by runs over ROWS.
     SumApart {
         /// The name of the image, M.
         image: &'a Text,
-        /// The name of the script.
-        script: &'a Text,
-        /// The name of what was printed on it.
-        verdicts: &'a Text,
+        /// The names of the scripts, and of what was printed on each.
+        parts: PartWords<'a>,
         /// ROWS.
         rows: RowsWord<'a>,
     },
@@ -120,6 +120,32 @@ fn told_file<'a>(image: &'a Text, script: &'a Text, verdicts: &'a Text, fault: &
     }
 }
 
+/// The name of the file that the line of a fault of a part names, where the part has these names.
+fn part_file<'a>(image: &'a Text, named: &Option<Named<'a>>, why: &PartFault) -> &'a [u8]
+    ensures { result.now ≡ part_file_of image.now (option_map as_names named.now) why.now }
+{
+    match named {
+        None => image.bytes(),
+        Some(named) => match why {
+            PartFault::Script(_) | PartFault::Image => named.script.bytes(),
+            PartFault::Verdicts(_) | PartFault::NoVerdicts(_) => named.verdicts.bytes(),
+        },
+    }
+}
+
+/// The name of the file that the line of a fault of a command on parts names.
+fn sum_file<'a>(image: &'a Text, parts: &PartWords<'a>, fault: &Fault) -> &'a [u8]
+    ensures { result.now ≡ sum_file_of image.now (names_of parts.now) fault.now }
+{
+    match fault {
+        Fault::Part { number, why } => {
+            let named = parts.nth(*number);
+            part_file(image, &named, why)
+        }
+        _ => image.bytes(),
+    }
+}
+
 impl StudyCommand<'_> {
     /// The name of the file that the line of a fault names.
     pub(crate) fn file(&self, fault: &Fault) -> &[u8]
@@ -135,19 +161,10 @@ impl StudyCommand<'_> {
                 Fault::Rows(_) => rows_name(*rows),
                 _ => image.bytes(),
             },
-            StudyCommand::Sum {
-                image,
-                script,
-                verdicts,
-            } => told_file(image, script, verdicts, fault),
-            StudyCommand::SumApart {
-                image,
-                script,
-                verdicts,
-                rows,
-            } => match fault {
+            StudyCommand::Sum { image, parts } => sum_file(image, parts, fault),
+            StudyCommand::SumApart { image, parts, rows } => match fault {
                 Fault::Rows(_) => rows_name(*rows),
-                _ => told_file(image, script, verdicts, fault),
+                _ => sum_file(image, parts, fault),
             },
             StudyCommand::Faults {
                 image,
@@ -185,7 +202,7 @@ pub fn command_of(words: &Words) -> Option<StudyCommand<'_>>
         return sites_words(&mut left);
     }
     if command == b"sum".as_slice() {
-        return sum_words(&mut left);
+        return sum_words(words, &mut left);
     }
     if command == b"faults".as_slice() {
         return faults_words(&mut left);
@@ -385,44 +402,111 @@ fn sites_words<'a>(words: &mut CommandWords<'a>) -> Option<StudyCommand<'a>>
     behind_words(image, rows, words)
 }
 
-/// ROWS behind M, SCRIPT and VERDICTS of `sum`.
-fn apart_words<'a>(
-    image: &'a Text,
-    script: &'a Text,
-    verdicts: &'a Text,
-    words: &mut CommandWords<'a>,
-) -> Option<StudyCommand<'a>>
-    ensures form { option_map form result ≡ apart_form image.now script.now verdicts.now words.old }
-    ensures sound { IfSome result (λ command. IsSound (form command)) }
-{
-    let rows = words.rows()?;
-    if !words.is_end() {
-        return None;
-    }
-    Some(StudyCommand::SumApart {
-        image,
-        script,
-        verdicts,
-        rows,
-    })
+/// What stands next behind M of `sum`.
+#[derive(Clone, Copy, Debug)]
+pub(crate) enum NextWord<'a> {
+    /// No more words.
+    NoMore,
+    /// The names of a part's files, which were taken.
+    Part,
+    /// ROWS, as the last word.
+    Rows(RowsWord<'a>),
 }
 
-/// The words of `sum`: M, SCRIPT and VERDICTS, and ROWS where there are more words.
-fn sum_words<'a>(words: &mut CommandWords<'a>) -> Option<StudyCommand<'a>>
+/// All that stands behind M of `sum`.
+#[derive(Clone, Copy, Debug)]
+pub(crate) struct BehindWords<'a> {
+    /// How many parts.
+    pub parts: u32,
+    /// ROWS, where it is there.
+    pub rows: Option<RowsWord<'a>>,
+}
+
+/// Takes what stands next behind M: the names of a part's files, or ROWS as the last word.
+fn next_behind<'a>(words: &mut CommandWords<'a>) -> Option<NextWord<'a>>
+    ensures next { option_map (as_next words.new) result ≡ next_of words.old }
+    ensures few { IfSome result IsFew }
+{
+    if words.is_end() {
+        return Some(NextWord::NoMore);
+    }
+    let rows = words.rows()?;
+    if words.is_end() {
+        return Some(NextWord::Rows(rows));
+    }
+    match rows {
+        RowsWord::File(_) => {
+            words.name()?;
+            Some(NextWord::Part)
+        }
+        RowsWord::Cycles(_) => None,
+    }
+}
+
+/// All that stands behind M, which is so many parts and then this, unless it is one more part.
+fn ended<'a>(parts: u32, next: NextWord<'a>) -> Option<BehindWords<'a>>
+    requires { IsFew next }
+    ensures behind { (words : List (List ℕ)) → option_map as_behind result ≡ ended_of parts (as_next words next.entry) }
+    ensures parts { IfSome result (λ d. d.parts ≡ parts) }
+    ensures few { IfSome result FewBehind }
+{
+    match next {
+        NextWord::NoMore => Some(BehindWords { parts, rows: None }),
+        NextWord::Part => None,
+        NextWord::Rows(rows) => Some(BehindWords {
+            parts,
+            rows: Some(rows),
+        }),
+    }
+}
+
+/// Takes all that stands behind M.
+fn behind_image<'a>(words: &mut CommandWords<'a>) -> Option<BehindWords<'a>>
+    ensures behind { option_map as_behind result ≡ behind_of most_parts words.old }
+    ensures parts { IfSome result (λ d. d.parts ≤ most_parts) }
+    ensures few { IfSome result FewBehind }
+{
+    'parts: for i in 0..MOST_PARTS {
+        let next = next_behind(words)?;
+        match ended(i, next) {
+            Some(behind) => return Some(behind),
+            None => {}
+        }
+    }
+    let last = next_behind(words)?;
+    ended(MOST_PARTS, last)
+}
+
+/// The command on these parts, with ROWS or without.
+fn sum_of<'a>(image: &'a Text, parts: PartWords<'a>, rows: Option<RowsWord<'a>>) -> StudyCommand<'a>
+    requires few { IfSome rows (λ r. AreFew (rows_of r)) }
+    requires parts { length (names_of parts) ≤ most_parts }
+    ensures form { form result ≡ sum_with image.now (names_of parts.entry) (option_map rows_of rows.entry) }
+    ensures sound { IsSound (form result) }
+{
+    match rows {
+        None => StudyCommand::Sum { image, parts },
+        Some(rows) => StudyCommand::SumApart { image, parts, rows },
+    }
+}
+
+/// The words of `sum`, of all these words those behind the first: M, the names of parts, and ROWS where one word more is there.
+fn sum_words<'a>(all: &'a Words, words: &mut CommandWords<'a>) -> Option<StudyCommand<'a>>
+    requires { words.old ≡ drop 1 all.now }
     ensures form { option_map form result ≡ sum_form words.old }
     ensures sound { IfSome result (λ command. IsSound (form command)) }
 {
     let image = words.name()?;
-    let script = words.name()?;
-    let verdicts = words.name()?;
-    if words.is_end() {
-        return Some(StudyCommand::Sum {
-            image,
-            script,
-            verdicts,
-        });
+    let behind = behind_image(words)?;
+    if behind.parts == 0 {
+        return None;
     }
-    apart_words(image, script, verdicts, words)
+    let parts = PartWords {
+        words: all,
+        at: 2,
+        left: behind.parts,
+    };
+    Some(sum_of(image, parts, behind.rows))
 }
 
 /// The words of `faults`: M, SCRIPT and VERDICTS.

@@ -35,6 +35,26 @@ pub enum Fault {
     NoVerdicts(VerdictsFault),
     /// A line that names faults is refused.
     Named(Refused),
+    /// There is nothing of a part of a campaign.
+    Part {
+        /// The number of the part, counted from 0.
+        number: u32,
+        /// Why.
+        why: PartFault,
+    },
+}
+
+/// Why there is nothing of a part of a campaign.
+#[derive(Debug, Drop)]
+pub enum PartFault {
+    /// There is nothing of its script.
+    Script(NoInput),
+    /// There is nothing of its verdicts.
+    Verdicts(NoInput),
+    /// Its script names another image.
+    Image,
+    /// The text doesn't tell the verdicts of its script.
+    NoVerdicts(VerdictsFault),
 }
 
 impl From<Failed> for Fault {

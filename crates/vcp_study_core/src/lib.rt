@@ -8,14 +8,18 @@ mod fault;
 mod faults;
 mod flips;
 mod graph;
+mod part_words;
+mod parts;
 mod ranges;
 mod script;
 mod sites;
 mod sum;
+mod summing;
 mod telling;
 mod told;
 mod top;
 mod waves;
 
 pub use command::{StudyCommand, command_of};
+pub use part_words::{Named, PartWords};
 pub use top::vcp_study;

@@ -7,9 +7,9 @@ ghost use Rattle.vcp_inputs.specs.Lines.{rows_text};
 ghost use Rattle.vcp_study_core.specs.RunLines.{run_text};
 ghost use Rattle.vcp_study_core.specs.ScriptLines.{refused_line_text};
 ghost use Rattle.vcp_study_core.specs.SumLines.{verdicts_text};
-ghost use Rattle.vcp_study_core.specs.Reach.{fault_text, fault_status as status_of_fault};
+ghost use Rattle.vcp_study_core.specs.Reach.{fault_text, fault_status as status_of_fault, part_text, part_status as status_of_part};
 
-use crate::fault::Fault;
+use crate::fault::{Fault, PartFault};
 use fault_names::Why;
 use input_rows::RowFault;
 use run_picture::RunTextFault;
@@ -26,7 +26,7 @@ pub fn tell_usage<E: Sink>(err: &mut E) -> Result<(), Failed>
         b"usage: vcp_study graph M HORIZON, dot M HORIZON, waves FILE, ranges M, ranges M --all, \
           sites M CYCLES CLASS, sites M CYCLES CLASS FROM COUNT, sites M CYCLES CLASS --count, \
           sites M ROWS flips, sites M ROWS flips FROM COUNT, sites M ROWS flips --count, \
-          sum M SCRIPT VERDICTS, sum M SCRIPT VERDICTS ROWS, faults M SCRIPT VERDICTS \
+          sum M SCRIPT VERDICTS .., sum M SCRIPT VERDICTS .. ROWS, faults M SCRIPT VERDICTS \
           or script M NAMED\n",
     )
 }
@@ -47,6 +47,19 @@ pub fn tell<E: Sink>(err: &mut E, name: &[u8], fault: &Fault) -> Result<(), Fail
         Fault::Image => tell_of(err, name, b":1 U1 Image"),
         Fault::NoVerdicts(why) => tell_no_verdicts(err, name, *why),
         Fault::Named(refused) => tell_refused_line(err, name, refused.line, refused.why),
+        Fault::Part { number: _, why } => tell_no_part(err, name, why),
+    }
+}
+
+/// Prints the line where there is nothing of a part of a campaign.
+fn tell_no_part<E: Sink>(err: &mut E, name: &[u8], why: &PartFault) -> Result<(), Failed>
+    ensures { WritesTo (E.seen err.old) (E.seen err.new) (part_text name.now why.now) result }
+{
+    match why {
+        PartFault::Script(input) => tell_input(err, name, input),
+        PartFault::Verdicts(input) => tell_input(err, name, input),
+        PartFault::Image => tell_of(err, name, b":1 U1 Image"),
+        PartFault::NoVerdicts(why) => tell_no_verdicts(err, name, *why),
     }
 }
 
@@ -123,5 +136,16 @@ pub fn fault_status(fault: &Fault) -> u8
         Fault::Write => 6,
         Fault::Memory => 7,
         Fault::NoRun(_) | Fault::Sites | Fault::Image | Fault::NoVerdicts(_) | Fault::Named(_) => 1,
+        Fault::Part { number: _, why } => part_status(why),
+    }
+}
+
+/// The same where there is nothing of a part of a campaign.
+fn part_status(why: &PartFault) -> u8
+    ensures { result ≡ status_of_part why.now }
+{
+    match why {
+        PartFault::Script(input) | PartFault::Verdicts(input) => input_status(input),
+        PartFault::Image | PartFault::NoVerdicts(_) => 1,
     }
 }

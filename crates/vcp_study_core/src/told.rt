@@ -35,7 +35,7 @@ fn no_script(why: ScriptFault) -> NoInput
 }
 
 /// The script that a text is for an image: a text that names another image is refused before its lines are read.
-fn script_in(alloc: Global, image: &Image, text: &[u8]) -> Result<Script, Fault>
+pub(crate) fn script_in(alloc: Global, image: &Image, text: &[u8]) -> Result<Script, Fault>
     requires short { length text.now ≤ most_source_bytes }
     requires table { image.now.table ≡ table_of image.now.table.seed image.now.table.step image.now.graph }
     ensures reads { ReadsScript image.now text.now result }
@@ -69,7 +69,7 @@ fn untold(why: VerdictsFault) -> Fault
 }
 
 /// The verdicts that a text tells of a script.
-fn verdicts_in(
+pub(crate) fn verdicts_in(
     alloc: Global,
     graph: &Graph,
     script: &Script,

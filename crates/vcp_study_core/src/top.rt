@@ -141,17 +141,10 @@ fn study<F: Files, O: Sink>(
             rows,
             chosen,
         } => flips_command(alloc, image, *rows, chosen, files, out),
-        StudyCommand::Sum {
-            image,
-            script,
-            verdicts,
-        } => sum_command(alloc, image, script, verdicts, files, out),
-        StudyCommand::SumApart {
-            image,
-            script,
-            verdicts,
-            rows,
-        } => apart_command(alloc, image, *rows, script, verdicts, files, out),
+        StudyCommand::Sum { image, parts } => sum_command(alloc, image, parts, files, out),
+        StudyCommand::SumApart { image, parts, rows } => {
+            apart_command(alloc, image, *rows, parts, files, out)
+        }
         StudyCommand::Faults {
             image,
             script,

@@ -1,5 +1,6 @@
 -- Apart: the endings of groups, one by one, and how many there are of each.
-use Rattle.std.proofs.Common.{◌≡◌, ℕ, ◌+◌, ◌≤◌, ◌++◌, append_assoc, List, [], ◌∷◌, length, drop, slice_get, Option, Some, None, ℤ, refl, sym, ap, ◌∙◌, arith}
+use Rattle.std.proofs.Common.{◌≡◌, ℕ, ◌+◌, ◌≤◌, ◌++◌, append_assoc, All, List, [], ◌∷◌, length, drop, slice_get, Option, Some, None, ℤ, refl, sym, ap, ◌∙◌, arith}
+use Rattle.std.proofs.Math.Path.{ap₂}
 use Rattle.std.proofs.lemmas.List.{append-nil, drop_all}
 use Rattle.op_graph.specs.Lists.{Lists}
 use Rattle.signature_table.specs.Signatures.{Numbers}
@@ -11,8 +12,11 @@ use Rattle.verdict_tables.specs.declared.endless.ending.SameEnding.TheVariants a
 use Rattle.verdict_tables.specs.Endings.{ending_of}
 use Rattle.fault_injector.specs.declared.lines.Totals.{Totals}
 use Rattle.fault_injector.specs.FaultLines.{counted, no_verdicts, totals_after, totals_of}
-use Rattle.verdict_tables.specs.SameEndings.{ending_if, endings_for, ended_count, is_ended, one_if}
+use Rattle.verdict_tables.specs.declared.parts.Part.{Part}
+use Rattle.verdict_tables.specs.Parts.{IsWhole}
+use Rattle.verdict_tables.specs.SameEndings.{AreOf, ending_if, endings_for, endings_over, ended_count, is_ended, one_if}
 use Rattle.verdict_tables.proofs.LinesRead.{drop_here}
+use Rattle.verdict_tables.proofs.Lists.{all_first, all_others}
 
 -- one group more
 pub one_ended : (t : Numbers) (g : Lists) (rows : List (List ℤ)) (groups : List (List Fault)) (vs : List Verdict) (i : ℕ) (faults : List Fault)
@@ -38,6 +42,13 @@ pub each_ended : (t : Numbers) (g : Lists) (rows : List (List ℤ)) (groups : Li
 each_ended t g rows [] vs many = refl
 each_ended t g rows (faults ∷ groups) [] many = absurd (omega (arith, many))
 each_ended t g rows (faults ∷ groups) (v ∷ vs) many = omega (arith, each_ended t g rows groups vs (omega (arith, many)))
+
+-- of each part as well
+pub each_over : (t : Numbers) (g : Lists) (rows : List (List ℤ)) (parts : List Part) → All IsWhole parts → AreOf (endings_over t g rows parts) parts
+each_over t g rows [] whole = refl
+each_over t g rows (p ∷ parts) whole =
+    ap₂ (λ (n : ℕ) (ns : List ℕ). n ∷ ns) (each_ended t g rows p.script p.verdicts (all_first IsWhole p parts whole).many)
+    (each_over t g rows parts (all_others IsWhole p parts whole))
 
 -- ---- one ending more
 

@@ -2,6 +2,7 @@ pub mod Apart
 pub mod Going
 pub mod Kept
 pub mod LinesRead
+pub mod PartByPart
 pub mod Picking
 pub mod Printed
 pub mod Worked

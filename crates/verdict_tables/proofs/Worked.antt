@@ -13,11 +13,12 @@ use Rattle.fault_injector.specs.declared.verdict.Verdict.{Verdict}
 use Rattle.fault_injector.specs.declared.verdict.Verdict.TheVariants as verdict
 use Rattle.verdict_tables.specs.declared.fault.VerdictsFault.{VerdictsFault}
 use Rattle.verdict_tables.specs.declared.fault.VerdictsFault.TheVariants as fault
+use Rattle.verdict_tables.specs.declared.parts.Part.{Part}
 use Rattle.verdict_tables.specs.declared.tables.Table.TheVariants as table
 use Rattle.verdict_tables.specs.Reading.{verdicts_in}
 use Rattle.verdict_tables.specs.Remark.{is_for}
 use Rattle.verdict_tables.specs.declared.endless.ending.SameEnding.TheVariants as ends
-use Rattle.verdict_tables.specs.SameEndings.{endings_text, standing_below}
+use Rattle.verdict_tables.specs.SameEndings.{endings_text, standing_parts}
 use Rattle.verdict_tables.specs.SumText.{column_text, heading_text, sum_text}
 
 sum : Lists
@@ -83,13 +84,19 @@ more = refl
 
 -- ---- tables
 
--- numbers of one to five digits end alike
-columns : column_text 0 ++ (column_text 10 ++ (column_text 999 ++ (column_text 1000 ++ column_text 10000)))
-    ≡ codes "       0      10     999    1000   10000"
+-- numbers of one to seven digits end alike
+columns : column_text 0 ++ (column_text 10 ++ (column_text 999 ++ (column_text 1000 ++ (column_text 10000 ++ (column_text 100000 ++ column_text 1000000)))))
+    ≡ codes "       0      10     999    1000   10000  100000 1000000"
 unfolding digits
 columns = refl
 
-tables : sum_text sum three (verdict.Wrong 0 0 (pos 7) (pos 6) ∷ verdict.Refused 0 0 429496731 644245096 ∷ verdict.Refused 0 0 214748366 644245096 ∷ [])
+part : List Verdict → Part
+part vs = record { script = three; verdicts = vs }
+
+seen : List Verdict
+seen = verdict.Wrong 0 0 (pos 7) (pos 6) ∷ verdict.Refused 0 0 429496731 644245096 ∷ verdict.Refused 0 0 214748366 644245096 ∷ []
+
+tables : sum_text sum (part seen ∷ [])
     ≡ heading_text table.Acts
     ++ (codes "       1       0       1       0       0       0  operand add\n"
     ++ (codes "       1       0       0       0       1       0  operand from\n"
@@ -102,8 +109,27 @@ tables : sum_text sum three (verdict.Wrong 0 0 (pos 7) (pos 6) ∷ verdict.Refus
     ++ (codes "       3       0       1       0       2       0  after 0\n"
     ++ (codes "1 wrong 0 y got 7 want 6\n  operand 0 2 0 add 2147483647: operation 2 ADD at 4:8\n"
     ++ codes "faults 3 same 0 wrong 1 ran-on 0 refused 2 stopped 0\n"))))))))))
-unfolding digits sum three alone
+unfolding digits sum three alone part seen
 tables = refl
+
+-- of two parts, the second of which ran on at its second group
+in_parts : sum_text sum (part seen ∷ part (verdict.Same ∷ verdict.RanOn 4 ∷ verdict.Same ∷ []) ∷ [])
+    ≡ heading_text table.Acts
+    ++ (codes "       2       1       1       0       0       0  operand add\n"
+    ++ (codes "       2       0       0       1       1       0  operand from\n"
+    ++ (codes "       2       1       0       0       1       0  operator\n"
+    ++ (codes "  faults    same   wrong  ran-on refused stopped  by where it stands\n"
+    ++ (codes "       6       2       1       1       2       0  operation 2 ADD at 4:8\n"
+    ++ (heading_text table.Outputs
+    ++ (codes "       3       0       1       0       2       0  output y\n"
+    ++ (heading_text table.Delays
+    ++ (codes "       3       0       1       0       2       0  after 0\n"
+    ++ (codes "       1       0       0       1       0       0  after 4\n"
+    ++ (codes "1:1 wrong 0 y got 7 want 6\n  operand 0 2 0 add 2147483647: operation 2 ADD at 4:8\n"
+    ++ (codes "2:2 ran-on 4\n  operand 0 2 1 from 0: operation 2 ADD at 4:8\n"
+    ++ codes "faults 6 same 2 wrong 1 ran-on 1 refused 2 stopped 0\n"))))))))))))
+unfolding digits sum three alone part seen
+in_parts = refl
 
 -- a row for each ending that a group has
 endings : endings_text (Some ends.DiedOut ∷ None ∷ Some ends.Stands ∷ Some ends.DiedOut ∷ [])
@@ -114,10 +140,16 @@ unfolding digits
 endings = refl
 
 -- of three groups the second stands
-standing : standing_below sum three (Some ends.DiedOut ∷ Some ends.Stands ∷ None ∷ []) 3
+standing : standing_parts sum (part [] ∷ []) ((Some ends.DiedOut ∷ Some ends.Stands ∷ None ∷ []) ∷ []) 1
     ≡ codes "2 stands in a cell\n  operand 0 2 1 from 0: operation 2 ADD at 4:8\n"
-unfolding digits sum three alone
+unfolding digits sum three alone part
 standing = refl
+
+-- and of the second of two parts the third
+standing_later : standing_parts sum (part [] ∷ part [] ∷ []) ((Some ends.DiedOut ∷ None ∷ None ∷ []) ∷ (None ∷ None ∷ Some ends.Stands ∷ []) ∷ []) 2
+    ≡ codes "2:3 stands in a cell\n  operator 0 2 SUB: operation 2 ADD at 4:8\n"
+unfolding digits sum three alone part
+standing_later = refl
 
 -- ---- remarks
 

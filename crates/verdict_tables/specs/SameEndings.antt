@@ -1,6 +1,6 @@
 -- SameEndings: of the groups with the verdict `same`, how many are never reached, how many died out, and how many still stand in a cell at the end, and
 -- which these are.
-use Rattle.std.specs.Prelude.{ℕ, zero, suc, ◌+◌, ◌==◌, Bool, true, false, cond, List, [], ◌∷◌, ◌++◌, length, slice_get, decimal, codes, flat_map, Option, Some, None, ℤ}
+use Rattle.std.specs.Prelude.{ℕ, zero, suc, ◌≡◌, ◌+◌, ◌==◌, Bool, true, false, cond, List, [], ◌∷◌, ◌++◌, length, slice_get, decimal, codes, map, flat_map, Option, Some, None, ℤ}
 use Rattle.op_graph.specs.Lists.{Lists}
 use Rattle.signature_table.specs.Signatures.{Numbers}
 use Rattle.fault_script.specs.declared.act.Fault.{Fault}
@@ -9,10 +9,12 @@ use Rattle.fault_injector.specs.declared.verdict.Verdict.{Verdict}
 use Rattle.fault_injector.specs.declared.verdict.Verdict.TheVariants as verdict
 use Rattle.verdict_tables.specs.declared.endless.ending.SameEnding.{SameEnding}
 use Rattle.verdict_tables.specs.declared.endless.ending.SameEnding.TheVariants as ends
+use Rattle.verdict_tables.specs.declared.parts.Part.{Part}
 use Rattle.verdict_tables.specs.Endings.{ending_of}
+use Rattle.verdict_tables.specs.Parts.{all_verdicts, mark_of, mark_text}
 use Rattle.fault_injector.specs.declared.lines.Totals.{Totals}
 use Rattle.fault_injector.specs.FaultLines.{totals_of, totals_text}
-use Rattle.verdict_tables.specs.SumText.{fault_text, heading_of, row_text, tables_text, unseen_below}
+use Rattle.verdict_tables.specs.SumText.{fault_text, heading_of, row_text, tables_text, unseen_parts}
 
 -- ---- the endings of groups
 
@@ -73,23 +75,54 @@ endings_text endings = heading_of (codes "by how it ends where it shows nowhere"
 abbrev pub stands : Option SameEnding → Bool
 stands e = is_ended (ending_number ends.Stands) e
 
--- the number of a group's line, and its faults, where it is one of them
-abbrev pub standing_text : Lists → Option (List Fault) → Option (Option SameEnding) → List ℕ
-standing_text g None e = []
-standing_text g (Some faults) None = []
-standing_text g (Some faults) (Some e) =
-    cond (stands e) (decimal (line_of faults) ++ (codes " stands in a cell\n" ++ flat_map (fault_text g) faults)) []
+-- the number of a group's line, behind the mark of its part, and its faults, where it is one of them
+abbrev pub standing_text : Lists → Option ℕ → Option (List Fault) → Option (Option SameEnding) → List ℕ
+standing_text g mark None e = []
+standing_text g mark (Some faults) None = []
+standing_text g mark (Some faults) (Some e) =
+    cond (stands e) (mark_text mark ++ (decimal (line_of faults) ++ (codes " stands in a cell\n" ++ flat_map (fault_text g) faults))) []
 
 -- the same of the groups below group n
-abbrev pub standing_below : Lists → List (List Fault) → List (Option SameEnding) → ℕ → List ℕ
-standing_below g groups endings zero = []
-standing_below g groups endings (suc n) = standing_below g groups endings n ++ standing_text g (slice_get groups n) (slice_get endings n)
+abbrev pub standing_below : Lists → Option ℕ → List (List Fault) → List (Option SameEnding) → ℕ → List ℕ
+standing_below g mark groups endings zero = []
+standing_below g mark groups endings (suc n) = standing_below g mark groups endings n ++ standing_text g mark (slice_get groups n) (slice_get endings n)
+
+-- of a part, with the endings of its groups
+abbrev pub standing_in : Lists → Option ℕ → Option Part → Option (List (Option SameEnding)) → List ℕ
+standing_in g mark None endings = []
+standing_in g mark (Some p) None = []
+standing_in g mark (Some p) (Some endings) = standing_below g mark p.script endings (length endings)
+
+-- and of the parts below part n
+abbrev pub standing_parts : Lists → List Part → List (List (Option SameEnding)) → ℕ → List ℕ
+standing_parts g parts endings zero = []
+standing_parts g parts endings (suc n) =
+    standing_parts g parts endings n ++ standing_in g (mark_of (length parts) n) (slice_get parts n) (slice_get endings n)
+
+-- ---- parts
+
+-- the endings of the groups of a part
+abbrev pub endings_in : Numbers → Lists → List (List ℤ) → Part → List (Option SameEnding)
+endings_in t g rows p = endings_for t g rows p.script p.verdicts
+
+-- those of each part
+abbrev pub endings_over : Numbers → Lists → List (List ℤ) → List Part → List (List (Option SameEnding))
+endings_over t g rows parts = map (endings_in t g rows) parts
+
+-- those of all groups of all parts
+abbrev pub all_endings : List (List (Option SameEnding)) → List (Option SameEnding)
+all_endings endings = flat_map (λ (es : List (Option SameEnding)). es) endings
+
+-- there is an ending of each group of each part
+abbrev pub AreOf : List (List (Option SameEnding)) → List Part → Type 0
+AreOf endings parts = map (λ (es : List (Option SameEnding)). length es) endings ≡ map (λ (p : Part). length p.script) parts
 
 -- ---- the whole text
 
--- the tables and the one of endings, the verdicts that aren't seen, the groups that stand in a cell, and the totals of all
-abbrev pub sum_apart_text : Lists → List (List Fault) → List Verdict → List (Option SameEnding) → List ℕ
-sum_apart_text g groups vs endings =
-    tables_text g groups vs
-    ++ (endings_text endings
-    ++ (unseen_below g groups vs (length vs) ++ (standing_below g groups endings (length endings) ++ totals_text (totals_of vs))))
+-- the tables and the one of endings, the verdicts that aren't seen, the groups that stand in a cell, and the totals, of all groups of all parts
+abbrev pub sum_apart_text : Lists → List Part → List (List (Option SameEnding)) → List ℕ
+sum_apart_text g parts endings =
+    tables_text g parts
+    ++ (endings_text (all_endings endings)
+    ++ (unseen_parts g parts (length parts)
+    ++ (standing_parts g parts endings (length parts) ++ totals_text (totals_of (all_verdicts parts)))))

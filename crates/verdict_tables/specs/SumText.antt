@@ -10,10 +10,12 @@ use Rattle.fault_injector.specs.declared.verdict.Verdict.{Verdict}
 use Rattle.fault_injector.specs.declared.verdict.Verdict.TheVariants as verdict
 use Rattle.fault_injector.specs.declared.lines.Totals.{Totals}
 use Rattle.fault_injector.specs.FaultLines.{faults as faults_in, verdict_text, totals_of, totals_text}
+use Rattle.verdict_tables.specs.declared.parts.Part.{Part}
 use Rattle.verdict_tables.specs.declared.tables.Table.{Table}
 use Rattle.verdict_tables.specs.declared.tables.Table.TheVariants as table
+use Rattle.verdict_tables.specs.Parts.{all_verdicts, mark_of, mark_text, totals_over}
 use Rattle.verdict_tables.specs.Places.{operation_text}
-use Rattle.verdict_tables.specs.Tables.{own_delays, rows, totals_in}
+use Rattle.verdict_tables.specs.Tables.{own_delays, rows}
 
 -- ---- the tables
 
@@ -42,14 +44,16 @@ row_name g table.Operations n = operation_text g n (slice_get g.operations n)
 row_name g table.Outputs n = codes "output " ++ output_name g n
 row_name g table.Delays n = delay_text n
 
--- a number at the right end of a column of eight; there are at most 10,000 groups
+-- a number at the right end of a column of eight, or, of more than seven digits, behind a blank
 abbrev pub blanks_before : ℕ → List ℕ
 blanks_before n =
     cond (nat_lt n 10) (codes "       ")
     (cond (nat_lt n 100) (codes "      ")
     (cond (nat_lt n 1000) (codes "     ")
     (cond (nat_lt n 10000) (codes "    ")
-    (codes "   "))))
+    (cond (nat_lt n 100000) (codes "   ")
+    (cond (nat_lt n 1000000) (codes "  ")
+    (codes " "))))))
 
 abbrev pub column_text : ℕ → List ℕ
 column_text n = blanks_before n ++ decimal n
@@ -64,9 +68,9 @@ abbrev pub row_text : List ℕ → Totals → List ℕ
 row_text name t = cond (faults_in t == 0) [] (columns_text t ++ (codes "  " ++ (name ++ codes "\n")))
 
 -- the rows of a table below row n
-abbrev pub rows_below : Lists → Table → List (List Fault) → List Verdict → ℕ → List ℕ
-rows_below g t groups vs zero = []
-rows_below g t groups vs (suc n) = rows_below g t groups vs n ++ row_text (row_name g t n) (totals_in t n groups vs)
+abbrev pub rows_below : Lists → Table → List Part → ℕ → List ℕ
+rows_below g t parts zero = []
+rows_below g t parts (suc n) = rows_below g t parts n ++ row_text (row_name g t n) (totals_over t n parts)
 
 -- what the rows of a table are about
 abbrev pub title : Table → List ℕ
@@ -82,8 +86,8 @@ heading_of name = codes "  faults    same   wrong  ran-on refused stopped  " ++ 
 abbrev pub heading_text : Table → List ℕ
 heading_text t = heading_of (title t)
 
-abbrev pub table_text : Lists → Table → List (List Fault) → List Verdict → List ℕ
-table_text g t groups vs = heading_text t ++ rows_below g t groups vs (rows g t)
+abbrev pub table_text : Lists → Table → List Part → List ℕ
+table_text g t parts = heading_text t ++ rows_below g t parts (rows g t)
 
 -- ---- the faults that are not seen
 
@@ -100,28 +104,38 @@ abbrev pub fault_text : Lists → Fault → List ℕ
 fault_text g f =
     codes "  " ++ (site_line (site f.cycle f.op f.act) ++ (codes ": " ++ (operation_text g f.op (slice_get g.operations f.op) ++ codes "\n")))
 
--- the verdict of a group and its faults, where it isn't seen
-abbrev pub unseen_text : Lists → Option (List Fault) → Option Verdict → List ℕ
-unseen_text g None v = []
-unseen_text g (Some faults) None = []
-unseen_text g (Some faults) (Some v) = cond (is_unseen v) (verdict_text g (line_of faults) v ++ flat_map (fault_text g) faults) []
+-- the verdict of a group and its faults, where it isn't seen, behind the mark of its part
+abbrev pub unseen_text : Lists → Option ℕ → Option (List Fault) → Option Verdict → List ℕ
+unseen_text g mark None v = []
+unseen_text g mark (Some faults) None = []
+unseen_text g mark (Some faults) (Some v) =
+    cond (is_unseen v) (mark_text mark ++ (verdict_text g (line_of faults) v ++ flat_map (fault_text g) faults)) []
 
 -- the same of the groups below group n
-abbrev pub unseen_below : Lists → List (List Fault) → List Verdict → ℕ → List ℕ
-unseen_below g groups vs zero = []
-unseen_below g groups vs (suc n) = unseen_below g groups vs n ++ unseen_text g (slice_get groups n) (slice_get vs n)
+abbrev pub unseen_below : Lists → Option ℕ → List (List Fault) → List Verdict → ℕ → List ℕ
+unseen_below g mark groups vs zero = []
+unseen_below g mark groups vs (suc n) = unseen_below g mark groups vs n ++ unseen_text g mark (slice_get groups n) (slice_get vs n)
+
+-- of a part
+abbrev pub unseen_in : Lists → Option ℕ → Option Part → List ℕ
+unseen_in g mark None = []
+unseen_in g mark (Some p) = unseen_below g mark p.script p.verdicts (length p.verdicts)
+
+-- and of the parts below part n
+abbrev pub unseen_parts : Lists → List Part → ℕ → List ℕ
+unseen_parts g parts zero = []
+unseen_parts g parts (suc n) = unseen_parts g parts n ++ unseen_in g (mark_of (length parts) n) (slice_get parts n)
 
 -- ---- the whole text
 
 -- all tables
-abbrev pub tables_text : Lists → List (List Fault) → List Verdict → List ℕ
-tables_text g groups vs =
-    table_text g table.Acts groups vs ++ (table_text g table.Operations groups vs
-    ++ (table_text g table.Outputs groups vs ++ table_text g table.Delays groups vs))
+abbrev pub tables_text : Lists → List Part → List ℕ
+tables_text g parts =
+    table_text g table.Acts parts ++ (table_text g table.Operations parts ++ (table_text g table.Outputs parts ++ table_text g table.Delays parts))
 
--- the tables, the verdicts that aren't seen, and the totals of all
-abbrev pub sum_text : Lists → List (List Fault) → List Verdict → List ℕ
-sum_text g groups vs = tables_text g groups vs ++ (unseen_below g groups vs (length vs) ++ totals_text (totals_of vs))
+-- the tables, the verdicts that aren't seen, and the totals, of all groups of all parts
+abbrev pub sum_text : Lists → List Part → List ℕ
+sum_text g parts = tables_text g parts ++ (unseen_parts g parts (length parts) ++ totals_text (totals_of (all_verdicts parts)))
 
 -- a fault shows, and isn't seen
 abbrev pub shows_unseen : Totals → Bool

@@ -1,13 +1,14 @@
 //! The table in which the groups are told apart of which no output tells.
 
-ghost use Rattle.std.specs.Prelude.{◌≡◌, ◌<◌, ◌≤◌, ◌++◌, codes, length};
+ghost use Rattle.std.specs.Prelude.{◌≡◌, ◌<◌, ◌≤◌, ◌+◌, ◌++◌, codes, length, All};
 ghost use Rattle.vcp_outside.specs.Gathering.{GathersTo};
 ghost use Rattle.fault_script.specs.ScriptOf.{most_faults};
+ghost use Rattle.verdict_tables.specs.Parts.{most_parts};
 ghost use Rattle.verdict_tables.specs.SumText.{row_text};
-ghost use Rattle.verdict_tables.specs.SameEndings.{ending_number as ending_number_of, is_ended as is_ended_of, one_if as one_if_of, ended_count, ending_name as ending_name_of, same_only as same_only_of, ended_row, endings_text};
+ghost use Rattle.verdict_tables.specs.SameEndings.{ending_number as ending_number_of, is_ended as is_ended_of, one_if as one_if_of, ended_count, all_endings, ending_name as ending_name_of, same_only as same_only_of, ended_row, endings_text};
 
 use crate::SameEnding;
-use crate::endings::Endings;
+use crate::endings::{Endings, EndingsOfParts};
 use crate::rows::{then_columns, then_titled};
 use fault_injector::Totals;
 use vcp_outside::{Line, Sink};
@@ -41,14 +42,28 @@ fn one_if(is: bool) -> u32
     if is { 1 } else { 0 }
 }
 
-/// How many groups are in row `n`.
-fn count_ended(n: u32, endings: &Endings) -> u32
-    requires { length endings.now ≤ most_faults }
-    ensures { result ≡ ended_count n endings.now }
+/// How many groups are in row `n`, with so many before them.
+fn and_ended(before: u32, n: u32, endings: &Endings) -> u32
+    requires { before + length endings.now < 4294967295 }
+    ensures count { result ≡ before + ended_count n endings.now }
+    ensures few { result ≤ before + length endings.now }
 {
-    let mut count = 0;
+    let mut count = before;
     'endings: for i in 0..endings.len() {
         count += one_if(is_ended(n, endings.at(i)));
+    }
+    count
+}
+
+/// How many groups of all parts are in row `n`.
+fn count_ended(n: u32, endings: &EndingsOfParts) -> u32
+    requires each { All (λ es. length es ≤ most_faults) endings.now }
+    requires few { length endings.now ≤ most_parts }
+    ensures { result ≡ ended_count n (all_endings endings.now) }
+{
+    let mut count = 0;
+    'parts: for k in 0..endings.len() {
+        count = and_ended(count, n, endings.at(k));
     }
     count
 }
@@ -93,18 +108,20 @@ fn then_named_row<O: Sink>(line: &mut Line, out: &mut O, name: &[u8], totals: &T
 }
 
 /// Goes on with row `n`.
-fn then_ended_row<O: Sink>(line: &mut Line, out: &mut O, n: u32, endings: &Endings)
-    requires { length endings.now ≤ most_faults }
-    ensures { GathersTo (O.seen out.old) (O.seen out.new) line.old line.new (ended_row n endings.now) }
+fn then_ended_row<O: Sink>(line: &mut Line, out: &mut O, n: u32, endings: &EndingsOfParts)
+    requires each { All (λ es. length es ≤ most_faults) endings.now }
+    requires few { length endings.now ≤ most_parts }
+    ensures { GathersTo (O.seen out.old) (O.seen out.new) line.old line.new (ended_row n (all_endings endings.now)) }
 {
     let totals = same_only(count_ended(n, endings));
     then_named_row(line, out, ending_name(n), &totals);
 }
 
 /// Goes on with the table.
-pub(crate) fn then_endings<O: Sink>(line: &mut Line, out: &mut O, endings: &Endings)
-    requires { length endings.now ≤ most_faults }
-    ensures { GathersTo (O.seen out.old) (O.seen out.new) line.old line.new (endings_text endings.now) }
+pub(crate) fn then_endings<O: Sink>(line: &mut Line, out: &mut O, endings: &EndingsOfParts)
+    requires each { All (λ es. length es ≤ most_faults) endings.now }
+    requires few { length endings.now ≤ most_parts }
+    ensures { GathersTo (O.seen out.old) (O.seen out.new) line.old line.new (endings_text (all_endings endings.now)) }
 {
     then_titled(line, out, b"by how it ends where it shows nowhere");
     then_ended_row(line, out, 0, endings);

@@ -6,8 +6,10 @@ ghost use Rattle.signature_table.specs.Signatures.{IsTableOf};
 ghost use Rattle.fault_script.specs.Changes.{acts_of};
 ghost use Rattle.verdict_tables.specs.AnswersOver.{held_at_end};
 ghost use Rattle.fault_injector.specs.FaultLines.{totals_of};
-ghost use Rattle.verdict_tables.specs.SameEndings.{ending_if as ending_if_of, endings_for, ended_count};
+ghost use Rattle.verdict_tables.specs.Parts.{IsWhole};
+ghost use Rattle.verdict_tables.specs.SameEndings.{ending_if as ending_if_of, endings_for, endings_over, ended_count, AreOf};
 
+use crate::parts::Parts;
 use crate::verdicts::Verdicts;
 use crate::{SameEnding, group_ending, words_left};
 use coded_unit::Word;
@@ -67,6 +69,56 @@ impl Endings {
         ensures { slice_get self.now i ≡ Some result }
     {
         self.endings[i]
+    }
+}
+
+/// The same for each part of a campaign, in order. Seen as a list.
+#[derive(Debug, Drop)]
+pub struct EndingsOfParts {
+    endings: Vec<Endings>,
+}
+
+impl Model for EndingsOfParts {
+    ghost use Rattle.std.specs.Prelude.{List, Option};
+    ghost use Rattle.verdict_tables.specs.declared.endless.ending.SameEnding.{SameEnding};
+
+    ghost Value = { List (List (Option SameEnding)) };
+
+    ghost view = { λ e. e.endings.items };
+}
+
+impl EndingsOfParts {
+    /// Of no parts. It takes no memory.
+    pub fn new(alloc: Global) -> EndingsOfParts
+        ensures { result ≡ [] }
+    {
+        EndingsOfParts {
+            endings: Vec::new(alloc),
+        }
+    }
+
+    /// Appends those of one more part. After `Memory` the list is unchanged.
+    pub fn push(&mut self, endings: Endings) -> Result<(), Memory>
+        ensures ok { OnOk result (self.new ≡ self.old ++ endings ∷ []) }
+        ensures err { OnErr result (self.new ≡ self.old) }
+    {
+        self.endings.push(endings)?;
+        Ok(())
+    }
+
+    /// Of how many parts it tells.
+    pub fn len(&self) -> usize
+        ensures { result ≡ length self.now }
+    {
+        self.endings.len()
+    }
+
+    /// Those of the part at place `i`, counted from 0, where `i` is less than `len`.
+    pub fn at(&self, i: usize) -> &Endings
+        requires { i < length self.now }
+        ensures { slice_get self.now i ≡ Some result.now }
+    {
+        &self.endings[i]
     }
 }
 
@@ -139,6 +191,30 @@ pub fn endings_of(
         let group = script.at(i);
         let ending = ending_if(alloc, graph, table, rows, &without, group, verdict)?;
         endings.push(ending)?;
+    }
+    Ok(endings)
+}
+
+/// The same for each part of a campaign over these rows, in order.
+pub fn endings_of_parts(
+    alloc: Global,
+    graph: &Graph,
+    table: &Table,
+    rows: &RowList,
+    parts: &Parts,
+) -> Result<EndingsOfParts, Memory>
+    requires table { IsTableOf table.now graph.now }
+    requires width { All (λ row. length row ≡ length graph.now.inputs) rows.now }
+    requires few { length rows.now ≤ most_cycles }
+    requires whole { All IsWhole parts.now }
+    ensures endings { IfOk result (λ es. es ≡ endings_over table.now graph.now rows.now parts.now) }
+    ensures each { IfOk result (λ es. AreOf es parts.now) }
+{
+    let mut endings = EndingsOfParts::new(alloc);
+    'parts: for k in 0..parts.len() {
+        let part = parts.at(k);
+        let own = endings_of(alloc, graph, table, rows, &part.script, &part.verdicts)?;
+        endings.push(own)?;
     }
     Ok(endings)
 }

@@ -2,8 +2,8 @@
 //! late.
 //!
 //! `read_verdicts` reads what a campaign printed for the groups of a script, or tells the first line that doesn't belong to it, and
-//! `write_sum` writes the tables. `endings_of` tells the groups apart of which no output tells, and `write_sum_apart` writes a table of that, too,
-//! and names those whose difference still stands in a cell.
+//! `write_sum` writes the tables of a campaign, which may be in parts. `endings_of` tells the groups apart of which no output tells, and
+//! `write_sum_apart` writes a table of that, too, and names those whose difference still stands in a cell.
 #![tactic(auto)]
 
 mod counts;
@@ -12,6 +12,7 @@ mod endings;
 mod endless;
 mod fault;
 mod names;
+mod parts;
 mod reading;
 mod remark;
 mod rows;
@@ -23,10 +24,11 @@ mod verdicts;
 mod words;
 mod writing;
 
-pub use counts::{shows_unseen, totals_in, totals_of_all};
-pub use endings::{Endings, endings_of};
+pub use counts::{shows_unseen, totals_in, totals_of_all, totals_of_parts, totals_over};
+pub use endings::{Endings, EndingsOfParts, endings_of, endings_of_parts};
 pub use endless::{SameEnding, answers_over_rows_are_a_right_run, group_ending, words_left};
 pub use fault::VerdictsFault;
+pub use parts::{MOST_PARTS, Part, Parts};
 pub use reading::read_verdicts;
 pub use remark::is_for;
 pub use tables::Table;

@@ -1,18 +1,17 @@
 //! The rows of tables.
 
-ghost use Rattle.std.specs.Prelude.{◌≡◌, ◌<◌, ◌≤◌, ◌++◌, codes, length};
+ghost use Rattle.std.specs.Prelude.{◌≡◌, ◌<◌, ◌≤◌, ◌++◌, codes, length, All};
 ghost use Rattle.vcp_outside.specs.Gathering.{GathersTo};
-ghost use Rattle.fault_script.specs.ScriptOf.{most_faults};
+ghost use Rattle.verdict_tables.specs.Parts.{most_parts, IsWhole};
 ghost use Rattle.verdict_tables.specs.Tables.{rows as rows_of};
 ghost use Rattle.verdict_tables.specs.SumText.{act_name as act_name_of, more_text, delay_text, row_name, row_text, table_text, blanks_before as blanks_before_of, column_text, columns_text, title as title_of, heading_of, heading_text};
 ghost use Rattle.verdict_tables.specs.declared.tables.Table.TheVariants as table;
 
-use crate::counts::totals_in;
+use crate::counts::totals_over;
 use crate::names::then_operation;
+use crate::parts::Parts;
 use crate::tables::{OWN_DELAYS, Table, rows};
-use crate::verdicts::Verdicts;
 use fault_injector::Totals;
-use fault_script::Script;
 use op_graph::Graph;
 use run_report::variable_name;
 use vcp_base::Kind;
@@ -77,7 +76,7 @@ fn then_row_name<O: Sink>(line: &mut Line, out: &mut O, graph: &Graph, table: Ta
     }
 }
 
-/// What stands before a number of at most five digits at the right end of a column of eight.
+/// What stands before a number at the right end of a column of eight, or, of more than seven digits, before it at all.
 fn blanks_before(n: u64) -> &'static [u8]
     ensures { result.now ≡ blanks_before_of n }
 {
@@ -93,7 +92,13 @@ fn blanks_before(n: u64) -> &'static [u8]
     if n < 10000 {
         return b"    ";
     }
-    b"   "
+    if n < 100000 {
+        return b"   ";
+    }
+    if n < 1000000 {
+        return b"  ";
+    }
+    b" "
 }
 
 /// Goes on with a number in its column.
@@ -171,16 +176,15 @@ pub(crate) fn then_table<O: Sink>(
     out: &mut O,
     graph: &Graph,
     table: Table,
-    script: &Script,
-    verdicts: &Verdicts,
+    parts: &Parts,
 )
-    requires many { length verdicts.now ≡ length script.now }
-    requires few { length script.now ≤ most_faults }
-    ensures { GathersTo (O.seen out.old) (O.seen out.new) line.old line.new (table_text graph.now table script.now verdicts.now) }
+    requires whole { All IsWhole parts.now }
+    requires few { length parts.now ≤ most_parts }
+    ensures { GathersTo (O.seen out.old) (O.seen out.new) line.old line.new (table_text graph.now table parts.now) }
 {
     then_heading(line, out, table);
     'rows: for n in 0..rows(graph, table) {
-        let totals = totals_in(table, n, script, verdicts);
+        let totals = totals_over(table, n, parts);
         then_row(line, out, graph, table, n, &totals);
     }
 }

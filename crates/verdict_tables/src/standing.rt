@@ -3,14 +3,16 @@
 ghost use Rattle.std.specs.Prelude.{◌≡◌, ◌<◌, ◌++◌, Some, codes, decimal, flat_map, length, slice_get, All};
 ghost use Rattle.vcp_outside.specs.Gathering.{GathersTo};
 ghost use Rattle.fault_script.specs.Groups.{GroupFits, line_of};
+ghost use Rattle.verdict_tables.specs.Parts.{PartFits, mark_text};
 ghost use Rattle.verdict_tables.specs.SumText.{fault_text};
-ghost use Rattle.verdict_tables.specs.SameEndings.{stands as stands_of, standing_text, standing_below};
+ghost use Rattle.verdict_tables.specs.SameEndings.{stands as stands_of, standing_text, standing_below, standing_parts, AreOf};
 
 use crate::SameEnding;
 use crate::ended::is_ended;
-use crate::endings::Endings;
+use crate::endings::{Endings, EndingsOfParts};
+use crate::parts::{Part, Parts, mark_of, then_mark};
 use crate::unseen::then_faults;
-use fault_script::{Group, Script};
+use fault_script::Group;
 use op_graph::Graph;
 use vcp_outside::{Line, Sink};
 
@@ -22,11 +24,18 @@ fn stands(ending: Option<SameEnding>) -> bool
 }
 
 /// Goes on with the line of a group that stands, and its faults.
-fn then_named<O: Sink>(line: &mut Line, out: &mut O, graph: &Graph, group: &Group)
+fn then_named<O: Sink>(
+    line: &mut Line,
+    out: &mut O,
+    graph: &Graph,
+    mark: Option<u64>,
+    group: &Group,
+)
     requires { 0 < length group.now }
     ensures { GathersTo (O.seen out.old) (O.seen out.new) line.old line.new
-        (decimal (line_of group.now) ++ (codes " stands in a cell\n" ++ flat_map (fault_text graph.now) group.now)) }
+        (mark_text mark ++ (decimal (line_of group.now) ++ (codes " stands in a cell\n" ++ flat_map (fault_text graph.now) group.now))) }
 {
+    then_mark(line, out, mark);
     line.count(out, group.line() as u64);
     line.text(out, b" stands in a cell\n");
     then_faults(line, out, graph, group);
@@ -37,31 +46,54 @@ fn then_standing<O: Sink>(
     line: &mut Line,
     out: &mut O,
     graph: &Graph,
+    mark: Option<u64>,
     group: &Group,
     ending: Option<SameEnding>,
 )
     requires { 0 < length group.now }
-    ensures { GathersTo (O.seen out.old) (O.seen out.new) line.old line.new (standing_text graph.now (Some group.now) (Some ending)) }
+    ensures { GathersTo (O.seen out.old) (O.seen out.new) line.old line.new (standing_text graph.now mark (Some group.now) (Some ending)) }
 {
     if stands(ending) {
-        then_named(line, out, graph, group);
+        then_named(line, out, graph, mark, group);
     }
 }
 
-/// Goes on with the groups that stand.
+/// Goes on with the groups of a part that stand.
+fn then_standing_in<O: Sink>(
+    line: &mut Line,
+    out: &mut O,
+    graph: &Graph,
+    mark: Option<u64>,
+    part: &Part,
+    endings: &Endings,
+)
+    requires fits { PartFits graph.now part.now }
+    requires each { length endings.now ≡ length part.now.script }
+    ensures { GathersTo (O.seen out.old) (O.seen out.new) line.old line.new
+        (standing_below graph.now mark part.now.script endings.now (length endings.now)) }
+{
+    'groups: for i in 0..endings.len() {
+        then_standing(line, out, graph, mark, part.script.at(i), endings.at(i));
+    }
+}
+
+/// Goes on with the groups of all parts that stand.
 pub(crate) fn then_all_standing<O: Sink>(
     line: &mut Line,
     out: &mut O,
     graph: &Graph,
-    script: &Script,
-    endings: &Endings,
+    parts: &Parts,
+    endings: &EndingsOfParts,
 )
-    requires fits { All (GroupFits graph.now) script.now }
-    requires each { length endings.now ≡ length script.now }
+    requires fits { All (PartFits graph.now) parts.now }
+    requires each { AreOf endings.now parts.now }
+    requires many { length endings.now ≡ length parts.now }
     ensures { GathersTo (O.seen out.old) (O.seen out.new) line.old line.new
-        (standing_below graph.now script.now endings.now (length endings.now)) }
+        (standing_parts graph.now parts.now endings.now (length parts.now)) }
 {
-    'groups: for i in 0..endings.len() {
-        then_standing(line, out, graph, script.at(i), endings.at(i));
+    let many = parts.len();
+    'parts: for k in 0..many {
+        let mark = mark_of(many, k);
+        then_standing_in(line, out, graph, mark, parts.at(k), endings.at(k));
     }
 }

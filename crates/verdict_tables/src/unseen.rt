@@ -1,16 +1,17 @@
 //! The faults that are not seen.
 
-ghost use Rattle.std.specs.Prelude.{◌≡◌, ◌<◌, ◌≤◌, ◌++◌, Some, codes, flat_map, length, slice_get, All};
+ghost use Rattle.std.specs.Prelude.{◌≡◌, ◌<◌, ◌++◌, Some, codes, flat_map, length, slice_get, All};
 ghost use Rattle.vcp_outside.specs.Gathering.{GathersTo};
 ghost use Rattle.fault_script.specs.Groups.{GroupFits, line_of};
 ghost use Rattle.fault_injector.specs.Names.{Names};
 ghost use Rattle.fault_injector.specs.FaultLines.{verdict_text};
-ghost use Rattle.verdict_tables.specs.SumText.{fault_text, is_unseen as is_unseen_of, unseen_text, unseen_below};
+ghost use Rattle.verdict_tables.specs.Parts.{IsWhole, PartFits, mark_text};
+ghost use Rattle.verdict_tables.specs.SumText.{fault_text, is_unseen as is_unseen_of, unseen_text, unseen_below, unseen_parts};
 
 use crate::names::then_operation;
-use crate::verdicts::Verdicts;
+use crate::parts::{Part, Parts, mark_of, then_mark};
 use fault_injector::{Verdict, then_verdict};
-use fault_script::{Fault, Group, Script};
+use fault_script::{Fault, Group};
 use fault_sites::{Site, then_site};
 use op_graph::Graph;
 use vcp_outside::{Line, Sink};
@@ -45,14 +46,16 @@ fn then_judged<O: Sink>(
     line: &mut Line,
     out: &mut O,
     graph: &Graph,
+    mark: Option<u64>,
     group: &Group,
     verdict: Verdict,
 )
     requires some { 0 < length group.now }
     requires names { Names (length graph.now.outputs) (length graph.now.operations) verdict }
     ensures { GathersTo (O.seen out.old) (O.seen out.new) line.old line.new
-        (verdict_text graph.now (line_of group.now) verdict ++ flat_map (fault_text graph.now) group.now) }
+        (mark_text mark ++ (verdict_text graph.now (line_of group.now) verdict ++ flat_map (fault_text graph.now) group.now)) }
 {
+    then_mark(line, out, mark);
     line.count(out, group.line() as u64);
     line.text(out, b" ");
     then_verdict(line, out, graph, &verdict);
@@ -92,32 +95,53 @@ fn then_unseen<O: Sink>(
     line: &mut Line,
     out: &mut O,
     graph: &Graph,
+    mark: Option<u64>,
     group: &Group,
     verdict: Verdict,
 )
     requires some { 0 < length group.now }
     requires names { Names (length graph.now.outputs) (length graph.now.operations) verdict }
-    ensures { GathersTo (O.seen out.old) (O.seen out.new) line.old line.new (unseen_text graph.now (Some group.now) (Some verdict)) }
+    ensures { GathersTo (O.seen out.old) (O.seen out.new) line.old line.new (unseen_text graph.now mark (Some group.now) (Some verdict)) }
 {
     if is_unseen(verdict) {
-        then_judged(line, out, graph, group, verdict);
+        then_judged(line, out, graph, mark, group, verdict);
     }
 }
 
-/// Goes on with the verdicts that aren't seen, and their groups.
-pub(crate) fn then_all_unseen<O: Sink>(
+/// Goes on with the verdicts of a part that aren't seen, and their groups.
+fn then_unseen_in<O: Sink>(
     line: &mut Line,
     out: &mut O,
     graph: &Graph,
-    script: &Script,
-    verdicts: &Verdicts,
+    mark: Option<u64>,
+    part: &Part,
 )
-    requires fits { All (GroupFits graph.now) script.now }
-    requires names { All (Names (length graph.now.outputs) (length graph.now.operations)) verdicts.now }
-    requires many { length verdicts.now ≡ length script.now }
-    ensures { GathersTo (O.seen out.old) (O.seen out.new) line.old line.new (unseen_below graph.now script.now verdicts.now (length verdicts.now)) }
+    requires whole { IsWhole part.now }
+    requires fits { PartFits graph.now part.now }
+    ensures { GathersTo (O.seen out.old) (O.seen out.new) line.old line.new
+        (unseen_below graph.now mark part.now.script part.now.verdicts (length part.now.verdicts)) }
 {
-    'groups: for i in 0..verdicts.len() {
-        then_unseen(line, out, graph, script.at(i), verdicts.at(i));
+    'groups: for i in 0..part.verdicts.len() {
+        then_unseen(
+            line,
+            out,
+            graph,
+            mark,
+            part.script.at(i),
+            part.verdicts.at(i),
+        );
+    }
+}
+
+/// Goes on with the verdicts of all parts that aren't seen, and their groups.
+pub(crate) fn then_all_unseen<O: Sink>(line: &mut Line, out: &mut O, graph: &Graph, parts: &Parts)
+    requires whole { All IsWhole parts.now }
+    requires fits { All (PartFits graph.now) parts.now }
+    ensures { GathersTo (O.seen out.old) (O.seen out.new) line.old line.new (unseen_parts graph.now parts.now (length parts.now)) }
+{
+    let many = parts.len();
+    'parts: for k in 0..many {
+        let mark = mark_of(many, k);
+        then_unseen_in(line, out, graph, mark, parts.at(k));
     }
 }

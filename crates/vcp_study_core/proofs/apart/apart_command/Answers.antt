@@ -1,4 +1,5 @@
 use Rattle.vcp_words.specs.Forms.{rows_of}
+use Rattle.vcp_study_core.specs.Forms.{names_of}
 use Rattle.vcp_study_core.proofs.Reaching.{if_some_weaker}
 use Rattle.vcp_study_core.proofs.ToldReaching.{if_some_both}
 use Rattle.vcp_study_core.proofs.ApartReaching.{image_read, image_lost}
@@ -10,13 +11,13 @@ returns-in-Ok-clause-reaches g c =
     let mid = g.F.Files.seen c.load_image.new.files in
     let after = g.F.Files.seen c.apart_of_image.new.files in
     if_some_both before.held mid.held _ _ _ c.in-Ok.ensures.held
-    (λ h loads reaches. image_read c.args.image.now (rows_of c.args.rows) c.args.script.now c.args.verdicts.now h (g.O.Sink.seen c.args.out.now).written
+    (λ h loads reaches. image_read c.args.image.now (rows_of c.args.rows) (names_of c.args.parts.now) h (g.O.Sink.seen c.args.out.now).written
     (g.O.Sink.seen c.apart_of_image.new.out).written before.broken mid.broken after.broken c.in-Ok.image loads c.apart_of_image.result reaches
     c.in-Ok.ensures.broken_later) c.in-Ok.ensures.loads c.apart_of_image.ensures.reaches
 
 pub returns-in-Err-clause-reaches : goal.returns-in-Err-clause-reaches
 returns-in-Err-clause-reaches g c =
     if_some_weaker (g.F.Files.seen c.args.files.now).held _ _
-    (λ h loads. image_lost c.args.image.now (rows_of c.args.rows) c.args.script.now c.args.verdicts.now h (g.O.Sink.seen c.args.out.now).written
+    (λ h loads. image_lost c.args.image.now (rows_of c.args.rows) (names_of c.args.parts.now) h (g.O.Sink.seen c.args.out.now).written
     (g.O.Sink.seen c.args.out.now).written (g.F.Files.seen c.args.files.now).broken 0 (g.F.Files.seen c.load_image.new.files).broken c.in-Err.input loads)
     c.in-Err.ensures.loads

@@ -1,9 +1,10 @@
-use Rattle.std.proofs.Common.{◌≡◌, ◌≤◌, ◌+◌, drop}
-use Rattle.verdict_tables.specs.SameEndings.{ended_count}
+use Rattle.std.proofs.Common.{◌≡◌, ◌≤◌, ◌+◌, ◌*◌, drop}
+use Rattle.fault_script.specs.ScriptOf.{most_faults}
+use Rattle.verdict_tables.specs.SameEndings.{all_endings, ended_count}
 use Rattle.verdict_tables.proofs.ended.count_ended.Given as goal
 
-abbrev pub invariant-endings : goal.invariant-endings
-invariant-endings l = record {
-  left : ended_count l.n l.endings ≡ l.count + ended_count l.n (drop l.i l.endings);
-  few : l.count ≤ l.i;
+abbrev pub invariant-parts : goal.invariant-parts
+invariant-parts l = record {
+  left : ended_count l.n (all_endings l.endings) ≡ l.count + ended_count l.n (all_endings (drop l.k l.endings));
+  few : l.count ≤ l.k * most_faults;
 }

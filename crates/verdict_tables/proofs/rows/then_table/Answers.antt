@@ -9,9 +9,9 @@ rows-init g c = and_then c.then_heading.ensures unmoved
 
 pub rows-preserved : goal.rows-preserved
 rows-preserved g c =
-    let before = rows_below c.args.graph.now c.args.table c.args.script.now c.args.verdicts.now c.rows.n in
+    let before = rows_below c.args.graph.now c.args.table c.args.parts.now c.rows.n in
     rw (add-one c.rows.n)
-    (followed (heading_text c.args.table) before c.rows.invariant (rw c.totals_in-totals.ensures at c.then_row.ensures))
+    (followed (heading_text c.args.table) before c.rows.invariant (rw c.totals_over-totals.ensures at c.then_row.ensures))
 
 pub returns : goal.returns
 returns g c =

@@ -5,4 +5,4 @@ use Rattle.verdict_tables.proofs.rows.then_table.Given as goal
 
 abbrev pub invariant-rows : goal.invariant-rows
 invariant-rows g l =
-    GathersTo (g.O.Sink.seen l.fn.out) (g.O.Sink.seen l.out) l.fn.line l.line (heading_text l.table ++ rows_below l.graph l.table l.script l.verdicts l.n)
+    GathersTo (g.O.Sink.seen l.fn.out) (g.O.Sink.seen l.out) l.fn.line l.line (heading_text l.table ++ rows_below l.graph l.table l.parts l.n)

@@ -1,21 +1,27 @@
-use Rattle.std.proofs.Common.{◌≡◌, length, add-one, arith}
-use Rattle.fault_script.specs.Groups.{GroupFits}
+use Rattle.std.proofs.Common.{◌≡◌, ℕ, ap, ◌∙◌, length, add-one, arith}
+use Rattle.verdict_tables.specs.Parts.{PartFits, mark_of}
 use Rattle.verdict_tables.proofs.Going.{and_then, unmoved}
+use Rattle.verdict_tables.proofs.PartByPart.{as_many_at}
 use Rattle.verdict_tables.proofs.Picking.{at_place}
 use Rattle.verdict_tables.proofs.standing.then_all_standing.Goals as goal
 
-pub groups-init : goal.groups-init
-groups-init g c = unmoved
+pub parts-init : goal.parts-init
+parts-init g c = unmoved
 
-pub then_standing-requires : goal.then_standing-requires
-then_standing-requires g c =
-    (at_place (GroupFits c.args.graph.now) c.args.script.now c.groups.i c.at.result.now c.at.ensures c.requires.fits).some
+pub then_standing_in-requires-clause-fits : goal.then_standing_in-requires-clause-fits
+then_standing_in-requires-clause-fits g c = at_place (PartFits c.args.graph.now) c.args.parts.now c.parts.k c.at.result.now c.at.ensures c.requires.fits
 
-pub groups-preserved : goal.groups-preserved
-groups-preserved g c =
-    rw (add-one c.groups.i, c.at.ensures, c.at-in-groups.ensures) (and_then c.groups.invariant c.then_standing.ensures)
+pub then_standing_in-requires-clause-each : goal.then_standing_in-requires-clause-each
+then_standing_in-requires-clause-each g c =
+    as_many_at c.args.endings.now c.args.parts.now c.parts.k c.at-in-parts.result.now c.at.result.now c.requires.each c.at-in-parts.ensures c.at.ensures
+
+pub parts-preserved : goal.parts-preserved
+parts-preserved g c =
+    let mark : c.mark_of-mark.result ≡ mark_of (length c.args.parts.now) c.parts.k =
+    c.mark_of-mark.ensures ∙ ap (λ (m : ℕ). mark_of m c.parts.k) c.len-many.ensures in
+    rw (add-one c.parts.k, c.at.ensures, c.at-in-parts.ensures) (and_then c.parts.invariant (rw mark at c.then_standing_in.ensures))
 
 pub returns : goal.returns
 returns g c =
-    let all : c.groups.i ≡ length c.args.endings.now = omega (arith, c.groups-test.false, c.groups.auto.i-end, c.len-i-end.ensures) in
-    rw all at c.groups.invariant
+    let all : c.parts.k ≡ length c.args.parts.now = omega (arith, c.parts-test.false, c.parts.auto.k-end, c.len-many.ensures) in
+    rw all at c.parts.invariant

@@ -1,6 +1,7 @@
 use Rattle.std.proofs.Common.{◌≡◌, ℕ, List, ◌++◌, length, codes, append_assoc}
 use Rattle.fault_injector.specs.FaultLines.{totals_front, totals_of}
-use Rattle.verdict_tables.specs.SumText.{tables_text, unseen_below}
+use Rattle.verdict_tables.specs.Parts.{all_verdicts}
+use Rattle.verdict_tables.specs.SumText.{tables_text, unseen_parts}
 use Rattle.vcp_outside.proofs.Gathering.{written_same}
 use Rattle.verdict_tables.proofs.writing.write_sum.Goals as goal
 
@@ -11,9 +12,8 @@ pub returns : goal.returns
 returns g c =
     let tables = c.then_tables.ensures _ _ _ (c.new-line.ensures.begun _ _) in
     let unseen = c.then_all_unseen.ensures _ _ _ tables in
-    let totals = rw c.totals_of_all.ensures at (c.then_totals.ensures _ _ _ unseen) in
+    let totals = rw c.totals_of_parts.ensures at (c.then_totals.ensures _ _ _ unseen) in
     let graph = c.args.graph.now in
-    let script = c.args.script.now in
-    let vs = c.args.verdicts.now in
+    let parts = c.args.parts.now in
     written_same (c.end.ensures.writes _ _ _ totals)
-    (pieces (tables_text graph script vs) (unseen_below graph script vs (length vs)) (totals_front (totals_of vs)))
+    (pieces (tables_text graph parts) (unseen_parts graph parts (length parts)) (totals_front (totals_of (all_verdicts parts))))

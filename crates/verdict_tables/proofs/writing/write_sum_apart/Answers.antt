@@ -1,13 +1,24 @@
-use Rattle.std.proofs.Common.{◌≡◌, ℕ, List, ◌++◌, length, codes, append_assoc}
+use Rattle.std.proofs.Common.{◌≡◌, ℕ, List, ◌++◌, length, codes, append_assoc, arith}
 use Rattle.fault_injector.specs.FaultLines.{totals_front, totals_of}
-use Rattle.verdict_tables.specs.SumText.{tables_text, unseen_below}
-use Rattle.verdict_tables.specs.SameEndings.{endings_text, standing_below}
+use Rattle.verdict_tables.specs.Parts.{all_verdicts}
+use Rattle.verdict_tables.specs.SumText.{tables_text, unseen_parts}
+use Rattle.verdict_tables.specs.SameEndings.{all_endings, endings_text, standing_parts}
 use Rattle.vcp_outside.proofs.Gathering.{written_same}
+use Rattle.verdict_tables.proofs.PartByPart.{as_many, few_of_each}
 use Rattle.verdict_tables.proofs.writing.write_sum_apart.Goals as goal
 
 pieces : (tables endings unseen standing totals : List ℕ) →
     tables ++ (endings ++ (unseen ++ (standing ++ (totals ++ codes "\n")))) ≡ tables ++ endings ++ unseen ++ standing ++ totals ++ codes "\n"
 pieces tables endings unseen standing totals = simp append_assoc
+
+pub then_endings-requires-clause-each : goal.then_endings-requires-clause-each
+then_endings-requires-clause-each g c = few_of_each c.args.endings.now c.args.parts.now c.requires.each c.requires.whole
+
+pub then_endings-requires-clause-few : goal.then_endings-requires-clause-few
+then_endings-requires-clause-few g c = omega (arith, as_many c.args.endings.now c.args.parts.now c.requires.each, c.requires.few)
+
+pub then_all_standing-requires-clause-many : goal.then_all_standing-requires-clause-many
+then_all_standing-requires-clause-many g c = as_many c.args.endings.now c.args.parts.now c.requires.each
 
 pub returns : goal.returns
 returns g c =
@@ -15,11 +26,10 @@ returns g c =
     let apart = c.then_endings.ensures _ _ _ tables in
     let unseen = c.then_all_unseen.ensures _ _ _ apart in
     let standing = c.then_all_standing.ensures _ _ _ unseen in
-    let totals = rw c.totals_of_all.ensures at (c.then_totals.ensures _ _ _ standing) in
+    let totals = rw c.totals_of_parts.ensures at (c.then_totals.ensures _ _ _ standing) in
     let graph = c.args.graph.now in
-    let script = c.args.script.now in
-    let vs = c.args.verdicts.now in
+    let parts = c.args.parts.now in
     let es = c.args.endings.now in
     written_same (c.end.ensures.writes _ _ _ totals)
-    (pieces (tables_text graph script vs) (endings_text es) (unseen_below graph script vs (length vs)) (standing_below graph script es (length es))
-    (totals_front (totals_of vs)))
+    (pieces (tables_text graph parts) (endings_text (all_endings es)) (unseen_parts graph parts (length parts)) (standing_parts graph parts es (length parts))
+    (totals_front (totals_of (all_verdicts parts))))

@@ -1,5 +1,5 @@
 use Rattle.vcp_study_core.proofs.Reaching.{appends-nothing}
-use Rattle.vcp_study_core.proofs.apart.TablesApartTelling.write.Goals as goal
+use Rattle.vcp_study_core.proofs.apart.TablesApartSumming.write.Goals as goal
 
 pub returns-in-Ok-clause-writes : goal.returns-in-Ok-clause-writes
 returns-in-Ok-clause-writes g c = rw c.in-Ok.ensures.endings at c.write_tables.ensures.writes

@@ -1,0 +1,95 @@
+//! A campaign in parts.
+
+ghost use Rattle.std.specs.Prelude.{◌≡◌, ◌<◌, [], ◌∷◌, ◌++◌, Some, OnOk, OnErr, length, slice_get};
+ghost use Rattle.vcp_outside.specs.Gathering.{GathersTo};
+ghost use Rattle.verdict_tables.specs.Parts.{mark_of as mark_of_part, mark_text};
+
+use crate::verdicts::Verdicts;
+use fault_script::Script;
+use std::alloc::Global;
+use std::marker::Model;
+use vcp_base::Memory;
+use vcp_outside::{Line, Sink};
+
+/// How many parts there may be.
+pub const MOST_PARTS: u32 = 10_000;
+
+/// A part of a campaign: a script, and the verdicts of its groups.
+#[derive(Debug, Drop)]
+pub struct Part {
+    /// The script.
+    pub script: Script,
+    /// The verdicts of its groups, in their order.
+    pub verdicts: Verdicts,
+}
+
+/// The parts of a campaign, seen as a list.
+#[derive(Debug, Drop)]
+pub struct Parts {
+    parts: Vec<Part>,
+}
+
+impl Model for Parts {
+    ghost use Rattle.std.specs.Prelude.{List};
+    ghost use Rattle.verdict_tables.specs.declared.parts.Part.{Part};
+
+    ghost Value = { List Part };
+
+    ghost view = { λ p. p.parts.items };
+}
+
+impl Parts {
+    /// No parts. It takes no memory.
+    pub fn new(alloc: Global) -> Parts
+        ensures { result ≡ [] }
+    {
+        Parts {
+            parts: Vec::new(alloc),
+        }
+    }
+
+    /// Appends a part. After `Memory` the list is unchanged.
+    pub fn push(&mut self, part: Part) -> Result<(), Memory>
+        ensures ok { OnOk result (self.new ≡ self.old ++ part ∷ []) }
+        ensures err { OnErr result (self.new ≡ self.old) }
+    {
+        self.parts.push(part)?;
+        Ok(())
+    }
+
+    /// How many parts there are.
+    pub fn len(&self) -> usize
+        ensures { result ≡ length self.now }
+    {
+        self.parts.len()
+    }
+
+    /// The part at place `i`, counted from 0, where `i` is less than `len`.
+    pub fn at(&self, i: usize) -> &Part
+        requires { i < length self.now }
+        ensures { slice_get self.now i ≡ Some result.now }
+    {
+        &self.parts[i]
+    }
+}
+
+/// Of so many parts, the number of part `n`, counted from 0, by which a line that names one of its groups begins.
+pub(crate) fn mark_of(many: usize, n: usize) -> Option<u64>
+    requires { n < many }
+    ensures { result ≡ mark_of_part many n }
+{
+    if many == 1 { None } else { Some(n as u64 + 1) }
+}
+
+/// Goes on with such a number.
+pub(crate) fn then_mark<O: Sink>(line: &mut Line, out: &mut O, mark: Option<u64>)
+    ensures { GathersTo (O.seen out.old) (O.seen out.new) line.old line.new (mark_text mark) }
+{
+    match mark {
+        Some(number) => {
+            line.count(out, number);
+            line.text(out, b":");
+        }
+        None => {}
+    }
+}
