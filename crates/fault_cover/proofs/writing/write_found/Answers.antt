@@ -11,5 +11,5 @@ returns g c = λ stops survey is.
     let told = c.then_found.ensures stops survey slices _ _ _ first in
     let body = body_text c.args.subject.now.graph.now c.args.subject.now.survey.now.horizon is.covered in
     let text = whole_text c.args.subject.now.graph.now c.args.subject.now.survey.now.horizon is.covered c.args.classes c.args.digest.now
-        ∙ ap (λ h. [] ++ remark c.args.classes h c.args.digest.now ++ body ++ codes "\n") (sym c.horizon.ensures) in
+    ∙ ap (λ h. [] ++ remark c.args.classes h c.args.digest.now ++ body ++ codes "\n") (sym c.horizon.ensures) in
     rw text (c.end.ensures.writes _ _ _ told)

@@ -20,10 +20,10 @@ returns-in-Err-clause-refusal c = λ other.
     let some : c.in_ok-found.found ≡ true = search rules in
     let few : c.records.k < length columns = omega (arith, c.records-test.true, c.records.auto.k-end, c.len-count.ensures) in
     refused columns (at_first columns) c.records.told c.records.k c.args.records.now.left c.records.records.left c.next.new.self.left
-        (fields_of c.next.new.cells)
+    (fields_of c.next.new.cells)
     c.in-Err.why few c.records.invariant.left
     (subst (λ f. Takes c.records.records.left c.next.new.self.left (fields_of c.next.new.cells) f) some c.in_ok-found.ensures.reads)
-        (sym c.in-Err.ensures.record)
+    (sym c.in-Err.ensures.record)
 
 pub records-preserved : goal.records-preserved
 records-preserved c =
@@ -53,6 +53,6 @@ returns-clause-ranges c =
     let none : c.in_ok-more.more ≡ false = search rules in
     let few : c.records.k ≤ length columns = omega (arith, c.records-test.false, c.records.auto.k-end, c.len-count.ensures) in
     ends columns (at_first columns) c.records.told c.records.k c.args.records.now.left c.records.records.left c.next-2.new.self.left
-        (fields_of c.next-2.new.cells)
+    (fields_of c.next-2.new.cells)
     c.into_ranges-2.result.items c.into_ranges-2.ensures few c.records.invariant.left
     (subst (λ f. Takes c.records.records.left c.next-2.new.self.left (fields_of c.next-2.new.cells) f) none c.in_ok-more.ensures.reads)
