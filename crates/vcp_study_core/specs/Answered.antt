@@ -39,7 +39,7 @@ Reaches (graph m horizon) held files later out now result =
 Reaches (dot m horizon) held files later out now result =
     IsDrawing (ReachesDot m horizon held out.written now.written files.broken later.broken) result
 Reaches (waves file) held files later out now result = IsDrawing (ReachesRun file held out.written now.written files.broken later.broken) result
-Reaches (ranges m all) held files later out now result = ReachesRanges m all held out.written now.written files.broken later.broken result
+Reaches (ranges m all file) held files later out now result = ReachesRanges m all file held out.written now.written files.broken later.broken result
 Reaches (sites m cycles classes which) held files later out now result =
     ReachesSites m cycles classes which held out.written now.written files.broken later.broken result
 Reaches (flips m rows which) held files later out now result = ReachesFlips m rows which held out.written now.written files.broken later.broken result

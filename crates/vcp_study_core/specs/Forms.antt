@@ -1,5 +1,5 @@
 -- Forms: which words are a command. The first word names it, and its own words follow, in their order.
-use Rattle.std.specs.Prelude.{ℕ, zero, suc, ◌≤◌, ◌==◌, Bool, true, false, cond, ◌&&◌, bytes_eq, List, [], ◌∷◌, length, drop, slice_get, Option, Some, None, codes}
+use Rattle.std.specs.Prelude.{ℕ, zero, suc, ◌≤◌, ◌==◌, Bool, true, false, cond, bytes_eq, List, [], ◌∷◌, length, drop, slice_get, Option, Some, None, codes}
 use Rattle.std.specs.Option.{option_and_then, option_map}
 use Rattle.vcp_base.specs.Limits.{most_cycles, most_horizon}
 use Rattle.vcp_base.specs.Numerals.{numeral_of}
@@ -24,13 +24,13 @@ pub record PartNames : Type 0 where
   pub script : List ℕ
   pub verdicts : List ℕ
 
--- a command with its words: M is an image's name, FILE a file's; then HORIZON, whether all operations are told, CYCLES, CLASS and which
+-- a command with its words: M is an image's name, FILE a file's; then HORIZON, whether all operations are told and FILE, CYCLES, CLASS and which
 -- of the sites, ROWS and which of the flips, SCRIPT and VERDICTS, and NAMED, the names of files
 pub data Form : Type 0 where
   graph : List ℕ → ℕ → Form
   dot : List ℕ → ℕ → Form
   waves : List ℕ → Form
-  ranges : List ℕ → Bool → Form
+  ranges : List ℕ → Bool → Option (List ℕ) → Form
   sites : List ℕ → ℕ → Classes → Chosen → Form
   flips : List ℕ → Rows → Chosen → Form
   sum : List ℕ → List PartNames → Form
@@ -58,14 +58,24 @@ dot_form words = option_map (λ d. dot d.0 d.1) (image_and_horizon words)
 abbrev pub waves_form : List (List ℕ) → Option Form
 waves_form words = option_and_then (λ f. at_end (waves f.0) f.1) (name_and_rest words)
 
--- whether all operations are told: without more words they aren't, and `--all` says that they are
-abbrev pub all_of : List (List ℕ) → Option Bool
-all_of [] = Some false
-all_of (w ∷ rest) = cond (bytes_eq w (codes "--all") && is_end rest) (Some true) None
+-- behind M, and `--all` where it is said: `--inputs` and FILE
+abbrev pub inputs_form : List ℕ → Bool → List ℕ → List (List ℕ) → Option Form
+inputs_form m all w rest =
+    cond (bytes_eq w (codes "--inputs")) (option_and_then (λ f. at_end (ranges m all (Some f.0)) f.1) (name_and_rest rest)) None
 
--- the words of `ranges`: M, and `--all` where it is said
+-- behind `--all`: FILE may be said
+abbrev pub all_form : List ℕ → List (List ℕ) → Option Form
+all_form m [] = Some (ranges m true None)
+all_form m (w ∷ rest) = inputs_form m true w rest
+
+-- behind M: all operations are told where `--all` is said, and then FILE may be said
+abbrev pub behind_ranges : List ℕ → List (List ℕ) → Option Form
+behind_ranges m [] = Some (ranges m false None)
+behind_ranges m (w ∷ rest) = cond (bytes_eq w (codes "--all")) (all_form m rest) (inputs_form m false w rest)
+
+-- the words of `ranges`: M, and what is behind it
 abbrev pub ranges_form : List (List ℕ) → Option Form
-ranges_form words = option_and_then (λ m. option_map (ranges m.0) (all_of m.1)) (name_and_rest words)
+ranges_form words = option_and_then (λ m. behind_ranges m.0 m.1) (name_and_rest words)
 
 -- which of the sites: without more words all; `--count` asks how many there are; FROM COUNT is a part
 abbrev pub number_word : List ℕ → Option Chosen
@@ -195,7 +205,7 @@ abbrev pub form : StudyCommand → Form
 form (command.Graph image horizon) = graph image.now horizon
 form (command.Dot image horizon) = dot image.now horizon
 form (command.Waves file) = waves file.now
-form (command.Ranges image all) = ranges image.now all
+form (command.Ranges image all inputs) = ranges image.now all (option_map (λ f. f.now) inputs)
 form (command.Sites image cycles classes which) = sites image.now cycles classes which
 form (command.Flips image rows which) = flips image.now (rows_of rows) which
 form (command.Sum image parts) = sum image.now (names_of parts)
@@ -229,7 +239,8 @@ abbrev pub file_of : Form → Fault → List ℕ
 file_of (graph m horizon) e = m
 file_of (dot m horizon) e = m
 file_of (waves file) e = file
-file_of (ranges m all) e = m
+file_of (ranges m all (Some file)) (fault.Rows i) = file
+file_of (ranges m all file) e = m
 file_of (sites m cycles classes which) e = m
 file_of (flips m rows which) (fault.Rows i) = rows_name rows
 file_of (flips m rows which) e = m
@@ -253,4 +264,4 @@ IsSound _ = Unit {0}
 
 -- the usage line
 abbrev pub usage_text : List ℕ
-usage_text = codes "usage: vcp_study graph M HORIZON, dot M HORIZON, waves FILE, ranges M, ranges M --all, sites M CYCLES CLASS, sites M CYCLES CLASS FROM COUNT, sites M CYCLES CLASS --count, sites M ROWS flips, sites M ROWS flips FROM COUNT, sites M ROWS flips --count, sum M SCRIPT VERDICTS .., sum M SCRIPT VERDICTS .. ROWS, faults M SCRIPT VERDICTS or script M NAMED\n"
+usage_text = codes "usage: vcp_study graph M HORIZON, dot M HORIZON, waves FILE, ranges M, ranges M --all, ranges M --inputs FILE, ranges M --all --inputs FILE, sites M CYCLES CLASS, sites M CYCLES CLASS FROM COUNT, sites M CYCLES CLASS --count, sites M ROWS flips, sites M ROWS flips FROM COUNT, sites M ROWS flips --count, sum M SCRIPT VERDICTS .., sum M SCRIPT VERDICTS .. ROWS, faults M SCRIPT VERDICTS or script M NAMED\n"

@@ -1,9 +1,9 @@
 //! From words to a command.
 
 ghost use Rattle.std.specs.Prelude.{ℕ, List, ◌≡◌, ◌≤◌, IfSome, drop, length};
-ghost use Rattle.std.specs.Option.{option_map};
+ghost use Rattle.std.specs.Option.{option_map, unwrap_or};
 ghost use Rattle.vcp_base.specs.Limits.{most_cycles, most_horizon};
-ghost use Rattle.vcp_study_core.specs.Forms.{form, form_of, file_of, image_and_horizon as image_and_horizon_of, graph_form, dot_form, waves_form, ranges_form, all_of, IsSound, faults_form, told_file as told_file_of, sites_form, behind_form, class_form, cycles_in as cycles_in_of, flips, names_of, next_of, behind_of, sum_with, sum_form, sum_file as sum_file_of, part_file as part_file_of, as_names, script_form, chosen_of, number_word, part_of};
+ghost use Rattle.vcp_study_core.specs.Forms.{form, form_of, file_of, image_and_horizon as image_and_horizon_of, graph_form, dot_form, waves_form, ranges_form, behind_ranges, all_form, inputs_form, IsSound, faults_form, told_file as told_file_of, sites_form, behind_form, class_form, cycles_in as cycles_in_of, flips, names_of, next_of, behind_of, sum_with, sum_form, sum_file as sum_file_of, part_file as part_file_of, as_names, script_form, chosen_of, number_word, part_of};
 ghost use Rattle.vcp_study_core.specs.SumSteps.{as_next, as_behind, ended_of, IsFew, FewBehind};
 ghost use Rattle.verdict_tables.specs.Parts.{most_parts};
 ghost use Rattle.vcp_words.specs.Forms.{rows_of, AreFew};
@@ -38,12 +38,14 @@ pub enum StudyCommand<'a> {
         /// The name of the file.
         file: &'a Text,
     },
-    /// `ranges M` and `ranges M --all`: which operations of an image's graph may stop.
+    /// `ranges M`, with `--all` and then `--inputs FILE` behind it or without: which operations of an image's graph may stop.
     Ranges {
         /// The name of the image, M.
         image: &'a Text,
         /// Whether the range of each operation is told too.
         all: bool,
+        /// The name of the table of the inputs' ranges.
+        inputs: Option<&'a Text>,
     },
     /// `sites M CYCLES CLASS`, with `FROM COUNT` or `--count` behind it or without: the script of the single faults of a class.
     Sites {
@@ -146,6 +148,16 @@ fn sum_file<'a>(image: &'a Text, parts: &PartWords<'a>, fault: &Fault) -> &'a [u
     }
 }
 
+/// The name of the table of the inputs' ranges; that of the image where there is none.
+fn table_name<'a>(image: &'a Text, inputs: Option<&'a Text>) -> &'a [u8]
+    ensures { result.now ≡ unwrap_or (option_map (λ f. f.now) inputs.entry) image.now }
+{
+    match inputs {
+        Some(file) => file.bytes(),
+        None => image.bytes(),
+    }
+}
+
 impl StudyCommand<'_> {
     /// The name of the file that the line of a fault names.
     pub(crate) fn file(&self, fault: &Fault) -> &[u8]
@@ -155,7 +167,10 @@ impl StudyCommand<'_> {
             StudyCommand::Graph { image, .. } => image.bytes(),
             StudyCommand::Dot { image, .. } => image.bytes(),
             StudyCommand::Waves { file } => file.bytes(),
-            StudyCommand::Ranges { image, .. } => image.bytes(),
+            StudyCommand::Ranges { image, inputs, .. } => match fault {
+                Fault::Rows(_) => table_name(image, *inputs),
+                _ => image.bytes(),
+            },
             StudyCommand::Sites { image, .. } => image.bytes(),
             StudyCommand::Flips { image, rows, .. } => match fault {
                 Fault::Rows(_) => rows_name(*rows),
@@ -257,28 +272,74 @@ fn waves_words<'a>(words: &mut CommandWords<'a>) -> Option<StudyCommand<'a>>
     Some(StudyCommand::Waves { file })
 }
 
-/// Whether all operations are told: `--all` says so, as the last word.
-fn all_word(words: &mut CommandWords<'_>) -> Option<bool>
-    ensures { result ≡ all_of words.old }
+/// Behind M and `--all`, where that is said: `--inputs` and FILE.
+fn inputs_words<'a>(
+    image: &'a Text,
+    all: bool,
+    word: &Text,
+    words: &mut CommandWords<'a>,
+) -> Option<StudyCommand<'a>>
+    ensures form { option_map form result ≡ inputs_form image.now all word.now words.old }
+    ensures sound { IfSome result (λ command. IsSound (form command)) }
+{
+    if word.bytes() != b"--inputs".as_slice() {
+        return None;
+    }
+    let file = words.name()?;
+    if !words.is_end() {
+        return None;
+    }
+    Some(StudyCommand::Ranges {
+        image,
+        all,
+        inputs: Some(file),
+    })
+}
+
+/// Behind M and `--all`.
+fn all_words<'a>(image: &'a Text, words: &mut CommandWords<'a>) -> Option<StudyCommand<'a>>
+    ensures form { option_map form result ≡ all_form image.now words.old }
+    ensures sound { IfSome result (λ command. IsSound (form command)) }
 {
     match words.next() {
-        Some(word) => if word.bytes() == b"--all".as_slice() && words.is_end() {
-            Some(true)
-        } else {
-            None
-        },
-        None => Some(false),
+        Some(word) => inputs_words(image, true, word, words),
+        None => Some(StudyCommand::Ranges {
+            image,
+            all: true,
+            inputs: None,
+        }),
     }
 }
 
-/// The words of `ranges`: M, and `--all` where it is said.
+/// Behind M of `ranges`.
+fn behind_ranges_words<'a>(
+    image: &'a Text,
+    words: &mut CommandWords<'a>,
+) -> Option<StudyCommand<'a>>
+    ensures form { option_map form result ≡ behind_ranges image.now words.old }
+    ensures sound { IfSome result (λ command. IsSound (form command)) }
+{
+    match words.next() {
+        Some(word) => if word.bytes() == b"--all".as_slice() {
+            all_words(image, words)
+        } else {
+            inputs_words(image, false, word, words)
+        },
+        None => Some(StudyCommand::Ranges {
+            image,
+            all: false,
+            inputs: None,
+        }),
+    }
+}
+
+/// The words of `ranges`: M, and what is behind it.
 fn ranges_words<'a>(words: &mut CommandWords<'a>) -> Option<StudyCommand<'a>>
     ensures form { option_map form result ≡ ranges_form words.old }
     ensures sound { IfSome result (λ command. IsSound (form command)) }
 {
     let image = words.name()?;
-    let all = all_word(words)?;
-    Some(StudyCommand::Ranges { image, all })
+    behind_ranges_words(image, words)
 }
 
 /// Whether only the number is wanted: `--count` says so.

@@ -23,7 +23,7 @@ pub enum Fault {
     NoRun(RunTextFault),
     /// The script would have more than 10,000 faults.
     Sites,
-    /// There is nothing of the recorded inputs.
+    /// There is nothing of the recorded inputs, or of the table of their ranges.
     Rows(NoInput),
     /// There is nothing of the script.
     Script(NoInput),

@@ -129,7 +129,9 @@ fn study<F: Files, O: Sink>(
             alloc, image, *horizon, files, out,
         )),
         StudyCommand::Waves { file } => looks_for_nothing(waves_command(alloc, file, files, out)),
-        StudyCommand::Ranges { image, all } => ranges_command(alloc, image, *all, files, out),
+        StudyCommand::Ranges { image, all, inputs } => ranges_command(
+            alloc, image, *all, *inputs, files, out,
+        ),
         StudyCommand::Sites {
             image,
             cycles,
