@@ -1,20 +1,34 @@
 #!/bin/sh
-# launch.sh PROGRAM WORDS..: runs the proved program with these words, in the caller's folder. Where the program isn't built yet, or
-# a source that it is made of has changed since, it is proved and built first, as many crates side by side as the machine has room for;
-# it warns then where the toolchain isn't the one that docs/PROMISES.md names.
-name=${1:?the name of a program} && shift
+# launch.sh PROGRAM WORDS..: runs the proved program with these words, in the caller's folder. Beside the program stands a record of the sources that it
+# was proved from, with digests: files' times say nothing. Where no program of these sources is there, it is proved and built first, as many crates side by
+# side as the machine has room for; it warns then where the toolchain isn't the one that docs/PROMISES.md names. A program that isn't the recorded one isn't run.
+#
+#     launch.sh --sources [PROGRAM..]    prints a line for each program (vcp, vcp_study): `sources`, its name, and the digest of what it is made of
+#     launch.sh --record SOURCES         records, behind an `rt ci` that has passed, what was proved: SOURCES has the lines of `--sources` from before it
+#     launch.sh --state PROGRAM          prints `proved`, `missing`, `unrecorded`, `changed` (other sources) or `altered` (another program), and the digest of
+#                                        the sources; its status is 0 where it is `proved`
 here=$(dirname -- "$(readlink -f -- "$0")") || exit 1
-program=$here/crates/$name/out/$name
-log=$here/crates/$name/out/build.log
+command -v sha256sum >/dev/null 2>&1 || {
+    echo "launch.sh: the command sha256sum isn't there" >&2
+    exit 1
+}
 
-# The crates that the program is made of: its own and those below it in crates.txt.
-parts() {
+# Names a program, and where it stands, with its record and its log; `kept` has what was proved here before, by the digests of the sources.
+use() {
+    name=$1
+    out=$here/crates/$name/out
+    log=$out/build.log
+    kept=$here/out/proved/$name
+}
+
+# The lines of crates.txt, in a folder, of the crates that the program is made of: its own and those below it.
+lines_of() {
     awk -F: -v program="$name" '
-        { sub(/#.*/, ""); if (split($1, word, " ")) below[word[1]] = $2 }
+        { line = $0; sub(/#.*/, ""); if (split($1, word, " ")) { below[word[1]] = $2; text[word[1]] = line } }
         END {
             part[last = 1] = program
             for (i = 1; i <= last; i++) {
-                print part[i]
+                print text[part[i]]
                 count = split(below[part[i]], name, " ")
                 for (j = 1; j <= count; j++)
                     if (name[j] in below && !(name[j] in seen)) {
@@ -22,30 +36,77 @@ parts() {
                         part[++last] = name[j]
                     }
             }
-        }' "$here/crates.txt"
+        }' "$1/crates.txt"
 }
 
-# Prints a file that is newer than the program and that it is made of: code, a definition or a proof. The edits that the proofs must
-# refuse are no part of it.
-changed() {
-    set -- "$here/crates.txt"
-    for part in $(parts); do
-        set -- "$@" "$here/crates/$part"
+# The crates that the program is made of.
+parts() {
+    lines_of "$here" | sed 's/[ :].*//'
+}
+
+sum() {
+    sha256sum <"$1" | cut -c 1-64
+}
+
+# The digest of all that the program is made of, in a folder: its lines of crates.txt, HANDLES, and the code, the definitions and the proofs of its crates,
+# a line a file as sha256sum writes it, in the order of the names. The edits that the proofs must refuse are no part of it.
+sources_in() (
+    cd "$1" || exit 1
+    lines=$(lines_of .)
+    set -- HANDLES
+    for part in $(printf '%s\n' "$lines" | sed 's/[ :].*//'); do
+        set -- "$@" "crates/$part/src" "crates/$part/specs" "crates/$part/proofs"
     done
-    find "$@" -type d \( -name out -o -name must-fail -o -name data \) -prune -o \
-        -type f \( -name crates.txt -o -name '*.antt' -o -name '*.rt' \) -newer "$program" -print | head -n 1
+    {
+        printf '%s\n' "$lines" | LC_ALL=C sort
+        find "$@" -type f \( -name HANDLES -o -name '*.rt' -o -name '*.antt' \) -print 2>/dev/null | LC_ALL=C sort | tr '\n' '\0' | xargs -0 -r sha256sum
+    } | sha256sum | cut -c 1-64
+)
+
+# field RECORD WORD: what a record says behind a word.
+field() {
+    sed -n "s/^$2 //p" "$1" 2>/dev/null | head -n 1
 }
 
-is_built() {
-    [ -x "$program" ] && [ -z "$(changed)" ]
+# state FOLDER SOURCES: of the program there, whether it is the one that was proved from these sources.
+state() {
+    if [ ! -x "$1/$name" ]; then
+        echo missing
+    elif [ ! -f "$1/$name.proved" ]; then
+        echo unrecorded
+    elif [ "$(field "$1/$name.proved" sources)" != "$2" ]; then
+        echo changed
+    elif [ "$(field "$1/$name.proved" program)" != "$(sum "$1/$name")" ]; then
+        echo altered
+    else
+        echo proved
+    fi
+}
+
+# record FOLDER SOURCES BY: writes the record of the program there, and keeps both, with the log, for when these sources are there again.
+record() {
+    [ -f "$1/build.log" ] && of_log=$(sum "$1/build.log") || of_log=none
+    {
+        echo "program $(sum "$1/$name")"
+        echo "sources $2"
+        echo "toolchain $(rt version 2>/dev/null | head -n 1)"
+        echo "log $of_log"
+        echo "by $3"
+    } >"$1/$name.proved.new" && mv "$1/$name.proved.new" "$1/$name.proved" && put "$1" "$kept/$2"
+}
+
+# put FROM TO: puts a program, its record and its log into another folder, the record last.
+put() {
+    mkdir -p "$2" && rm -f "$2/$name.proved" "$2/build.log" && cp "$1/$name" "$2/$name.new" && mv "$2/$name.new" "$2/$name" || return 1
+    [ ! -f "$1/build.log" ] || cp "$1/build.log" "$2/build.log" || return 1
+    cp "$1/$name.proved" "$2/$name.proved"
 }
 
 # The crates that the program is made of, with nothing else, in a folder of their own: without the edits that the proofs must refuse.
 copy_parts() {
-    cp "$here/HANDLES" "$1" && mkdir "$1/crates" || return 1
+    cp "$here/HANDLES" "$1" && mkdir "$1/crates" && lines_of "$here" >"$1/crates.txt" || return 1
     for part in $(parts); do
-        grep "^$part:" "$here/crates.txt" >>"$1/crates.txt" && cp -R "$here/crates/$part" "$1/crates/$part" &&
-            rm -rf "$1/crates/$part/out" "$1/crates/$part/must-fail" || return 1
+        cp -R "$here/crates/$part" "$1/crates/$part" && rm -rf "$1/crates/$part/out" "$1/crates/$part/must-fail" || return 1
     done
 }
 
@@ -75,15 +136,17 @@ compare_toolchain() {
 # Proves the crates side by side, as `rt ci` does it, and takes the program that it has built of them.
 build() {
     command -v rt >/dev/null 2>&1 || {
-        echo "$name: the program isn't built, and the toolchain's command rt isn't there" >&2
+        echo "$name: no program that was proved from these sources is here, and the toolchain's command rt isn't there" >&2
         return 1
     }
     compare_toolchain
     tree=$(mktemp -d) || return 1
     count=$(parts | wc -l)
     echo "$name: proving and building $((count)) crates; docs/MEASURES.md has the time from nothing, memory and disk" >&2
-    mkdir -p "$here/crates/$name/out" && : >"$log" && copy_parts "$tree" && (cd "$tree" && rt ci 2>&1 </dev/null) | follow
-    if tail -n 1 "$log" | grep -q ' passed, 0 failed$' && cp "$tree/crates/$name/out/$name" "$program"; then
+    mkdir -p "$out" && rm -f "$out/$name.proved" && : >"$log" && copy_parts "$tree" && sources=$(sources_in "$tree") &&
+        (cd "$tree" && rt ci 2>&1 </dev/null) | follow
+    if tail -n 1 "$log" | grep -q ' passed, 0 failed$' && cp "$tree/crates/$name/out/$name" "$out/$name.new" && mv "$out/$name.new" "$out/$name" &&
+        record "$out" "$sources" "./$name, of these crates alone"; then
         rm -rf "$tree"
         return 0
     fi
@@ -93,5 +156,55 @@ build() {
     return 1
 }
 
-is_built || build || exit 1
-exec "$program" "$@"
+# Sees to it that the program that stands is the one that was proved from the present sources.
+provide() {
+    sources=$(sources_in "$here") || return 1
+    found=$(state "$out" "$sources")
+    case $found in
+    proved) return 0 ;;
+    altered)
+        echo "$name: crates/$name/out/$name isn't the program that was proved: its digest isn't the one that $name.proved beside it names, and it isn't run." \
+            "Remove it, and ./$name puts the proved one in its place" >&2
+        return 1
+        ;;
+    esac
+    if [ "$(state "$kept/$sources" "$sources")" = proved ]; then
+        put "$kept/$sources" "$out"
+        return
+    fi
+    case $found in
+    unrecorded) echo "$name: crates/$name/out/$name has no record of what it was proved from; proofs that rt keeps aren't made again" >&2 ;;
+    changed) echo "$name: the sources aren't those that crates/$name/out/$name was proved from" >&2 ;;
+    esac
+    build
+}
+
+case ${1:?the name of a program} in
+--sources)
+    shift
+    [ $# -gt 0 ] || set -- vcp vcp_study
+    for given; do
+        use "$given" && echo "sources $given $(sources_in "$here")" || exit 1
+    done
+    ;;
+--record)
+    printf '%s\n' "$2" | while read -r word given sources; do
+        use "$given"
+        if [ "$word" = sources ] && [ -x "$out/$given" ] && [ "$sources" = "$(sources_in "$here")" ]; then
+            record "$out" "$sources" "rt ci, of all crates" && echo "launch.sh: recorded that $given was proved from these sources, $sources" || exit 1
+        else
+            echo "launch.sh: nothing is recorded of $given: it isn't built, or its sources have changed since"
+        fi
+    done
+    ;;
+--state)
+    use "${2:?the name of a program}"
+    sources=$(sources_in "$here") && found=$(state "$out" "$sources") && echo "$found $sources" && [ "$found" = proved ]
+    ;;
+*)
+    use "$1"
+    shift
+    provide || exit 1
+    exec "$out/$name" "$@"
+    ;;
+esac

@@ -2,7 +2,7 @@
 //! operations of each cycle in coded words, compares the residues of the outputs, and writes each line by one write, and a flush.
 //!
 //! The words are LIST ROWS MODE. LIST begins with the line that the run begins with, and has then a line an operation, in the
-//! form of `docs/FLATTENING.md`; all cells begin with 0. ROWS has the inputs in their order. MODE is `long`, which splits words on
+//! form of `docs/dev/FLATTENING.md`; all cells begin with 0. ROWS has the inputs in their order. MODE is `long`, which splits words on
 //! `i128`, `short`, which splits them on `i64` where a word has no more than 64 bits, or `uncoded`, which carries plain values
 //! alone, as `vcp plain` means them. Where a run doesn't come to its end, it says so on standard error.
 

@@ -1,7 +1,7 @@
 #!/usr/bin/env python3
 """Which modules of specs/ an assessor reads: those that public contracts cite.
 
-    checks/cited_modules.py                  prints the list of docs/ARCHITECTURE.md, 'What an assessor reads'
+    checks/cited_modules.py                  prints the list of docs/dev/ARCHITECTURE.md, 'What an assessor reads'
     checks/cited_modules.py --write          puts it there, in the place of the one that stands there
     checks/cited_modules.py vcp_core::vcp    the modules that one public item of a crate rests on, with the lines of each, and of what is cited of it
     checks/cited_modules.py vcp_core::vcp exec audit    the same for these commands alone: without what only the arms of the others cite
@@ -23,7 +23,7 @@ from functools import lru_cache
 sys.dont_write_bytecode = True
 from sources import TOP, read_crates  # noqa: E402
 
-DOCUMENT = TOP / "docs" / "ARCHITECTURE.md"
+DOCUMENT = TOP / "docs" / "dev" / "ARCHITECTURE.md"
 HEAD = "Modules of `specs/` that public contracts cite, and behind *views* those that views and invariants alone cite:"
 WIDTH = 150
 

@@ -24,23 +24,23 @@ PAGE = TOP / "docs" / "CLAUSES.md"
 HEAD = """# Clauses: what each public call promises, crate by crate
 
 Made from the sources by `checks/clauses.py --write`; `checks/documents.sh` compares it. An assessor begins with the claims of `docs/PROMISES.md`, which rest on
-these clauses; what isn't promised stands there, too. How a contract and a definition are read is in `docs/ASSESSOR.md`.
+these clauses. That page also has what isn't promised, and how to read a contract and a definition.
 
 Of each public function, method, trait and type: what its comment says, then
 
-- *clauses*: the names of what it ensures, and behind *needs* of what a caller must meet; `(1)` is one without a name. All are proved: the gate checks them.
-- *read*: the modules of `specs/` that the clauses name, of the same crate where no other is named, and how many lines of how many modules that comes to with
-  all that these name. If you accept them, you need not read code or proofs.
-- *broken by*: wrong lines of code that the proofs refuse: files of the crate's `must-fail/`, or, where *by hand* stands behind it, of `checks/edits/`. The gate
-  tries the first, TRIED of them, and not the others, BY_HAND of them, which `checks/edits.sh` tries (`docs/ASSESSOR.md`, 'What the gate shows').
+- *clauses*: the names of what it ensures, and after *needs* of what a caller must meet; `(1)` is one without a name. All are proved: the gate checks them.
+- *read*: the modules of `specs/` that the clauses name, of the same crate where no other is named, and how many lines of how many modules these are with
+  all that they name. If you accept them, you need not read code or proofs.
+- *broken by*: wrong lines of code that the proofs refuse: files of the crate's `must-fail/`, or, where marked *by hand*, of `checks/edits/`. The gate
+  tries the first, TRIED of them, and not the others, BY_HAND of them, which `checks/edits.sh` tries (`docs/PROMISES.md`, 'What the gate shows').
 - *shown by*: texts of worked rows that a program plays, as `session NAME` or `rows NAME` (`docs/SESSIONS.md`).
 
 A dash says that there is none: the proof alone shows that promise. A method of a trait that says nothing of its own has the words of the trait. At the end of a
-crate stand the modules of definitions that public contracts cite, with what is said of them.
+crate are the modules of definitions that public contracts cite, with what is said of them.
 
 For all crates: every call returns, for all arguments that meet its condition; no step overflows, no index is out of range, no cast loses bits. That is the
-toolchain's clause, for each function. A call that can answer `Memory` may answer it at any time. It is an answer of its own, and stands for nothing else. That
-a call without such an answer takes no memory is seen by reading its code.
+toolchain's clause, for each function. A call that can answer `Memory` may answer it at any time. It is an answer of its own, and means nothing else. Code
+review, not proof, shows that a call without such an answer takes no memory.
 """
 
 

@@ -139,7 +139,7 @@ def shortened(path, line):
 
 def documents():
     """The places of long lines in documents, those aside that show what a program prints."""
-    for path in sorted([*ROOT.glob('*.md'), *ROOT.glob('*/*.md')]):
+    for path in sorted([*ROOT.glob('*.md'), *ROOT.glob('*/*.md'), *ROOT.glob('docs/dev/*.md')]):
         before, in_block = '', False
         for number, line in enumerate(path.read_text(encoding='utf8').split('\n'), 1):
             in_block = line.startswith('    ') and (in_block or not before.strip())

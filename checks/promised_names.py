@@ -2,19 +2,22 @@
 """Whether what documents name is there.
 
     checks/promised_names.py            prints what isn't
-    checks/promised_names.py --write    puts the numbers of lines and of edits right in docs/PROMISES.md and docs/ASSESSOR.md, and then prints
+    checks/promised_names.py --write    puts the numbers of lines and of edits right in docs/PROMISES.md, and then prints
 
-Of docs/PROMISES.md, each claim: its clauses and its edits are there, named with their crates, an edit that the gate doesn't try is called so, and the
+Of docs/PROMISES.md: as many contracts of C functions are named as are counted. Of each claim: its clauses and its edits are there, named with their crates, an edit that the gate doesn't try is called so, and the
 definitions to be read have so many lines; and all that is named so elsewhere on that page is there.
 Of crates/play_sessions and play_rows: each text of data/ is in args, and stdout has its line.
-Of docs/ARCHITECTURE.md: each crate stands in a layer and on none above it, and has its row in the table of crates and, but for those of tests,
+Of docs/dev/ARCHITECTURE.md: each crate stands in a layer and on none above it, and has its row in the table of crates and, but for those of tests,
 in that of main contracts; each name of a crate, a file or a definition is there; and the list of
 modules is the one that checks/cited_modules.py prints.
 Of docs/GLOSSARY.md: the names in the last column are there (of names that two crates have, checks/double_names.py tells).
 Of docs/UNITS.md: each line of code that it shows is a line of the crates coded_unit or worked_unit.
-Of docs/ASSESSOR.md: each family of commands has as many lines of definitions as it says; each step of the order of reading names modules that are there, and
-has as many lines as the top call rests on in its crates; each crate that the top call rests on has a step, or is told behind them; and there are as many edits
-as it says.
+Of docs/PROMISES.md, 'The order of reading' and 'What the gate shows': each family of commands has as many lines of definitions as it says; each step of the
+order names modules that are there, and has as many lines as the top call rests on in its crates; each crate that the top call rests on has a step, or is named
+after them; and there are as many edits as it says.
+
+Of README.md: the times that it says, in minutes and hours, are in docs/MEASURES.md.
+Of docs/SAFETY.md: the assumptions and the claims that it cites by their numbers are there, and each assumption is one that a hazard or another part cites.
 
 What docs/CLAUSES.md names is there, since checks/clauses.py makes it. It ends with status 1 where there is something. It reads the sources and proves nothing.
 """
@@ -28,8 +31,7 @@ from sources import CRATES, TOP, is_for_tests, listed_crates, read_crates  # noq
 
 CHECKS = TOP / "checks"
 PROMISES = TOP / "docs" / "PROMISES.md"
-ASSESSOR = TOP / "docs" / "ASSESSOR.md"
-ARCHITECTURE = TOP / "docs" / "ARCHITECTURE.md"
+ARCHITECTURE = TOP / "docs" / "dev" / "ARCHITECTURE.md"
 
 
 def without_comments(file, mark):
@@ -131,6 +133,38 @@ def faults_of_cited_names(crates):
             yield f"`{cited}` isn't there"
 
 
+def faults_of_axioms():
+    """Whether docs/PROMISES.md names as many contracts of C functions as it counts."""
+    text = PROMISES.read_text().partition("\n## Taken without a proof\n")[2].partition("\n## ")[0]
+    named = {name for item in re.findall(r"^- (?:.*\n)(?:  .*\n)*", text, re.M) for name in quoted(item)}
+    for counted in re.findall(r"`axioms=(\d+)`|counts (\d+)", text):
+        if int("".join(counted)) != len(named):
+            yield f"{len(named)} contracts of C functions are named, and {''.join(counted)} are counted"
+
+
+def faults_of_times():
+    """The times of README that docs/MEASURES.md doesn't have."""
+    measured = (TOP / "docs" / "MEASURES.md").read_text()
+    for time in sorted(set(re.findall(r"\b(?:\d+ to )?\d+ (?:minutes|min|hours)\b", (TOP / "README.md").read_text()))):
+        if time not in " ".join(measured.split()):
+            yield f"docs/MEASURES.md has no time `{time}`"
+
+
+def faults_of_safety():
+    """The numbers of assumptions and claims that docs/SAFETY.md cites and that aren't there, and assumptions that nothing cites."""
+    text = (TOP / "docs" / "SAFETY.md").read_text()
+    stated = set(map(int, re.findall(r"^\*\*A(\d+)\.", text, re.M)))
+    rows = [row.split(" | ") for row in re.findall(r"^\| (H\d+ .*) \|$", text, re.M)]
+    cited = set(map(int, re.findall(r"(?<!\*)\bA(\d+)\b", text)))
+    for first, last in re.findall(r"\bA(\d+) to A(\d+)\b", text):
+        cited |= set(range(int(first), int(last) + 1))
+    yield from (f"the assumption A{number} isn't there" for number in sorted(cited - stated))
+    yield from (f"nothing cites the assumption A{number}" for number in sorted(stated - cited))
+    numbers = {int(number) for number, _ in claims()}
+    for said in [*re.findall(r"\bclaims? (\d+(?:(?:, | and | to )\d+)*)", " ".join(text.split())), *(row[1] for row in rows)]:
+        yield from (f"there is no claim {number}" for number in re.findall(r"\d+", said) if int(number) not in numbers)
+
+
 def lines_in(text):
     return sum(lines_of_module(crate, module) or 0 for crate, module in modules_in(text))
 
@@ -144,7 +178,7 @@ def write_lines_of_claims():
 
 
 def is_there(cited, crates, names):
-    """Whether a name of docs/ARCHITECTURE.md is a crate, a file, a definition, or a name of some crate's code."""
+    """Whether a name of docs/dev/ARCHITECTURE.md is a crate, a file, a definition, or a name of some crate's code."""
     if len(cited) == 1 or cited == "st_" or cited in crates or any(cited in listed for listed in crates.values()):
         return True
     if (TOP / cited).exists() or any(CRATES.glob(f"*/src/**/{cited}")) or any(CRATES.glob(f"*/{cited}")):
@@ -162,7 +196,7 @@ def faults_of_layers(text, crates):
     lines = re.findall(r"^    .*", text.partition("\n## The layers\n")[2].partition("\n## ")[0], re.M)
     layer_of = {crate: number for number, line in enumerate(lines) for crate in crates if re.search(rf"\b{crate}\b", line)}
     for crate, others in crates.items():
-        if crate not in layer_of and not is_for_tests(crate) and crate not in ("worked_unit", "bench_machine"):
+        if crate not in layer_of and not is_for_tests(crate) and crate != "worked_unit":
             yield f"the crate `{crate}` stands in no layer"
         for other in others:
             if layer_of.get(crate, 0) > layer_of.get(other, len(lines)):
@@ -236,9 +270,9 @@ def crates_of_step(found):
     return re.findall(r"^ +- `(\w+)`:", found[4], re.M)
 
 
-def faults_of_assessor(crates):
+def faults_of_order(crates):
     lines_of = lines_below_the_top_call(crates)
-    text = ASSESSOR.read_text().partition("\n## The order of reading\n")[2].partition("\n## ")[0]
+    text = PROMISES.read_text().partition("\n## The order of reading\n")[2].partition("\n## ")[0]
     told = set()
     for found in STEP.finditer(text):
         crates = crates_of_step(found)
@@ -267,7 +301,7 @@ def lines_of_family(crates, commands):
 
 
 def faults_of_families(crates):
-    for found in FAMILY.finditer(ASSESSOR.read_text()):
+    for found in FAMILY.finditer(PROMISES.read_text()):
         wanted = lines_of_family(crates, found[4])
         if found[2] != str(wanted):
             yield f"the definitions of `{found[4]}` have {wanted} lines, and not {found[2]}"
@@ -282,13 +316,13 @@ def count_edits():
 
 
 def faults_of_counts():
-    found = EDITS.search(ASSESSOR.read_text())
+    found = EDITS.search(PROMISES.read_text())
     tried, by_hand = count_edits()
     if not found or (int(found[1]), int(found[3])) != (tried, by_hand):
         yield f"the gate tries {tried} edits, and {by_hand} are tried by hand"
 
 
-def write_lines_of_assessor(crates):
+def write_lines_of_order(crates):
     lines_of = lines_below_the_top_call(crates)
 
     def of_step(found):
@@ -297,26 +331,28 @@ def write_lines_of_assessor(crates):
     def of_command(found):
         return found[1] + cited_modules(found[2]).split("\n")[-2] + "\n"
 
-    text = STEP.sub(of_step, ASSESSOR.read_text())
+    text = STEP.sub(of_step, PROMISES.read_text())
     tried, by_hand = count_edits()
     text = EDITS.sub(lambda found: found[0].replace(found[1], str(tried), 1).replace(found[3] + " others", f"{by_hand} others"), text)
     text = FAMILY.sub(lambda found: found[1] + str(lines_of_family(crates, found[4])) + found[3], text)
     text = BESIDE.sub(lambda found: f"`{found[1]}` ({lines_of.get(found[1], found[2])} lines)", text)
-    ASSESSOR.write_text(re.sub(r"(    \$ checks/cited_modules\.py (\S+) \| tail -n 1\n    ).*\n", of_command, text))
+    PROMISES.write_text(re.sub(r"(    \$ checks/cited_modules\.py (\S+) \| tail -n 1\n    ).*\n", of_command, text))
 
 
 def main():
     listed, crates = listed_crates(), read_crates()
     if "--write" in sys.argv[1:]:
         write_lines_of_claims()
-        write_lines_of_assessor(crates)
+        write_lines_of_order(crates)
     names = defined() | in_code(crates)
-    faults = [f"PROMISES: {fault}" for fault in [*faults_of_claims(crates), *faults_of_cited_names(crates)]]
+    faults = [f"PROMISES: {fault}" for fault in [*faults_of_claims(crates), *faults_of_cited_names(crates), *faults_of_axioms()]]
+    faults += [f"README: {fault}" for fault in faults_of_times()]
+    faults += [f"SAFETY: {fault}" for fault in faults_of_safety()]
     faults += [f"ARCHITECTURE: {fault}" for fault in faults_of_architecture(listed, names)]
     faults += [f"GLOSSARY: {fault}" for fault in faults_of_glossary(listed, names)]
     faults += faults_of_rows()
     faults += [f"UNITS: {fault}" for fault in faults_of_units()]
-    faults += [f"ASSESSOR: {fault}" for fault in [*faults_of_assessor(crates), *faults_of_families(crates), *faults_of_counts()]]
+    faults += [f"PROMISES: {fault}" for fault in [*faults_of_order(crates), *faults_of_families(crates), *faults_of_counts()]]
     print("\n".join(faults) or "promised_names: all is there")
     sys.exit(1 if faults else 0)
 

@@ -12,7 +12,7 @@ import sys
 from pathlib import Path
 
 TOP = Path(__file__).resolve().parent.parent
-PATH = r"`((?:docs|examples|checks|bench)/\w+\.(?:md|1|bash)|README\.md|CHANGELOG\.md)`"
+PATH = r"`((?:docs|docs/dev|examples|checks|bench)/\w+\.(?:md|1|bash)|README\.md|CHANGELOG\.md)`"
 
 
 def text_of(path):
@@ -37,7 +37,7 @@ def anchor(section):
 
 
 def faults():
-    for path in sorted([*TOP.glob("*.md"), *TOP.glob("docs/*.md"), *TOP.glob("examples/*.md"), *TOP.glob("checks/*.md"), *TOP.glob("bench/*.md")]):
+    for path in sorted([*TOP.glob("*.md"), *TOP.glob("docs/**/*.md"), *TOP.glob("examples/*.md"), *TOP.glob("bench/*.md")]):
         name, text = path.relative_to(TOP), text_of(path)
         for cited in re.findall(PATH, text):
             if not (TOP / cited).is_file():

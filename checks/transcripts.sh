@@ -16,7 +16,7 @@ study=${VCP_STUDY:-$top/crates/vcp_study/out/vcp_study}
     echo "transcripts: no program is built, so that none is run"
     exit 0
 }
-[ $# -gt 0 ] || set -- "$top/README.md" "$top"/docs/*.md "$top"/examples/*.md
+[ $# -gt 0 ] || set -- "$top/README.md" "$top"/docs/*.md "$top"/docs/dev/*.md "$top"/examples/*.md
 work=$(mktemp -d) || exit 1
 trap 'rm -rf "$work"' EXIT
 command -v python3 >/dev/null 2>&1 && python=1 || python=0

@@ -97,7 +97,7 @@ class Told(InFolder):
                     messages = self.told(declaration, body)
                     self.assertEqual(len(messages), 1, messages)
                     self.assertIn(said, messages[0])
-                    self.assertIn("docs/PORTING.md", messages[0])
+                    self.assertIn("docs/PATTERNS.md", messages[0])
 
     @needs_program
     def test_a_declaration_and_its_use_are_two(self) -> None:
@@ -110,7 +110,7 @@ class Told(InFolder):
                     self.assertEqual(len(messages), 2, messages)
                     for message in messages:
                         self.assertIn(said, message)
-                        self.assertIn("docs/PORTING.md", message)
+                        self.assertIn("docs/PATTERNS.md", message)
 
     @needs_program
     def test_types_of_enumerations(self) -> None:

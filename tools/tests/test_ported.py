@@ -83,7 +83,7 @@ class Lacking(InFolder):
             self.write("p.st", "PROGRAM p VAR t : INT; END_VAR\n" + text + "END_PROGRAM\n")
             first = self.tool("explain", "check", "p.st", status=1).split("\n")[0]
             self.assertIn("and 11 for a TON", first)
-            self.assertIn("docs/PORTING.md", first)
+            self.assertIn("docs/PATTERNS.md", first)
 
     @needs_program
     def test_a_name_that_stands_twice_is_one_thing_to_mend(self) -> None:

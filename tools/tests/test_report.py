@@ -2,6 +2,7 @@
 from __future__ import annotations
 
 import hashlib
+import html
 import os
 import re
 import shutil
@@ -12,7 +13,8 @@ from vcp_tools.read.audit_lines import reached_from, read_audit
 from vcp_tools.read.image import read_image
 from vcp_tools.pictures.report import sections_of
 from vcp_tools.pictures.report_parts import toolchain_told
-from vcp_tools.program import present_toolchain, promised_toolchain
+from vcp_tools.program import find_program, present_toolchain, promised_toolchain
+from vcp_tools.proved import digest_of, told_of
 from tests.support import EXAMPLES, InFolder, needs_program
 from vcp_tools.read.verdict_lines import read_verdicts
 from vcp_tools.pictures.waves import segments
@@ -105,7 +107,9 @@ class Reports(InFolder):
     def test_the_summary_tells_what_was_found(self) -> None:
         summary = sections_of(self.report())["summary"][1]
         self.assertIn('<span class="bad">faults 14 same 3 wrong 3 ran-on 0 refused 6 stopped 2</span>', summary)
-        self.assertIn("whether it is proved isn&#x27;t known here" if "VCP" in os.environ else "which prove it first", summary)
+        file = find_program()
+        assert file is not None
+        self.assertIn(f"{digest_of(file)}, {html.escape(told_of(file))}", summary)
         for told in ("blind operations", "likely mistakes", "may stop with any rows", "end of the run"):
             self.assertIn(f"<td>{told}</td>", summary)
         self.tool("report", "crossing.st", "crossing.csv", "-o", "r.html")

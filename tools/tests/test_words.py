@@ -12,6 +12,7 @@ from tests.support import EXAMPLES, InFolder, needs_program
 from tests.test_campaign import needs_programs
 from vcp_tools.main import TOOLS
 from vcp_tools.program import TOP
+from vcp_tools.proved import digest_of, sources_digest
 
 CALLS = (
     ("rows", "make", "@"), ("rows", "make", "a.stim", "@"), ("rows", "stimuli", "@"), ("rows", "check", "@"), ("rows", "check", "a.csv", "@"),
@@ -21,6 +22,7 @@ CALLS = (
     ("lower", "@", "--cycle-time", "100ms"), ("lower", "a.st", "--cycle-time", "100ms", "--check", "@"),
     ("simulate", "@", "a.csv", "--cycle-time", "100ms"), ("simulate", "a.st", "@", "--cycle-time", "100ms"),
     ("never", "@", "y = 1"), ("never", "a.st", "y = 1", "--inputs", "@"), ("witness", "@"), ("witness", "a.st", "--inputs", "@"), ("rows", "reach", "@"),
+    ("evidence", "--check", "@"), ("evidence", "-o", "made", "--gate", "@"), ("evidence", "--check", "made", "--gate", "@"),
 )
 """Calls of all tools, with `@` in the place of a file that can't be read."""
 WRITES = (("report", "a.st", "a.csv", "-o", "@"), ("lower", "a.st", "--cycle-time", "100ms", "-o", "@"))
@@ -55,7 +57,7 @@ class Files(InFolder):
             for file in ("nowhere", "folder", "nowhere/x"):
                 with self.subTest((words, file)):
                     self.refused(words, file)
-        self.assertEqual({words[0] for words in (*CALLS, *CAMPAIGN_CALLS)}, set(TOOLS) - {"help"})
+        self.assertEqual({words[0] for words in (*CALLS, *CAMPAIGN_CALLS)}, set(TOOLS) - {"help", "version"})
 
     @needs_program
     def test_files_that_cannot_be_written(self) -> None:
@@ -146,7 +148,9 @@ class Launchers(InFolder):
         for name in ("launch.sh", "vcp", "vcp_study"):
             shutil.copy(TOP / name, top / name)
         self.write("top/crates.txt", "vcp:\nvcp_study:\n")
-        os.utime(top / "crates.txt", (0, 0))
+        for name in ("vcp", "vcp_study"):
+            program = digest_of(top / f"crates/{name}/out/{name}")
+            self.write(f"top/crates/{name}/out/{name}.proved", f"program {program}\nsources {sources_digest(top, name)}\n")
         self.write("rt", "#!/bin/sh\necho tried\n").chmod(0o755)
         for file, words, said in ((top / "vcp", ("check", "p"), "vcp ran check p\n"), (top / "vcp_study", ("ranges", "m"), "vcp_study ran ranges m\n"),
                                   (TOP / "vcp_tools", ("--version",), "vcp_tools "), (TOP / "campaign.sh", ("--help",), "usage: vcp_tools campaign "),
@@ -168,7 +172,7 @@ class Launchers(InFolder):
 
     def test_help_and_version(self) -> None:
         self.assertRegex(self.tool("--version"), r"\Avcp_tools \d+\.\d+\n\Z")
-        self.assertIn("docs/PORTING.md", self.tool("help"))
+        self.assertIn("docs/START.md", self.tool("help"))
         for name in TOOLS:
             self.assertIn("statuses: ", " ".join(self.tool(name, "--help").split()), name)
 
@@ -187,5 +191,5 @@ class Launchers(InFolder):
     def test_the_documents_say_where_programs_come_from(self) -> None:
         told = " ".join((TOP / "docs/CAMPAIGNS.md").read_text(encoding="utf-8").split())
         self.assertIn("or those of `VCP=FILE` and `VCP_STUDY=FILE`, and says which command makes a missing one, and how long that takes", told)
-        told = " ".join((TOP / "docs/PORTING.md").read_text(encoding="utf-8").split())
+        told = " ".join((TOP / "docs/START.md").read_text(encoding="utf-8").split())
         self.assertIn("`./vcp` and `./vcp_study` prove and build their programs when first called, which takes 20 minutes or more each", told)

@@ -3,11 +3,12 @@ from __future__ import annotations
 
 import argparse
 
-from vcp_tools.program import TOP, in_repository
+from vcp_tools.program import TOP, in_installation, in_repository
 from vcp_tools.refusal import FINE
 
 PAGES = (
-    ("docs/PORTING.md", "to bring a program here: the first steps, and what stands for timers, edges and the like"),
+    ("docs/START.md", "from your program to a report, on one page"),
+    ("docs/PATTERNS.md", "to bring a program here by hand: what to write for timers, edges and the like"),
     ("docs/TOOLS.md", "each of these tools, with an example"),
     ("docs/PROPERTIES.md", "whether something can ever come, and rows that reach everything"),
     ("docs/CAMPAIGNS.md", "every fault of a class tried on a program"),
@@ -27,5 +28,5 @@ def run(given: argparse.Namespace) -> int:
     """Prints which document says what."""
     for page, about in PAGES:
         print(f"{page}: {about}")
-    print(f"they stand in {TOP}" if in_repository() else "they stand in the repository from which the tools were installed")
+    print(f"they stand in {TOP}" if in_repository() or in_installation() else "they stand in the repository from which the tools were installed")
     return FINE

@@ -15,7 +15,7 @@ from vcp_tools.refusal import UNUSABLE, Refusal
 
 TOOLS: dict[str, str] = {
     "explain": "what a refusal means: the line, a caret, and the mistake that people make there",
-    "rows": "stimuli to a rows file and back, and a check of what is read in silence",
+    "rows": "stimuli to a rows file and back, and a check for input that vcp accepts without warning",
     "table": "inputs, outputs and variables of a run side by side, cycle by cycle",
     "vcd": "the same as a VCD file, for GTKWave",
     "expect": "compares a run with wanted rows, and names the first difference",
@@ -27,6 +27,8 @@ TOOLS: dict[str, str] = {
     "lower": "a program of the profile that does what a text as controllers have it does: timers, edges, counters, blocks, arrays, TIME",
     "simulate": "the run of such a text as it stands, in a plain interpreter: the second reading of what `lower` writes",
     "campaign": "every fault of a class or a script, tried on an image, and what became of each",
+    "evidence": "what stands behind the proved programs: sources, toolchain, gate and claims with their digests, to be filed and compared",
+    "version": "which tools, commit, programs and toolchain are here",
     "help": "where to read on",
 }
 """The tools, with what their help says."""
@@ -34,11 +36,11 @@ MODULES = {
     "explain": "explain.command", "rows": "rows.command", "table": "pictures.table", "vcd": "pictures.vcd", "expect": "compare.expect",
     "never": "ask.never", "witness": "ask.witness", "diff": "compare.diff", "lint": "lint.command", "report": "pictures.report",
     "lower": "lower.command", "simulate": "simulate.command",
-    "campaign": "campaign.command", "help": "guide",
+    "campaign": "campaign.command", "evidence": "evidence.command", "version": "version", "help": "guide",
 }
 """The module of each tool."""
 VALUED = frozenset(("--changes-of", "--cycles", "--cycle-time", "--faults", "--horizon", "--check", "-o", "--allow", "--from", "--assume", "--inputs",
-                    "--seconds"))
+                    "--seconds", "--gate"))
 """The options that a word follows."""
 INTERRUPTED = 128 + 2
 """The status of a tool that a Ctrl-C has ended, as shells tell it."""
@@ -51,14 +53,15 @@ def _module(tool: str) -> ModuleType:
     return importlib.import_module(f"vcp_tools.{MODULES[tool]}")
 
 
-def parser() -> argparse.ArgumentParser:
-    """What reads the words."""
+def parser(wanted: str) -> argparse.ArgumentParser:
+    """What reads the words; of the tools the one that is wanted alone is loaded."""
     top = argparse.ArgumentParser(prog="vcp_tools", description="Tools around the program vcp: tested, and not proved. docs/TOOLS.md shows each.", epilog=USAGE)
     top.add_argument("--version", action="version", version=f"vcp_tools {VERSION}")
     below = top.add_subparsers(dest="tool", required=True, metavar="TOOL")
     for name, about in TOOLS.items():
-        tool = _module(name)
-        tool.add_words(below.add_parser(name, help=about, description=f"{name}: {about}", epilog=USAGE))
+        tool = below.add_parser(name, help=about, description=f"{name}: {about}", epilog=USAGE)
+        if name == wanted:
+            _module(name).add_words(tool)
     return top
 
 
@@ -87,7 +90,7 @@ def _options_first(words: list[str]) -> list[str]:
 def _run(words: list[str]) -> int:
     """Runs the tool that the words name, to the last byte of what it prints."""
     try:
-        given = parser().parse_args(words[:1] + ["--", *words[1:]] if _are_words_of_vcp(words) else _options_first(words))
+        given = parser("".join(words[:1])).parse_args(words[:1] + ["--", *words[1:]] if _are_words_of_vcp(words) else _options_first(words))
     except SystemExit:
         sys.stdout.flush()  # a help or a version, of which argparse keeps to itself that it couldn't be written
         raise

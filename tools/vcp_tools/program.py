@@ -46,22 +46,24 @@ def in_repository() -> bool:
     return (TOP / "crates.txt").is_file()
 
 
+def in_installation() -> bool:
+    """Whether the tools stand where `install.sh` or `dist.sh` has put them, beside the programs and the evidence."""
+    return (TOP / "evidence" / "summary.txt").is_file()
+
+
 def find_program(name: str = "vcp") -> Path | None:
-    """A built program: VCP=FILE (VCP_STUDY=FILE for vcp_study), or the one that `./vcp` and `rt ci` leave, or where the tools are installed
-    outside the repository the one on the PATH. None where there is none."""
+    """A built program: VCP=FILE (VCP_STUDY=FILE for vcp_study), or the one that `./vcp` and `rt ci` leave, or that was installed with the tools, or
+    where these stand elsewhere the one on the PATH. None where there is none."""
     chosen = os.environ.get(name.upper())
     if chosen:
         file = Path(chosen).absolute()
     elif in_repository():
         file = TOP / "crates" / name / "out" / name
+    elif in_installation():
+        file = TOP.parent.parent / "bin" / name
     else:
         file = Path(shutil.which(name) or name).absolute()
     return file if os.access(file, os.X_OK) and file.is_file() else None
-
-
-def is_built_here(file: Path) -> bool:
-    """Whether a program is the one that `./vcp` or `rt ci` left in this repository, which they do only where all was proved."""
-    return in_repository() and file.resolve() == (TOP / "crates" / file.name / "out" / file.name).resolve()
 
 
 def present_toolchain() -> str | None:
@@ -92,6 +94,8 @@ class Program:
     def found(name: str = "vcp") -> "Program":
         """The built program; a refusal that says how it is made where none is built."""
         file = find_program(name)
+        if file is None and in_installation():
+            raise Refusal(f"{TOP.parent.parent / 'bin' / name} isn't there, or can't be run: install it anew, or set {name.upper()}=FILE")
         if file is None:
             asked = "check examples/add.st" if name == "vcp" else "ranges M"
             raise Refusal(

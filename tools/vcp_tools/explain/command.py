@@ -34,7 +34,7 @@ WIDTH = 110
 MOST_UNSEEN = 20
 """So many faults that aren't seen are named at most."""
 MOST_SILENT = 3
-"""So many things that are read in silence are told at most of an accepted rows file."""
+"""So many things that `vcp` accepts without warning are reported at most of a rows file."""
 STATUS_LINES = {
     "memory": "the machine had no memory left for this run: end other programs, or take fewer rows",
     "write": "standard output couldn't be written: the disk is full, or the reader of the pipe has ended",
@@ -184,7 +184,7 @@ class Explainer:
         return _of_rows(fault.file, data, cell_hint(header, record, fault.second or 1, inputs))
 
     def silent_rows(self) -> list[Explanation]:
-        """What the rows file of an accepted call holds that is read in silence."""
+        """Input in the rows file of an accepted call that `vcp` accepts without warning."""
         takes_rows = len(self.words) > 2 and self.words[0] in ("plain", "run", "il", "exec", "trace", "inject", "pair", "pairs") and self.words[2] != "--cycles"
         data = _bytes(self.words[2]) if takes_rows else b""
         return [_of_rows(self.words[2], data, hint) for hint in silent_faults(data, MOST_SILENT)] if data else []

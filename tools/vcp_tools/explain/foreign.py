@@ -165,7 +165,7 @@ class _Scan(Tokens):
         if not given.replace("_", "a").isalnum():
             given = f"({given})"
         operator = "OR" if self.token(word).upper == "S" else "AND NOT"
-        message = f"there is no `{self.token(word).upper}=`: write `{name} := {name} {operator} {given};` (docs/PORTING.md)"
+        message = f"there is no `{self.token(word).upper}=`: write `{name} := {name} {operator} {given};` (docs/PATTERNS.md)"
         self.say(at, word + 2, message, self.put(word, word + 2, f":= {self.token(at).text} {operator} ("))
         self.found.hints.append(Hint("", self.token(end).start, self.token(end).start, repair=Repair(self.token(end - 1).end, self.token(end - 1).end, ")")))
         return word + 2

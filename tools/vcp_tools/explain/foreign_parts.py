@@ -171,13 +171,13 @@ class Tokens:
         if chain.has_pointer:
             return lacking.NO_POINTERS
         if kind.startswith("enumeration") and chain.members:
-            return f"there are no enumerations: write the constant, `{chain.members[-1]}` (docs/PORTING.md, 'States')"
+            return f"there are no enumerations: write the constant, `{chain.members[-1]}` (docs/PATTERNS.md, 'States')"
         if blocks:
             return lacking.no_block(block, parts)
         if chain.has_bit and not chain.members:
             return lacking.NO_BITS
         own = "_".join((name.text, *chain.members))
-        return f"there are no structures, blocks or enumerations, and so no members: declare a constant or variable `{own}` (docs/PORTING.md)"
+        return f"there are no structures, blocks or enumerations, and so no members: declare a constant or variable `{own}` (docs/PATTERNS.md)"
 
     def is_of_block(self, name: Token, chain: Chain) -> bool:
         """Whether a name with what hangs on it is a function block, or an input or output of one."""
@@ -215,7 +215,7 @@ class Tokens:
         elif token.kind == "name":
             value = self.token(at + 2).text
             put = value if value.upper() in self.constants else put
-            message = f"there are no enumerations: write the constant, `{value}` (docs/PORTING.md, 'States')"
+            message = f"there are no enumerations: write the constant, `{value}` (docs/PATTERNS.md, 'States')"
         else:
             return at + 1
         self.say(at, end, f"`{self.text(at, end)}`: {message}", self.put(at, end, put))

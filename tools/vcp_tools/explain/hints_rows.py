@@ -1,4 +1,4 @@
-"""What is said of a refused rows file (R1 to R5, L4), and of what such a file holds that is read in silence."""
+"""What is said of a rejected rows file (R1 to R5, L4), and of input that `vcp` accepts without warning."""
 from __future__ import annotations
 
 import re

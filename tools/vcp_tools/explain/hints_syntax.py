@@ -20,12 +20,12 @@ CLOSERS = {
 STATEMENT_WORDS = frozenset("IF CASE FOR ELSIF ELSE END_IF END_CASE END_FOR END_PROGRAM END_VAR".split())
 _ELSIF_MISSPELT = frozenset("ELSEIF ELSE_IF ELIF ELSIFF ELSEF".split())
 _STATEMENT_WAYS = {
-    "WHILE": "there is no WHILE: write FOR with constant bounds, and an IF in its body (docs/PORTING.md)",
-    "REPEAT": "there is no REPEAT: write FOR with constant bounds, and an IF in its body (docs/PORTING.md)",
-    "UNTIL": "there is no REPEAT .. UNTIL: write FOR with constant bounds, and an IF in its body (docs/PORTING.md)",
-    "EXIT": "there is no EXIT: a FOR does all its turns; put what is left out into an IF in its body (docs/PORTING.md)",
-    "CONTINUE": "there is no CONTINUE: put what is left out into an IF (docs/PORTING.md)",
-    "RETURN": "there is no RETURN: put what is left out into an IF (docs/PORTING.md)",
+    "WHILE": "there is no WHILE: write FOR with constant bounds, and an IF in its body (docs/PATTERNS.md)",
+    "REPEAT": "there is no REPEAT: write FOR with constant bounds, and an IF in its body (docs/PATTERNS.md)",
+    "UNTIL": "there is no REPEAT .. UNTIL: write FOR with constant bounds, and an IF in its body (docs/PATTERNS.md)",
+    "EXIT": "there is no EXIT: a FOR does all its turns; put what is left out into an IF in its body (docs/PATTERNS.md)",
+    "CONTINUE": "there is no CONTINUE: put what is left out into an IF (docs/PATTERNS.md)",
+    "RETURN": "there is no RETURN: put what is left out into an IF (docs/PATTERNS.md)",
     "FUNCTION": "a file is one PROGRAM: there are no functions of one's own",
     "FUNCTION_BLOCK": "a file is one PROGRAM: there are no function blocks",
 }

@@ -1,22 +1,22 @@
 """What is said of what IEC 61131-3 has and this profile lacks: what there isn't, what stands for it here, and the page that shows it."""
 from __future__ import annotations
 
-NO_REAL = "there is no REAL: count in a fixed point, as thousandths in a DINT (1.5 becomes 1500; docs/PORTING.md, 'Fixed point')"
-NO_TIME = "there is no TIME: count cycles in an INT, as 10 for 5 s where a cycle takes 500 ms, and 11 for a TON (docs/PORTING.md, 'Time, counted in cycles')"
-NO_DATE = "there are no dates and no times of day: what depends on them is an input (docs/PORTING.md)"
-NO_ARRAYS = "there are no arrays: declare a variable for each element (docs/PORTING.md)"
-NO_STRUCTURES = "there are no structures: declare a variable for each part (docs/PORTING.md)"
-NO_ADDRESSES = "there are no direct addresses: declare a VAR_INPUT or VAR_OUTPUT by its name alone; inputs come from the rows (docs/PORTING.md)"
-NO_BITS = "there are no bits of a number: declare a BOOL for each (docs/PORTING.md)"
+NO_REAL = "there is no REAL: count in a fixed point, as thousandths in a DINT (1.5 becomes 1500; docs/PATTERNS.md, 'Fixed point')"
+NO_TIME = "there is no TIME: count cycles in an INT, as 10 for 5 s where a cycle takes 500 ms, and 11 for a TON (docs/PATTERNS.md, 'Time, counted in cycles')"
+NO_DATE = "there are no dates and no times of day: what depends on them is an input (docs/PATTERNS.md)"
+NO_ARRAYS = "there are no arrays: declare a variable for each element (docs/PATTERNS.md)"
+NO_STRUCTURES = "there are no structures: declare a variable for each part (docs/PATTERNS.md)"
+NO_ADDRESSES = "there are no direct addresses: declare a VAR_INPUT or VAR_OUTPUT by its name alone; inputs come from the rows (docs/PATTERNS.md)"
+NO_BITS = "there are no bits of a number: declare a BOOL for each (docs/PATTERNS.md)"
 NO_POINTERS = "there are no pointers and references: use the variables themselves"
-NO_BLOCKS = "there are no function blocks: keep a timer or an edge in variables of your own, counted by cycles (docs/PORTING.md)"
+NO_BLOCKS = "there are no function blocks: keep a timer or an edge in variables of your own, counted by cycles (docs/PATTERNS.md)"
 _TIMERS = ("there are no function blocks: a timer is a counter of cycles in a variable of your own "
-           "(docs/PORTING.md, 'Time, counted in cycles')")
+           "(docs/PATTERNS.md, 'Time, counted in cycles')")
 _EDGES = ("there are no function blocks: for an edge keep the value of the cycle before in a variable of your own "
-          "(docs/PORTING.md, 'Edges and latches')")
-_LATCHES = "there are no function blocks: a latch is a line of its own (docs/PORTING.md, 'Edges and latches')"
-_COUNTERS = "there are no function blocks: count the edges in a variable of your own (docs/PORTING.md, 'Edges and latches')"
-_OWN = "there are no function blocks: write its variables and its statements out (docs/PORTING.md)"
+          "(docs/PATTERNS.md, 'Edges and latches')")
+_LATCHES = "there are no function blocks: a latch is a line of its own (docs/PATTERNS.md, 'Edges and latches')"
+_COUNTERS = "there are no function blocks: count the edges in a variable of your own (docs/PATTERNS.md, 'Edges and latches')"
+_OWN = "there are no function blocks: write its variables and its statements out (docs/PATTERNS.md)"
 _BLOCKS = {
     **dict.fromkeys(("TON", "TOF", "TP", "BLINK", "RTC", "TONR", "TON_R"), _TIMERS), **dict.fromkeys(("R_TRIG", "F_TRIG"), _EDGES),
     **dict.fromkeys(("RS", "SR", "SEMA"), _LATCHES), **dict.fromkeys(("CTU", "CTD", "CTUD"), _COUNTERS),
@@ -64,4 +64,4 @@ def no_block(type_name: str, members: tuple[str, ...] = ()) -> str:
 def no_enumeration(first: str) -> str:
     """What is said of an enumeration, whose first value is this."""
     return (f"there are no enumerations: the variable is an INT, and each value a constant, as `VAR CONSTANT {first} : INT := 0; .. END_VAR` "
-            "(docs/PORTING.md, 'States')")
+            "(docs/PATTERNS.md, 'States')")

@@ -13,7 +13,7 @@ from vcp_tools.read.source import GREATEST, LEAST
 from vcp_tools.read.wider_tree import Act, Declared, File, Initial, NotTaken, Term, TypeText, Unit
 
 NOT_TAKEN = {
-    **dict.fromkeys(("REAL", "LREAL"), "there is no REAL: count in a fixed point (docs/PORTING.md, 'Fixed point')"),
+    **dict.fromkeys(("REAL", "LREAL"), "there is no REAL: count in a fixed point (docs/PATTERNS.md, 'Fixed point')"),
     **dict.fromkeys(("STRING", "WSTRING"), "there are no strings"),
     **dict.fromkeys(("DATE", "LDATE", "TIME_OF_DAY", "TOD", "DATE_AND_TIME", "DT"), "there are no dates and times of day: what depends on them is an input"),
     **dict.fromkeys(("ULINT", "LWORD"), "the largest type is LINT"),

@@ -28,7 +28,7 @@ from vcp_tools.read.declarations import head_of_program
 from vcp_tools.read.syntax import Declaration
 
 MOST_WARNED = 3
-"""So many things that are read in silence are told at most."""
+"""So many things that `vcp` accepts without warning are reported at most."""
 MOST_KNOWN = 100_000
 """So many different cells of a column are kept with their values, to be known again."""
 MOST_TRACED = 5000
@@ -195,7 +195,7 @@ def rows_words(rest: Sequence[str], cycles: int | None) -> tuple[list[str], list
 
 
 def warnings(rows: Sequence[str]) -> list[str]:
-    """What the rows file holds that is read in silence, a line each."""
+    """Input of the rows file that `vcp` accepts without warning, a line each."""
     if rows[0] == "--cycles":
         return []
     return [f"{rows[0]}:{hint.line}: {hint.message}" for hint in silent_faults(read_bytes(rows[0]), MOST_WARNED)]

@@ -1,7 +1,6 @@
 """The sections of a report, each made of a case."""
 from __future__ import annotations
 
-import hashlib
 import re
 from pathlib import Path
 from typing import Callable
@@ -13,7 +12,8 @@ from vcp_tools.cycle_time import CycleTime
 from vcp_tools.pictures.markup import code, element, section, table, text
 from vcp_tools.files import read_bytes
 from vcp_tools.needs import find_module
-from vcp_tools.program import is_built_here, present_toolchain, promised_toolchain
+from vcp_tools.program import present_toolchain, promised_toolchain
+from vcp_tools.proved import digest, told_of
 from vcp_tools.read.verdict_lines import Verdict, faults_of_group, never_reached
 from vcp_tools.pictures.waves import waves
 
@@ -23,11 +23,6 @@ _MEANINGS = {
     "same": "the run is the same", "wrong": "a wrong value is released", "ran-on": "the run goes on where it should stop",
     "refused": "an output is refused", "stopped": "the run stops",
 }
-
-
-def digest(data: bytes) -> str:
-    """The SHA-256 of bytes."""
-    return hashlib.sha256(data).hexdigest()
 
 
 def tools_digest() -> str:
@@ -77,9 +72,8 @@ def _times(period: CycleTime | None, cycles: int) -> list[tuple[str, str]]:
 
 
 def program_told(file: Path) -> str:
-    """Which program made a report: proved where `./vcp` or `rt ci` left it in this repository, by its digest else."""
-    kind = "built by ./vcp or rt ci, which prove it first" if is_built_here(file) else "given by VCP=FILE or the PATH: whether it is proved isn't known here"
-    return f"{digest(read_bytes(file))}, {kind}"
+    """Which program made a report, by its digest, and whether it is proved, by its record."""
+    return f"{digest(read_bytes(file))}, {told_of(file)}"
 
 
 def _found(case: Case) -> list[tuple[str, str]]:
@@ -127,7 +121,7 @@ def _tool(case: Case) -> str:
         ("vcp_tools, all files", code(tools_digest())),
         ("toolchain of the proof", toolchain_told(promised_toolchain(), present_toolchain())),
     ]
-    built = f"The program is proved where it was built by {code('./vcp')} or {code('rt ci')}; these tools are tested. A digest tells which file it was."
+    built = f"Whether the program is proved, its record says, which {code('./vcp')} and the gate write; these tools are tested."
     note = element("p", built, class_="dim")
     return section("tool", "Tool", table(("what", "SHA-256, or version"), rows) + note)
 
@@ -277,15 +271,12 @@ def _unreached_note(case: Case, script: list[str], line: int) -> str:
 
 def _may_stop(case: Case) -> str:
     """The operations that may stop with any rows, each with the ranges of what it reads; no section where there is none, or where they weren't looked for."""
-    if case.ranges is None or not case.ranges.lines:
+    if case.ranges is None or not case.ranges.may_stop:
         return ""
-    rows = []
-    for line in case.ranges.lines:
-        number, _, stop, rest = line.split(" ", 3)
-        cells = _operation_cells(case, case.image.operations[int(number)])
-        rows.append((*cells, code(stop), code(rest.partition(" at ")[0])))
-    note = element("p", "As far as the ranges of all values tell: that an operation is named doesn't say that it can stop.", class_="dim")
-    return section("ranges", "What may stop, whatever the rows", note + table(("no.", "kind", "name", "place", "line", "stop", "reads values"), rows, (0,)))
+    rows = [(*_operation_cells(case, case.image.operations[it.operation]), code(it.cause), code(it.reads)) for it in case.ranges.may_stop]
+    searched = "" if case.ranges.searched else " The image has too many operations to be searched closer."
+    note = element("p", f"As far as the ranges of all values tell: that an operation is named doesn't say that it can stop.{searched}", class_="dim")
+    return section("ranges", "What may stop, whatever the rows", note + table(("no.", "kind", "name", "place", "line", "stop", "reads"), rows, (0,)))
 
 
 def _remark(script: list[str], line: int) -> str:

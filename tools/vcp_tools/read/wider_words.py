@@ -7,8 +7,8 @@ from vcp_tools.read.source import Source
 from vcp_tools.read.structured_text import SyntaxFault
 
 _FORMS = (
-    (r"[0-9][0-9_]*\.[0-9]", "there is no REAL: count in a fixed point (docs/PORTING.md, 'Fixed point')"),
-    (r"(REAL|LREAL)#", "there is no REAL: count in a fixed point (docs/PORTING.md, 'Fixed point')"),
+    (r"[0-9][0-9_]*\.[0-9]", "there is no REAL: count in a fixed point (docs/PATTERNS.md, 'Fixed point')"),
+    (r"(REAL|LREAL)#", "there is no REAL: count in a fixed point (docs/PATTERNS.md, 'Fixed point')"),
     (r"(LTIME|LT)#", "LTIME isn't taken: TIME is"),
     (r"(LDATE|DATE|DATE_AND_TIME|DT|TIME_OF_DAY|TOD|D|LD|LTOD|LDT)#", "there are no dates and times of day: what depends on them is an input"),
     (r"(T|TIME)#", "a time is written as T#1d2h3m4s5ms, in whole milliseconds at least"),

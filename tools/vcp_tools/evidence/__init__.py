@@ -1,0 +1,1 @@
+"""`evidence`: which sources, programs, toolchain and gate stand behind what is said to be proved."""
