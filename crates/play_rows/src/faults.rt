@@ -24,7 +24,6 @@ pub fn told(
         "judged" => verdicts::judged(alloc, given, arguments)?,
         "alone" => verdicts::alone(alloc, given, arguments)?,
         "ending" => verdicts::ending(alloc, given, arguments)?,
-        "apart" => verdicts::apart(alloc, given, arguments)?,
         _ => return Ok(None),
     };
     Ok(Some(told))

@@ -5,15 +5,11 @@ use crate::sources::programs::graph_of;
 use crate::values::units::{KEPT, bad_unit, calls_of};
 use coded_unit::BadUnit;
 use fault_reruns::{Reference, verdict};
-use fault_script::read_script;
 use signature_table::Table;
 use std::alloc::Global;
-use std::str::from_utf8;
 use std::test::Fail;
-use vcp_base::MOST_SOURCE_BYTES;
-use vcp_outside::MemSink;
-use verdict_tables::{endings_of, group_ending, read_verdicts, words_left, write_sum_apart};
-use worked_texts::{spelled, word_off};
+use verdict_tables::{group_ending, words_left};
+use worked_texts::word_off;
 
 /// The cycles and operations of the calls that a unit keeps from some number on.
 fn places(alloc: Global, unit: &BadUnit, first: u32) -> Result<String, Fail> {
@@ -68,27 +64,4 @@ pub fn ending(alloc: Global, given: &str, arguments: &str) -> Result<String, Fai
     let script = script_of(alloc, &graph, script)?;
     let ending = group_ending(alloc, &graph, &table, &rows, &without, script.at(0))?;
     Ok(format!(in alloc; "{ending:?}")?)
-}
-
-/// The tables of the verdicts on a script, in which those on what shows nowhere are told apart. The arguments are the rows, and the
-/// spelled script and verdicts with ` / ` between them.
-pub fn apart(alloc: Global, given: &str, arguments: &str) -> Result<String, Fail> {
-    let (rows, rest) = word_off(arguments);
-    let (script, verdicts) = rest.split_once(" / ").ok_or("no verdicts")?;
-    let graph = graph_of(alloc, given.as_bytes())?;
-    let rows = rows_of(alloc, &graph, rows)?;
-    fits(&rows, &graph)?;
-    let text = spelled(alloc, script)?;
-    if text.len() as u64 > MOST_SOURCE_BYTES {
-        return Err("too long".into());
-    }
-    let table = Table::new(alloc, &graph, 0, 1)?;
-    let script = read_script(alloc, &text, &graph)?;
-    let Ok(verdicts) = read_verdicts(alloc, &spelled(alloc, verdicts)?, &graph, &script) else {
-        return Err("verdicts".into());
-    };
-    let endings = endings_of(alloc, &graph, &table, &rows, &script, &verdicts)?;
-    let mut out = MemSink::new(alloc, 2000)?;
-    write_sum_apart(&mut out, &graph, &script, &verdicts, &endings)?;
-    Ok(String::from_str(alloc, from_utf8(out.bytes())?)?)
 }
