@@ -37,6 +37,7 @@ commit=$(said commit)
 name=vcp-$version-$(printf '%.12s' "$commit" | tr -c '0-9a-f\n' _)
 mv "$work/tree" "$work/$name" || exit 1
 summary=$work/$name/share/vcp/evidence/summary.txt
+library=$(grep -a -o -h 'GLIBC_[0-9.]*' "$work/$name/bin/vcp" "$work/$name/bin/vcp_study" | sed 's/GLIBC_//' | sort -V | tail -n 1)
 {
     cat <<END
 vcp $version: a vital coded processor for cyclic control programs
@@ -45,7 +46,8 @@ vcp $version: a vital coded processor for cyclic control programs
     bin/vcp_study   pictures, ranges, scripts of faults and sums of their verdicts
     bin/vcp_tools   the tools around both (Python 3.10 or later; some want: apt-get install python3-lark python3-z3 parallel)
 
-It runs on Linux with x86-64 and the GNU C library, from any folder; nothing has to be installed, and nothing is written here. First:
+It runs on Linux with an x86-64-v2 processor and the GNU C library${library:+ $library or later}, from any folder; nothing has to be installed, and nothing
+is written here. First:
 
     sh share/vcp/check.sh
     bin/vcp run share/vcp/examples/crossing.st share/vcp/examples/crossing.csv

@@ -59,7 +59,7 @@ sources_in() (
     done
     {
         printf '%s\n' "$lines" | LC_ALL=C sort
-        find "$@" -type f -print 2>/dev/null | LC_ALL=C sort | tr '\n' '\0' | xargs -0 -r sha256sum
+        find "$@" -type f \( -name HANDLES -o -name '*.rt' -o -name '*.antt' \) -print 2>/dev/null | LC_ALL=C sort | tr '\n' '\0' | xargs -0 -r sha256sum
     } | sha256sum | cut -c 1-64
 )
 

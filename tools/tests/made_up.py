@@ -137,7 +137,7 @@ def main(words: Sequence[str]) -> int:
         sys.stdout.write("".join(line + "\n" for line, _ in told) + totals_of([it for _, it in told]) + "\n")
     elif command == "ranges":
         stops = len(image) % 2
-        sys.stdout.write("2 ADD RANGE of 0..9 and 1..1 at 4:8\n" * stops + f"may stop {stops} of 1\n")
+        sys.stdout.write("operation 2 ADD at 4:8 RANGE of 0 LOAD t 0..9 and 1 CONST 1..1\n" * stops + f"may stop {stops} of 1\n")
         return found if stops else 0
     elif command == "sites":
         cycles = rows_of(words[3]) if words[4] == "flips" else int(words[3])

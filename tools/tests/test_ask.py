@@ -10,7 +10,7 @@ from unittest import mock
 from tests.support import EXAMPLES, InFolder, needs_program
 from tests.test_ask_operations import PROGRAMS, needs_study, needs_z3
 from vcp_tools.ask.branches import goals_of
-from vcp_tools.ask.inputs import read_inputs
+from vcp_tools.ask.inputs import inputs_table, read_inputs
 from vcp_tools.ask.question import Copy, Subject, named_in
 from vcp_tools.needs import INSTALL
 from vcp_tools.program import TOP
@@ -41,6 +41,8 @@ full := t = MOST;
 left := MOST - t;
 END_PROGRAM
 """
+WIDE = SMALL.replace(":= 5;", ":= 50;")
+"""The same with more values than are told apart."""
 
 
 class Words(InFolder):
@@ -91,6 +93,7 @@ class Words(InFolder):
                            ("input,least,greatest\nn,0,1\nn,0,1\n", "twice")):
             with self.assertRaisesRegex(Refusal, told):
                 read_inputs(str(self.write("ends.csv", text)), inputs)
+        self.assertEqual(inputs_table({1: (-5, 7), 0: (0, 0)}, inputs), "input,least,greatest\nup,0,0\nn,-5,7\n")
 
     @needs_program
     def test_without_z3_it_is_said_how_it_is_installed(self) -> None:
@@ -115,11 +118,13 @@ class Never(InFolder):
 
     def test_by_ranges(self) -> None:
         self.assertIn("never: proved by ranges, for every run (", self.tool("never", "small.st", "t > 5"))
+        self.assertIn("never: proved by ranges, for every run (", self.tool("never", "small.st", "t - was(t) > 1"))
         self.assertIn("also where nothing is assumed", self.tool("never", "small.st", "t > 5", "--assume", "up"))
 
     def test_by_induction(self) -> None:
-        self.assertRegex(self.tool("never", "small.st", "full AND left <> 0"), r"^never: by induction of depth \d+ \(trusted: z3 and this tool\) \(")
-        self.assertRegex(self.tool("never", "small.st", "t - was(t) > 1"), r"^never: by induction of depth \d+ ")
+        self.write("wide.st", WIDE)
+        self.assertRegex(self.tool("never", "wide.st", "full AND left <> 0"), r"^never: by induction of depth \d+ \(trusted: z3 and this tool\) \(")
+        self.assertRegex(self.tool("never", "wide.st", "t - was(t) > 1"), r"^never: by induction of depth \d+ ")
 
     def test_rows_that_replay(self) -> None:
         told = self.tool("never", "small.st", "full AND n = -7", "-o", "found.csv", status=9)
@@ -135,8 +140,12 @@ class Never(InFolder):
     def test_under_what_is_assumed(self) -> None:
         told = self.tool("never", "small.st", "full", "--assume", "NOT (up AND was(up))")
         self.assertRegex(told, r"^never: by induction of depth \d+ \(trusted: z3 and this tool\); assumed: NOT \(up AND was\(up\)\) \(")
-        self.write("ends.csv", "input,least,greatest\nup,0,0\n")
-        self.assertIn("; inputs as in ends.csv, without which `ranges` was asked (", self.tool("never", "small.st", "full", "--inputs", "ends.csv"))
+        self.write("ends.csv", "input,least,greatest\nup,FALSE, 0\n")
+        self.assertIn("never: proved by ranges; inputs as in ends.csv (", self.tool("never", "small.st", "full", "--inputs", "ends.csv"))
+        self.write("ends.csv", "input,least,greatest\nn,0,5\n")
+        self.write("wide.st", WIDE)
+        told = self.tool("never", "wide.st", "full AND left <> 0 AND n > 2", "--inputs", "ends.csv")
+        self.assertRegex(told, r"^never: by induction .*; inputs as in ends.csv \(")
         self.assertIn("no cycle at all is released", self.tool("never", "small.st", "full", "--assume", "t = 9", status=2))
 
     def test_what_cannot_be_read(self) -> None:

@@ -13,10 +13,11 @@ from vcp_tools.needs import find_module
 from vcp_tools.program import Program, find_program
 from vcp_tools.read.fault_line import StopLine, read_ending
 from vcp_tools.read.image import Operation, read_image
-from vcp_tools.read.range_lines import MayStop, read_ranges_of_all
+from vcp_tools.read.range_lines import MayStop, read_ranges, read_ranges_of_all
 from vcp_tools.read.rows_file import cell_value, read_rows
 from vcp_tools.read.run_lines import read_trace
 from vcp_tools.read.source import GREATEST, LEAST
+from vcp_tools.refusal import Refusal
 
 MADE = int(os.environ.get("MADE", "400")) // 10
 """So many programs are made."""
@@ -53,9 +54,21 @@ class Operations(InFolder):
             self.assertEqual(read_listing(self.program("list", "m.img").decode()), read_image(image.read_bytes(), "m.img").operations, file.name)
 
     def test_lines_of_ranges(self) -> None:
-        told = read_ranges_of_all("0 INPUT -5..7 at 2:1\n1 ADD none at 3:1 k=-1\n1 ADD RANGE of 1..2 and none at 3:1 k=-1\nmay stop 1 of 1\n")
+        stop = "operation 1 ADD at 3:1 k=-1 RANGE of 0 INPUT x 1..2 and 0 INPUT x none\n"
+        told = read_ranges_of_all("y INT none\nx1 INT -3..4\noperation 0 INPUT x at 2:1 -5..7\noperation 1 ADD at 3:1 k=-1 none\n"
+                                  f"{stop}no search: more than 8192 operations\nmay stop 1 of 1\n")
         self.assertEqual(told.ranges, {0: (-5, 7), 1: None})
         self.assertEqual(told.may_stop, [MayStop(1, "ADD", "RANGE", 3, 1, "k=-1")])
+        self.assertEqual(told.may_stop[0].reads, "0 INPUT x 1..2 and 0 INPUT x none")
+        self.assertEqual(told.variables, [("y", "INT", None), ("x1", "INT", (-3, 4))])
+
+    def test_a_search_that_was_not_made_is_told(self) -> None:
+        line = "operation 2 NEG at 4:8 RANGE of 0 INPUT x -32768..32767\n"
+        none, last = "no search: more than 8192 operations\n", "may stop 1 of 1\n"
+        self.assertEqual([read_ranges(line + last).searched, read_ranges(line + none + last).searched], [True, False])
+        for text in ("2 NEG RANGE of -32768..32767 at 4:8\n" + last, line, none):
+            with self.assertRaises(Refusal):
+                read_ranges(text)
 
     def test_bits(self) -> None:
         for ends, bits in (((0, 0), 1), ((-1, 0), 1), ((0, 1), 2), ((-2, 1), 2), ((-32768, 32767), 16), ((0, 32768), 17)):

@@ -153,6 +153,15 @@ class Readers(unittest.TestCase):
         self.assertEqual(told[0], "output n: in A operation 6, SUB at 5:14 for n, which reads operation 4, ADD at 5:19 for n; in B operation 6, SUB at 5:14 "
                                   "for n, which reads operation 2, ADD at 4:8\n    A: n := (m - 1) - (b + b);\n    B: n := (m - 1) - m;")
 
+    def test_an_operand_that_one_side_has_elsewhere(self) -> None:
+        text = "\n\n\nm := -a;\nn := b - (-b);\n"
+        both = [made(0, "INPUT", 0, "1:1"), made(1, "INPUT", 1, "1:2"), made(2, "NEG", 0, "4:6", 0)]
+        first = [*both, made(3, "NEG", 0, "5:11", 1), made(4, "SUB", 0, "5:8", 1, 3), made(5, "OUT", 0, "2:1", 2), made(6, "OUT", 1, "2:2", 4)]
+        second = [*both, made(3, "SUB", 0, "5:8", 1, 2), made(4, "OUT", 0, "2:1", 2), made(5, "OUT", 1, "2:2", 3)]
+        self.assertEqual(self.compared(text, text.replace("(-b)", "(-a)"), first, second)[0], (
+            "output n: in A operation 4, SUB at 5:8 for n, which reads operation 3, NEG at 5:11 for n; in B operation 3, SUB at 5:8 for n, which reads "
+            "operation 2, NEG at 4:6\n    A: n := b - (-b);\n    B: n := b - (-a);"))
+
     def test_exchanged_operands(self) -> None:
         text = "\n\n\nm := a + b;\nn := a;\n"
         both = [made(0, "INPUT", 0, "1:1"), made(1, "INPUT", 1, "1:2")]

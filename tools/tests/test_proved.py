@@ -68,6 +68,7 @@ class Records(InFolder):
         self.ran(1)
         for name in ("crates/base/must-fail/one.edit", "crates/vcp/data/in.csv", "docs/PROMISES.md", "crates/other/src/lib.rt", "crates/vcp_study/src/main.rt"):
             self.made.change(name)
+        self.write("top/crates/base/src/.lib.rt.swp", "an editor's\n")
         (self.made.top / "crates.txt").write_text("# all\nvcp_study: base other\nvcp: base\nother:\nbase:\n", encoding="utf-8")
         self.ran(1)
 

@@ -106,6 +106,18 @@ class Check(InFolder):
         lines = self.tool("rows", "check", "in.csv", "p.st", status=FOUND).split("\n")
         self.assertEqual((len(lines), lines[200]), (202, "in.csv: and 50 more"))
 
+    def test_rows_that_break_what_is_assumed(self) -> None:
+        self.write("p.st", PROGRAM)
+        self.write("ends.csv", "input,least,greatest\nSpeed,0, 2\n")
+        self.write("in.csv", "speed,go\n2,1\n 3,0\n-1,1\nx,1\n")
+        lines = self.tool("rows", "check", "in.csv", "p.st", "--inputs", "ends.csv", status=FOUND).split("\n")
+        self.assertEqual([it.partition(" in cycle ")[0] for it in lines[-3:-1]], ["in.csv:3:1: speed is 3", "in.csv:4:1: speed is -1"])
+        self.assertIn("cycle 2: 0 to 2 is assumed by ends.csv", lines[-2])
+        self.assertIn("in.csv:5:1: ", lines[0])
+        self.write("in.csv", "go,speed\n1,2\n")
+        self.assertIn("1 rows of 2 inputs, all as in ends.csv, and nothing", self.tool("rows", "check", "in.csv", "p.st", "--inputs", "ends.csv"))
+        self.assertIn("`--inputs` wants the program", self.tool("rows", "check", "in.csv", "--inputs", "ends.csv", status=2))
+
     def test_large_files_are_read_at_once(self) -> None:
         for data in (b"a,b\r\n1,2\r\r\n\n3 ,4\n", b"", b"\n\na\n1", b"\xef\xbb\xbfa\n\n", b"a,\n,\n\r"):
             lines = [it if isinstance(it, int) else (it.line, it.cells) for it in stream_rows(data + b"\nq")]

@@ -65,7 +65,8 @@ def sources_digest(top: Path, name: str) -> str:
     files = ["HANDLES"] if (top / "HANDLES").is_file() else []
     for crate in lines:
         for part in ("src", "specs", "proofs"):
-            files += [str(file.relative_to(top)) for file in (top / "crates" / crate / part).glob("**/*") if file.is_file()]
+            found = (top / "crates" / crate / part).glob("**/*")
+            files += [str(file.relative_to(top)) for file in found if file.suffix in (".rt", ".antt") and file.is_file()]
     listed = [f"{digest_of(top / file)}  {file}" for file in sorted(files, key=str.encode)]
     return digest("".join(line + "\n" for line in [*sorted(lines.values(), key=str.encode), *listed]).encode())
 

@@ -86,10 +86,11 @@ from_one cells held many same inside = λ j r there.
     box j r (omega (arith, lt, same)) (first_place cells j ∙ there)
 
 -- where the cells are always in these ranges, they are always in the one box of these
-pub one_box : (g : Lists) (cells : List Range) → length cells ≡ length g.stores → AreSettled g (Hold cells)
-    → AreSettled g (InBox cells (length g.stores) 1)
-one_box g cells many settled = record {
+pub one_box : (g : Lists) (inputs cells : List Range) → length cells ≡ length g.stores → AreSettled g inputs (Hold cells)
+    → AreSettled g inputs (InBox cells (length g.stores) 1)
+one_box g inputs cells many settled = record {
   at_first = in_one cells (initial g) (length g.stores) settled.at_first;
-  next = λ held row inside fit whole.
-      in_one cells (stored g (cycle g held row).values) (length g.stores) (settled.next held row (from_one cells held (length g.stores) many inside) fit whole);
+  next = λ held row inside fit row_in whole.
+      in_one cells (stored g (cycle g held row).values) (length g.stores)
+      (settled.next held row (from_one cells held (length g.stores) many inside) fit row_in whole);
 }

@@ -24,9 +24,9 @@ use Rattle.op_graph.specs.Rules.{IsGraph, scope, place_of, numbered, entry_of, k
 use Rattle.op_graph.specs.GraphRun.{own, outcome_of, Stop, Cycle, after, cycle_from, cycle, initial, stored, Run, after_cycle, run_from, unless_stopped, cells_after, CellsFit}
 use Rattle.range_walk.specs.declared.range.Range.{Range}
 use Rattle.range_walk.specs.declared.range.Stops.{Stops}
-use Rattle.range_audit.specs.Audit.{RowFits, RowsFit, Holds, NamesStops, EndsNamed}
+use Rattle.range_audit.specs.Audit.{RowFits, RowsFit, RowsIn, HoldsWithin, NamesStopsWithin, EndsNamedWithin}
 use Rattle.range_walk.specs.Known.{KnownRanges, is_named}
-use Rattle.range_walk.specs.Intervals.{Hold}
+use Rattle.range_walk.specs.Intervals.{Hold, RowIn}
 use Rattle.range_audit.specs.Searching.{AreKept, AreSettled, NamesFrom}
 use Rattle.range_walk.specs.Walking.{Given, OwnFits, IsWalk}
 
@@ -104,6 +104,10 @@ cycle_is held row values before (op ∷ ops) given len =
 of_cycle : (g : Lists) (held row : List ℤ) → IsCycle g.operations held row (cycle g held row)
 of_cycle g held row = cycle_is held row [] [] g.operations (given_none g.operations held row) refl
 
+-- its values are given, also where it stops
+pub given_cycle : (g : Lists) (held row : List ℤ) → Given g.operations held row (cycle g held row).values
+given_cycle g held row = (of_cycle g held row).given
+
 -- a cycle without a stop gives each of its operations a value
 pub whole_cycle : (g : Lists) (held row : List ℤ) → (cycle g held row).stop ≡ None
     → Given g.operations held row (cycle g held row).values × (length (cycle g held row).values ≡ length g.operations)
@@ -116,22 +120,23 @@ unless : (P : List ℤ → Type 0) (held next : List ℤ) (later : List ℤ → 
 unless P held next later None p q = q refl
 unless P held next later (Some why) p q = p
 
-pub kept_settled : (g : Lists) (cells : List Range) (a : KnownRanges) → IsWalk g.operations cells a → AreKept g cells a.known → AreSettled g (Hold cells)
-kept_settled g cells a walk kept = record {
+pub kept_settled : (g : Lists) (inputs cells : List Range) (a : KnownRanges) → IsWalk g.operations cells inputs a → AreKept g cells a.known
+    → AreSettled g inputs (Hold cells)
+kept_settled g inputs cells a walk kept = record {
   at_first = kept.at_first;
-  next = λ held row hold fit whole.
+  next = λ held row hold fit row_in whole.
       let c = of_cycle g held row in
-      kept.next (cycle g held row).values (walk.fits held row (cycle g held row).values hold c.given) (c.whole whole);
+      kept.next (cycle g held row).values (walk.fits held row (cycle g held row).values hold row_in c.given) (c.whole whole);
 }
 
 -- what is settled holds of the cells after each run
-cells_keep : (g : Lists) (Kept : List ℤ → Type 0) → AreSettled g Kept → OperandLaws → IsGraph g → (held : List ℤ) → Kept held → CellsFit g held
-    → (rows : List (List ℤ)) → Kept (cells_after g held rows)
-cells_keep g Kept settled laws graph held hold fit [] = hold
-cells_keep g Kept settled laws graph held hold fit (row ∷ rows) =
+pub cells_keep : (g : Lists) (inputs : List Range) (Kept : List ℤ → Type 0) → AreSettled g inputs Kept → OperandLaws → IsGraph g → (held : List ℤ) → Kept held
+    → CellsFit g held → (rows : List (List ℤ)) → RowsIn inputs rows → Kept (cells_after g held rows)
+cells_keep g inputs Kept settled laws graph held hold fit [] rows_in = hold
+cells_keep g inputs Kept settled laws graph held hold fit (row ∷ rows) rows_in =
     unless Kept held (stored g (cycle g held row).values) (λ next. cells_after g next rows) (cycle g held row).stop hold
-    (λ whole. cells_keep g Kept settled laws graph (stored g (cycle g held row).values) (settled.next held row hold fit whole)
-    (laws.cells_kept g held row graph fit whole) rows)
+    (λ whole. cells_keep g inputs Kept settled laws graph (stored g (cycle g held row).values) (settled.next held row hold fit (rows_in 0 row refl) whole)
+    (laws.cells_kept g held row graph fit whole) rows (λ n r e. rows_in (suc n) r e))
 
 cells_fit : (g : Lists) → OperandLaws → IsGraph g → (held : List ℤ) → CellsFit g held → (rows : List (List ℤ)) → CellsFit g (cells_after g held rows)
 cells_fit g laws graph held fit [] = fit
@@ -197,30 +202,31 @@ own_fits g row i op laws graph fit there =
 
 -- ---- the promises
 
-named_from : (g : Lists) (Kept : List ℤ → Type 0) (stops : List Stops) → NamesFrom g.operations Kept stops → OperandLaws → EntryLaws → IsGraph g
-    → (held row : List ℤ) → Kept held → CellsFit g held → RowFits g row → (why : StopKind) → (cycle g held row).stop ≡ Some why
+named_from : (g : Lists) (inputs : List Range) (Kept : List ℤ → Type 0) (stops : List Stops) → NamesFrom g.operations inputs Kept stops → OperandLaws
+    → EntryLaws → IsGraph g
+    → (held row : List ℤ) → Kept held → CellsFit g held → RowIn inputs row → RowFits g row → (why : StopKind) → (cycle g held row).stop ≡ Some why
     → is_named why (slice_get stops (length (cycle g held row).values)) ≡ true
-named_from g Kept stops named laws entries graph held row hold fit row_fits why is =
+named_from g inputs Kept stops named laws entries graph held row hold fit row_in row_fits why is =
     let c = of_cycle g held row in
     let next = c.stopped why is in
     let values = (cycle g held row).values in
     let no : why ≢ stop.Operand = λ e. laws.cycle g held row graph fit (is ∙ ap Some e) in
-    named held row values next.0 why hold c.given next.1 (own_fits g row (length values) next.0 entries graph row_fits next.1) no next.2
+    named held row values next.0 why hold row_in c.given next.1 (own_fits g row (length values) next.0 entries graph row_fits next.1) no next.2
 
-pub holds : (g : Lists) (cells : List Range) (a : KnownRanges) → IsWalk g.operations cells a → AreSettled g (Hold cells) → OperandLaws → IsGraph g
-    → Holds g a.known
-holds g cells a walk settled laws graph = λ rows row.
+pub holds : (g : Lists) (inputs cells : List Range) (a : KnownRanges) → IsWalk g.operations cells inputs a → AreSettled g inputs (Hold cells) → OperandLaws
+    → IsGraph g → HoldsWithin g inputs a.known
+holds g inputs cells a walk settled laws graph = λ rows row rows_in row_in.
     let held = cells_after g (initial g) rows in
-    let hold = cells_keep g (Hold cells) settled laws graph (initial g) settled.at_first (laws.cells_at_first g graph) rows in
-    walk.fits held row (cycle g held row).values hold (of_cycle g held row).given
+    let hold = cells_keep g inputs (Hold cells) settled laws graph (initial g) settled.at_first (laws.cells_at_first g graph) rows rows_in in
+    walk.fits held row (cycle g held row).values hold row_in (of_cycle g held row).given
 
-pub names : (g : Lists) (Kept : List ℤ → Type 0) (stops : List Stops) → NamesFrom g.operations Kept stops → AreSettled g Kept → OperandLaws → EntryLaws
-    → IsGraph g → NamesStops g stops
-names g Kept stops named settled laws entries graph = λ rows row why row_fits is.
+pub names : (g : Lists) (inputs : List Range) (Kept : List ℤ → Type 0) (stops : List Stops) → NamesFrom g.operations inputs Kept stops
+    → AreSettled g inputs Kept → OperandLaws → EntryLaws → IsGraph g → NamesStopsWithin g inputs stops
+names g inputs Kept stops named settled laws entries graph = λ rows row why rows_in row_in row_fits is.
     let held = cells_after g (initial g) rows in
-    let hold = cells_keep g Kept settled laws graph (initial g) settled.at_first (laws.cells_at_first g graph) rows in
+    let hold = cells_keep g inputs Kept settled laws graph (initial g) settled.at_first (laws.cells_at_first g graph) rows rows_in in
     let fit = cells_fit g laws graph (initial g) (laws.cells_at_first g graph) rows in
-    named_from g Kept stops named laws entries graph held row hold fit row_fits why is
+    named_from g inputs Kept stops named laws entries graph held row hold fit row_in row_fits why is
 
 named_after : (g : Lists) (stops : List Stops) (values : List ℤ) (next : List ℤ → Run) (s : Option StopKind)
     → ((why : StopKind) → s ≡ Some why → is_named why (slice_get stops (length values)) ≡ true)
@@ -229,20 +235,22 @@ named_after : (g : Lists) (stops : List Stops) (values : List ℤ) (next : List 
 named_after g stops values next None named rest = rest refl
 named_after g stops values next (Some why) named rest = named why refl
 
-ends_from : (g : Lists) (Kept : List ℤ → Type 0) (stops : List Stops) → NamesFrom g.operations Kept stops → AreSettled g Kept → OperandLaws → EntryLaws
-    → IsGraph g → (held : List ℤ) → Kept held → CellsFit g held → (rows : List (List ℤ)) → RowsFit g rows
+ends_from : (g : Lists) (inputs : List Range) (Kept : List ℤ → Type 0) (stops : List Stops) → NamesFrom g.operations inputs Kept stops
+    → AreSettled g inputs Kept → OperandLaws → EntryLaws → IsGraph g → (held : List ℤ) → Kept held → CellsFit g held → (rows : List (List ℤ))
+    → RowsIn inputs rows → RowsFit g rows
     → IfSome (run_from g held rows).end (λ e. is_named e.kind (slice_get stops e.op) ≡ true)
-ends_from g Kept stops named settled laws entries graph held hold fit [] rows_fit = tt
-ends_from g Kept stops named settled laws entries graph held hold fit (row ∷ rows) rows_fit =
+ends_from g inputs Kept stops named settled laws entries graph held hold fit [] rows_in rows_fit = tt
+ends_from g inputs Kept stops named settled laws entries graph held hold fit (row ∷ rows) rows_in rows_fit =
     named_after g stops (cycle g held row).values (λ kept. run_from g kept rows) (cycle g held row).stop
-    (λ why is. named_from g Kept stops named laws entries graph held row hold fit (rows_fit 0 row refl) why is)
-    (λ whole. ends_from g Kept stops named settled laws entries graph (stored g (cycle g held row).values) (settled.next held row hold fit whole)
-    (laws.cells_kept g held row graph fit whole) rows (λ n r e. rows_fit (suc n) r e))
+    (λ why is. named_from g inputs Kept stops named laws entries graph held row hold fit (rows_in 0 row refl) (rows_fit 0 row refl) why is)
+    (λ whole. ends_from g inputs Kept stops named settled laws entries graph (stored g (cycle g held row).values)
+    (settled.next held row hold fit (rows_in 0 row refl) whole) (laws.cells_kept g held row graph fit whole) rows (λ n r e. rows_in (suc n) r e)
+    (λ n r e. rows_fit (suc n) r e))
 
-pub ends : (g : Lists) (Kept : List ℤ → Type 0) (stops : List Stops) → NamesFrom g.operations Kept stops → AreSettled g Kept → OperandLaws → EntryLaws
-    → IsGraph g → EndsNamed g stops
-ends g Kept stops named settled laws entries graph = λ rows rows_fit.
-    ends_from g Kept stops named settled laws entries graph (initial g) settled.at_first (laws.cells_at_first g graph) rows rows_fit
+pub ends : (g : Lists) (inputs : List Range) (Kept : List ℤ → Type 0) (stops : List Stops) → NamesFrom g.operations inputs Kept stops
+    → AreSettled g inputs Kept → OperandLaws → EntryLaws → IsGraph g → EndsNamedWithin g inputs stops
+ends g inputs Kept stops named settled laws entries graph = λ rows rows_in rows_fit.
+    ends_from g inputs Kept stops named settled laws entries graph (initial g) settled.at_first (laws.cells_at_first g graph) rows rows_in rows_fit
 
 -- what two lists name where a run ends, a list names that names what both do
 pub both_end : (a b r : List Stops) (end : Option Stop)

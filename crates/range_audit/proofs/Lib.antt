@@ -1,4 +1,5 @@
 mod Boxed
+mod Closer
 mod Cycles
 mod Going
 mod Joined

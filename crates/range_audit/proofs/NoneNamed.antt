@@ -1,13 +1,15 @@
 -- NoneNamed: where no operation is named, none stops.
-use Rattle.std.proofs.Common.{◌≡◌, ℕ, zero, suc, ◌+◌, ◌<◌, ◌⊎◌, inl, inr, Bool, true, false, ◌||◌, cond, List, length, slice_get, Option, Some, None, IfSome, refl, sym, ◌∙◌, subst, arith}
+use Rattle.std.proofs.Common.{◌≡◌, ℕ, zero, suc, ◌+◌, ◌<◌, ◌⊎◌, inl, inr, Bool, true, false, ◌||◌, cond, ℤ, List, [], ◌∷◌, length, slice_get, Option, Some, None, IfSome, refl, sym, ◌∙◌, subst, arith}
 use Rattle.std.proofs.lemmas.Bool.{cases_order, false≢true}
 use Rattle.std.proofs.lemmas.Option.{slice_get_within}
 use Rattle.vcp_base.specs.declared.kind.StopKind.{StopKind}
 use Rattle.vcp_base.specs.declared.kind.StopKind.TheVariants as stop
 use Rattle.op_graph.specs.Lists.{Lists}
 use Rattle.op_graph.specs.GraphRun.{Stop, graph_run}
+use Rattle.range_walk.specs.declared.range.Range.{Range}
 use Rattle.range_walk.specs.declared.range.Stops.{Stops}
-use Rattle.range_audit.specs.Audit.{IsRangeAudit, named_below, NeverStops}
+use Rattle.range_walk.specs.Intervals.{RowIn}
+use Rattle.range_audit.specs.Audit.{IsRangeAudit, named_below, NeverStops, RowsIn, IsAuditWithin, NeverStopsWithin}
 use Rattle.range_walk.specs.Known.{KnownRanges, is_named, is_any_named}
 
 -- one more where it holds is none only where it doesn't hold
@@ -54,6 +56,36 @@ ends_nowhere : (stops : List Stops) → ((op : ℕ) → op < length stops → is
 ends_nowhere stops none None h = refl
 ends_nowhere stops none (Some e) h = absurd (unnamed stops e.kind e.op (slice_get stops e.op) refl (none e.op) h)
 
+-- where none is counted, an end that is named is none
+no_end : (g : Lists) (stops : List Stops) → length stops ≡ length g.operations → named_below stops (length g.operations) ≡ 0 → (end : Option Stop)
+    → IfSome end (λ e. is_named e.kind (slice_get stops e.op) ≡ true) → end ≡ None
+no_end g stops many none end named =
+    ends_nowhere stops (λ op lt. none_counted stops (length g.operations) op none (omega (arith, lt, many))) end named
+
 pub never : (g : Lists) (a : KnownRanges) → IsRangeAudit g a → named_below a.stops (length g.operations) ≡ 0 → NeverStops g
-never g a is none rows fit =
-    ends_nowhere a.stops (λ op lt. none_counted a.stops (length g.operations) op none (omega (arith, lt, is.stops))) (graph_run g rows).end (is.ends rows fit)
+never g a is none rows fit = no_end g a.stops is.stops none (graph_run g rows).end (is.ends rows fit)
+
+pub never_within : (g : Lists) (inputs : List Range) (a : KnownRanges) → IsAuditWithin g inputs a → named_below a.stops (length g.operations) ≡ 0
+    → NeverStopsWithin g inputs
+never_within g inputs a is none rows rows_in fit = no_end g a.stops is.stops none (graph_run g rows).end (is.ends rows rows_in fit)
+
+-- ---- no ranges
+
+pub row_in_none : (row : List ℤ) → RowIn [] row
+row_in_none row k r there = absurd cc
+
+pub rows_in_none : (rows : List (List ℤ)) → RowsIn [] rows
+rows_in_none rows n row there = row_in_none row
+
+-- what is told where no range is assumed holds of all rows
+pub of_all_rows : (g : Lists) (inputs : List Range) (a : KnownRanges) → inputs ≡ [] → IsAuditWithin g inputs a → IsRangeAudit g a
+of_all_rows g [] a none is = record {
+  known = is.known;
+  stops = is.stops;
+  holds = λ rows row. is.holds rows row (rows_in_none rows) (row_in_none row);
+  names = λ rows row why fits ends. is.names rows row why (rows_in_none rows) (row_in_none row) fits ends;
+  ends = λ rows fits. is.ends rows (rows_in_none rows) fits;
+  able = is.able;
+  types = is.types;
+}
+of_all_rows g (r ∷ inputs) a none is = absurd cc

@@ -81,9 +81,9 @@ typed_hold g cells many typed held fit = λ k r there.
     let m = get_there g.loads k (omega (arith, lt)) in
     typed k r there m.0 m.1 (at held k) (fit k m.0 m.1)
 
-pub typed_settled : (g : Lists) (cells : List Range) → OperandLaws → IsGraph g → length cells ≡ length g.loads
-    → ((k : ℕ) (r : Range) → slice_get cells k ≡ Some r → Typed g.loads k r) → AreSettled g (Hold cells)
-typed_settled g cells laws graph many typed = record {
+pub typed_settled : (g : Lists) (inputs cells : List Range) → OperandLaws → IsGraph g → length cells ≡ length g.loads
+    → ((k : ℕ) (r : Range) → slice_get cells k ≡ Some r → Typed g.loads k r) → AreSettled g inputs (Hold cells)
+typed_settled g inputs cells laws graph many typed = record {
   at_first = typed_hold g cells many typed (initial g) (laws.cells_at_first g graph);
-  next = λ held row hold fit whole. typed_hold g cells many typed (stored g (cycle g held row).values) (laws.cells_kept g held row graph fit whole);
+  next = λ held row hold fit row_in whole. typed_hold g cells many typed (stored g (cycle g held row).values) (laws.cells_kept g held row graph fit whole);
 }

@@ -1,3 +1,4 @@
 pub mod Audit
+pub mod Fitting
 pub mod RangeText
 pub mod Searching

@@ -10,7 +10,7 @@ use Rattle.op_graph.specs.GraphRun.{outcome_of, cycle, initial, stored, CellsFit
 use Rattle.range_walk.specs.declared.range.Range.{Range}
 use Rattle.range_walk.specs.declared.range.Stops.{Stops}
 use Rattle.range_walk.specs.Known.{may_stop, is_named}
-use Rattle.range_walk.specs.Intervals.{IsIn, Fit, Hold}
+use Rattle.range_walk.specs.Intervals.{IsIn, Fit, Hold, RowIn}
 use Rattle.range_walk.specs.Walking.{Given, OwnFits}
 
 -- a cell's initial value is in its range, and so is each value that is stored
@@ -28,14 +28,14 @@ pub record AreKept (g : Lists) (cells known : List Range) : Type 0 where
   pub at_first : Hold cells (initial g)
   pub next : (vs : List ℤ) → Fit known vs → length vs ≡ length g.operations → Hold cells (stored g vs)
 
--- What holds of the cells at first, and stays so in a cycle that doesn't stop.
-pub record AreSettled (g : Lists) (Kept : List ℤ → Type 0) : Type 0 where
+-- What holds of the cells at first, and stays so in a cycle that doesn't stop, on a row whose inputs are in these ranges.
+pub record AreSettled (g : Lists) (inputs : List Range) (Kept : List ℤ → Type 0) : Type 0 where
   pub at_first : Kept (initial g)
-  pub next : (held row : List ℤ) → Kept held → CellsFit g held → (cycle g held row).stop ≡ None → Kept (stored g (cycle g held row).values)
+  pub next : (held row : List ℤ) → Kept held → CellsFit g held → RowIn inputs row → (cycle g held row).stop ≡ None → Kept (stored g (cycle g held row).values)
 
--- where operation i stops in a cycle, and this holds of the cells, it may stop so
-abbrev pub StopsFrom : List Op → (List ℤ → Type 0) → ℕ → Stops → Type 0
-StopsFrom ops Kept i s = (held row vs : List ℤ) (op : Op) (why : StopKind) → Kept held → Given ops held row vs → length vs ≡ i
+-- where operation i stops in a cycle on a row whose inputs are in these ranges, and this holds of the cells, it may stop so
+abbrev pub StopsFrom : List Op → List Range → (List ℤ → Type 0) → ℕ → Stops → Type 0
+StopsFrom ops inputs Kept i s = (held row vs : List ℤ) (op : Op) (why : StopKind) → Kept held → RowIn inputs row → Given ops held row vs → length vs ≡ i
     → slice_get ops i ≡ Some op → OwnFits row op → why ≢ stop.Operand → outcome_of held row vs op ≡ Err why → may_stop why s ≡ true
 
 -- the same where the operations before it are in these ranges, and the cells in these
@@ -43,10 +43,12 @@ abbrev pub StopsIn : List Op → List Range → List Range → ℕ → Stops →
 StopsIn ops cells ranges i s = (held row vs : List ℤ) (op : Op) (why : StopKind) → Hold cells held → Given ops held row vs → length vs ≡ i
     → Fit ranges vs → slice_get ops i ≡ Some op → OwnFits row op → why ≢ stop.Operand → outcome_of held row vs op ≡ Err why → may_stop why s ≡ true
 
--- each operation that stops in a cycle, where this holds of the cells, is named
-abbrev pub NamesFrom : List Op → (List ℤ → Type 0) → List Stops → Type 0
-NamesFrom ops Kept stops = (held row vs : List ℤ) (op : Op) (why : StopKind) → Kept held → Given ops held row vs → slice_get ops (length vs) ≡ Some op
-    → OwnFits row op → why ≢ stop.Operand → outcome_of held row vs op ≡ Err why → is_named why (slice_get stops (length vs)) ≡ true
+-- each operation that stops in a cycle on such a row, where this holds of the cells, is named
+abbrev pub NamesFrom : List Op → List Range → (List ℤ → Type 0) → List Stops → Type 0
+NamesFrom ops inputs Kept stops =
+    (held row vs : List ℤ) (op : Op) (why : StopKind) → Kept held → RowIn inputs row → Given ops held row vs
+    → slice_get ops (length vs) ≡ Some op → OwnFits row op → why ≢ stop.Operand → outcome_of held row vs op ≡ Err why
+    → is_named why (slice_get stops (length vs)) ≡ true
 
 -- there the value of operation j is in r
 abbrev pub IsValueIn : List Op → List Range → List Range → ℕ → Range → Type 0
@@ -80,7 +82,7 @@ abbrev pub EndsIn : Lists → List Range → List Range → List Range → ℕ �
 EndsIn g cells ranges boxes count = (held row vs : List ℤ) → Hold cells held → Given g.operations held row vs → length vs ≡ length g.operations
     → Fit ranges vs → InBox boxes (length g.stores) count (stored g vs)
 
--- a whole cycle from cells in the box that begins there ends in a box
-abbrev pub EndsFrom : Lists → List Range → ℕ → ℕ → Type 0
-EndsFrom g boxes count start = (held row vs : List ℤ) → HoldAt boxes (length g.stores) start held → Given g.operations held row vs
+-- a whole cycle from cells in the box that begins there, on a row whose inputs are in these ranges, ends in a box
+abbrev pub EndsFrom : Lists → List Range → List Range → ℕ → ℕ → Type 0
+EndsFrom g inputs boxes count start = (held row vs : List ℤ) → HoldAt boxes (length g.stores) start held → RowIn inputs row → Given g.operations held row vs
     → length vs ≡ length g.operations → InBox boxes (length g.stores) count (stored g vs)

@@ -1,6 +1,6 @@
 //! Why one operation may stop, by what the operations before it gave in the same cycle, and by cases of conditions.
 
-ghost use Rattle.std.specs.Prelude.{◌≡◌, ◌<◌, ℤ, List, length, IfOk};
+ghost use Rattle.std.specs.Prelude.{◌≡◌, ◌<◌, ◌≤◌, ℤ, List, length, IfOk};
 ghost use Rattle.op_graph.specs.Rules.{IsGraph};
 ghost use Rattle.range_walk.specs.Intervals.{Fit, Hold};
 ghost use Rattle.range_audit.specs.Searching.{NamesFrom, StopsFrom, StopsIn};
@@ -60,8 +60,8 @@ fn stops_by_cases(
     Ok(either)
 }
 
-/// The ranges of the operations before operation `i`, made narrower by one another.
-fn narrowed_before(
+/// The ranges of the first operations, as many as `i`, made narrower by one another.
+pub(crate) fn narrowed_before(
     alloc: Global,
     graph: &Graph,
     cells: &[Range],
@@ -69,7 +69,7 @@ fn narrowed_before(
     i: u32,
 ) -> Result<Vec<Range>, Memory>
     requires graph { IsGraph graph.now }
-    requires there { i < length graph.now.operations }
+    requires there { i ≤ length graph.now.operations }
     requires many { length known.now ≡ length graph.now.operations }
     requires cells { length cells.now ≡ length graph.now.stores }
     ensures many { IfOk result (λ ranges. length ranges.items ≡ i) }
@@ -115,11 +115,13 @@ fn is_any_at(stops: &[Stops], i: usize) -> bool {
     }
 }
 
-/// Why operation `i` may stop in a cycle from cells in these ranges, of which `told` tells: closer where that is asked for.
+/// Why operation `i` may stop in a cycle from cells in these ranges, on a row whose inputs are in these, of which `told` tells: closer where
+/// that is asked for.
 fn stops_of(
     alloc: Global,
     graph: &Graph,
     cells: &[Range],
+    inputs: &[Range],
     told: &Ranges,
     i: u32,
     asked: bool,
@@ -128,8 +130,8 @@ fn stops_of(
     requires graph { IsGraph graph.now }
     requires there { i < length graph.now.operations }
     requires cells { length cells.now ≡ length graph.now.stores }
-    requires walk { IsWalk graph.now.operations cells.now told.now }
-    ensures { IfOk result (λ s. StopsFrom graph.now.operations (Hold cells.now) i s) }
+    requires walk { IsWalk graph.now.operations cells.now inputs.now told.now }
+    ensures { IfOk result (λ s. StopsFrom graph.now.operations inputs.now (Hold cells.now) i s) }
 {
     let known = told.known();
     let stops = told.stops();
@@ -144,12 +146,13 @@ fn stops_of(
     Ok(plain)
 }
 
-/// Why each operation may stop in a cycle from cells in these ranges, of which `told` tells: closer for those that may, that are wanted
-/// and not done with.
+/// Why each operation may stop in a cycle from cells in these ranges, on a row whose inputs are in these, of which `told` tells: closer for
+/// those that may, that are wanted and not done with.
 pub(crate) fn closer_stops(
     alloc: Global,
     graph: &Graph,
     cells: &[Range],
+    inputs: &[Range],
     told: &Ranges,
     wanted: &[Stops],
     done: &[Stops],
@@ -157,15 +160,15 @@ pub(crate) fn closer_stops(
 ) -> Result<Vec<Stops>, Memory>
     requires graph { IsGraph graph.now }
     requires cells { length cells.now ≡ length graph.now.stores }
-    requires walk { IsWalk graph.now.operations cells.now told.now }
+    requires walk { IsWalk graph.now.operations cells.now inputs.now told.now }
     ensures many { IfOk result (λ found. length found.items ≡ length graph.now.operations) }
-    ensures named { IfOk result (λ found. NamesFrom graph.now.operations (Hold cells.now) found.items) }
+    ensures named { IfOk result (λ found. NamesFrom graph.now.operations inputs.now (Hold cells.now) found.items) }
 {
     let count = graph.len();
     let mut found = Vec::with_capacity(alloc, count as usize)?;
     'operations: for i in 0..count {
         let asked = is_asked(told.stops(), wanted, done, i as usize);
-        let stops = stops_of(alloc, graph, cells, told, i, asked, left)?;
+        let stops = stops_of(alloc, graph, cells, inputs, told, i, asked, left)?;
         found.push(stops)?;
     }
     Ok(found)

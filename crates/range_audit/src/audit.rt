@@ -1,7 +1,7 @@
 //! What is told of all operations of a graph, in all runs.
 
 ghost use Rattle.std.specs.Prelude.{◌≡◌, ◌<◌, Some, length, slice_get, IfOk};
-ghost use Rattle.range_audit.specs.Audit.{Holds, NamesStops, EndsNamed, IsRangeAudit, named_below, NeverStops};
+ghost use Rattle.range_audit.specs.Audit.{Holds, NamesStops, EndsNamed, named_below, NeverStops, HoldsWithin, NamesStopsWithin, EndsNamedWithin, IsAuditWithin, NeverStopsWithin};
 ghost use Rattle.op_graph.specs.Rules.{IsGraph};
 ghost use Rattle.range_walk.specs.Intervals.{Hold};
 ghost use Rattle.range_walk.specs.Known.{NamesAble, LieInTypes};
@@ -14,17 +14,46 @@ use range_walk::{Range, Ranges, walk};
 use std::alloc::Global;
 use vcp_base::Memory;
 
-/// What is told of the operations of a graph where the cells are always in these ranges.
-fn ranges_in_one_box(alloc: Global, graph: &Graph, cells: &[Range]) -> Result<Ranges, Memory>
+/// What is told of the operations of a graph where the cells are always in these ranges, on rows whose inputs are in these.
+fn ranges_in_one_box(
+    alloc: Global,
+    graph: &Graph,
+    inputs: &[Range],
+    cells: &[Range],
+) -> Result<Ranges, Memory>
     requires graph { IsGraph graph.now }
     requires many { length cells.now ≡ length graph.now.stores }
-    requires settled { AreSettled graph.now (Hold cells.now) }
-    ensures { IfOk result (λ a. IsRangeAudit graph.now a) }
+    requires settled { AreSettled graph.now inputs.now (Hold cells.now) }
+    ensures { IfOk result (λ a. IsAuditWithin graph.now inputs.now a) }
 {
     // No operation stops because an operand is outside its type.
     operands_are_in_their_types();
     entries_keep_their_rules();
-    let told = walk(alloc, graph, cells)?;
+    let told = walk(alloc, graph, cells, inputs)?;
+    Ok(told)
+}
+
+/// What is told of the operations of a graph, an answer for any number of cycles, where ranges of inputs are assumed: of the first ones, as
+/// many as there are. It is what `ranges_of` tells, but of rows whose inputs are in these ranges alone. Of other rows nothing is said. Where
+/// `closely`, it is searched for closer ranges also where no operation is named.
+pub fn ranges_within(
+    alloc: Global,
+    graph: &Graph,
+    inputs: &[Range],
+    closely: bool,
+) -> Result<Ranges, Memory>
+    ensures known { IfOk result (λ a. length a.known ≡ length graph.now.operations) }
+    ensures stops { IfOk result (λ a. length a.stops ≡ length graph.now.operations) }
+    ensures holds { IfOk result (λ a. HoldsWithin graph.now inputs.now a.known) }
+    ensures names { IfOk result (λ a. NamesStopsWithin graph.now inputs.now a.stops) }
+    ensures ends { IfOk result (λ a. EndsNamedWithin graph.now inputs.now a.stops) }
+    ensures able { IfOk result (λ a. NamesAble graph.now.operations a.stops) }
+    ensures types { IfOk result (λ a. LieInTypes graph.now.operations a.known) }
+    ensures never { IfOk result (λ a. named_below a.stops (length graph.now.operations) ≡ 0 → NeverStopsWithin graph.now inputs.now) }
+{
+    let cells = settled(alloc, graph, inputs)?;
+    let ranges = ranges_in_one_box(alloc, graph, inputs, &cells)?;
+    let told = closer(alloc, graph, inputs, ranges, &cells, closely)?;
     Ok(told)
 }
 
@@ -46,8 +75,6 @@ pub fn ranges_of(alloc: Global, graph: &Graph) -> Result<Ranges, Memory>
     ensures types { IfOk result (λ a. LieInTypes graph.now.operations a.known) }
     ensures never { IfOk result (λ a. named_below a.stops (length graph.now.operations) ≡ 0 → NeverStops graph.now) }
 {
-    let cells = settled(alloc, graph)?;
-    let ranges = ranges_in_one_box(alloc, graph, &cells)?;
-    let told = closer(alloc, graph, ranges, &cells)?;
+    let told = ranges_within(alloc, graph, &[], false)?;
     Ok(told)
 }

@@ -108,7 +108,7 @@ pub(crate) fn spend(graph: &Graph, left: &mut u64) -> bool {
 
 /// The range of operation `j` in cycles with values in these ranges, by the cases of conditions, so many at once, until it is inside
 /// the wanted one.
-fn range_by_cases(
+pub(crate) fn range_by_cases(
     alloc: Global,
     graph: &Graph,
     cells: &[Range],

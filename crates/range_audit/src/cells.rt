@@ -1,8 +1,9 @@
 //! Ranges in which the cells are always.
 
-ghost use Rattle.std.specs.Prelude.{◌≡◌, ◌<◌, ℕ, ℤ, true, length, slice_get, Some, IfOk};
+ghost use Rattle.std.specs.Prelude.{◌≡◌, ◌<◌, ℕ, ℤ, true, List, length, slice_get, Some, IfOk};
 ghost use Rattle.op_graph.specs.GraphRun.{initial};
 ghost use Rattle.op_graph.specs.Rules.{IsGraph};
+ghost use Rattle.range_walk.specs.declared.range.Range.{Range as Interval};
 ghost use Rattle.range_walk.specs.Intervals.{IsIn, Hold};
 ghost use Rattle.range_audit.specs.Searching.{AreKept, CellKept, KeptAt, AreSettled};
 
@@ -209,7 +210,7 @@ pub(crate) fn initial_cells(alloc: Global, graph: &Graph) -> Result<Vec<Range>, 
 fn typed_cells(alloc: Global, graph: &Graph) -> Result<Vec<Range>, Memory>
     requires { IsGraph graph.now }
     ensures many { IfOk result (λ cells. length cells.items ≡ length graph.now.loads) }
-    ensures settled { IfOk result (λ cells. AreSettled graph.now (Hold cells.items)) }
+    ensures settled { IfOk result (λ cells. (inputs : List Interval) → AreSettled graph.now inputs (Hold cells.items)) }
 {
     // Each cell always has a value of its type.
     operands_are_in_their_types();
@@ -223,60 +224,71 @@ fn typed_cells(alloc: Global, graph: &Graph) -> Result<Vec<Range>, Memory>
     Ok(cells)
 }
 
-/// Ranges in which the cells are always. Where none are found in the rounds that are tried, these are the types.
-fn found(alloc: Global, graph: &Graph) -> Result<Vec<Range>, Memory>
+/// Ranges in which the cells are always, on rows whose inputs are in these. Where none are found in the rounds that are tried, these are the types.
+fn found(alloc: Global, graph: &Graph, inputs: &[Range]) -> Result<Vec<Range>, Memory>
     ensures graph { IsGraph graph.now }
     ensures many { IfOk result (λ cells. length cells.items ≡ length graph.now.stores) }
-    ensures settled { IfOk result (λ cells. AreSettled graph.now (Hold cells.items)) }
+    ensures settled { IfOk result (λ cells. AreSettled graph.now inputs.now (Hold cells.items)) }
 {
     let _operations = graph.len();
     let numbers = thresholds(alloc, graph)?;
     let mut cells = initial_cells(alloc, graph)?;
     'rounds: for round in 0..ROUNDS {
-        let told = walk(alloc, graph, &cells)?;
+        let told = walk(alloc, graph, &cells, inputs)?;
         if are_kept(graph, &cells, told.known()) {
             return Ok(cells);
         }
         renew(graph, &mut cells, told.known(), step_of(round), &numbers);
     }
-    typed_cells(alloc, graph)
+    let typed = typed_cells(alloc, graph)?;
+    Ok(typed)
 }
 
 /// Whether the cells are always in these ranges, as far as that is seen.
-fn are_settled(alloc: Global, graph: &Graph, cells: &[Range]) -> Result<bool, Memory>
+fn are_settled(
+    alloc: Global,
+    graph: &Graph,
+    inputs: &[Range],
+    cells: &[Range],
+) -> Result<bool, Memory>
     requires graph { IsGraph graph.now }
     requires many { length cells.now ≡ length graph.now.stores }
-    ensures { IfOk result (λ is. is ≡ true → AreSettled graph.now (Hold cells.now)) }
+    ensures { IfOk result (λ is. is ≡ true → AreSettled graph.now inputs.now (Hold cells.now)) }
 {
-    let told = walk(alloc, graph, cells)?;
+    let told = walk(alloc, graph, cells, inputs)?;
     Ok(are_kept(graph, cells, told.known()))
 }
 
 /// Ranges in which the cells are always, where these are some: the values at first and those that are stored where the cells are in
 /// these. They are no wider, and narrower where a round took an end of the type that no value comes to.
-fn closer(alloc: Global, graph: &Graph, cells: Vec<Range>) -> Result<Vec<Range>, Memory>
+fn closer(
+    alloc: Global,
+    graph: &Graph,
+    inputs: &[Range],
+    cells: Vec<Range>,
+) -> Result<Vec<Range>, Memory>
     requires graph { IsGraph graph.now }
     requires many { length cells.items ≡ length graph.now.stores }
-    requires settled { AreSettled graph.now (Hold cells.items) }
+    requires settled { AreSettled graph.now inputs.now (Hold cells.items) }
     ensures many { IfOk result (λ found. length found.items ≡ length graph.now.stores) }
-    ensures settled { IfOk result (λ found. AreSettled graph.now (Hold found.items)) }
+    ensures settled { IfOk result (λ found. AreSettled graph.now inputs.now (Hold found.items)) }
 {
-    let told = walk(alloc, graph, &cells)?;
+    let told = walk(alloc, graph, &cells, inputs)?;
     let mut next = initial_cells(alloc, graph)?;
     renew(graph, &mut next, told.known(), Step::Near, &[]);
-    let is = are_settled(alloc, graph, &next)?;
+    let is = are_settled(alloc, graph, inputs, &next)?;
     if is {
         return Ok(next);
     }
     Ok(cells)
 }
 
-/// Ranges in which the cells are always.
-pub(crate) fn settled(alloc: Global, graph: &Graph) -> Result<Vec<Range>, Memory>
+/// Ranges in which the cells are always, on rows whose inputs are in these.
+pub(crate) fn settled(alloc: Global, graph: &Graph, inputs: &[Range]) -> Result<Vec<Range>, Memory>
     ensures graph { IsGraph graph.now }
     ensures many { IfOk result (λ cells. length cells.items ≡ length graph.now.stores) }
-    ensures settled { IfOk result (λ cells. AreSettled graph.now (Hold cells.items)) }
+    ensures settled { IfOk result (λ cells. AreSettled graph.now inputs.now (Hold cells.items)) }
 {
-    let cells = found(alloc, graph)?;
-    closer(alloc, graph, cells)
+    let cells = found(alloc, graph, inputs)?;
+    closer(alloc, graph, inputs, cells)
 }

@@ -2,17 +2,18 @@
 
 ghost use Rattle.std.specs.Prelude.{◌≡◌, ◌<◌, ◌≤◌, ◌+◌, ℕ, true, length, IfOk, IfSome};
 ghost use Rattle.op_graph.specs.Rules.{IsGraph};
-ghost use Rattle.range_audit.specs.Audit.{IsRangeAudit};
+ghost use Rattle.range_audit.specs.Audit.{IsAuditWithin};
 ghost use Rattle.range_walk.specs.Intervals.{Hold};
 ghost use Rattle.range_audit.specs.Searching.{start_of, InBox, EndsFrom, AreSettled};
 
 use crate::boxes::{box_at, box_start, cell_count, has_none, is_in_one};
 use crate::cases::{copied, ends_by_cases};
 use crate::cells::{Step, initial_cells, step_of, store_at, widened};
+use crate::known::{closer_known, known_from};
 use crate::naming::{named_by, named_from};
 use crate::thresholds::thresholds;
 use op_graph::{Graph, entries_keep_their_rules, operands_are_in_their_types};
-use range_walk::{Range, Ranges, Stops, both_hold, walk};
+use range_walk::{Range, Ranges, Stops, both_hold, either_holds, walk};
 use std::alloc::Global;
 use vcp_base::{Memory, Ty};
 
@@ -26,8 +27,11 @@ const ROUNDS: u32 = 32;
 /// operations may stop.
 const STEPS: u64 = 1_048_576;
 
-/// Graphs with more operations aren't searched so.
-const LARGEST: u32 = 8_192;
+/// How many operations are gone through at most, each of them six times, where it is asked which values BOOL outputs have.
+const ANSWERS: u64 = 4_194_304;
+
+/// Graphs with more operations aren't searched so, and a line of the text says it.
+pub(crate) const MOST_SEARCHED: u32 = 8_192;
 
 /// By how many values the cases are told apart: none for one box.
 fn depth_of(count: u32) -> u32 {
@@ -38,6 +42,7 @@ fn depth_of(count: u32) -> u32 {
 fn is_box_kept(
     alloc: Global,
     graph: &Graph,
+    inputs: &[Range],
     boxes: &[Range],
     count: u32,
     start: usize,
@@ -49,7 +54,7 @@ fn is_box_kept(
     requires there { n < length graph.now.operations }
     requires boxes { start_of (length graph.now.stores) count ≤ length boxes.now }
     requires start { start + length graph.now.stores ≤ length boxes.now }
-    ensures { IfOk result (λ is. is ≡ true → EndsFrom graph.now boxes.now count start) }
+    ensures { IfOk result (λ is. is ≡ true → EndsFrom graph.now inputs.now boxes.now count start) }
 {
     let many = cell_count(graph);
     let cells = box_at(alloc, boxes, many, start)?;
@@ -57,7 +62,7 @@ fn is_box_kept(
     if none {
         return Ok(true);
     }
-    let told = walk(alloc, graph, &cells)?;
+    let told = walk(alloc, graph, &cells, inputs)?;
     let known = told.known();
     let depth = depth_of(count);
     let is = ends_by_cases(
@@ -70,6 +75,7 @@ fn is_box_kept(
 fn are_boxes_kept(
     alloc: Global,
     graph: &Graph,
+    inputs: &[Range],
     boxes: &[Range],
     count: u32,
     n: u32,
@@ -79,13 +85,13 @@ fn are_boxes_kept(
     requires graph { IsGraph graph.now }
     requires there { n < length graph.now.operations }
     requires boxes { start_of (length graph.now.stores) count ≤ length boxes.now }
-    ensures { IfOk result (λ is. is ≡ true → (k : ℕ) → k < count → EndsFrom graph.now boxes.now count (start_of (length graph.now.stores) k)) }
+    ensures { IfOk result (λ is. is ≡ true → (k : ℕ) → k < count → EndsFrom graph.now inputs.now boxes.now count (start_of (length graph.now.stores) k)) }
 {
     let many = cell_count(graph);
     let mut all = true;
     'boxes: for k in 0..count {
         let start = box_start(boxes, many, count, k);
-        let kept = is_box_kept(alloc, graph, boxes, count, start, n, left, missed)?;
+        let kept = is_box_kept(alloc, graph, inputs, boxes, count, start, n, left, missed)?;
         let both = both_hold(all, kept);
         all = both;
     }
@@ -96,6 +102,7 @@ fn are_boxes_kept(
 fn is_family(
     alloc: Global,
     graph: &Graph,
+    inputs: &[Range],
     boxes: &[Range],
     count: u32,
     n: u32,
@@ -105,11 +112,11 @@ fn is_family(
     requires graph { IsGraph graph.now }
     requires there { n < length graph.now.operations }
     requires boxes { start_of (length graph.now.stores) count ≤ length boxes.now }
-    ensures { IfOk result (λ is. is ≡ true → AreSettled graph.now (InBox boxes.now (length graph.now.stores) count)) }
+    ensures { IfOk result (λ is. is ≡ true → AreSettled graph.now inputs.now (InBox boxes.now (length graph.now.stores) count)) }
 {
     let first = initial_cells(alloc, graph)?;
     let begins = is_in_one(&first, boxes, count);
-    let kept = are_boxes_kept(alloc, graph, boxes, count, n, left, missed)?;
+    let kept = are_boxes_kept(alloc, graph, inputs, boxes, count, n, left, missed)?;
     let both = both_hold(begins, kept);
     Ok(both)
 }
@@ -223,6 +230,7 @@ fn grow(
 fn family(
     alloc: Global,
     graph: &Graph,
+    inputs: &[Range],
     place: usize,
     base: i64,
     count: u32,
@@ -232,7 +240,7 @@ fn family(
     requires graph { IsGraph graph.now }
     requires place { place < length graph.now.stores }
     ensures room { IfOk result (λ found. IfSome found (λ boxes. start_of (length graph.now.stores) count ≤ length boxes.items)) }
-    ensures settled { IfOk result (λ found. IfSome found (λ boxes. AreSettled graph.now (InBox boxes.items (length graph.now.stores) count))) }
+    ensures settled { IfOk result (λ found. IfSome found (λ boxes. AreSettled graph.now inputs.now (InBox boxes.items (length graph.now.stores) count))) }
 {
     let n = store_at(graph, place);
     let first = initial_cells(alloc, graph)?;
@@ -253,7 +261,7 @@ fn family(
             return Ok(None);
         }
         let mut missed = Vec::new(alloc);
-        let is = is_family(alloc, graph, &boxes, count, n, left, &mut missed)?;
+        let is = is_family(alloc, graph, inputs, &boxes, count, n, left, &mut missed)?;
         if is {
             return Ok(Some(boxes));
         }
@@ -271,29 +279,33 @@ fn family(
     Ok(None)
 }
 
-/// What is told of the operations of a graph, without the operations that don't stop in cycles from cells in one of these boxes.
+/// What is told of the operations of a graph, without the operations that don't stop in cycles from cells in one of these boxes, and with the
+/// ranges in such cycles where these are closer.
 fn with_family(
     alloc: Global,
     graph: &Graph,
+    inputs: &[Range],
     ranges: &Ranges,
     boxes: &[Range],
     count: u32,
     asked: &mut u64,
+    answers: &mut u64,
 ) -> Result<Ranges, Memory>
     requires graph { IsGraph graph.now }
     requires room { start_of (length graph.now.stores) count ≤ length boxes.now }
-    requires settled { AreSettled graph.now (InBox boxes.now (length graph.now.stores) count) }
-    requires audit { IsRangeAudit graph.now ranges.now }
-    ensures { IfOk result (λ a. IsRangeAudit graph.now a) }
+    requires settled { AreSettled graph.now inputs.now (InBox boxes.now (length graph.now.stores) count) }
+    requires audit { IsAuditWithin graph.now inputs.now ranges.now }
+    ensures { IfOk result (λ a. IsAuditWithin graph.now inputs.now a) }
 {
     // No operation stops because an operand is outside its type.
     operands_are_in_their_types();
     entries_keep_their_rules();
     let named = ranges.stops();
-    let others = named_from(alloc, graph, boxes, count, named, asked)?;
+    let others = named_from(alloc, graph, inputs, boxes, count, named, asked)?;
     let stops = named_by(alloc, true, named, &others)?;
     let before = ranges.known();
-    let known = copied(alloc, before)?;
+    let boxed = known_from(alloc, graph, inputs, boxes, count, answers)?;
+    let known = closer_known(alloc, before, &boxed)?;
     let told = Ranges::new(known, stops);
     Ok(told)
 }
@@ -341,6 +353,7 @@ fn is_wanted(graph: &Graph, place: usize, bools: bool) -> bool {
 fn closer_by_family(
     alloc: Global,
     graph: &Graph,
+    inputs: &[Range],
     ranges: Ranges,
     place: usize,
     base: i64,
@@ -348,71 +361,83 @@ fn closer_by_family(
     left: &mut u64,
     asked: &mut u64,
     numbers: &[i64],
+    answers: &mut u64,
 ) -> Result<Ranges, Memory>
     requires graph { IsGraph graph.now }
     requires place { place < length graph.now.stores }
-    requires audit { IsRangeAudit graph.now ranges }
-    ensures { IfOk result (λ a. IsRangeAudit graph.now a) }
+    requires audit { IsAuditWithin graph.now inputs.now ranges }
+    ensures { IfOk result (λ a. IsAuditWithin graph.now inputs.now a) }
 {
     let any = names_any(ranges.stops());
-    if !any {
+    let closely = *answers != 0;
+    let wanted = either_holds(any, closely);
+    if !wanted {
         return Ok(ranges);
     }
-    let found = family(alloc, graph, place, base, count, left, numbers)?;
+    let found = family(alloc, graph, inputs, place, base, count, left, numbers)?;
     match found {
-        Some(boxes) => with_family(alloc, graph, &ranges, &boxes, count, asked),
+        Some(boxes) => with_family(alloc, graph, inputs, &ranges, &boxes, count, asked, answers),
         None => Ok(ranges),
     }
 }
 
-/// The same by the values of the cell at `place`, if it is of those that are asked for.
+/// The same by the values of the cell at `place`, if it is of those that are asked for, and has few values by these ranges.
 fn closer_by(
     alloc: Global,
     graph: &Graph,
+    inputs: &[Range],
     ranges: Ranges,
+    known: &[Range],
     place: usize,
     bools: bool,
     left: &mut u64,
     asked: &mut u64,
     numbers: &[i64],
+    answers: &mut u64,
 ) -> Result<Ranges, Memory>
     requires graph { IsGraph graph.now }
     requires place { place < length graph.now.stores }
-    requires audit { IsRangeAudit graph.now ranges }
-    ensures { IfOk result (λ a. IsRangeAudit graph.now a) }
+    requires audit { IsAuditWithin graph.now inputs.now ranges }
+    ensures { IfOk result (λ a. IsAuditWithin graph.now inputs.now a) }
 {
     let wanted = is_wanted(graph, place, bools);
     if !wanted {
         return Ok(ranges);
     }
-    let range = cell_range(graph, ranges.known(), place);
+    let range = cell_range(graph, known, place);
     let count = values_of(range);
     if count < 2 {
         return Ok(ranges);
     }
     closer_by_family(
-        alloc, graph, ranges, place, range.low, count, left, asked, numbers,
+        alloc, graph, inputs, ranges, place, range.low, count, left, asked, numbers, answers,
     )
 }
 
-/// What is told of the operations of a graph, and what is told by the values of each cell that is a BOOL, or of each other one.
+/// What is told of the operations of a graph, and what is told by the values of each cell that is a BOOL, or of each other one, and has few by
+/// these ranges.
 fn closer_by_each(
     alloc: Global,
     graph: &Graph,
+    inputs: &[Range],
     ranges: Ranges,
+    known: &[Range],
     bools: bool,
     left: &mut u64,
     asked: &mut u64,
     numbers: &[i64],
+    answers: &mut u64,
 ) -> Result<Ranges, Memory>
     requires graph { IsGraph graph.now }
-    requires audit { IsRangeAudit graph.now ranges }
-    ensures { IfOk result (λ a. IsRangeAudit graph.now a) }
+    requires audit { IsAuditWithin graph.now inputs.now ranges }
+    ensures { IfOk result (λ a. IsAuditWithin graph.now inputs.now a) }
 {
     let count = cell_count(graph);
     let mut told = ranges;
     'cells: for place in 0..count {
-        let next = closer_by(alloc, graph, told, place, bools, left, asked, numbers)?;
+        let next = closer_by(
+            alloc, graph, inputs, told, known, place, bools, left, asked, numbers, answers,
+        )?;
         told = next;
     }
     Ok(told)
@@ -422,46 +447,97 @@ fn closer_by_each(
 fn closer_in_one(
     alloc: Global,
     graph: &Graph,
+    inputs: &[Range],
     ranges: Ranges,
     left: &mut u64,
     asked: &mut u64,
     numbers: &[i64],
+    answers: &mut u64,
 ) -> Result<Ranges, Memory>
     requires graph { IsGraph graph.now }
-    requires audit { IsRangeAudit graph.now ranges }
-    ensures { IfOk result (λ a. IsRangeAudit graph.now a) }
+    requires audit { IsAuditWithin graph.now inputs.now ranges }
+    ensures { IfOk result (λ a. IsAuditWithin graph.now inputs.now a) }
 {
     let many = cell_count(graph);
     let none = many == 0;
     if none {
         return Ok(ranges);
     }
-    closer_by_family(alloc, graph, ranges, 0, 0, 1, left, asked, numbers)
+    closer_by_family(
+        alloc, graph, inputs, ranges, 0, 0, 1, left, asked, numbers, answers,
+    )
 }
 
 /// What is told of the operations of a graph, whose cells are always in these ranges, by a closer look at those that are named: in these
-/// ranges, in one box, and by the values of each of its cells: first of numbers, as a state is one.
+/// ranges, in one box, and by the values of each of its cells: first of numbers, as a state is one. Where it is looked closely, that is done
+/// also where none is named, for the ranges.
 pub(crate) fn closer(
     alloc: Global,
     graph: &Graph,
+    inputs: &[Range],
     ranges: Ranges,
     cells: &[Range],
+    closely: bool,
 ) -> Result<Ranges, Memory>
     requires graph { IsGraph graph.now }
-    requires audit { IsRangeAudit graph.now ranges }
+    requires audit { IsAuditWithin graph.now inputs.now ranges }
     requires many { length cells.now ≡ length graph.now.stores }
-    requires settled { AreSettled graph.now (Hold cells.now) }
-    ensures { IfOk result (λ a. IsRangeAudit graph.now a) }
+    requires settled { AreSettled graph.now inputs.now (Hold cells.now) }
+    ensures { IfOk result (λ a. IsAuditWithin graph.now inputs.now a) }
 {
-    if graph.len() > LARGEST {
+    if graph.len() > MOST_SEARCHED {
         return Ok(ranges);
     }
     let numbers = thresholds(alloc, graph)?;
     let mut left = STEPS;
     let mut asked = STEPS;
-    let here = with_family(alloc, graph, &ranges, cells, 1, &mut asked)?;
-    let one = closer_in_one(alloc, graph, here, &mut left, &mut asked, &numbers)?;
-    let first = closer_by_each(alloc, graph, one, false, &mut left, &mut asked, &numbers)?;
-    let second = closer_by_each(alloc, graph, first, true, &mut left, &mut asked, &numbers)?;
+    let mut answers = if closely { ANSWERS } else { 0 };
+    // Which cells are looked at is told by the ranges that they had before, so that closer ones take no room from a cell that tells more.
+    let before = ranges.known();
+    let known = copied(alloc, before)?;
+    let here = with_family(
+        alloc,
+        graph,
+        inputs,
+        &ranges,
+        cells,
+        1,
+        &mut asked,
+        &mut answers,
+    )?;
+    let one = closer_in_one(
+        alloc,
+        graph,
+        inputs,
+        here,
+        &mut left,
+        &mut asked,
+        &numbers,
+        &mut answers,
+    )?;
+    let first = closer_by_each(
+        alloc,
+        graph,
+        inputs,
+        one,
+        &known,
+        false,
+        &mut left,
+        &mut asked,
+        &numbers,
+        &mut answers,
+    )?;
+    let second = closer_by_each(
+        alloc,
+        graph,
+        inputs,
+        first,
+        &known,
+        true,
+        &mut left,
+        &mut asked,
+        &numbers,
+        &mut answers,
+    )?;
     Ok(second)
 }

@@ -11,12 +11,16 @@ mod boxes;
 mod cases;
 mod cells;
 mod families;
+mod known;
 mod laws;
 mod naming;
 mod questions;
 mod report;
 mod thresholds;
 
-pub use audit::ranges_of;
-pub use laws::what_names_nothing_never_stops;
+pub use audit::{ranges_of, ranges_within};
+pub use laws::{
+    all_rows_are_in_no_ranges, what_names_nothing_never_stops,
+    what_names_nothing_never_stops_within,
+};
 pub use report::{count_named, write_ranges};

@@ -81,11 +81,13 @@ fn none_named(alloc: Global, graph: &Graph) -> Result<Vec<Stops>, Memory>
     Ok(stops)
 }
 
-/// The operations that are named already, and those that may stop in a cycle from cells in the box that begins there. Those that are wanted
+/// The operations that are named already, and those that may stop in a cycle from cells in the box that begins there, on a row whose
+/// inputs are in these ranges. Those that are wanted
 /// are looked at closer.
 fn with_box(
     alloc: Global,
     graph: &Graph,
+    inputs: &[Range],
     boxes: &[Range],
     start: usize,
     stops: Vec<Stops>,
@@ -98,7 +100,7 @@ fn with_box(
     ensures many { IfOk result (λ more. length more.items ≡ length graph.now.operations) }
     ensures kept { IfOk result (λ more. (why : StopKind) (i : ℕ) → is_named why (slice_get stops.items i) ≡ true
         → is_named why (slice_get more.items i) ≡ true) }
-    ensures named { IfOk result (λ more. NamesFrom graph.now.operations (HoldAt boxes.now (length graph.now.stores) start) more.items) }
+    ensures named { IfOk result (λ more. NamesFrom graph.now.operations inputs.now (HoldAt boxes.now (length graph.now.stores) start) more.items) }
 {
     let many = cell_count(graph);
     let cells = box_at(alloc, boxes, many, start)?;
@@ -106,16 +108,18 @@ fn with_box(
     if none {
         return Ok(stops);
     }
-    let told = walk(alloc, graph, &cells)?;
-    let others = closer_stops(alloc, graph, &cells, &told, wanted, &stops, left)?;
+    let told = walk(alloc, graph, &cells, inputs)?;
+    let others = closer_stops(alloc, graph, &cells, inputs, &told, wanted, &stops, left)?;
     let more = named_by(alloc, false, &stops, &others)?;
     Ok(more)
 }
 
-/// The operations that may stop in a cycle from cells in one of so many boxes. Those that are wanted are looked at closer.
+/// The operations that may stop in a cycle from cells in one of so many boxes, on a row whose inputs are in these ranges. Those
+/// that are wanted are looked at closer.
 pub(crate) fn named_from(
     alloc: Global,
     graph: &Graph,
+    inputs: &[Range],
     boxes: &[Range],
     count: u32,
     wanted: &[Stops],
@@ -124,13 +128,13 @@ pub(crate) fn named_from(
     requires graph { IsGraph graph.now }
     requires boxes { start_of (length graph.now.stores) count ≤ length boxes.now }
     ensures many { IfOk result (λ stops. length stops.items ≡ length graph.now.operations) }
-    ensures named { IfOk result (λ stops. NamesFrom graph.now.operations (InBox boxes.now (length graph.now.stores) count) stops.items) }
+    ensures named { IfOk result (λ stops. NamesFrom graph.now.operations inputs.now (InBox boxes.now (length graph.now.stores) count) stops.items) }
 {
     let many = cell_count(graph);
     let mut stops = none_named(alloc, graph)?;
     'boxes: for k in 0..count {
         let start = box_start(boxes, many, count, k);
-        let more = with_box(alloc, graph, boxes, start, stops, wanted, left)?;
+        let more = with_box(alloc, graph, inputs, boxes, start, stops, wanted, left)?;
         stops = more;
     }
     Ok(stops)

@@ -59,7 +59,20 @@ fn takes_by(graph: &Graph, i: u32, condition: u32) -> bool
     }
 }
 
-/// An open condition on which the value of operation `i` depends; no operation where none is found.
+/// Operation `i` where it is a BOOL that is read and open; else no operation.
+fn read_condition(graph: &Graph, ranges: &[Range], i: u32) -> u32
+    requires { i < length graph.now.operations }
+{
+    let op = graph.operation(i);
+    let open = is_open(range_or(ranges, i as usize));
+    match op.ty {
+        Ty::Bool => if open { i } else { NONE },
+        _ => NONE,
+    }
+}
+
+/// An open condition on which the value of operation `i` depends: one by which a SEL takes, or else a BOOL that is read; no operation where
+/// none is found.
 pub(crate) fn open_condition(graph: &Graph, ranges: &[Range], i: u32) -> u32 {
     let mut at = i;
     'steps: for _ in 0..STEPS {
@@ -67,6 +80,9 @@ pub(crate) fn open_condition(graph: &Graph, ranges: &[Range], i: u32) -> u32 {
             return NONE;
         }
         let next = depends_on(graph, ranges, at);
+        if next == NONE {
+            return read_condition(graph, ranges, at);
+        }
         if takes_by(graph, at, next) {
             return next;
         }

@@ -2,6 +2,7 @@
 
 mod counts;
 mod lines;
+mod variables;
 mod writing;
 
 pub use counts::count_named;

@@ -2,6 +2,7 @@ mod Allowed
 mod Backward
 mod Bits
 mod Conditions
+mod InputValues
 mod Integers
 mod Operands
 mod Outcomes

@@ -19,7 +19,7 @@ use Rattle.range_walk.specs.declared.range.Range.{Range}
 use Rattle.range_walk.specs.declared.range.Stops.{Stops}
 use Rattle.range_walk.specs.declared.told.Told.{Told}
 use Rattle.range_walk.specs.Known.{is_named, may_stop, can_stop_so}
-use Rattle.range_walk.specs.Intervals.{IsIn, LiesIn, Fit, Hold}
+use Rattle.range_walk.specs.Intervals.{IsIn, LiesIn, Fit, Hold, RowIn}
 use Rattle.range_walk.specs.Walking.{Given, OwnFits, Tells, OperandIs, OperandsAre, IsWalk}
 use Rattle.range_walk.proofs.Allowed.{named_able}
 
@@ -71,17 +71,17 @@ operands_are g i op cells entries reads graph there many =
     subst (λ j. OperandsAre cells j op) front are
 
 -- what is told of operation i, where those before it are in these ranges
-abbrev pub TellsAt : List Op → List Range → List Range → ℕ → Told → Type 0
-TellsAt ops cells known i t = (held row vs : List ℤ) (op : Op) → slice_get ops i ≡ Some op → Hold cells held → Given ops held row vs
+abbrev pub TellsAt : List Op → List Range → List Range → List Range → ℕ → Told → Type 0
+TellsAt ops cells inputs known i t = (held row vs : List ℤ) (op : Op) → slice_get ops i ≡ Some op → Hold cells held → RowIn inputs row → Given ops held row vs
     → Fit known vs → length vs ≡ i → Tells held row vs op t
 
 -- the first operations are in these ranges
-abbrev pub FitsSoFar : List Op → List Range → List Range → Type 0
-FitsSoFar ops cells known = (held row vs : List ℤ) → Hold cells held → Given ops held row vs → Fit known vs
+abbrev pub FitsSoFar : List Op → List Range → List Range → List Range → Type 0
+FitsSoFar ops cells inputs known = (held row vs : List ℤ) → Hold cells held → RowIn inputs row → Given ops held row vs → Fit known vs
 
 -- each of the first operations stops only as it is named
-abbrev pub NamesSoFar : List Op → List Range → List Stops → Type 0
-NamesSoFar ops cells stops = (held row vs : List ℤ) (op : Op) (why : StopKind) → length vs < length stops → Hold cells held → Given ops held row vs
+abbrev pub NamesSoFar : List Op → List Range → List Range → List Stops → Type 0
+NamesSoFar ops cells inputs stops = (held row vs : List ℤ) (op : Op) (why : StopKind) → length vs < length stops → Hold cells held → RowIn inputs row → Given ops held row vs
     → slice_get ops (length vs) ≡ Some op → OwnFits row op → why ≢ stop.Operand → outcome_of held row vs op ≡ Err why
     → is_named why (slice_get stops (length vs)) ≡ true
 
@@ -103,43 +103,43 @@ given_front ops held row vs i lt given =
           (subst (λ w. outcome_of held row (take j vs) op ≡ Ok w) (sym (get_or-take i vs j (pos 0) first)) (given.each j op (omega arith) there));
     }
 
-pub fits_more : (ops : List Op) (cells known : List Range) (i : ℕ) (t : Told) → length known ≡ i → i < length ops → TellsAt ops cells known i t
-    → FitsSoFar ops cells known → FitsSoFar ops cells (known ++ t.range ∷ [])
-fits_more ops cells known i t many within tells fits = λ held row vs hold given.
-    let fit : Fit known vs = fits held row vs hold given in
+pub fits_more : (ops : List Op) (cells inputs known : List Range) (i : ℕ) (t : Told) → length known ≡ i → i < length ops → TellsAt ops cells inputs known i t
+    → FitsSoFar ops cells inputs known → FitsSoFar ops cells inputs (known ++ t.range ∷ [])
+fits_more ops cells inputs known i t many within tells fits = λ held row vs hold inside given.
+    let fit : Fit known vs = fits held row vs hold inside given in
     let op = get_there ops i within in
     let here : length known < length vs → IsIn t.range (at vs (length known)) = λ lt.
     let lt' : i < length vs = omega arith in
     let told : Tells held row (take i vs) op.0 t =
-    tells held row (take i vs) op.0 op.1 hold (given_front ops held row vs i lt' given) (fit_front known vs i lt' fit) (length-take-le i vs (omega arith)) in
+    tells held row (take i vs) op.0 op.1 hold inside (given_front ops held row vs i lt' given) (fit_front known vs i lt' fit) (length-take-le i vs (omega arith)) in
     subst (λ n. IsIn t.range (at vs n)) (sym many) (told.value (at vs i) (given.each i op.0 lt' op.1)) in
     λ k r lt there.
     all_more (λ j r. j < length vs → IsIn r (at vs j)) known t.range (λ j r e lt. fit j r lt e) here k r there lt
 
-pub names_more : (ops : List Op) (cells known : List Range) (stops : List Stops) (i : ℕ) (t : Told) → length stops ≡ i → TellsAt ops cells known i t
-    → FitsSoFar ops cells known → NamesSoFar ops cells stops → NamesSoFar ops cells (stops ++ t.stops ∷ [])
-names_more ops cells known stops i t many tells fits names = λ held row vs op why lt hold given there own no e.
+pub names_more : (ops : List Op) (cells inputs known : List Range) (stops : List Stops) (i : ℕ) (t : Told) → length stops ≡ i → TellsAt ops cells inputs known i t
+    → FitsSoFar ops cells inputs known → NamesSoFar ops cells inputs stops → NamesSoFar ops cells inputs (stops ++ t.stops ∷ [])
+names_more ops cells inputs known stops i t many tells fits names = λ held row vs op why lt hold inside given there own no e.
     let P : ℕ → Type 0 = λ n. n ≡ length vs → is_named why (slice_get (stops ++ t.stops ∷ []) n) ≡ true in
     let below : (n : ℕ) → n < length stops → P n = λ n less same.
     let less' : length vs < length stops = omega arith in
     let named : is_named why (slice_get stops n) ≡ true =
-    subst (λ m. is_named why (slice_get stops m) ≡ true) (sym same) (names held row vs op why less' hold given there own no e) in
+    subst (λ m. is_named why (slice_get stops m) ≡ true) (sym same) (names held row vs op why less' hold inside given there own no e) in
     subst (λ s. is_named why s ≡ true) (sym (get_front stops (t.stops ∷ []) n less)) named in
     let here : P (length stops) = λ same.
     let place : length vs ≡ i = omega arith in
     let told : Tells held row vs op t =
-    tells held row vs op (subst (λ m. slice_get ops m ≡ Some op) place there) hold given (fits held row vs hold given) place in
+    tells held row vs op (subst (λ m. slice_get ops m ≡ Some op) place there) hold inside given (fits held row vs hold inside given) place in
     subst (λ s. is_named why s ≡ true) (sym (get_last stops t.stops (length stops) refl)) (told.stop why own no e) in
     let within : length vs < length stops + 1 = omega (arith, length_push stops t.stops) in
     below_more P (length stops) below here (length vs) within refl
 
-pub fits_none : (ops : List Op) (cells known : List Range) → known ≡ [] → FitsSoFar ops cells known
-fits_none ops cells [] e = λ held row vs hold given k r lt there. absurd cc
-fits_none ops cells (r ∷ known) e = absurd cc
+pub fits_none : (ops : List Op) (cells inputs known : List Range) → known ≡ [] → FitsSoFar ops cells inputs known
+fits_none ops cells inputs [] e = λ held row vs hold inside given k r lt there. absurd cc
+fits_none ops cells inputs (r ∷ known) e = absurd cc
 
-pub names_none : (ops : List Op) (cells : List Range) (stops : List Stops) → stops ≡ [] → NamesSoFar ops cells stops
-names_none ops cells [] e = λ held row vs op why lt hold given there own no is. absurd (omega arith)
-names_none ops cells (s ∷ stops) e = absurd cc
+pub names_none : (ops : List Op) (cells inputs : List Range) (stops : List Stops) → stops ≡ [] → NamesSoFar ops cells inputs stops
+names_none ops cells inputs [] e = λ held row vs op why lt hold inside given there own no is. absurd (omega arith)
+names_none ops cells inputs (s ∷ stops) e = absurd cc
 
 -- each of the first operations may stop only so as its kind and types allow
 abbrev pub AbleSoFar : List Op → List Stops → Type 0
@@ -171,16 +171,16 @@ lie_more ops known r i many here lie =
     let last = subst (λ n. (op : Op) → slice_get ops n ≡ Some op → LiesIn op.ty r) (sym many) here in
     all_more (λ k t. (op : Op) → slice_get ops k ≡ Some op → LiesIn op.ty t) known r lie last
 
-pub whole_walk : (ops : List Op) (cells known : List Range) (stops : List Stops) → length known ≡ length ops → length stops ≡ length ops
-    → FitsSoFar ops cells known → NamesSoFar ops cells stops → AbleSoFar ops stops → LieSoFar ops known
-    → IsWalk ops cells (record { known = known; stops = stops })
-whole_walk ops cells known stops known_many stops_many fits names able lie = record {
+pub whole_walk : (ops : List Op) (cells inputs known : List Range) (stops : List Stops) → length known ≡ length ops → length stops ≡ length ops
+    → FitsSoFar ops cells inputs known → NamesSoFar ops cells inputs stops → AbleSoFar ops stops → LieSoFar ops known
+    → IsWalk ops cells inputs (record { known = known; stops = stops })
+whole_walk ops cells inputs known stops known_many stops_many fits names able lie = record {
   known_many = known_many;
   stops_many = stops_many;
-  fits = λ held row vs hold given. fits held row vs hold given;
-  names = λ held row vs op why hold given there own no e.
+  fits = λ held row vs hold inside given. fits held row vs hold inside given;
+  names = λ held row vs op why hold inside given there own no e.
       let lt = slice_get_within ops (length vs) op there in
-      names held row vs op why (omega (arith, lt)) hold given there own no e;
+      names held row vs op why (omega (arith, lt)) hold inside given there own no e;
   able = λ i op why there named. named_able op why (slice_get stops i) (λ s is may. able i s is op why there may) named;
   types = λ i op r there is. lie i r is op there;
 }

@@ -32,3 +32,7 @@ Fit ranges values = (k : ℕ) (r : Range) → k < length values → slice_get ra
 -- each cell holds a value in its range
 abbrev pub Hold : List Range → List ℤ → Type 0
 Hold cells held = (k : ℕ) (r : Range) → slice_get cells k ≡ Some r → IsIn r (at held k)
+
+-- each input has a value in its range, where one is assumed of it: of the first ones, as many as there are
+abbrev pub RowIn : List Range → List ℤ → Type 0
+RowIn inputs row = (k : ℕ) (r : Range) → slice_get inputs k ≡ Some r → IsIn r (at row k)

@@ -13,7 +13,7 @@ use Rattle.op_graph.specs.Rules.{is_input}
 use Rattle.range_walk.specs.declared.range.Range.{Range}
 use Rattle.range_walk.specs.declared.told.Told.{Told}
 use Rattle.range_walk.specs.Known.{KnownRanges, may_stop, is_named, NamesAble, LieInTypes}
-use Rattle.range_walk.specs.Intervals.{IsIn, Fit, Hold}
+use Rattle.range_walk.specs.Intervals.{IsIn, Fit, Hold, RowIn}
 
 -- the first values of a cycle, in which no operation has stopped yet: each is what its operation gives over those before it
 pub record Given (ops : List Op) (held row vs : List ℤ) : Type 0 where
@@ -63,13 +63,14 @@ pub record OperandsAre (cells count : ℕ) (op : Op) : Type 0 where
   pub second : nat_lt 1 (operands op.kind) ≡ true → OperandIs cells count op.kind op.imm op.b
   pub third : nat_lt 2 (operands op.kind) ≡ true → OperandIs cells count op.kind op.imm op.c
 
--- what a walk over the operations tells, from cells in these ranges
-pub record IsWalk (ops : List Op) (cells : List Range) (a : KnownRanges) : Type 0 where
+-- what a walk over the operations tells, from cells in these ranges, of rows whose inputs are in these
+pub record IsWalk (ops : List Op) (cells inputs : List Range) (a : KnownRanges) : Type 0 where
   pub known_many : length a.known ≡ length ops
   pub stops_many : length a.stops ≡ length ops
-  pub fits : (held row vs : List ℤ) → Hold cells held → Given ops held row vs → Fit a.known vs
-  pub names : (held row vs : List ℤ) (op : Op) (why : StopKind) → Hold cells held → Given ops held row vs → slice_get ops (length vs) ≡ Some op
-      → OwnFits row op → why ≢ stop.Operand → outcome_of held row vs op ≡ Err why → is_named why (slice_get a.stops (length vs)) ≡ true
+  pub fits : (held row vs : List ℤ) → Hold cells held → RowIn inputs row → Given ops held row vs → Fit a.known vs
+  pub names : (held row vs : List ℤ) (op : Op) (why : StopKind) → Hold cells held → RowIn inputs row → Given ops held row vs
+      → slice_get ops (length vs) ≡ Some op → OwnFits row op → why ≢ stop.Operand → outcome_of held row vs op ≡ Err why
+      → is_named why (slice_get a.stops (length vs)) ≡ true
   pub able : NamesAble ops a.stops
   pub types : LieInTypes ops a.known
 

@@ -5,6 +5,7 @@
 #![tactic(auto)]
 
 mod choices;
+mod inputs;
 mod narrowing;
 mod operand_ranges;
 mod range;

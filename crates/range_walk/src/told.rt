@@ -118,8 +118,8 @@ fn told_of(op: &Op, a: Range, b: Range, c: Range) -> Told
     }
 }
 
-/// The place of the cell that a LOAD reads.
-fn cell_place(op: &Op) -> usize
+/// The place of the cell that a LOAD reads, or of the input of an INPUT.
+pub(crate) fn own_place(op: &Op) -> usize
     ensures { result ≡ unsigned_abs op.now.imm }
 {
     op.imm.unsigned_abs() as usize
@@ -132,7 +132,7 @@ fn read_range(cells: &[Range], known: &[Range], op: &Op, n: u32) -> Range
 {
     match op.kind {
         Kind::Load => {
-            let place = cell_place(op);
+            let place = own_place(op);
             range_at(cells, place)
         }
         _ => earlier_range(known, n),

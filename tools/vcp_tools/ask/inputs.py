@@ -1,7 +1,7 @@
 """The file of `--inputs`: between which ends the values of inputs lie."""
 from __future__ import annotations
 
-from typing import Sequence
+from typing import Mapping, Sequence
 
 from vcp_tools.ask.cycles import Interval
 from vcp_tools.files import read_bytes
@@ -33,6 +33,11 @@ def read_inputs(file: str, inputs: Sequence[Slot]) -> dict[int, Interval]:
             raise Refusal(f"{where}: `{name}` stands twice")
         found[at] = _interval(ends, inputs[at], where)
     return found
+
+
+def inputs_table(bounds: Mapping[int, Interval], inputs: Sequence[Slot]) -> str:
+    """The table of these ends, as `vcp_study ranges` takes it."""
+    return "".join([",".join(HEAD) + "\n", *(f"{inputs[at].name},{least},{greatest}\n" for at, (least, greatest) in sorted(bounds.items()))])
 
 
 def _interval(cells: Sequence[str], slot: Slot, where: str) -> Interval:

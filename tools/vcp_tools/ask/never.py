@@ -7,7 +7,7 @@ from pathlib import Path
 from typing import Any, Mapping, Sequence
 
 from vcp_tools.ask.cycles import Instant, Interval, Relation, solver_module
-from vcp_tools.ask.inputs import read_inputs
+from vcp_tools.ask.inputs import inputs_table, read_inputs
 from vcp_tools.ask.operations import Graph, graph_of
 from vcp_tools.ask.question import Compiled, Copy, Subject, named_in
 from vcp_tools.ask.replay import Replay
@@ -54,10 +54,17 @@ def run(given: argparse.Namespace) -> int:
     begun = time.monotonic()
     question = Question(given.program, given.condition, given.assume)
     with Compiled(question.vcp, question.copy) as compiled:
-        graph = question.graph(compiled.file)
-        bounds = read_inputs(given.inputs, graph.inputs) if given.inputs else {}
-        if graph.ranges[graph.output(question.asked).operation] in ((0, 0), None):
+        graph = question.operations(compiled.file)
+        if question.is_never(graph):
+            question.must_not_stop(graph)
             print(f"never: proved by ranges, for every run{_beyond(given)} ({time.monotonic() - begun:.1f} s)")
+            return FINE
+        bounds = read_inputs(given.inputs, graph.inputs) if given.inputs else {}
+        if bounds:
+            graph = question.operations(compiled.file, inputs_table(bounds, graph.inputs))
+        question.must_not_stop(graph)
+        if question.is_never(graph):
+            print(f"never: proved by ranges; inputs as in {given.inputs} ({time.monotonic() - begun:.1f} s)")
             return FINE
         answer = question.search(graph, bounds, Deadline(given.seconds)).run(given.cycles)
         return _told(given, question, compiled, answer, begun)
@@ -80,15 +87,21 @@ class Question:
         self.asked = self.copy.ask(condition)
         self.assumed = None if assumed is None else self.copy.ask(assumed)
 
-    def graph(self, file: Path) -> Graph:
-        """The operations of the copy; a refusal where those of a question may stop, for then its runs aren't those of the program."""
-        graph = graph_of(self.vcp, self.study, file, self.subject.file)
+    def operations(self, file: Path, inputs: str | None = None) -> Graph:
+        """The operations of the copy, of runs within a table of inputs where one is given."""
+        return graph_of(self.vcp, self.study, file, self.subject.file, inputs)
+
+    def is_never(self, graph: Graph) -> bool:
+        """What was asked is false in each cycle, by the ranges."""
+        return graph.ranges[graph.output(self.asked).operation] in ((0, 0), None)
+
+    def must_not_stop(self, graph: Graph) -> None:
+        """A refusal where the operations of a question may stop, for then the runs of the copy aren't those of the program."""
         for stop in graph.may_stop:
             if stop.line in self.copy.asked:
                 text = self.copy.asked[stop.line]
                 why = "its divisor may be 0" if stop.cause == "DIVZERO" else "its value may leave the type: compute it in a wider one, as by INT_TO_DINT(x)"
                 raise Refusal(f"`{text}`: the {stop.kind} in column {stop.column} may stop: {why}")
-        return graph
 
     def search(self, graph: Graph, bounds: Mapping[int, Interval], deadline: Deadline) -> Search:
         """What looks for the condition."""
@@ -108,7 +121,7 @@ class Question:
 def _told(given: argparse.Namespace, question: Question, compiled: Compiled, answer: Answer, begun: float) -> int:
     """Prints an answer of the search."""
     under = "".join([f"; assumed: {given.assume}" if given.assume else "",
-                     f"; inputs as in {given.inputs}, without which `ranges` was asked" if given.inputs else ""])
+                     f"; inputs as in {given.inputs}" if given.inputs else ""])
     if isinstance(answer, Comes):
         return _comes(given, question, compiled, answer, begun)
     took = f"{time.monotonic() - begun:.1f} s"

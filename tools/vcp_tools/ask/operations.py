@@ -52,14 +52,19 @@ def read_listing(text: str) -> list[Operation]:
     return found
 
 
-def graph_of(vcp: Program, study: Program, source: Path, shown: str) -> Graph:
-    """The operations that a source is compiled to, and what is proved of their values; a refusal, with the name that is shown, where it isn't compiled."""
+def graph_of(vcp: Program, study: Program, source: Path, shown: str, inputs: str | None = None) -> Graph:
+    """The operations that a source is compiled to, and what is proved of their values, of rows within a table of inputs where one is given; a refusal, with the
+    name that is shown, where it isn't compiled."""
     image = vcp.must("compile", source, shown=("compile", shown)).output
     with tempfile.TemporaryDirectory() as folder:
         at = Path(folder) / "image"
         write_bytes(at, image)
         operations = read_listing(vcp.must("list", at, shown=("list", "M")).text)
-        told = read_ranges_of_all(study.must("ranges", at, "--all", or_found=True, shown=("ranges", "M", "--all")).text)
+        words: list[str | Path] = ["--all"]
+        if inputs is not None:
+            words += ["--inputs", Path(folder) / "inputs.csv"]
+            write_bytes(Path(folder) / "inputs.csv", inputs.encode())
+        told = read_ranges_of_all(study.must("ranges", at, *words, or_found=True, shown=("ranges", "M", "--all")).text)
     return graph_with(operations, image, told)
 
 

@@ -168,6 +168,8 @@ class Comparison:
         if self.trees_a[a.number] == self.trees_b[b.number]:
             return None
         while self._same_head(a, b) and not self._is_exchanged(a, b) and not self._both_know(a, b):
+            if self._is_elsewhere(Parting(a, b, reader_a, reader_b)):
+                break
             reader_a, reader_b = a, b
             x, y = next((x, y) for x, y in zip(a.operands, b.operands) if self.trees_a[x] != self.trees_b[y])
             a, b = self.a.image.operations[x], self.b.image.operations[y]
@@ -177,13 +179,20 @@ class Comparison:
         """Whether each side has the other one's operation, too, so that neither is new."""
         return self.trees_a[one.number] in self.known_b and self.trees_b[other.number] in self.known_a
 
+    def _is_elsewhere(self, parting: Parting) -> bool:
+        """Whether one of both is an operation that the other side has, too, and that stands in another line than what reads it here. Of what an OUT or STORE
+        reads, whose place is the declaration, that says nothing."""
+        a, b = self.trees_a[parting.a.number] in self.known_b, self.trees_b[parting.b.number] in self.known_a
+        is_in_a, is_in_b = (it.line != reader.line for it, reader in ((parting.a, parting.reader_a), (parting.b, parting.reader_b)))
+        return _has_place(parting.reader_a) and _has_place(parting.reader_b) and (a and is_in_a or b and is_in_b)
+
     def _is_told_by_readers(self, parting: Parting) -> bool:
-        """Whether what parts is told where it is read: where neither is new, or one is a constant that stands elsewhere for the first time. Of an OUT or
-        STORE, whose place is the declaration, it isn't."""
+        """Whether what parts is told where it is read: where neither is new, or one stands elsewhere, as a constant does that is read for the first time."""
         pairs = (parting.a, parting.reader_a), (parting.b, parting.reader_b)
-        if any(not reader.line or reader.kind in ("OUT", "STORE") for _, reader in pairs):
+        if not all(_has_place(reader) for _, reader in pairs):
             return False
-        return self._both_know(parting.a, parting.b) or any(it.kind == "CONST" and it.line != reader.line for it, reader in pairs)
+        is_constant = any(it.kind == "CONST" and it.line != reader.line for it, reader in pairs)
+        return is_constant or self._both_know(parting.a, parting.b) or self._is_elsewhere(parting)
 
     def _is_exchanged(self, one: Operation, other: Operation) -> bool:
         """Whether two operations of one kind have the same operands in another order."""
@@ -211,6 +220,11 @@ class Comparison:
             if first:
                 more = f", and {len(first) - 1} more" if len(first) > 1 else ""
                 yield f"only {side} may stop at {given.told(first[0])}{more}"
+
+
+def _has_place(reader: Operation) -> bool:
+    """Whether an operation stands where its operands are read: an OUT or STORE stands at the declaration."""
+    return bool(reader.line) and reader.kind not in ("OUT", "STORE")
 
 
 def _resting_on(image: Image, operations: set[int]) -> set[int]:

@@ -271,15 +271,12 @@ def _unreached_note(case: Case, script: list[str], line: int) -> str:
 
 def _may_stop(case: Case) -> str:
     """The operations that may stop with any rows, each with the ranges of what it reads; no section where there is none, or where they weren't looked for."""
-    if case.ranges is None or not case.ranges.lines:
+    if case.ranges is None or not case.ranges.may_stop:
         return ""
-    rows = []
-    for line in case.ranges.lines:
-        number, _, stop, rest = line.split(" ", 3)
-        cells = _operation_cells(case, case.image.operations[int(number)])
-        rows.append((*cells, code(stop), code(rest.partition(" at ")[0])))
-    note = element("p", "As far as the ranges of all values tell: that an operation is named doesn't say that it can stop.", class_="dim")
-    return section("ranges", "What may stop, whatever the rows", note + table(("no.", "kind", "name", "place", "line", "stop", "reads values"), rows, (0,)))
+    rows = [(*_operation_cells(case, case.image.operations[it.operation]), code(it.cause), code(it.reads)) for it in case.ranges.may_stop]
+    searched = "" if case.ranges.searched else " The image has too many operations to be searched closer."
+    note = element("p", f"As far as the ranges of all values tell: that an operation is named doesn't say that it can stop.{searched}", class_="dim")
+    return section("ranges", "What may stop, whatever the rows", note + table(("no.", "kind", "name", "place", "line", "stop", "reads"), rows, (0,)))
 
 
 def _remark(script: list[str], line: int) -> str:

@@ -3,14 +3,20 @@ from __future__ import annotations
 
 import argparse
 import sys
+from itertools import chain
+from typing import Iterator, Mapping, Sequence
 
+from vcp_tools.ask.cycles import Interval
+from vcp_tools.ask.inputs import read_inputs
 from vcp_tools.ask.reach import add_words as add_reach_words, run as run_reach
 from vcp_tools.explain.hints_rows import Looked, encoding_of
 from vcp_tools.files import read_bytes
 from vcp_tools.cycle_time import CycleTime, read_cycle_time
 from vcp_tools.refusal import FINE, FOUND, Refusal
 from vcp_tools.read.declarations import inputs_of
-from vcp_tools.read.rows_file import Record, record_of, stream_rows
+from vcp_tools.read.image import Slot
+from vcp_tools.read.rows_file import Record, cell_value, record_of, stream_rows
+from vcp_tools.read.syntax import Declaration
 from vcp_tools.rows.stimuli import read_stimuli, rows_of, stimuli_lines
 
 MOST_TOLD = 200
@@ -29,6 +35,7 @@ def add_words(parser: argparse.ArgumentParser) -> None:
     check = below.add_parser("check", help="what is wrong in a rows file, or accepted without warning")
     check.add_argument("rows", help="a rows file")
     check.add_argument("program", nargs="?", help="the source whose inputs these are: names and cells are looked at, too")
+    check.add_argument("--inputs", metavar="FILE", help="a table `input,least,greatest`, as `vcp_study ranges` takes it: the rows that break it are told")
     reach = below.add_parser("reach", help="rows by which each branch and label is taken, and each BOOL output turns; and what no row reaches")
     add_reach_words(reach)
 
@@ -39,7 +46,7 @@ def run(given: argparse.Namespace) -> int:
         return run_reach(given)
     if given.what == "make":
         return _make(given.stimuli, given.program, read_cycle_time(given.cycle_time) if given.cycle_time else None)
-    return _back(given.rows) if given.what == "stimuli" else _check(given.rows, given.program)
+    return _back(given.rows) if given.what == "stimuli" else _check(given.rows, given.program, given.inputs)
 
 
 def _make(file: str, program: str | None, period: CycleTime | None) -> int:
@@ -73,17 +80,42 @@ def header_of(data: bytes, file: str) -> Record:
     return header
 
 
-def _check(file: str, program: str | None) -> int:
+def _check(file: str, program: str | None, inputs: str | None) -> int:
+    if inputs and program is None:
+        raise Refusal("rows check: `--inputs` wants the program whose inputs these are: rows check ROWS P --inputs FILE")
     data = read_bytes(file)
-    looked = Looked(data, inputs_of(program) if program else None)
+    declared = inputs_of(program) if program else None
+    within = read_inputs(inputs, [Slot(it.name, it.type, number) for number, it in enumerate(declared)]) if inputs and declared is not None else {}
+    looked = Looked(data, declared)
     lines = data.count(b"\n")
     told = 0
-    for hint in looked.faults(lambda record: print(f"rows: {record} of {lines} records", file=sys.stderr)):
+    for message in chain((f"{hint.line}:{hint.start + 1}: {hint.message}" for hint in
+                          looked.faults(lambda record: print(f"rows: {record} of {lines} records", file=sys.stderr))),
+                         _broken(data, declared or [], within, inputs)):
         told += 1
         if told <= MOST_TOLD:
-            print(f"{file}:{hint.line}:{hint.start + 1}: {hint.message}")
+            print(f"{file}:{message}")
     if told > MOST_TOLD:
         print(f"{file}: and {told - MOST_TOLD} more")
     elif not told and looked.header is not None:
-        print(f"{file}: {looked.rows} rows of {len(looked.header.fields)} inputs, and nothing that vcp accepts without warning")
+        kept = f", all as in {inputs}" if inputs else ""
+        print(f"{file}: {looked.rows} rows of {len(looked.header.fields)} inputs{kept}, and nothing that vcp accepts without warning")
     return FOUND if told else FINE
+
+
+def _broken(data: bytes, declared: Sequence[Declaration], within: Mapping[int, Interval], inputs: str | None) -> Iterator[str]:
+    """The cells whose values aren't between the ends that are assumed of their inputs; what is no value of its type is told elsewhere."""
+    header = record_of(data, 1)
+    if header is None or not within:
+        return
+    ends = {declared[number].name.upper(): (declared[number].type, *interval) for number, interval in within.items()}
+    columns = [ends.get(name.upper()) for name in header.cells]
+    for record in stream_rows(data):
+        if isinstance(record, int) or record.number == 1:
+            continue
+        for at, (cell, column) in enumerate(zip(record.cells, columns)):
+            value = cell_value(cell, column[0]) if column else None
+            if column and value is not None and not column[1] <= value <= column[2]:
+                start = sum(len(field) + 1 for field in record.fields[:at])
+                where = f"{record.line}:{start + 1}"
+                yield f"{where}: {header.cells[at]} is {value} in cycle {record.number - 2}: {column[1]} to {column[2]} is assumed by {inputs}"

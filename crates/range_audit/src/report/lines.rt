@@ -1,13 +1,13 @@
 //! The lines of an operation.
 
-ghost use Rattle.std.specs.Prelude.{◌≡◌, ◌++◌, Some, codes, slice_get};
-ghost use Rattle.run_report.specs.OperationLines.{source_text};
+ghost use Rattle.std.specs.Prelude.{◌≡◌, ◌++◌, Some, codes, slice_get, unsigned_abs};
+ghost use Rattle.run_report.specs.Variables.{variable_of as name_of_variable};
 ghost use Rattle.vcp_outside.specs.Gathering.{GathersTo};
-ghost use Rattle.range_audit.specs.RangeText.{ends_text, range_text, there_text, operand_text, operands_text, front_text, named_text, known_text};
+ghost use Rattle.range_audit.specs.RangeText.{ends_text, range_text, there_text, spaced, short_text, operation_name, read_text, operand_text, operands_text, named_text, known_text};
 
 use op_graph::{Graph, Op};
 use range_walk::Range;
-use run_report::then_source;
+use run_report::{then_source, variable_name};
 use vcp_base::{Kind, StopKind, kind_name, operands, stop_name};
 use vcp_outside::{Line, Sink};
 
@@ -31,64 +31,132 @@ fn then_range<O: Sink>(line: &mut Line, out: &mut O, range: Range)
     }
 }
 
-/// Goes on with a word and a range.
-fn then_word<O: Sink>(line: &mut Line, out: &mut O, word: &[u8], range: Range)
-    ensures { GathersTo (O.seen out.old) (O.seen out.new) line.old line.new (word.now ++ range_text range) }
+/// Goes on with a range behind a space.
+fn then_spaced_range<O: Sink>(line: &mut Line, out: &mut O, range: Range)
+    ensures { GathersTo (O.seen out.old) (O.seen out.new) line.old line.new (codes " " ++ range_text range) }
 {
-    line.text(out, word);
+    line.text(out, b" ");
     then_range(line, out, range);
 }
 
-/// Goes on with a word and the range of operation `n`, where it is there.
-fn then_there<O: Sink>(line: &mut Line, out: &mut O, known: &[Range], word: &[u8], n: u32)
-    ensures { GathersTo (O.seen out.old) (O.seen out.new) line.old line.new (there_text word.now (slice_get known.now n)) }
+/// Goes on with the range of operation `n` behind a space, where it is there.
+pub(crate) fn then_there<O: Sink>(line: &mut Line, out: &mut O, known: &[Range], n: u32)
+    ensures { GathersTo (O.seen out.old) (O.seen out.new) line.old line.new (there_text (slice_get known.now n)) }
 {
     if let Some(range) = known.get(n as usize) {
-        then_word(line, out, word, *range);
+        then_spaced_range(line, out, *range);
     }
 }
 
-/// Goes on with a word and the range of operand `j`, which is operation `n`, where the kind has one.
+/// Goes on with a space and a name.
+fn then_name<O: Sink>(line: &mut Line, out: &mut O, name: &[u8])
+    ensures { GathersTo (O.seen out.old) (O.seen out.new) line.old line.new (codes " " ++ name.now) }
+{
+    line.text(out, b" ");
+    line.text(out, name);
+}
+
+/// Goes on with a name behind a space, where there is one.
+fn then_spaced<O: Sink>(line: &mut Line, out: &mut O, name: &[u8])
+    ensures { GathersTo (O.seen out.old) (O.seen out.new) line.old line.new (spaced name.now) }
+{
+    if name.len() != 0 {
+        then_name(line, out, name);
+    }
+}
+
+/// The number of an operation's own input, cell or output.
+fn own_number(op: &Op) -> u64
+    ensures { result ≡ unsigned_abs op.now.imm }
+{
+    op.imm.unsigned_abs()
+}
+
+/// The name of the variable that an operation reads or writes; nothing where it does neither.
+fn variable_of<'a>(graph: &'a Graph, op: &Op) -> &'a [u8]
+    ensures { result.now ≡ name_of_variable graph.now op.now }
+{
+    let own = own_number(op);
+    variable_name(graph, op.kind, own)
+}
+
+/// Goes on with the number, the kind and the variable of an operation.
+fn then_short<O: Sink>(line: &mut Line, out: &mut O, graph: &Graph, i: u32, op: &Op)
+    ensures { GathersTo (O.seen out.old) (O.seen out.new) line.old line.new (short_text graph.now i op.now) }
+{
+    line.count(out, i as u64);
+    line.text(out, b" ");
+    line.text(out, kind_name(op.kind));
+    then_spaced(line, out, variable_of(graph, op));
+}
+
+/// Goes on with operation `i`, which is `op`: its number, kind, variable and place.
+fn then_operation_name<O: Sink>(line: &mut Line, out: &mut O, graph: &Graph, i: u32, op: &Op)
+    requires { slice_get graph.now.operations i ≡ Some op.now }
+    ensures { GathersTo (O.seen out.old) (O.seen out.new) line.old line.new (operation_name graph.now i op.now) }
+{
+    line.text(out, b"operation ");
+    then_short(line, out, graph, i, op);
+    then_source(line, out, graph, i);
+}
+
+/// Goes on with a word, operation `n`, which is `op`, in short, and its range.
+fn then_op<O: Sink>(
+    line: &mut Line,
+    out: &mut O,
+    graph: &Graph,
+    known: &[Range],
+    n: u32,
+    op: &Op,
+    word: &[u8],
+)
+    ensures { GathersTo (O.seen out.old) (O.seen out.new) line.old line.new (read_text graph.now known.now n word.now (Some op.now)) }
+{
+    line.text(out, word);
+    then_short(line, out, graph, n, op);
+    then_there(line, out, known, n);
+}
+
+/// Goes on with a word, operation `n` in short, and its range, where it is there.
+fn then_read<O: Sink>(
+    line: &mut Line,
+    out: &mut O,
+    graph: &Graph,
+    known: &[Range],
+    n: u32,
+    word: &[u8],
+)
+    ensures { GathersTo (O.seen out.old) (O.seen out.new) line.old line.new (read_text graph.now known.now n word.now (slice_get graph.now.operations n)) }
+{
+    if let Some(op) = graph.operations().get(n as usize) {
+        then_op(line, out, graph, known, n, op, word);
+    }
+}
+
+/// The same of operand `j`, which is operation `n`, where the kind has one.
 fn then_operand<O: Sink>(
     line: &mut Line,
     out: &mut O,
+    graph: &Graph,
     known: &[Range],
     kind: Kind,
     j: u32,
     n: u32,
     word: &[u8],
 )
-    ensures { GathersTo (O.seen out.old) (O.seen out.new) line.old line.new (operand_text known.now kind j n word.now) }
+    ensures { GathersTo (O.seen out.old) (O.seen out.new) line.old line.new (operand_text graph.now known.now kind j n word.now) }
 {
     if j < operands(kind) {
-        then_there(line, out, known, word, n);
+        then_read(line, out, graph, known, n, word);
     }
 }
 
-/// Goes on with the ranges of the first two operands.
-fn then_operands<O: Sink>(line: &mut Line, out: &mut O, known: &[Range], op: &Op)
-    ensures { GathersTo (O.seen out.old) (O.seen out.new) line.old line.new (operands_text known.now op.now) }
+/// Goes on with what an operation reads as its first two operands.
+fn then_operands<O: Sink>(line: &mut Line, out: &mut O, graph: &Graph, known: &[Range], op: &Op)
+    ensures { GathersTo (O.seen out.old) (O.seen out.new) line.old line.new (operands_text graph.now known.now op.now) }
 {
-    then_operand(line, out, known, op.kind, 0, op.a, b" of ");
-    then_operand(line, out, known, op.kind, 1, op.b, b" and ");
-}
-
-/// Goes on with the number and the kind of an operation.
-fn then_front<O: Sink>(line: &mut Line, out: &mut O, i: u32, op: &Op)
-    ensures { GathersTo (O.seen out.old) (O.seen out.new) line.old line.new (front_text i op.now) }
-{
-    line.count(out, i as u64);
-    line.text(out, b" ");
-    line.text(out, kind_name(op.kind));
-}
-
-/// Goes on with the place of operation `i`, which is `op`, and the end of its line.
-fn then_place<O: Sink>(line: &mut Line, out: &mut O, graph: &Graph, i: u32, op: &Op)
-    requires { slice_get graph.now.operations i ≡ Some op.now }
-    ensures { GathersTo (O.seen out.old) (O.seen out.new) line.old line.new (source_text graph.now op.now ++ codes "\n") }
-{
-    then_source(line, out, graph, i);
-    line.text(out, b"\n");
+    then_operand(line, out, graph, known, op.kind, 0, op.a, b" of ");
+    then_operand(line, out, graph, known, op.kind, 1, op.b, b" and ");
 }
 
 /// Goes on with the line that operation `i`, which is `op`, may stop, and why.
@@ -104,11 +172,11 @@ pub(crate) fn then_named<O: Sink>(
     requires { slice_get graph.now.operations i ≡ Some op.now }
     ensures { GathersTo (O.seen out.old) (O.seen out.new) line.old line.new (named_text graph.now known.now i op.now why) }
 {
-    then_front(line, out, i, op);
+    then_operation_name(line, out, graph, i, op);
     line.text(out, b" ");
     line.text(out, stop_name(why));
-    then_operands(line, out, known, op);
-    then_place(line, out, graph, i, op);
+    then_operands(line, out, graph, known, op);
+    line.text(out, b"\n");
 }
 
 /// Goes on with the line of the range of operation `i`, which is `op`.
@@ -123,7 +191,7 @@ pub(crate) fn then_known<O: Sink>(
     requires { slice_get graph.now.operations i ≡ Some op.now }
     ensures { GathersTo (O.seen out.old) (O.seen out.new) line.old line.new (known_text graph.now known.now i op.now) }
 {
-    then_front(line, out, i, op);
-    then_there(line, out, known, b" ", i);
-    then_place(line, out, graph, i, op);
+    then_operation_name(line, out, graph, i, op);
+    then_there(line, out, known, i);
+    line.text(out, b"\n");
 }

@@ -3,10 +3,12 @@
 ghost use Rattle.std.specs.Prelude.{◌≡◌, ◌<◌, [], cond, length, slice_get};
 ghost use Rattle.vcp_outside.specs.Written.{WritesTo};
 ghost use Rattle.vcp_outside.specs.Gathering.{GathersTo};
-ghost use Rattle.range_audit.specs.RangeText.{named_text, known_text, lines_of, lines_below, ranges_text};
+ghost use Rattle.range_audit.specs.RangeText.{named_text, known_text, lines_of, lines_below, variables_text, search_text, ranges_text};
 
+use crate::families::MOST_SEARCHED;
 use crate::report::counts::{count_able, count_named, stops_of};
 use crate::report::lines::{then_known, then_named};
+use crate::report::variables::then_variables;
 use op_graph::{Graph, Op};
 use range_walk::{Range, Ranges};
 use vcp_base::StopKind;
@@ -99,11 +101,36 @@ fn then_operations<O: Sink>(line: &mut Line, out: &mut O, graph: &Graph, ranges:
     }
 }
 
+/// Goes on with the lines of outputs and of variables that are kept, where all are told.
+fn then_variables_if<O: Sink>(
+    line: &mut Line,
+    out: &mut O,
+    graph: &Graph,
+    known: &[Range],
+    all: bool,
+)
+    ensures { GathersTo (O.seen out.old) (O.seen out.new) line.old line.new (cond all (variables_text graph.now known.now) []) }
+{
+    if all {
+        then_variables(line, out, graph, known);
+    }
+}
+
+/// Goes on with the line that it wasn't searched closer, where a graph has too many operations.
+fn then_search<O: Sink>(line: &mut Line, out: &mut O, graph: &Graph)
+    ensures { GathersTo (O.seen out.old) (O.seen out.new) line.old line.new (search_text (length graph.now.operations)) }
+{
+    if graph.len() > MOST_SEARCHED {
+        line.text(out, b"no search: more than 8192 operations\n");
+    }
+}
+
 /// Writes a line for each way in which an operation may stop, in order, and before these, where `all` are told, one with the range of
-/// each operation; at last how many may stop, of how many that can by their kinds and types. It takes no memory. After `Failed` a part
-/// of the text is written.
+/// each operation, and first of all one of each output and of each variable that is kept; at last how many may stop, of how many that can
+/// by their kinds and types, and before that a line where the graph has too many operations to be searched closer. It takes no memory. After
+/// `Failed` a part of the text is written.
 ///
-/// A line has the ranges of the operation's first two operands, its place and its turns. Of a range its ends
+/// A line has the operation's place and turns, and of one that may stop its first two operands with their ranges. Of a range its ends
 /// are written; that 0 isn't in it, as of a divisor that was tested, isn't.
 pub fn write_ranges<O: Sink>(
     out: &mut O,
@@ -115,7 +142,10 @@ pub fn write_ranges<O: Sink>(
     ensures { WritesTo (O.seen out.old) (O.seen out.new) (ranges_text all graph.now ranges.now) result }
 {
     let mut line = Line::new();
+    let known = ranges.known();
+    then_variables_if(&mut line, out, graph, known, all);
     then_operations(&mut line, out, graph, ranges, all);
+    then_search(&mut line, out, graph);
     line.text(out, b"may stop ");
     line.count(out, count_named(graph, ranges) as u64);
     line.text(out, b" of ");

@@ -4,14 +4,14 @@ use Rattle.range_walk.specs.Intervals.{Fit}
 use Rattle.range_audit.proofs.asking.stops_of.Goals as goal
 
 pub returns-then-enough : goal.returns-then-enough
-returns-then-enough c = λ held row vs op why hold given whole there own no e.
-    let fit = subst (λ ks. Fit ks vs) (sym c.known-known.ensures) (c.requires.walk.fits held row vs hold given) in
+returns-then-enough c = λ held row vs op why hold row_in given whole there own no e.
+    let fit = subst (λ ks. Fit ks vs) (sym c.known-known.ensures) (c.requires.walk.fits held row vs hold row_in given) in
     c.in_ok-closer.ensures held row vs op why hold given whole fit there own no e
 
 pub returns : goal.returns
-returns c = λ held row vs op why hold given whole there own no e.
+returns c = λ held row vs op why hold row_in given whole there own no e.
     let here = subst (λ k. slice_get c.args.graph.now.operations k ≡ Some op) (sym whole) there in
-    let named = c.requires.walk.names held row vs op why hold given here own no e in
+    let named = c.requires.walk.names held row vs op why hold row_in given here own no e in
     let at_place = subst (λ k. is_named why (slice_get c.args.told.now.stops k) ≡ true) whole named in
     let is = ap (λ ss. slice_get ss c.args.i) (sym c.stops-stops.ensures) ∙ c.stops_at-plain.ensures in
     subst (λ o. is_named why o ≡ true) is at_place

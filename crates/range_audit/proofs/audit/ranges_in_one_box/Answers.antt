@@ -5,6 +5,7 @@ use Rattle.range_audit.proofs.audit.ranges_in_one_box.Goals as goal
 pub returns : goal.returns
 returns c =
     let g = c.args.graph.now in
+    let inputs = c.args.inputs.now in
     let cells = c.args.cells.now in
     let told = c.in_ok-told.told in
     let walk = c.in_ok-told.ensures in
@@ -15,9 +16,9 @@ returns c =
     record {
       known = walk.known_many;
       stops = walk.stops_many;
-      holds = holds g cells told walk settled laws graph;
-      names = names g (Hold cells) told.stops walk.names settled laws rules graph;
-      ends = ends g (Hold cells) told.stops walk.names settled laws rules graph;
+      holds = holds g inputs cells told walk settled laws graph;
+      names = names g inputs (Hold cells) told.stops walk.names settled laws rules graph;
+      ends = ends g inputs (Hold cells) told.stops walk.names settled laws rules graph;
       able = walk.able;
       types = walk.types;
     }

@@ -1,33 +1,20 @@
-use Rattle.std.proofs.Common.{length, sym, ap, subst, ◌∙◌}
-use Rattle.range_walk.specs.Intervals.{Hold}
-use Rattle.range_audit.specs.Searching.{AreSettled}
-use Rattle.range_audit.proofs.NoneNamed.{never}
+use Rattle.std.proofs.Common.{refl}
+use Rattle.range_audit.proofs.NoneNamed.{never, of_all_rows}
 use Rattle.range_audit.proofs.audit.ranges_of.Goals as goal
-
-pub ranges_in_one_box-requires : goal.ranges_in_one_box-requires
-ranges_in_one_box-requires c =
-    let cells = c.in_ok-cells.ensures in
-    let same = c.deref.ensures.value in
-    record {
-      graph = cells.graph;
-      many = ap length same ∙ cells.many;
-      settled = subst (λ rs. AreSettled c.args.graph.now (Hold rs)) (sym same) cells.settled;
-    }
-
-pub closer-requires : goal.closer-requires
-closer-requires c =
-    let cells = c.in_ok-cells.ensures in
-    let same = c.deref-2.ensures.value in
-    record {
-      graph = cells.graph;
-      audit = c.in_ok-ranges.ensures;
-      many = ap length same ∙ cells.many;
-      settled = subst (λ rs. AreSettled c.args.graph.now (Hold rs)) (sym same) cells.settled;
-    }
 
 pub returns : goal.returns
 returns c =
     let g = c.args.graph.now in
     let told = c.in_ok-told.told in
-    let is = c.in_ok-told.ensures in
+    let within = c.in_ok-told.ensures in
+    let is = of_all_rows g _ told refl
+    (record {
+      known = within.known;
+      stops = within.stops;
+      holds = within.holds;
+      names = within.names;
+      ends = within.ends;
+      able = within.able;
+      types = within.types;
+    }) in
     record { known = is.known; stops = is.stops; holds = is.holds; names = is.names; ends = is.ends; able = is.able; types = is.types; never = never g told is }

@@ -19,8 +19,8 @@ boxes-preserved c =
     let is = c.in_ok-kept.kept in
     λ e.
     let both : (c.boxes.all && is) ≡ true = sym c.both_hold-both.ensures ∙ e in
-    below_more (λ j. EndsFrom g boxes c.args.count (start_of many j)) c.boxes.k (i (and_parts c.boxes.all is both).0)
-    (subst (λ s. EndsFrom g boxes c.args.count s) start (c.in_ok-kept.ensures (and_parts c.boxes.all is both).1))
+    below_more (λ j. EndsFrom g c.args.inputs.now boxes c.args.count (start_of many j)) c.boxes.k (i (and_parts c.boxes.all is both).0)
+    (subst (λ s. EndsFrom g c.args.inputs.now boxes c.args.count s) start (c.in_ok-kept.ensures (and_parts c.boxes.all is both).1))
 
 pub returns : goal.returns
 returns c = λ e k lt. c.boxes.invariant e k (omega (arith, lt, c.boxes-test.false, c.boxes.auto.k-end))

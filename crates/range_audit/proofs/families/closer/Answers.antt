@@ -11,6 +11,6 @@ with_family-requires c =
     record {
       graph = c.requires.graph;
       room = omega (arith, one, c.requires.many);
-      settled = one_box g cells c.requires.many c.requires.settled;
+      settled = one_box g c.args.inputs.now cells c.requires.many c.requires.settled;
       audit = c.requires.audit;
     }

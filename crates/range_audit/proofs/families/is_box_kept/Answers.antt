@@ -5,18 +5,18 @@ use Rattle.range_audit.specs.Searching.{HoldAt}
 use Rattle.range_audit.proofs.families.is_box_kept.Goals as goal
 
 pub returns-then-none : goal.returns-then-none
-returns-then-none c = λ e held row vs inside given whole.
+returns-then-none c = λ e held row vs inside row_in given whole.
     let n = c.has_none-none.ensures c.if-none.true in
     let boxed = subst (λ m. HoldAt c.args.boxes.now m c.args.start held) (sym c.cell_count-many.ensures) inside in
     let hold = subst (λ rs. Hold rs held) (sym c.deref.ensures.value) (c.in_ok-cells.ensures.holds held boxed) in
     absurd (n.3 (at held n.0) (hold n.0 n.1 n.2))
 
 pub returns : goal.returns
-returns c = λ e held row vs inside given whole.
+returns c = λ e held row vs inside row_in given whole.
     let g = c.args.graph.now in
     let boxed = subst (λ m. HoldAt c.args.boxes.now m c.args.start held) (sym c.cell_count-many.ensures) inside in
     let hold = c.in_ok-cells.ensures.holds held boxed in
     let walked = subst (λ rs. Hold rs held) (sym c.deref-2.ensures.value) hold in
     let cased = subst (λ rs. Hold rs held) (sym c.deref-3.ensures.value) hold in
-    let fit = subst (λ ks. Fit ks vs) (sym c.known-known.ensures) (c.in_ok-told.ensures.fits held row vs walked given) in
+    let fit = subst (λ ks. Fit ks vs) (sym c.known-known.ensures) (c.in_ok-told.ensures.fits held row vs walked row_in given) in
     c.in_ok-is.ensures e held row vs cased given whole fit

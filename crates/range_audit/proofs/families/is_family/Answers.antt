@@ -16,8 +16,8 @@ returns c = λ e.
     record {
       at_first = subst (λ n. InBox boxes n c.args.count (initial g)) (ap length c.deref.ensures.value ∙ many)
           (c.is_in_one-begins.ensures (and_parts c.is_in_one-begins.result c.in_ok-kept.kept both).0 (initial g) first);
-      next = λ held row inside fit whole.
+      next = λ held row inside fit row_in whole.
           let values = (cycle g held row).values in
           let is = whole_cycle g held row whole in
-          c.in_ok-kept.ensures (and_parts c.is_in_one-begins.result c.in_ok-kept.kept both).1 inside.0 inside.1 held row values inside.2 is.0 is.1;
+          c.in_ok-kept.ensures (and_parts c.is_in_one-begins.result c.in_ok-kept.kept both).1 inside.0 inside.1 held row values inside.2 row_in is.0 is.1;
     }

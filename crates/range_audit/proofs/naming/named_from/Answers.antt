@@ -18,13 +18,13 @@ boxes-preserved c =
     let new = c.in_ok-more.more.items in
     record {
       many = c.in_ok-more.ensures.many;
-      named = below_more (λ j. NamesFrom g.operations (HoldAt boxes many (start_of many j)) new) c.boxes.k
-          (λ j lt held row vs op why inside given there own no e.
-          c.in_ok-more.ensures.kept why (length vs) (i.named j lt held row vs op why inside given there own no e))
-          (subst (λ s. NamesFrom g.operations (HoldAt boxes many s) new) start c.in_ok-more.ensures.named);
+      named = below_more (λ j. NamesFrom g.operations c.args.inputs.now (HoldAt boxes many (start_of many j)) new) c.boxes.k
+          (λ j lt held row vs op why inside row_in given there own no e.
+          c.in_ok-more.ensures.kept why (length vs) (i.named j lt held row vs op why inside row_in given there own no e))
+          (subst (λ s. NamesFrom g.operations c.args.inputs.now (HoldAt boxes many s) new) start c.in_ok-more.ensures.named);
     }
 
 pub returns-clause-named : goal.returns-clause-named
-returns-clause-named c = λ held row vs op why inside given there own no e.
+returns-clause-named c = λ held row vs op why inside row_in given there own no e.
     let lt = inside.1 in
-    c.boxes.invariant.named inside.0 (omega (arith, lt, c.boxes-test.false, c.boxes.auto.k-end)) held row vs op why inside.2 given there own no e
+    c.boxes.invariant.named inside.0 (omega (arith, lt, c.boxes-test.false, c.boxes.auto.k-end)) held row vs op why inside.2 row_in given there own no e

@@ -5,5 +5,5 @@ use Rattle.range_audit.proofs.naming.named_from.Given as goal
 abbrev pub invariant-boxes : goal.invariant-boxes
 invariant-boxes l = record {
   many : length l.stops.items ≡ length l.graph.operations;
-  named : (j : ℕ) → j < l.k → NamesFrom l.graph.operations (HoldAt l.boxes (length l.graph.stores) (start_of (length l.graph.stores) j)) l.stops.items;
+  named : (j : ℕ) → j < l.k → NamesFrom l.graph.operations l.inputs (HoldAt l.boxes (length l.graph.stores) (start_of (length l.graph.stores) j)) l.stops.items;
 }

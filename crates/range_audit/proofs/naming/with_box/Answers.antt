@@ -13,7 +13,7 @@ pub returns-then-none-clause-kept : goal.returns-then-none-clause-kept
 returns-then-none-clause-kept c = λ why i e. e
 
 pub returns-then-none-clause-named : goal.returns-then-none-clause-named
-returns-then-none-clause-named c = λ held row vs op why inside given there own no e.
+returns-then-none-clause-named c = λ held row vs op why inside row_in given there own no e.
     let n = c.has_none-none.ensures c.if-none.true in
     let boxed = subst (λ m. HoldAt c.args.boxes.now m c.args.start held) (sym c.cell_count-many.ensures) inside in
     let hold = subst (λ rs. Hold rs held) (sym c.deref.ensures.value) (c.in_ok-cells.ensures.holds held boxed) in
@@ -24,8 +24,8 @@ returns-clause-kept c = λ why i e.
     c.in_ok-more.ensures.named why i (inl (subst (λ ss. is_named why (slice_get ss i) ≡ true) (sym c.deref-5.ensures.value) e))
 
 pub returns-clause-named : goal.returns-clause-named
-returns-clause-named c = λ held row vs op why inside given there own no e.
+returns-clause-named c = λ held row vs op why inside row_in given there own no e.
     let boxed = subst (λ m. HoldAt c.args.boxes.now m c.args.start held) (sym c.cell_count-many.ensures) inside in
     let hold = subst (λ rs. Hold rs held) (sym c.deref-3.ensures.value) (c.in_ok-cells.ensures.holds held boxed) in
-    let named = c.in_ok-others.ensures.named held row vs op why hold given there own no e in
+    let named = c.in_ok-others.ensures.named held row vs op why hold row_in given there own no e in
     c.in_ok-more.ensures.named why (length vs) (inr (subst (λ ss. is_named why (slice_get ss (length vs)) ≡ true) (sym c.deref-6.ensures.value) named))

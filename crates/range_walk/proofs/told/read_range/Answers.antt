@@ -8,7 +8,7 @@ pub returns-in-Load : goal.returns-in-Load
 returns-in-Load c = λ held vs hold fit le.
     let op = c.args.op.now in
     load_read c.range_at.result held vs op.kind op.imm c.args.n c.in-Load.is
-    (subst (λ p. IsIn c.range_at.result (at held p)) c.cell_place-place.ensures (hold c.cell_place-place.result c.range_at.result c.range_at.ensures))
+    (subst (λ p. IsIn c.range_at.result (at held p)) c.own_place-place.ensures (hold c.own_place-place.result c.range_at.result c.range_at.ensures))
 
 pub returns-in_default : goal.returns-in_default
 returns-in_default c = λ held vs hold fit le.

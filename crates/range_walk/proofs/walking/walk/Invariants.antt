@@ -6,8 +6,8 @@ abbrev pub invariant-operations : goal.invariant-operations
 invariant-operations l = record {
   known_many : length l.known.items ≡ l.i;
   stops_many : length l.stops.items ≡ l.i;
-  fits : FitsSoFar l.graph.operations l.cells l.known.items;
-  names : NamesSoFar l.graph.operations l.cells l.stops.items;
+  fits : FitsSoFar l.graph.operations l.cells l.inputs l.known.items;
+  names : NamesSoFar l.graph.operations l.cells l.inputs l.stops.items;
   able : AbleSoFar l.graph.operations l.stops.items;
   lie : LieSoFar l.graph.operations l.known.items;
 }

@@ -1,0 +1,10 @@
+use Rattle.fault_sites.specs.Sites.{each_below}
+use Rattle.fault_cover.specs.Classes.{singles_of}
+use Rattle.fault_cover.specs.Passing.{Passing}
+use Rattle.fault_cover.proofs.faults.then_class_faults.Given as goal
+
+abbrev pub invariant-operations : goal.invariant-operations
+invariant-operations g l =
+    Passing l.subject.graph.now l.subject.table.now l.subject.survey.now (each_below (λ k. singles_of l.class l.subject.graph.now k) l.k) (g.L.Listener.text
+    l.subject.graph.now) (g.O.Sink.seen l.fn.out) (g.O.Sink.seen l.out)
+    l.fn.line l.line (g.L.Listener.Keeps l.fn.listener) (g.L.Listener.Keeps l.listener)

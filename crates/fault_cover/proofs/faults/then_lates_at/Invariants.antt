@@ -1,0 +1,11 @@
+use Rattle.std.proofs.Common.{map, ◌+◌, slice_get}
+use Rattle.fault_sites.specs.Sites.{each_below}
+use Rattle.fault_cover.specs.Classes.{fault_at, late_one}
+use Rattle.fault_cover.specs.Passing.{Passing}
+use Rattle.fault_cover.proofs.faults.then_lates_at.Given as goal
+
+abbrev pub invariant-sources : goal.invariant-sources
+invariant-sources g l =
+    Passing l.subject.graph.now l.subject.table.now l.subject.survey.now (map (fault_at l.k) (each_below (λ i. late_one l.subject.graph.now l.op l.j (l.k +
+    i) (slice_get l.subject.graph.now.operations (l.k + i))) l.i)) (g.L.Listener.text l.subject.graph.now) (g.O.Sink.seen l.fn.out) (g.O.Sink.seen l.out)
+    l.fn.line l.line (g.L.Listener.Keeps l.fn.listener) (g.L.Listener.Keeps l.listener)

@@ -1,0 +1,17 @@
+pub mod Additions
+pub mod Beginnings
+pub mod Certain
+pub mod Classes
+pub mod Counts
+pub mod CoverText
+pub mod Euclid
+pub mod Firsts
+pub mod Leftovers
+pub mod Passing
+pub mod Sited
+pub mod Sources
+pub mod Surveys
+pub mod Telling
+pub mod Touched
+pub mod Walks
+pub mod Writing

@@ -1,0 +1,310 @@
+//! How many faults of each operation run on, or are beyond the horizon.
+
+ghost use Rattle.std.specs.Prelude.{◌≡◌, ◌+◌, ◌*◌, ◌/◌, ◌%◌, ◌<◌, ◌≤◌, ◌^◌, ◌++◌, ◌∷◌, [], false, ℕ, List, Some, IfOk, OnOk, cond, length, slice_get};
+ghost use Rattle.range_walk.specs.declared.range.Stops.{Stops};
+ghost use Rattle.signature_table.specs.Signatures.{IsTableOf};
+ghost use Rattle.fault_cover.specs.Leftovers.{AreLinesAt, AreLinesOf, IsLeast, Leaves, beyond_line, count_key, key_at, key_line as key_line_of, keys_in};
+ghost use Rattle.fault_cover.specs.Leftovers.{run_line};
+ghost use Rattle.fault_cover.specs.Surveys.{IsMapped, IsSurvey};
+ghost use Rattle.fault_cover.specs.Telling.{subject as subject_of};
+ghost use Rattle.fault_sites.specs.Sites.{each_below};
+
+use crate::class::CoverClass;
+use crate::disturbance::Disturbance;
+use crate::faults::{Listener, Subject, then_faults_at};
+use crate::tally::plus;
+use crate::told::Told;
+use op_graph::Graph;
+use std::alloc::Global;
+use vcp_base::Memory;
+use vcp_outside::{Line, MemSink, Sink};
+
+/// So many faults of an operation that are neither refused nor come to nothing, nor show.
+#[derive(Clone, Copy, Debug)]
+pub enum LeftLine {
+    /// They run on.
+    RunsOn {
+        /// The operation.
+        at: u32,
+        /// Across how many borders.
+        borders: u64,
+        /// At which operation.
+        op: u64,
+        /// How many.
+        faults: u64,
+    },
+    /// They are beyond the horizon.
+    Beyond {
+        /// The operation.
+        at: u32,
+        /// How many.
+        faults: u64,
+    },
+}
+
+/// A fault runs on across so many borders at an operation that may stop.
+#[derive(Clone, Copy, Debug)]
+pub(crate) struct Run {
+    borders: u32,
+    op: u32,
+}
+
+/// The faults of an operation that run on, and how many are beyond.
+#[derive(Drop)]
+pub(crate) struct Left {
+    runs: Vec<Run>,
+    beyond: u64,
+    lacked: bool,
+}
+
+impl Left {
+    /// None.
+    fn new(alloc: Global) -> Left {
+        Left {
+            runs: Vec::new(alloc),
+            beyond: 0,
+            lacked: false,
+        }
+    }
+
+    /// Begins anew.
+    fn clear(&mut self)
+        ensures { Leaves self.new [] }
+    {
+        self.runs.clear();
+        self.beyond = 0;
+    }
+
+    /// One more that runs on.
+    fn push(&mut self, run: Run)
+        ensures pushed { self.new.lacked ≡ false → (self.old.lacked ≡ false) × (self.new.runs.items ≡ self.old.runs.items ++ run ∷ []) }
+        ensures beyond { self.new.beyond ≡ self.old.beyond }
+    {
+        if self.runs.push(run).is_err() {
+            self.lacked = true;
+        }
+    }
+}
+
+impl Listener for Left {
+    ghost text = { λ g h. [] };
+
+    ghost Keeps = { Leaves };
+
+    fn hear<O: Sink>(
+        &mut self,
+        _line: &mut Line,
+        _out: &mut O,
+        _graph: &Graph,
+        _k: u32,
+        _disturbance: &Disturbance,
+        told: &Told,
+    ) {
+        match told {
+            Told::RunsOn { borders, op } => self.push(Run {
+                borders: *borders,
+                op: *op,
+            }),
+            Told::Beyond => self.beyond = plus(self.beyond, 1),
+            Told::Refused { borders: _ }
+            | Told::Nothing
+            | Told::Shows {
+                borders: _,
+                output: _,
+            } => {}
+        }
+    }
+}
+
+/// One number for the borders and the operation, of which there are `width`.
+fn key_of(width: u32, run: &Run) -> u64
+    ensures { result ≡ key_at width run.now }
+{
+    run.borders as u64 * width as u64 + run.op as u64
+}
+
+/// The number of one of those that run on.
+fn key_in(width: u32, runs: &[Run], i: usize) -> u64
+    requires { i < length runs.now }
+    ensures { slice_get (keys_in width runs.now) i ≡ Some result }
+{
+    key_of(width, &runs[i])
+}
+
+/// 1 where a test holds.
+fn one_if(is: bool) -> u64
+    ensures one { result ≡ cond is 1 0 }
+    ensures few { result ≤ 1 }
+{
+    if is { 1 } else { 0 }
+}
+
+/// How many have this number.
+fn count_of(width: u32, runs: &[Run], key: u64) -> u64
+    ensures { result ≡ count_key (keys_in width runs.now) key }
+{
+    let mut count = 0;
+    'runs: for i in 0..runs.len() {
+        let found = key_in(width, runs, i);
+        count += one_if(found == key);
+    }
+    count
+}
+
+/// The lesser of a number and one that was found, where the number is at least `from` and below `most`.
+fn lesser(best: Option<u64>, key: u64, from: u64, most: u64) -> Option<u64>
+    ensures { (keys : List ℕ) → IsLeast keys from most best → IsLeast (keys ++ key ∷ []) from most result }
+{
+    if key < from {
+        return best;
+    }
+    if key >= most {
+        return best;
+    }
+    match best {
+        Some(found) => if found <= key { Some(found) } else { Some(key) },
+        None => Some(key),
+    }
+}
+
+/// The least of the numbers that is at least `from` and below `most`.
+fn least_from(width: u32, runs: &[Run], from: u64, most: u64) -> Option<u64>
+    ensures { IsLeast (keys_in width runs.now) from most result }
+{
+    let mut best = None;
+    'runs: for i in 0..runs.len() {
+        let key = key_in(width, runs, i);
+        best = lesser(best, key, from, most);
+    }
+    best
+}
+
+/// One more line.
+fn push_line(lines: &mut Vec<LeftLine>, line: LeftLine) -> Result<(), Memory>
+    ensures { OnOk result (lines.new.items ≡ lines.old.items ++ line ∷ []) }
+{
+    lines.push(line)?;
+    Ok(())
+}
+
+/// The line of those that have a number.
+fn key_line(width: u32, runs: &[Run], k: u32, key: u64) -> LeftLine
+    requires { 0 < width }
+    ensures { result ≡ run_line k width (keys_in width runs.now) key }
+{
+    let borders = key / width as u64;
+    let op = key % width as u64;
+    let faults = count_of(width, runs, key);
+    LeftLine::RunsOn {
+        at: k,
+        borders,
+        op,
+        faults,
+    }
+}
+
+/// A line for each number below `most` that any have, in order.
+fn add_key_lines(
+    lines: &mut Vec<LeftLine>,
+    k: u32,
+    width: u32,
+    runs: &[Run],
+    most: u64,
+) -> Result<(), Memory>
+    requires { 0 < width }
+    ensures { OnOk result (lines.new.items ≡ lines.old.items ++ each_below (key_line_of k width (keys_in width runs.now)) most) }
+{
+    let mut next = 0;
+    'keys: while let Some(key) = least_from(width, runs, next, most) {
+        let line = key_line(width, runs, k, key);
+        push_line(lines, line)?;
+        next = key + 1;
+    }
+    Ok(())
+}
+
+/// The line of those that are beyond, where there are any.
+fn add_beyond(lines: &mut Vec<LeftLine>, k: u32, beyond: u64) -> Result<(), Memory>
+    ensures { OnOk result (lines.new.items ≡ lines.old.items ++ beyond_line k beyond) }
+{
+    if beyond == 0 {
+        return Ok(());
+    }
+    push_line(
+        lines,
+        LeftLine::Beyond {
+            at: k,
+            faults: beyond,
+        },
+    )
+}
+
+/// The lines of an operation's faults that run on or are beyond.
+fn add_lines(
+    lines: &mut Vec<LeftLine>,
+    k: u32,
+    width: u32,
+    horizon: u32,
+    runs: &[Run],
+    beyond: u64,
+) -> Result<(), Memory>
+    requires { 0 < width }
+    ensures { OnOk result (lines.new.items ≡ lines.old.items ++ (each_below (key_line_of k width (keys_in width runs.now)) ((horizon + 1) * width)
+        ++ beyond_line k beyond)) }
+{
+    let most = (horizon as u64 + 1) * width as u64;
+    add_key_lines(lines, k, width, runs, most)?;
+    add_beyond(lines, k, beyond)
+}
+
+/// The lines of operation `k`.
+fn add_lines_at(
+    lines: &mut Vec<LeftLine>,
+    left: &mut Left,
+    nowhere: &mut MemSink,
+    subject: &Subject<'_>,
+    classes: &[CoverClass],
+    k: u32,
+) -> Result<(), Memory>
+    requires table { IsTableOf subject.now.table.now subject.now.graph.now }
+    requires mapped { IsMapped subject.now.graph.now subject.now.survey.now }
+    requires there { k < length subject.now.graph.now.operations }
+    ensures { OnOk result ((stops : List Stops)
+        → IsSurvey (subject_of subject.now.graph.now subject.now.table.now subject.now.survey.now.horizon stops) subject.now.survey.now
+        → AreLinesAt (subject_of subject.now.graph.now subject.now.table.now subject.now.survey.now.horizon stops) classes.now k lines.old.items
+        lines.new.items) }
+{
+    left.clear();
+    // Nothing is written.
+    let mut line = Line::new();
+    then_faults_at(&mut line, nowhere, left, subject, classes, k);
+    if left.lacked {
+        return Err(Memory);
+    }
+    let survey = subject.survey;
+    let horizon = survey.horizon();
+    let width = subject.graph.len();
+    add_lines(lines, k, width, horizon, &left.runs, left.beyond)
+}
+
+/// The lines of all operations whose faults run on or are beyond, in order.
+pub(crate) fn lines_left(
+    alloc: Global,
+    subject: &Subject<'_>,
+    classes: &[CoverClass],
+) -> Result<Vec<LeftLine>, Memory>
+    requires table { IsTableOf subject.now.table.now subject.now.graph.now }
+    requires mapped { IsMapped subject.now.graph.now subject.now.survey.now }
+    ensures { IfOk result (λ lines. (stops : List Stops)
+        → IsSurvey (subject_of subject.now.graph.now subject.now.table.now subject.now.survey.now.horizon stops) subject.now.survey.now
+        → AreLinesOf (subject_of subject.now.graph.now subject.now.table.now subject.now.survey.now.horizon stops) classes.now
+        (length subject.now.graph.now.operations) lines.items) }
+{
+    let mut nowhere = MemSink::new(alloc, 0)?;
+    let mut left = Left::new(alloc);
+    let mut lines = Vec::new(alloc);
+    'operations: for k in 0..subject.graph.len() {
+        add_lines_at(&mut lines, &mut left, &mut nowhere, subject, classes, k)?;
+    }
+    Ok(lines)
+}

@@ -1,0 +1,452 @@
+//! The lines of a cover.
+
+ghost use Rattle.std.specs.Fmt.{signed_decimal};
+ghost use Rattle.std.specs.Prelude.{◌≡◌, ◌<◌, ◌≤◌, ◌^◌, ◌++◌, List, Some, codes, decimal, flat_map, length, replicate, slice_get, unsigned_abs};
+ghost use Rattle.vcp_outside.specs.Gathering.{GathersTo};
+ghost use Rattle.fault_sites.specs.SiteText.{rest as rest_of_act};
+ghost use Rattle.verdict_tables.specs.Places.{operation_text, variable_text};
+ghost use Rattle.verdict_tables.specs.SumText.{delay_text, more_text};
+ghost use Rattle.fault_cover.specs.Classes.{fault_at};
+ghost use Rattle.fault_cover.specs.CoverText.{back as back_of, class_name as class_name_of, classes_in, classes_name as classes_name_of, column_text};
+ghost use Rattle.fault_cover.specs.CoverText.{columns_text};
+ghost use Rattle.fault_cover.specs.CoverText.{front as front_of, heading_text, number_text, place_text, refused_only, remark, row_text, shows_text};
+ghost use Rattle.fault_cover.specs.CoverText.{single_text};
+ghost use Rattle.fault_cover.specs.CoverText.{sum_of, totals_line};
+ghost use Rattle.fault_cover.specs.Leftovers.{line_text};
+ghost use Rattle.fault_cover.specs.declared.told.Told.TheVariants as told;
+
+use crate::class::{CoverClass, CoverClasses};
+use crate::disturbance::Disturbance;
+use crate::faults::Listener;
+use crate::left::LeftLine;
+use crate::tally::Tally;
+use crate::told::Told;
+use fault_script::Act;
+use itoa::Buffer;
+use op_graph::{Graph, Op};
+use run_report::{then_source, variable_name};
+use vcp_base::{Kind, kind_name};
+use vcp_outside::{Line, Sink};
+
+/// The word that names a class.
+fn class_name(class: CoverClass) -> &'static [u8]
+    ensures { result.now ≡ class_name_of class }
+{
+    match class {
+        CoverClass::Add => b"add",
+        CoverClass::Rest => b"rest",
+        CoverClass::Stale => b"stale",
+        CoverClass::Skip => b"skip",
+        CoverClass::From => b"from",
+        CoverClass::Late => b"late",
+        CoverClass::Operator => b"operator",
+    }
+}
+
+/// The word that names one class, or all.
+pub fn classes_name(classes: CoverClasses) -> &'static [u8]
+    ensures { result.now ≡ classes_name_of classes }
+{
+    match classes {
+        CoverClasses::One(class) => class_name(class),
+        CoverClasses::All => b"all",
+    }
+}
+
+/// The classes that a word names.
+pub fn classes_named(word: &[u8]) -> Option<CoverClasses>
+    ensures { result ≡ classes_in word.now }
+{
+    if word == b"add".as_slice() {
+        return Some(CoverClasses::One(CoverClass::Add));
+    }
+    if word == b"rest".as_slice() {
+        return Some(CoverClasses::One(CoverClass::Rest));
+    }
+    if word == b"stale".as_slice() {
+        return Some(CoverClasses::One(CoverClass::Stale));
+    }
+    if word == b"skip".as_slice() {
+        return Some(CoverClasses::One(CoverClass::Skip));
+    }
+    if word == b"from".as_slice() {
+        return Some(CoverClasses::One(CoverClass::From));
+    }
+    if word == b"late".as_slice() {
+        return Some(CoverClasses::One(CoverClass::Late));
+    }
+    if word == b"operator".as_slice() {
+        return Some(CoverClasses::One(CoverClass::Operator));
+    }
+    if word == b"all".as_slice() {
+        return Some(CoverClasses::All);
+    }
+    None
+}
+
+/// How many digits a number has.
+fn digits_in(n: u64) -> usize
+    ensures { result ≡ length (decimal n) }
+{
+    Buffer::new().format(n).len()
+}
+
+/// So many blanks.
+fn blanks(count: usize) -> &'static [u8]
+    requires { count ≤ 12 }
+    ensures { result.now ≡ replicate count 32 }
+{
+    let all: &'static [u8] = b"            ";
+    &all[..count]
+}
+
+/// Goes on with a number at the right end of a column of twelve.
+fn then_column<O: Sink>(line: &mut Line, out: &mut O, n: u64)
+    ensures { GathersTo (O.seen out.old) (O.seen out.new) line.old line.new (column_text n) }
+{
+    let digits = digits_in(n).min(12);
+    line.text(out, blanks(12 - digits));
+    line.count(out, n);
+}
+
+/// Goes on with the columns of a tally, and two blanks.
+fn then_columns<O: Sink>(line: &mut Line, out: &mut O, tally: &Tally)
+    ensures { sum_of tally.now < 2 ^ 63 → GathersTo (O.seen out.old) (O.seen out.new) line.old line.new (columns_text tally.now ++ codes "  ") }
+{
+    then_column(line, out, tally.sum());
+    then_column(line, out, tally.refused);
+    then_column(line, out, tally.nothing);
+    then_column(line, out, tally.shows);
+    then_column(line, out, tally.runs_on);
+    then_column(line, out, tally.beyond);
+    line.text(out, b"  ");
+}
+
+/// Goes on with the row of a class, where it has a fault.
+pub(crate) fn then_class_row<O: Sink>(
+    line: &mut Line,
+    out: &mut O,
+    class: CoverClass,
+    tally: &Tally,
+)
+    ensures { sum_of tally.now < 2 ^ 63 → GathersTo (O.seen out.old) (O.seen out.new) line.old line.new (row_text (class_name_of class) tally.now) }
+{
+    if tally.sum() == 0 {
+        return;
+    }
+    then_columns(line, out, tally);
+    line.text(out, class_name(class));
+    line.text(out, b"\n");
+}
+
+/// What stands behind a number of cycles that is the last of the table.
+fn or_more(n: u32) -> &'static [u8]
+    ensures { result.now ≡ more_text n }
+{
+    if n < 16 { b"" } else { b" or more" }
+}
+
+/// Goes on with the row of a number of cycles, where any fault is refused so late.
+pub(crate) fn then_delay_row<O: Sink>(line: &mut Line, out: &mut O, n: u32, refused: u64)
+    ensures { refused < 2 ^ 63 → GathersTo (O.seen out.old) (O.seen out.new) line.old line.new (row_text (delay_text n) (refused_only refused)) }
+{
+    let tally = Tally::refused_only(refused);
+    if refused == 0 {
+        return;
+    }
+    then_columns(line, out, &tally);
+    line.text(out, b"after ");
+    line.count(out, n as u64);
+    line.text(out, or_more(n));
+    line.text(out, b"\n");
+}
+
+/// Goes on with the names of the columns, and what the rows are about.
+pub(crate) fn then_heading<O: Sink>(line: &mut Line, out: &mut O, about: &[u8])
+    ensures { GathersTo (O.seen out.old) (O.seen out.new) line.old line.new (heading_text about.now) }
+{
+    line.text(
+        out,
+        b"      faults     refused     nothing       shows     runs-on      beyond  ",
+    );
+    line.text(out, about);
+    line.text(out, b"\n");
+}
+
+/// Goes on with a word and a number behind it.
+fn then_counted<O: Sink>(line: &mut Line, out: &mut O, word: &[u8], n: u64)
+    ensures { GathersTo (O.seen out.old) (O.seen out.new) line.old line.new (word.now ++ decimal n) }
+{
+    line.text(out, word);
+    line.count(out, n);
+}
+
+/// Goes on with the totals, without the LF.
+pub(crate) fn then_totals<O: Sink>(line: &mut Line, out: &mut O, tally: &Tally)
+    ensures { sum_of tally.now < 2 ^ 63 → GathersTo (O.seen out.old) (O.seen out.new) line.old line.new (totals_line tally.now) }
+{
+    then_counted(line, out, b"faults ", tally.sum());
+    then_counted(line, out, b" refused ", tally.refused);
+    then_counted(line, out, b" nothing ", tally.nothing);
+    then_counted(line, out, b" shows ", tally.shows);
+    then_counted(line, out, b" runs-on ", tally.runs_on);
+    then_counted(line, out, b" beyond ", tally.beyond);
+}
+
+/// Goes on with a space and a name.
+fn then_name<O: Sink>(line: &mut Line, out: &mut O, name: &[u8])
+    ensures { GathersTo (O.seen out.old) (O.seen out.new) line.old line.new (codes " " ++ name.now) }
+{
+    line.text(out, b" ");
+    line.text(out, name);
+}
+
+/// Goes on with the variable of an operation, where it has one.
+fn then_variable<O: Sink>(line: &mut Line, out: &mut O, graph: &Graph, kind: Kind, n: u64)
+    ensures { GathersTo (O.seen out.old) (O.seen out.new) line.old line.new (variable_text graph.now kind n) }
+{
+    match kind {
+        Kind::Input | Kind::Load | Kind::Store | Kind::Out => {
+            then_name(line, out, variable_name(graph, kind, n))
+        }
+        _ => {}
+    }
+}
+
+/// The number of an operation's own input, cell or output.
+fn own_number(op: &Op) -> u64
+    ensures { result ≡ unsigned_abs op.now.imm }
+{
+    op.imm.unsigned_abs()
+}
+
+/// Goes on with operation `k`, which is `op`: its number, kind, variable and place.
+fn then_op<O: Sink>(line: &mut Line, out: &mut O, graph: &Graph, k: u32, op: &Op)
+    requires { slice_get graph.now.operations k ≡ Some op.now }
+    ensures { GathersTo (O.seen out.old) (O.seen out.new) line.old line.new (operation_text graph.now k (Some op.now)) }
+{
+    line.text(out, b"operation ");
+    line.count(out, k as u64);
+    line.text(out, b" ");
+    line.text(out, kind_name(op.kind));
+    then_variable(line, out, graph, op.kind, own_number(op));
+    then_source(line, out, graph, k);
+}
+
+/// Goes on with operation `k`, where it is there.
+fn then_operation<O: Sink>(line: &mut Line, out: &mut O, graph: &Graph, k: u32)
+    ensures { GathersTo (O.seen out.old) (O.seen out.new) line.old line.new (place_text graph.now k) }
+{
+    match graph.operations().get(k as usize) {
+        Some(op) => then_op(line, out, graph, k, op),
+        None => {}
+    }
+}
+
+/// The first word of a fault, and a space.
+fn front(disturbance: &Disturbance) -> &'static [u8]
+    ensures { result.now ≡ front_of disturbance.now }
+{
+    match *disturbance {
+        Disturbance::AddToResult | Disturbance::Does(Act::ResultAdd { e: _ }) => b"result ",
+        Disturbance::AddToOperand { j: _ }
+        | Disturbance::Late { j: _, r: _ }
+        | Disturbance::Does(Act::OperandAdd { j: _, e: _ })
+        | Disturbance::Does(Act::OperandFrom { j: _, r: _ })
+        | Disturbance::Does(Act::OperandStale { j: _ }) => b"operand ",
+        Disturbance::AddToRest { right: _ } => b"rest ",
+        Disturbance::Does(Act::Operator { kind: _ }) => b"operator ",
+        Disturbance::Does(Act::Skip) => b"skip ",
+    }
+}
+
+/// Goes on with an operand's number and words behind it.
+fn then_number<O: Sink>(line: &mut Line, out: &mut O, n: u32, words: &[u8])
+    ensures { GathersTo (O.seen out.old) (O.seen out.new) line.old line.new (codes " " ++ (decimal n ++ words.now)) }
+{
+    line.text(out, b" ");
+    line.count(out, n as u64);
+    line.text(out, words);
+}
+
+/// Goes on with an operand's number, words behind it, and another number.
+fn then_numbers<O: Sink>(line: &mut Line, out: &mut O, n: u32, words: &[u8], m: u32)
+    ensures { GathersTo (O.seen out.old) (O.seen out.new) line.old line.new (codes " " ++ (decimal n ++ (words.now ++ decimal m))) }
+{
+    line.text(out, b" ");
+    line.count(out, n as u64);
+    line.text(out, words);
+    line.count(out, m as u64);
+}
+
+/// Goes on with what is added to an operand.
+fn then_added<O: Sink>(line: &mut Line, out: &mut O, j: u32, e: i64)
+    ensures { GathersTo (O.seen out.old) (O.seen out.new) line.old line.new (codes " " ++ (decimal j ++ (codes " add " ++ signed_decimal e))) }
+{
+    then_number(line, out, j, b" add ");
+    line.value(out, e);
+}
+
+/// Goes on with what is added to a result.
+fn then_result<O: Sink>(line: &mut Line, out: &mut O, e: i64)
+    ensures { GathersTo (O.seen out.old) (O.seen out.new) line.old line.new (codes " add " ++ signed_decimal e) }
+{
+    line.text(out, b" add ");
+    line.value(out, e);
+}
+
+/// Goes on with what stands behind the operation of an act.
+fn then_act<O: Sink>(line: &mut Line, out: &mut O, act: &Act)
+    ensures { GathersTo (O.seen out.old) (O.seen out.new) line.old line.new (rest_of_act act.now) }
+{
+    match *act {
+        Act::OperandAdd { j, e } => then_added(line, out, j, e),
+        Act::OperandFrom { j, r } => then_numbers(line, out, j, b" from ", r),
+        Act::OperandStale { j } => then_number(line, out, j, b" stale"),
+        Act::ResultAdd { e } => then_result(line, out, e),
+        Act::Operator { kind } => then_name(line, out, kind_name(kind)),
+        Act::Skip => {}
+    }
+}
+
+/// Goes on with what stands behind the operation of a fault.
+fn then_back<O: Sink>(line: &mut Line, out: &mut O, disturbance: &Disturbance)
+    ensures { GathersTo (O.seen out.old) (O.seen out.new) line.old line.new (back_of disturbance.now) }
+{
+    match disturbance {
+        Disturbance::AddToResult => line.text(out, b" add any"),
+        Disturbance::AddToOperand { j } => then_number(line, out, *j, b" add any"),
+        Disturbance::AddToRest { right } => then_number(line, out, *right, b" add any"),
+        Disturbance::Late { j, r } => then_numbers(line, out, *j, b" late ", *r),
+        Disturbance::Does(act) => then_act(line, out, act),
+    }
+}
+
+/// Goes on with a fault at operation `k`, as a script spells it, but for its cycle.
+fn then_single<O: Sink>(line: &mut Line, out: &mut O, k: u32, disturbance: &Disturbance)
+    ensures { GathersTo (O.seen out.old) (O.seen out.new) line.old line.new (single_text (fault_at k disturbance.now)) }
+{
+    line.text(out, front(disturbance));
+    line.text(out, b"N ");
+    line.count(out, k as u64);
+    then_back(line, out, disturbance);
+}
+
+/// Goes on with the line of a fault that shows.
+fn then_shows<O: Sink>(
+    line: &mut Line,
+    out: &mut O,
+    graph: &Graph,
+    k: u32,
+    disturbance: &Disturbance,
+    borders: u32,
+    output: u32,
+)
+    ensures { GathersTo (O.seen out.old) (O.seen out.new) line.old line.new (shows_text graph.now (fault_at k disturbance.now) (told.Shows borders output)) }
+{
+    line.text(out, b"shows ");
+    line.count(out, borders as u64);
+    line.text(out, b" ");
+    line.text(out, variable_name(graph, Kind::Out, output as u64));
+    line.text(out, b": ");
+    then_single(line, out, k, disturbance);
+    line.text(out, b": ");
+    then_operation(line, out, graph, k);
+    line.text(out, b"\n");
+}
+
+/// A line for each fault that shows.
+#[derive(Drop)]
+pub(crate) struct Showing {}
+
+impl Listener for Showing {
+    ghost text = { λ g h. shows_text g h.fault h.told };
+
+    ghost Keeps = { λ _ _. Unit {0} };
+
+    fn hear<O: Sink>(
+        &mut self,
+        line: &mut Line,
+        out: &mut O,
+        graph: &Graph,
+        k: u32,
+        disturbance: &Disturbance,
+        told: &Told,
+    ) {
+        if let Told::Shows { borders, output } = told {
+            then_shows(line, out, graph, k, disturbance, *borders, *output);
+        }
+    }
+}
+
+/// Goes on with how many faults of an operation there are.
+fn then_faults_of<O: Sink>(line: &mut Line, out: &mut O, graph: &Graph, k: u32, faults: u64)
+    ensures { GathersTo (O.seen out.old) (O.seen out.new) line.old line.new (number_text graph.now k faults) }
+{
+    line.text(out, b": faults ");
+    line.count(out, faults);
+    line.text(out, b" of ");
+    then_operation(line, out, graph, k);
+    line.text(out, b"\n");
+}
+
+/// Goes on with a line of an operation whose faults run on or are beyond.
+fn then_left_line<O: Sink>(line: &mut Line, out: &mut O, graph: &Graph, left: &LeftLine)
+    ensures { GathersTo (O.seen out.old) (O.seen out.new) line.old line.new (line_text graph.now left.now) }
+{
+    match *left {
+        LeftLine::RunsOn {
+            at,
+            borders,
+            op,
+            faults,
+        } => {
+            line.text(out, b"runs-on ");
+            line.count(out, borders);
+            line.text(out, b" ");
+            line.count(out, op);
+            then_faults_of(line, out, graph, at, faults);
+        }
+        LeftLine::Beyond { at, faults } => {
+            line.text(out, b"beyond");
+            then_faults_of(line, out, graph, at, faults);
+        }
+    }
+}
+
+/// One of the lines.
+fn line_in(lines: &[LeftLine], i: usize) -> LeftLine
+    requires { i < length lines.now }
+    ensures { slice_get lines.now i ≡ Some result }
+{
+    lines[i]
+}
+
+/// Goes on with the lines of the operations whose faults run on or are beyond.
+pub(crate) fn then_left<O: Sink>(line: &mut Line, out: &mut O, graph: &Graph, lines: &[LeftLine])
+    ensures { GathersTo (O.seen out.old) (O.seen out.new) line.old line.new (flat_map (line_text graph.now) lines.now) }
+{
+    'lines: for i in 0..lines.len() {
+        let left = line_in(lines, i);
+        then_left_line(line, out, graph, &left);
+    }
+}
+
+/// Goes on with the remark that names the classes, the horizon and the image.
+pub(crate) fn then_remark<O: Sink>(
+    line: &mut Line,
+    out: &mut O,
+    classes: CoverClasses,
+    horizon: u32,
+    digest: &[u8],
+)
+    ensures { GathersTo (O.seen out.old) (O.seen out.new) line.old line.new (remark classes horizon digest.now) }
+{
+    line.text(out, b"# cover ");
+    line.text(out, classes_name(classes));
+    line.text(out, b" ");
+    line.count(out, horizon as u64);
+    line.text(out, b" of ");
+    line.text(out, digest);
+    line.text(out, b"\n");
+}

@@ -1,0 +1,95 @@
+-- Records: what a loop over the columns and over the records of a table keeps.
+use Rattle.std.specs.Prelude.{IfSome}
+use Rattle.std.proofs.Common.{◌≡◌, ℕ, zero, suc, ◌+◌, ◌-◌, ◌<◌, ◌≤◌, true, false, List, [], ◌∷◌, ◌++◌, length, map, drop, slice_get, Option, Some, None, Ok}
+use Rattle.std.proofs.Common.{Err, refl, sym, ap, subst, ◌∙◌, append_assoc, arith}
+use Rattle.vcp_base.specs.declared.columns.Column.{Column}
+use Rattle.input_rows.specs.declared.fault.RowFault.{RowFault}
+use Rattle.input_rows.specs.declared.fault.RowFault.TheVariants as fault
+use Rattle.range_walk.specs.declared.range.Range.{Range}
+use Rattle.input_rows.specs.RecordsLeft.{Takes}
+use Rattle.input_ranges.specs.RangeTable.{cells_of, RangesSoFar, with_cells, after_record, ranges_from}
+
+-- ---- lists
+
+add_one : (j : ℕ) → suc j ≡ j + 1
+add_one j = omega arith
+
+dropped : {X : Type 0} (xs : List X) (j : ℕ) (x : X) → slice_get xs j ≡ Some x → drop j xs ≡ x ∷ drop (suc j) xs
+dropped [] j x e = absurd cc
+dropped (y ∷ xs) zero x e = let same : y ≡ x = cc in ap (λ z. z ∷ xs) same
+dropped (y ∷ xs) (suc j) x e = dropped xs j x e
+
+at_drop : {X : Type 0} (xs : List X) (j : ℕ) (x : X) → slice_get xs j ≡ Some x → drop j xs ≡ x ∷ drop (j + 1) xs
+at_drop xs j x e = subst (λ n. drop j xs ≡ x ∷ drop n xs) (add_one j) (dropped xs j x e)
+
+-- one more of what is made of each
+pub one_more : {X Y : Type 0} (f : X → Y) (xs : List X) (made : List Y) (j : ℕ) (x : X) → slice_get xs j ≡ Some x → map f xs ≡ made ++ map f (drop j xs)
+    → map f xs ≡ (made ++ f x ∷ []) ++ map f (drop (j + 1) xs)
+one_more f xs made j x there e =
+    e ∙ (ap (λ rest. made ++ map f rest) (at_drop xs j x there) ∙ sym (append_assoc made (f x ∷ []) (map f (drop (j + 1) xs))))
+
+-- ---- records
+
+-- what the records that were left at first come to is what those come to that are left now, where rest inputs are left
+abbrev pub IsLeft : List Column → RangesSoFar → Option (List (List (List ℕ))) → RangesSoFar → ℕ → Option (List (List (List ℕ))) → Type 0
+IsLeft columns first None now k left = Unit {0}
+IsLeft columns first (Some records) now k None = ⊥
+IsLeft columns first (Some records) now k (Some more) =
+    (rest : ℕ) → rest + k ≡ length columns → ranges_from columns first (length columns) 2 records ≡ ranges_from columns now rest (k + 2) more
+
+one_more_left : (columns : List Column) (now next : RangesSoFar) (k rest : ℕ) (left more : List (List (List ℕ))) (cells : List (List ℕ)) → left ≡ cells ∷ more
+    → with_cells columns now (k + 2) (cells_of cells) ≡ Ok next
+    → ranges_from columns now (suc rest) (k + 2) left ≡ ranges_from columns next rest (k + 1 + 2) more
+one_more_left columns now next k rest left more cells same is =
+    let number : k + 2 + 1 ≡ k + 1 + 2 = omega arith in
+    ap (ranges_from columns now (suc rest) (k + 2)) same
+    ∙ (ap (λ r. after_record r (λ s. ranges_from columns s rest (k + 2 + 1) more)) is ∙ ap (λ n. ranges_from columns next rest n more) number)
+
+pub left_next : (columns : List Column) (first now next : RangesSoFar) (k : ℕ) (old mid new : Option (List (List (List ℕ)))) (cells : List (List ℕ))
+    → IsLeft columns first old now k mid → Takes mid new cells true → with_cells columns now (k + 2) (cells_of cells) ≡ Ok next
+    → IsLeft columns first old next (k + 1) new
+left_next columns first now next k None mid new cells before takes is = tt
+left_next columns first now next k (Some records) None new cells before takes is = absurd before
+left_next columns first now next k (Some records) (Some left) new cells before (more, here, after) is =
+    let same : left ≡ cells ∷ more = cc in
+    subst (λ o. IsLeft columns first (Some records) next (k + 1) o) (sym after)
+    (λ rest many. before (suc rest) (omega (arith, many)) ∙ one_more_left columns now next k rest left more cells same is)
+
+none_behind : (columns : List Column) (now : RangesSoFar) (rest number : ℕ) (left : List (List (List ℕ))) → left ≡ []
+    → ranges_from columns now rest number left ≡ Ok now.ranges
+none_behind columns now zero number [] e = refl
+none_behind columns now (suc rest) number [] e = refl
+none_behind columns now rest number (cells ∷ left) e = absurd cc
+
+pub ends : (columns : List Column) (first now : RangesSoFar) (k : ℕ) (old mid new : Option (List (List (List ℕ)))) (cells : List (List ℕ)) (made : List Range)
+    → made ≡ now.ranges → k ≤ length columns → IsLeft columns first old now k mid → Takes mid new cells false
+    → IfSome old (λ left. ranges_from columns first (length columns) 2 left ≡ Ok made)
+ends columns first now k None mid new cells made is few before takes = tt
+ends columns first now k (Some records) None new cells made is few before takes = absurd before
+ends columns first now k (Some records) (Some left) new cells made is few before (here, after) =
+    let none : left ≡ [] = cc in
+    before (length columns - k) (omega (arith, few)) ∙ (none_behind columns now (length columns - k) (k + 2) left none ∙ ap Ok (sym is))
+
+pub refused : (columns : List Column) (first now : RangesSoFar) (k : ℕ) (old mid new : Option (List (List (List ℕ)))) (cells : List (List ℕ)) (why : RowFault)
+    → k < length columns → IsLeft columns first old now k mid → Takes mid new cells true → with_cells columns now (k + 2) (cells_of cells) ≡ Err why
+    → IfSome old (λ left. ranges_from columns first (length columns) 2 left ≡ Err why)
+refused columns first now k None mid new cells why few before takes is = tt
+refused columns first now k (Some records) None new cells why few before takes is = absurd before
+refused columns first now k (Some records) (Some left) new cells why few before (more, here, after) is =
+    let same : left ≡ cells ∷ more = cc in
+    let rest = length columns - k - 1 in
+    before (suc rest) (omega (arith, few)) ∙ (ap (ranges_from columns now (suc rest) (k + 2)) same
+    ∙ ap (λ r. after_record r (λ s. ranges_from columns s rest (k + 2 + 1) more)) is)
+
+no_input_left : (columns : List Column) (now : RangesSoFar) (number : ℕ) (left more : List (List (List ℕ))) (cells : List (List ℕ)) → left ≡ cells ∷ more
+    → ranges_from columns now 0 number left ≡ Err (fault.Cell number 1)
+no_input_left columns now number left more cells same = ap (ranges_from columns now 0 number) same
+
+pub too_many : (columns : List Column) (first now : RangesSoFar) (k number : ℕ) (old mid new : Option (List (List (List ℕ)))) (cells : List (List ℕ))
+    → k ≡ length columns → number ≡ k + 2 → IsLeft columns first old now k mid → Takes mid new cells true
+    → IfSome old (λ left. ranges_from columns first (length columns) 2 left ≡ Err (fault.Cell number 1))
+too_many columns first now k number None mid new cells all is before takes = tt
+too_many columns first now k number (Some records) None new cells all is before takes = absurd before
+too_many columns first now k number (Some records) (Some left) new cells all is before (more, here, after) =
+    let same : left ≡ cells ∷ more = cc in
+    before 0 (omega (arith, all)) ∙ (no_input_left columns now (k + 2) left more cells same ∙ ap (λ n. Err (fault.Cell n 1)) (sym is))

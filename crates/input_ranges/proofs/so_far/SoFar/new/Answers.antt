@@ -1,0 +1,16 @@
+use Rattle.std.proofs.Common.{◌≡◌, ◌+◌, ◌∷◌, [], ◌++◌, map, drop, ap, sym, subst, ◌∙◌}
+use Rattle.vcp_base.specs.declared.columns.Column.{Column}
+use Rattle.range_walk.specs.declared.range.Range.{Range}
+use Rattle.input_ranges.specs.RangeTable.{range_of_type}
+use Rattle.input_ranges.proofs.Records.{one_more}
+use Rattle.input_ranges.proofs.so_far.SoFar.new.Goals as goal
+
+pub columns-preserved : goal.columns-preserved
+columns-preserved c =
+    let columns = c.args.columns.now in
+    let made = c.columns.ranges.items in
+    let i = c.columns.i in
+    let f : Column → Range = λ column. range_of_type column.ty in
+    let pushed = c.in_ok-push.ensures.items ∙ ap (λ r. made ++ r ∷ []) c.range_of_type.ensures in
+    subst (λ rs. map f columns ≡ rs ++ map f (drop (i + 1) columns)) (sym pushed)
+    (one_more f columns made i c.at-column.result.now c.at-column.ensures c.columns.invariant)

@@ -1,0 +1,10 @@
+use Rattle.std.proofs.Common.{◌≡◌, ◌<◌, length}
+use Rattle.std.specs.Prelude.{IfSome}
+use Rattle.input_ranges.specs.RangeTable.{place_below}
+use Rattle.input_ranges.proofs.so_far.place_named.Given as goal
+
+abbrev pub invariant-columns : goal.invariant-columns
+invariant-columns l = record {
+  place : l.found ≡ place_below l.columns l.free l.name l.i;
+  within : IfSome l.found (λ i. i < length l.columns);
+}

@@ -1,0 +1,123 @@
+//! The cells of a record, and what they spell.
+
+ghost use Rattle.std.specs.Prelude.{◌≡◌};
+ghost use Rattle.std.specs.Option.{option_map};
+ghost use Rattle.csv.specs.Records.{fields_of};
+ghost use Rattle.script_text.specs.Words.{words, only};
+ghost use Rattle.input_ranges.specs.RangeTable.{cells_of, is_same_word, is_head as is_head_of, end_of as end_in, range_between as between};
+
+use csv::ByteRecord;
+use input_rows::{RowFault, field};
+use range_walk::Range;
+use script_text::WordsLeft;
+use std::marker::Model;
+use vcp_base::{Ty, is_same_name, number_in};
+
+/// The three cells of a record, seen as texts.
+#[derive(Drop)]
+pub(crate) struct Cells<'a> {
+    name: &'a [u8],
+    least: &'a [u8],
+    greatest: &'a [u8],
+}
+
+impl<'a> Model for Cells<'a> {
+    ghost use Rattle.input_ranges.specs.RangeTable.{RangeCells};
+
+    ghost Value = { RangeCells };
+
+    ghost view = { λ c. record { name = c.name.now; least = c.least.now; greatest = c.greatest.now } };
+}
+
+/// The cells of a record, where it has three.
+pub(crate) fn three_cells(cells: &ByteRecord) -> Option<Cells<'_>>
+    ensures { result ≡ cells_of (fields_of cells.now) }
+{
+    if cells.len() != 3 {
+        return None;
+    }
+    let name = field(cells, 0);
+    let least = field(cells, 1);
+    let greatest = field(cells, 2);
+    Some(Cells {
+        name,
+        least,
+        greatest,
+    })
+}
+
+/// The one word of a cell.
+pub(crate) fn word_of(cell: &[u8]) -> Option<&[u8]>
+    ensures { option_map (λ w. w.now) result ≡ only (words cell.now) }
+{
+    let mut left = WordsLeft::new(cell);
+    left.only()
+}
+
+/// Whether a cell has this one word.
+fn is_word(cell: &[u8], word: &[u8]) -> bool
+    ensures { result ≡ is_same_word word.now (only (words cell.now)) }
+{
+    match word_of(cell) {
+        Some(found) => is_same_name(found, word),
+        None => false,
+    }
+}
+
+/// The value of the type that a cell spells.
+fn end_of(ty: Ty, cell: &[u8]) -> Option<i64>
+    ensures { result ≡ end_in ty cell.now }
+{
+    let word = word_of(cell)?;
+    number_in(ty, word)
+}
+
+/// The range between two ends, of which the second is no less than the first.
+fn range_between(number: u32, low: Option<i64>, high: Option<i64>) -> Result<Range, RowFault>
+    ensures { result ≡ between number low high }
+{
+    match low {
+        Some(low) => match high {
+            Some(high) if low <= high => Ok(Range {
+                low,
+                high,
+                nonzero: false,
+            }),
+            _ => Err(RowFault::Cell {
+                row: number,
+                column: 3,
+            }),
+        },
+        None => Err(RowFault::Cell {
+            row: number,
+            column: 2,
+        }),
+    }
+}
+
+impl Cells<'_> {
+    /// Whether they are the words of the head.
+    pub(crate) fn are_head(&self) -> bool
+        ensures { result ≡ is_head_of (Some self.now) }
+    {
+        is_word(self.name, b"input")
+            && is_word(self.least, b"least")
+            && is_word(self.greatest, b"greatest")
+    }
+
+    /// The cell that names an input.
+    pub(crate) fn name(&self) -> &[u8]
+        ensures { result.now ≡ self.now.name }
+    {
+        self.name
+    }
+
+    /// The range of an input of the type.
+    pub(crate) fn range(&self, number: u32, ty: Ty) -> Result<Range, RowFault>
+        ensures { result ≡ between number (end_in ty self.now.least) (end_in ty self.now.greatest) }
+    {
+        let low = end_of(ty, self.least);
+        let high = end_of(ty, self.greatest);
+        range_between(number, low, high)
+    }
+}

@@ -1,0 +1,8 @@
+//! The ranges in which inputs are assumed to be: a table with a record for each input of which it tells one.
+#![tactic(auto)]
+
+mod cells;
+mod so_far;
+mod table;
+
+pub use table::ranges_of_table;

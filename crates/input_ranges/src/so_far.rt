@@ -1,0 +1,158 @@
+//! What records have told so far.
+
+ghost use Rattle.std.specs.Prelude.{◌≡◌, ◌<◌, length, slice_get, slice_set, IfOk, IfSome, false};
+ghost use Rattle.csv.specs.Records.{fields_of};
+ghost use Rattle.input_ranges.specs.RangeTable.{at_first, cells_of, is_free_named as is_free_named_of, place_below, place_of as place_in};
+ghost use Rattle.input_ranges.specs.RangeTable.{range_of_type as range_of, with_place as with_place_of, with_cells as with_cells_of};
+
+use crate::cells::{Cells, three_cells, word_of};
+use csv::ByteRecord;
+use input_rows::RowFault;
+use range_walk::Range;
+use std::alloc::Global;
+use std::marker::Model;
+use vcp_base::{Columns, Memory, Ty, greatest, is_same_name, least};
+
+/// A range for each input, and which of them no record has named.
+#[derive(Drop)]
+pub(crate) struct SoFar {
+    ranges: Vec<Range>,
+    free: Vec<bool>,
+}
+
+impl Model for SoFar {
+    ghost use Rattle.input_ranges.specs.RangeTable.{RangesSoFar};
+
+    ghost Value = { RangesSoFar };
+
+    ghost view = { λ s. record { ranges = s.ranges.items; free = s.free.items } };
+}
+
+/// All values of a type.
+fn range_of_type(ty: Ty) -> Range
+    ensures { result ≡ range_of ty }
+{
+    Range {
+        low: least(ty),
+        high: greatest(ty),
+        nonzero: false,
+    }
+}
+
+/// Whether the input at place `i` is one that no record has named, and has this name.
+fn is_free_named(columns: &Columns, free: &[bool], i: usize, name: &[u8]) -> bool
+    requires columns { i < length columns.now }
+    requires free { i < length free.now }
+    ensures { result ≡ is_free_named_of name.now (slice_get columns.now i) (slice_get free.now i) }
+{
+    let column = columns.at(i);
+    free[i] && is_same_name(column.name.bytes(), name)
+}
+
+/// The place of such an input.
+fn place_named(columns: &Columns, free: &[bool], name: &[u8]) -> Option<usize>
+    requires { length free.now ≡ length columns.now }
+    ensures place { result ≡ place_below columns.now free.now name.now (length columns.now) }
+    ensures within { IfSome result (λ i. i < length columns.now) }
+{
+    let mut found = None;
+    'columns: for i in 0..columns.len() {
+        if is_free_named(columns, free, i, name) {
+            found = Some(i);
+        }
+    }
+    found
+}
+
+/// The place of the input that a cell names.
+fn place_of(columns: &Columns, free: &[bool], cell: &[u8]) -> Option<usize>
+    requires { length free.now ≡ length columns.now }
+    ensures place { result ≡ place_in columns.now free.now cell.now }
+    ensures within { IfSome result (λ i. i < length columns.now) }
+{
+    let name = word_of(cell)?;
+    place_named(columns, free, name)
+}
+
+impl SoFar {
+    /// Before the first record: each input has all values of its type.
+    pub(crate) fn new(alloc: Global, columns: &Columns) -> Result<SoFar, Memory>
+        ensures first { IfOk result (λ s. s ≡ at_first columns.now) }
+    {
+        let mut ranges = Vec::new(alloc);
+        'columns: for i in 0..columns.len() {
+            let column = columns.at(i);
+            ranges.push(range_of_type(column.ty))?;
+        }
+        let free = vec![in alloc; true; columns.len()]?;
+        Ok(SoFar { ranges, free })
+    }
+
+    /// The ranges of the inputs.
+    pub(crate) fn into_ranges(self) -> Vec<Range>
+        ensures { result.items ≡ self.ranges }
+    {
+        self.ranges
+    }
+
+    /// What is told with a range of the input at place `i`, which is named then.
+    fn with_range(self, i: usize, range: Range) -> SoFar
+        requires ranges { i < length self.ranges }
+        requires free { i < length self.free }
+        ensures { result ≡ record { ranges = slice_set self.ranges i range; free = slice_set self.free i false } }
+    {
+        let mut ranges = self.ranges;
+        let mut free = self.free;
+        ranges[i] = range;
+        free[i] = false;
+        SoFar { ranges, free }
+    }
+
+    /// What is told with the range of the input at a place, where there is one.
+    fn with_place(
+        self,
+        columns: &Columns,
+        number: u32,
+        cells: &Cells<'_>,
+        place: Option<usize>,
+    ) -> Result<SoFar, RowFault>
+        requires place { IfSome place (λ i. i < length columns.now) }
+        requires ranges { length self.ranges ≡ length columns.now }
+        requires free { length self.free ≡ length columns.now }
+        ensures { result ≡ with_place_of columns.now self number cells.now place }
+    {
+        match place {
+            Some(i) => {
+                let column = columns.at(i);
+                let range = cells.range(number, column.ty)?;
+                Ok(self.with_range(i, range))
+            }
+            None => Err(RowFault::Cell {
+                row: number,
+                column: 1,
+            }),
+        }
+    }
+
+    /// What is told with the record of this number.
+    pub(crate) fn with_record(
+        self,
+        columns: &Columns,
+        number: u32,
+        cells: &ByteRecord,
+    ) -> Result<SoFar, RowFault>
+        requires ranges { length self.ranges ≡ length columns.now }
+        requires free { length self.free ≡ length columns.now }
+        ensures record { result ≡ with_cells_of columns.now self number (cells_of (fields_of cells.now)) }
+        ensures ranges { IfOk result (λ next. length next.ranges ≡ length columns.now) }
+        ensures free { IfOk result (λ next. length next.free ≡ length columns.now) }
+    {
+        match three_cells(cells) {
+            Some(cells) => {
+                let place = place_of(columns, &self.free, cells.name());
+                self.with_place(columns, number, &cells, place)
+            }
+            None => Err(RowFault::Width { row: number }),
+        }
+    }
+}

@@ -1,0 +1,86 @@
+//! The ranges that a table tells.
+
+ghost use Rattle.std.specs.Prelude.{◌≡◌, ◌≢◌, ◌≤◌, Ok, Err, length, IfOk, IfErr, IfSome};
+ghost use Rattle.csv.specs.Records.{fields_of};
+ghost use Rattle.vcp_base.specs.Limits.{most_names};
+ghost use Rattle.input_ranges.specs.RangeTable.{at_first, cells_of, is_head as is_head_of, ranges_from, ranges_of_table as ranges_of};
+
+use crate::cells::three_cells;
+use crate::so_far::SoFar;
+use csv::ByteRecord;
+use input_rows::{Records, RowFault};
+use range_walk::Range;
+use std::alloc::Global;
+use vcp_base::Columns;
+
+/// Whether a record is the head.
+fn is_head(cells: &ByteRecord) -> bool
+    ensures { result ≡ is_head_of (cells_of (fields_of cells.now)) }
+{
+    match three_cells(cells) {
+        Some(cells) => cells.are_head(),
+        None => false,
+    }
+}
+
+/// The ranges that the records behind the head tell.
+fn ranges_behind(
+    alloc: Global,
+    columns: &Columns,
+    records: &mut Records<'_>,
+    cells: &mut ByteRecord,
+) -> Result<Vec<Range>, RowFault>
+    requires few { length columns.now ≤ most_names }
+    ensures ranges { IfOk result (λ made. IfSome records.old.left (λ left.
+        ranges_from columns.now (at_first columns.now) (length columns.now) 2 left ≡ Ok made.items)) }
+    ensures refusal { IfErr result (λ f. f ≢ RowFault.Memory → IfSome records.old.left (λ left.
+        ranges_from columns.now (at_first columns.now) (length columns.now) 2 left ≡ Err f)) }
+{
+    let mut told = SoFar::new(alloc, columns)?;
+    let count = columns.len() as u32;
+    'records: for k in 0..count {
+        let found = records.next(cells)?;
+        if !found {
+            return Ok(told.into_ranges());
+        }
+        match told.with_record(columns, k + 2, cells) {
+            Ok(next) => told = next,
+            Err(why) => return Err(why),
+        }
+    }
+    let more = records.next(cells)?;
+    if more {
+        return Err(RowFault::Cell {
+            row: count + 2,
+            column: 1,
+        });
+    }
+    Ok(told.into_ranges())
+}
+
+/// The ranges of inputs that a table's bytes tell, one for each column, in their order: a column that no record names has all values of its
+/// type. Each record has the name of a column, and the least and the greatest of its values.
+///
+/// `Header` where the first record isn't `input,least,greatest`. Then, at the first record that is refused: `Width` where it hasn't three
+/// fields; `Cell` in column 1 where it names no column, or one that is named before; `Cell` in column 2 or 3 where that is no value of the
+/// column's type, and in column 3 also where it is less than the one before it. `Memory` where there is no room.
+pub fn ranges_of_table(
+    alloc: Global,
+    text: &[u8],
+    columns: &Columns,
+) -> Result<Vec<Range>, RowFault>
+    requires few { length columns.now ≤ most_names }
+    ensures ranges { IfOk result (λ made. ranges_of columns.now text.now ≡ Ok made.items) }
+    ensures refusal { IfErr result (λ f. f ≢ RowFault.Memory → ranges_of columns.now text.now ≡ Err f) }
+{
+    let mut records = Records::new(alloc, text);
+    let mut cells = ByteRecord::new(alloc);
+    let found = records.next(&mut cells)?;
+    if !found {
+        return Err(RowFault::Header);
+    }
+    if !is_head(&cells) {
+        return Err(RowFault::Header);
+    }
+    ranges_behind(alloc, columns, &mut records, &mut cells)
+}

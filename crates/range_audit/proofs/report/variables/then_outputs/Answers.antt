@@ -1,0 +1,14 @@
+use Rattle.std.proofs.Common.{◌≡◌, length, add-one, arith}
+use Rattle.range_audit.proofs.Going.{and_then, unmoved}
+use Rattle.range_audit.proofs.report.variables.then_outputs.Goals as goal
+
+pub lines-init : goal.lines-init
+lines-init g c = unmoved
+
+pub lines-preserved : goal.lines-preserved
+lines-preserved g c = rw (add-one c.lines.i) (and_then c.lines.invariant c.then_output.ensures)
+
+pub returns : goal.returns
+returns g c =
+    let all : c.lines.i ≡ length c.args.graph.now.outputs = omega (arith, c.lines-test.false, c.lines.auto.i-end, c.outputs-i-end.ensures) in
+    rw all at c.lines.invariant
