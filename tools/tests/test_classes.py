@@ -1,10 +1,14 @@
 """The classes of faults that the tool makes itself, of the words of a run: bits that flip, and words of the cycle before."""
 from __future__ import annotations
 
+import shutil
 import unittest
 
+from tests.support import EXAMPLES, InFolder
+from tests.test_campaign import needs_programs
 from tests.test_diff import IMAGE_OF_A_SUM
-from vcp_tools.campaign.traced import MOST_ADDED, flips, late
+from vcp_tools.campaign.traced import MOST_ADDED, faults_of, flips, late, words_of
+from vcp_tools.program import Program
 from vcp_tools.read.image import Cell, Image, Operation, Slot, read_image
 
 
@@ -41,6 +45,34 @@ class Lines(unittest.TestCase):
             b"operand 1 0 0 add -30", b"operand 1 1 0 add -1", b"operand 1 1 1 add -1", b"operand 1 2 0 add 9", b"operand 1 3 0 add -1"])
         far = list(late(image, [[MOST_ADDED * 2, 20, 30, 40], [40, 30, 31, 43]]))
         self.assertEqual(far, [])
+
+
+class Programs(InFolder):
+    """The same of programs that are built."""
+
+    @needs_programs
+    def test_the_bits_0_to_31_are_those_of_the_proved_script(self) -> None:
+        programs = Program.found(), Program.found("vcp_study")
+        for name, rows in (("add", "in"), ("crossing", "crossing"), ("odometer", "odometer")):
+            shutil.copy(EXAMPLES / f"{rows}.csv", self.folder / "r.csv")
+            image = self.write("m.img", self.program("compile", str(EXAMPLES / f"{name}.st")))
+            over = [str(self.folder / "r.csv")]
+            proved = faults_of("flips", programs, image, over, 0, (0, 31))
+            wanted = [line for start in range(0, proved.count, 10_000) for line in proved.text(start, 10_000).split(b"\n")[1:-1]]
+            self.assertEqual(list(flips(words_of(programs[0], image, over), (0, 31))), wanted, name)
+
+    @needs_programs
+    def test_upper_bits_and_late_words_are_judged(self) -> None:
+        shutil.copy(EXAMPLES / "crossing.csv", self.folder / "r.csv")
+        image = self.write("m.img", self.program("compile", str(EXAMPLES / "crossing.st")))
+        count = len(read_image(image.read_bytes(), "m.img").operations) * 8 * 31
+        printed = self.tool("campaign", "m.img", "r.csv", "flips", "--bits", "32..62", "--quiet", status=None)
+        self.assertRegex(printed, rf"\nfaults {count} same \d+ wrong \d+ ran-on \d+ refused \d+ stopped \d+\n\Z")
+        printed = self.tool("campaign", "m.img", "r.csv", "late", "--quiet", status=None)
+        number = len(list(late(read_image(image.read_bytes(), "m.img"), words_of(Program.found(), image, [str(self.folder / "r.csv")]))))
+        self.assertRegex(printed, rf"\nfaults {number} same \d+ wrong \d+ ran-on \d+ refused \d+ stopped \d+\n\Z")
+        for name in ("flips", "late"):
+            self.assertIn("are told by the words of one run", self.tool("campaign", "m.img", name, "--rows", "r.csv", "--rows", "r.csv", status=2))
 
 
 if __name__ == "__main__":

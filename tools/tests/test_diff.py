@@ -1,6 +1,7 @@
 """`diff`, and the reader of images."""
 from __future__ import annotations
 
+import re
 import unittest
 
 from vcp_tools.compare.diff import Comparison
@@ -65,12 +66,18 @@ class Listings(InFolder):
 class Differences(InFolder):
     """`diff`."""
 
-    def compare(self, old: str, new: str, status: int) -> str:
-        """What is said of the program and of the same with some text in the place of another."""
-        self.assertIn(old, PROGRAM)
-        self.write("a.st", PROGRAM)
-        self.write("b.st", PROGRAM.replace(old, new))
+    def compare(self, old: str, new: str, status: int, text: str = PROGRAM) -> str:
+        """What is said of a program and of the same with some text in the place of another."""
+        self.assertIn(old, text)
+        self.write("a.st", text)
+        self.write("b.st", text.replace(old, new))
         return self.tool("diff", "a.st", "b.st", status=status)
+
+    def parted(self, old: str, new: str, text: str) -> list[tuple[str, str, str]]:
+        """Each place at which both part: what is said of it, and the line of each side."""
+        printed = self.compare(old, new, 9, text)
+        self.assertNotIn("may stop at operation", printed)
+        return re.findall(r"^([^:\n]*: in A .*)\n    A: (.*)\n    B: (.*)$", printed, re.M)
 
     @needs_program
     def test_layout_and_names_of_variables_are_left_aside(self) -> None:
@@ -103,7 +110,45 @@ class Differences(InFolder):
         self.assertRegex(printed, "ranges, whatever the rows: A .*, B |vcp_study ranges")
 
     @needs_program
+    def test_a_constant_that_stands_elsewhere_is_told_where_it_is_read(self) -> None:
+        route, tracks = ((EXAMPLES / name).read_text(encoding="utf-8") for name in ("route.st", "two_tracks.st"))
+        for text, old, new, lines in (
+            (route, "HOLD : INT := 4;", "HOLD : INT := 5;", ["ELSIF waited >= HOLD THEN"]),
+            (route, "TRAVEL : INT := 6;", "TRAVEL : INT := 4;", ["ELSIF waited >= TRAVEL THEN"]),
+            (tracks, "WARNING : INT := 3;", "WARNING : INT := 5;", ["IF waited = WARNING THEN crossing := LOWERING; waited := 0; END_IF;"]),
+            (tracks, "LONGEST : INT := 12;", "LONGEST : INT := 4;", ["since_1 := MIN(since_1 + 1, LONGEST);", "since_2 := MIN(since_2 + 1, LONGEST);"]),
+        ):
+            found = self.parted(old, new, text)
+            self.assertEqual(sorted({line for _, line, _ in found}), lines)
+            for told, line, other in found:
+                self.assertEqual(line, other)
+                for value in (old, new):
+                    self.assertIn(f"CONST {value.rstrip(';').rpartition(' ')[2]}", told)
+        found = self.parted("n := b + 3;", "n := b + 4;", "PROGRAM p\nVAR_INPUT a, b : INT; END_VAR\nVAR_OUTPUT m, n : INT; END_VAR\nm := a + 3;\nn := b + 3;\n"
+                            "END_PROGRAM\n")
+        self.assertEqual([line for _, *line in found], [["n := b + 3;", "n := b + 4;"]])
+        told = "{}: in {} operation N, ADD at 5:8 for n, which reads CONST {}"
+        self.assertEqual(re.sub(r"operation \d+", "operation N", found[0][0]), f"{told.format('output n', 'A', 3)}; {told.format('', 'B', 4)[2:]}")
+
+    @needs_program
+    def test_what_both_sides_have_is_told_where_it_is_read(self) -> None:
+        route, tracks = ((EXAMPLES / name).read_text(encoding="utf-8") for name in ("route.st", "two_tracks.st"))
+        for text, old, new in ((route, "proceed := state = PROVED AND detected AND clear;", "proceed := state = PROVED AND clear AND detected;"),
+                               (route, "passed := passed OR NOT beyond_clear;", "passed := passed OR NOT points_clear;"),
+                               (tracks, "failed := failed OR up AND down;", "failed := failed OR up AND free;")):
+            found = self.parted(old, new, text)
+            self.assertEqual([(line.partition(";")[0], other.partition(";")[0]) for _, line, other in found], [(old[:-1], new[:-1])])
+
+    @needs_program
     def test_exchanged_operands_are_told_at_their_operator(self) -> None:
+        tracks = (EXAMPLES / "two_tracks.st").read_text(encoding="utf-8")
+        for old, new in (("failed OR up AND down", "failed OR down AND up"),
+                         ("OR track_1 <> CLEAR OR track_2 <> CLEAR", "OR track_2 <> CLEAR OR track_1 <> CLEAR")):
+            found = self.parted(old, new, tracks)
+            self.assertGreater(len(found), 0)
+            for _, line, other in found:
+                self.assertIn(old, line)
+                self.assertIn(new, other)
         printed = self.compare("y := a + b;", "y := b + a;", 9)
         self.assertIn("output y: in A operation 2, ADD at 5:8 for y; in B operation 2, ADD at 5:8 for y, the same operands in another order", printed)
 

@@ -82,8 +82,8 @@ class Lacking(InFolder):
         for text in ("t := T#5s;\n", "t := 5s;\n"):
             self.write("p.st", "PROGRAM p VAR t : INT; END_VAR\n" + text + "END_PROGRAM\n")
             first = self.tool("explain", "check", "p.st", status=1).split("\n")[0]
-            self.assertIn("and 11 for a TON", first)
-            self.assertIn("docs/PATTERNS.md", first)
+            for said in ("and 11 for a TON", "docs/PATTERNS.md", "`vcp_tools lower`"):
+                self.assertIn(said, first)
 
     @needs_program
     def test_a_name_that_stands_twice_is_one_thing_to_mend(self) -> None:
@@ -127,9 +127,23 @@ class Words(InFolder):
         self.assertEqual((self.folder / "r.html").read_text(encoding="utf-8").count("never reached: the run ends before"), 2)
 
     @needs_program
+    def test_a_fault_behind_a_stop_or_a_single_row_is_told(self) -> None:
+        shutil.copy(EXAMPLES / "shares.st", self.folder)
+        self.write("s.img", self.program("compile", "shares.st"))
+        self.write("a.img", self.program("compile", "add.st"))
+        said = r"^f\.txt:(\d+):1: this fault is never reached: the run has the cycles 0 to (\d+)"
+        for words, script, wanted in ((("s.img", "--cycles", "5"), "skip 3 0\nskip 4 0\n", ("2", "3")),
+                                      (("a.img", "in.csv"), "result 0 2 add 5\n\nresult 1 2 add 5\n", ("3", "0"))):
+            self.write("f.txt", script)
+            printed = self.tool("explain", "inject", *words, "f.txt", status=None)
+            self.assertEqual(re.findall(said, printed, re.M), [wanted])
+
+    @needs_program
     def test_a_refusal_names_no_file_that_is_gone(self) -> None:
-        self.write("f.txt", "skip 5 1000\n")
-        printed = self.tool("report", "crossing.st", "crossing.csv", "--faults", "f.txt", status=2)
-        self.assertIn("`vcp_tools explain inject crossing.img crossing.csv f.txt` says more", printed)
-        self.assertIn("`vcp compile crossing.st >crossing.img` makes that image", printed)
-        self.assertNotIn("/tmp", printed.replace(str(self.folder), ""))
+        for script in ("skip 5 1000\n", "skip x 1\n", "skip 1 1\noperand 1 2 9 add 5\n", "begin\nskip 1 1\n"):
+            self.write("f.txt", script)
+            printed = self.tool("report", "crossing.st", "crossing.csv", "--faults", "f.txt", status=2)
+            self.assertIn("`vcp_tools explain inject crossing.img crossing.csv f.txt` says more", printed)
+            self.assertIn("`vcp compile crossing.st >crossing.img` makes that image", printed)
+            self.assertNotIn("/tmp", printed.replace(str(self.folder), ""))
+            self.assertEqual(printed.count("\n"), 1)

@@ -2,7 +2,8 @@
 from __future__ import annotations
 
 NO_REAL = "there is no REAL: count in a fixed point, as thousandths in a DINT (1.5 becomes 1500; docs/PATTERNS.md, 'Fixed point')"
-NO_TIME = "there is no TIME: count cycles in an INT, as 10 for 5 s where a cycle takes 500 ms, and 11 for a TON (docs/PATTERNS.md, 'Time, counted in cycles')"
+NO_TIME = ("there is no TIME: count cycles in an INT, as 10 for 5 s where a cycle takes 500 ms, and 11 for a TON "
+           "(docs/PATTERNS.md, 'Time, counted in cycles'; `vcp_tools lower` writes timers so)")
 NO_DATE = "there are no dates and no times of day: what depends on them is an input (docs/PATTERNS.md)"
 NO_ARRAYS = "there are no arrays: declare a variable for each element (docs/PATTERNS.md)"
 NO_STRUCTURES = "there are no structures: declare a variable for each part (docs/PATTERNS.md)"
