@@ -1,4 +1,5 @@
 mod ApartReaching
+mod CoverReaching
 mod FlipsReaching
 mod RangesReaching
 mod Reaching

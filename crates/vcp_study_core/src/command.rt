@@ -3,11 +3,12 @@
 ghost use Rattle.std.specs.Prelude.{◌≡◌, ◌≤◌, IfSome};
 ghost use Rattle.std.specs.Option.{option_map};
 ghost use Rattle.vcp_base.specs.Limits.{most_cycles, most_horizon};
-ghost use Rattle.vcp_study_core.specs.Forms.{form, form_of, file_of, image_and_horizon as image_and_horizon_of, graph_form, dot_form, waves_form, ranges_form, all_of, IsSound, faults_form, told_file as told_file_of, sites_form, behind_form, class_form, cycles_in as cycles_in_of, flips, sum_form, apart_form, script_form, chosen_of, number_word, part_of};
+ghost use Rattle.vcp_study_core.specs.Forms.{form, form_of, file_of, image_and_horizon as image_and_horizon_of, graph_form, dot_form, waves_form, ranges_form, class_word as class_word_of, cover_form, all_of, IsSound, faults_form, told_file as told_file_of, sites_form, behind_form, class_form, cycles_in as cycles_in_of, flips, sum_form, apart_form, script_form, chosen_of, number_word, part_of};
 ghost use Rattle.vcp_words.specs.Forms.{rows_of, AreFew};
 ghost use Rattle.vcp_words.specs.Tables.{rows_name as rows_name_of};
 
 use crate::fault::Fault;
+use fault_cover::{CoverClasses, classes_named as cover_classes_named};
 use fault_sites::{Chosen, Classes, Part, classes_named};
 use vcp_base::{MOST_CYCLES, MOST_HORIZON, Text, Words, numeral};
 use vcp_words::{CommandWords, RowsWord};
@@ -40,6 +41,15 @@ pub enum StudyCommand<'a> {
         image: &'a Text,
         /// Whether the range of each operation is told too.
         all: bool,
+    },
+    /// `cover M HORIZON CLASS`: what becomes of the faults of a class in every run.
+    Cover {
+        /// The name of the image, M.
+        image: &'a Text,
+        /// The greatest number of cycle borders, at most 1000.
+        horizon: u32,
+        /// The class, or all, CLASS.
+        classes: CoverClasses,
     },
     /// `sites M CYCLES CLASS`, with `FROM COUNT` or `--count` behind it or without: the script of the single faults of a class.
     Sites {
@@ -130,6 +140,7 @@ impl StudyCommand<'_> {
             StudyCommand::Dot { image, .. } => image.bytes(),
             StudyCommand::Waves { file } => file.bytes(),
             StudyCommand::Ranges { image, .. } => image.bytes(),
+            StudyCommand::Cover { image, .. } => image.bytes(),
             StudyCommand::Sites { image, .. } => image.bytes(),
             StudyCommand::Flips { image, rows, .. } => match fault {
                 Fault::Rows(_) => rows_name(*rows),
@@ -180,6 +191,9 @@ pub fn command_of(words: &Words) -> Option<StudyCommand<'_>>
     }
     if command == b"ranges".as_slice() {
         return ranges_words(&mut left);
+    }
+    if command == b"cover".as_slice() {
+        return cover_words(&mut left);
     }
     if command == b"sites".as_slice() {
         return sites_words(&mut left);
@@ -262,6 +276,38 @@ fn ranges_words<'a>(words: &mut CommandWords<'a>) -> Option<StudyCommand<'a>>
     let image = words.name()?;
     let all = all_word(words)?;
     Some(StudyCommand::Ranges { image, all })
+}
+
+/// CLASS behind M and HORIZON of `cover`.
+fn class_word<'a>(
+    image: &'a Text,
+    horizon: u32,
+    words: &mut CommandWords<'a>,
+) -> Option<StudyCommand<'a>>
+    requires { horizon ≤ most_horizon }
+    ensures form { option_map form result ≡ class_word_of image.now horizon words.old }
+    ensures sound { IfSome result (λ command. IsSound (form command)) }
+{
+    let word = words.next()?;
+    let classes = cover_classes_named(word.bytes())?;
+    if !words.is_end() {
+        return None;
+    }
+    Some(StudyCommand::Cover {
+        image,
+        horizon,
+        classes,
+    })
+}
+
+/// The words of `cover`: M, HORIZON and CLASS.
+fn cover_words<'a>(words: &mut CommandWords<'a>) -> Option<StudyCommand<'a>>
+    ensures form { option_map form result ≡ cover_form words.old }
+    ensures sound { IfSome result (λ command. IsSound (form command)) }
+{
+    let image = words.name()?;
+    let horizon = words.number(0, MOST_HORIZON)?;
+    class_word(image, horizon, words)
 }
 
 /// Whether only the number is wanted: `--count` says so.
