@@ -23,7 +23,7 @@ _vcp() {
 
 complete -o filenames -F _vcp vcp ./vcp
 
-_vcp_study_commands='graph dot waves ranges sites sum faults script'
+_vcp_study_commands='graph dot waves ranges cover sites sum faults script'
 
 _vcp_study() {
     local word=${COMP_WORDS[COMP_CWORD]}
@@ -45,6 +45,7 @@ _vcp_study() {
         *) mapfile -t COMPREPLY < <(compgen -f -- "$word") ;;
         esac
         ;;
+    4:cover) mapfile -t COMPREPLY < <(compgen -W 'add rest stale skip from late operator all' -- "$word") ;;
     4:sites) mapfile -t COMPREPLY < <(compgen -W 'bits stale skip from operator all flips' -- "$word") ;;
     *:sites) mapfile -t COMPREPLY < <(compgen -W '--count flips' -- "$word") ;;
     esac

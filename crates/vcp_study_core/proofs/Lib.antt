@@ -1,4 +1,5 @@
 mod ApartReaching
+mod CoverReaching
 mod FlipsReaching
 mod PartsReaching
 mod RangesReaching

@@ -6,9 +6,10 @@ use Rattle.vcp_outside.specs.Held.{Held}
 use Rattle.vcp_outside.specs.Seen.{FilesSeen, SinkSeen}
 use Rattle.vcp_outside.specs.Written.{AppendsPart}
 use Rattle.vcp_study_core.specs.declared.fault.Fault.{Fault}
-use Rattle.vcp_study_core.specs.Forms.{Form, graph, dot, waves, ranges, sites, flips, sum, sum_apart, faults, script_named, file_of, usage_text}
+use Rattle.vcp_study_core.specs.Forms.{Form, graph, dot, waves, ranges, cover, sites, flips, sum, sum_apart, faults, script_named, file_of, usage_text}
 use Rattle.vcp_study_core.specs.Reach.{ReachesGraph, ReachesDot, fault_text, fault_status}
 use Rattle.vcp_study_core.specs.ApartReach.{ReachesApart}
+use Rattle.vcp_study_core.specs.CoverReach.{ReachesCover}
 use Rattle.vcp_study_core.specs.FlipsReach.{ReachesFlips}
 use Rattle.vcp_study_core.specs.RangesReach.{ReachesRanges}
 use Rattle.vcp_study_core.specs.RunReach.{ReachesRun}
@@ -40,6 +41,8 @@ Reaches (dot m horizon) held files later out now result =
     IsDrawing (ReachesDot m horizon held out.written now.written files.broken later.broken) result
 Reaches (waves file) held files later out now result = IsDrawing (ReachesRun file held out.written now.written files.broken later.broken) result
 Reaches (ranges m all file) held files later out now result = ReachesRanges m all file held out.written now.written files.broken later.broken result
+Reaches (cover m horizon classes) held files later out now result =
+    ReachesCover m horizon classes held out.written now.written files.broken later.broken result
 Reaches (sites m cycles classes which) held files later out now result =
     ReachesSites m cycles classes which held out.written now.written files.broken later.broken result
 Reaches (flips m rows which) held files later out now result = ReachesFlips m rows which held out.written now.written files.broken later.broken result

@@ -6,6 +6,8 @@ use Rattle.vcp_base.specs.Numerals.{numeral_of}
 use Rattle.vcp_words.specs.Forms.{Rows, file as from_file, cycles as from_cycles, rows_of, AreFew, name_and_rest, number_and_rest, number_within, rows_and_rest, is_end}
 use Rattle.vcp_words.specs.Tables.{rows_name}
 use Rattle.verdict_tables.specs.Parts.{most_parts}
+use Rattle.fault_cover.specs.declared.class.CoverClasses.{CoverClasses}
+use Rattle.fault_cover.specs.CoverText.{classes_in}
 use Rattle.fault_sites.specs.declared.class.Classes.{Classes}
 use Rattle.fault_sites.specs.SiteText.{classes_of}
 use Rattle.fault_sites.specs.declared.scripts.chosen.Chosen.{Chosen}
@@ -24,13 +26,14 @@ pub record PartNames : Type 0 where
   pub script : List ℕ
   pub verdicts : List ℕ
 
--- a command with its words: M is an image's name, FILE a file's; then HORIZON, whether all operations are told and FILE, CYCLES, CLASS and which
+-- a command with its words: M is an image's name, FILE a file's; then HORIZON, whether all operations are told and FILE, CLASS of faults, CYCLES, CLASS and which
 -- of the sites, ROWS and which of the flips, SCRIPT and VERDICTS, and NAMED, the names of files
 pub data Form : Type 0 where
   graph : List ℕ → ℕ → Form
   dot : List ℕ → ℕ → Form
   waves : List ℕ → Form
   ranges : List ℕ → Bool → Option (List ℕ) → Form
+  cover : List ℕ → ℕ → CoverClasses → Form
   sites : List ℕ → ℕ → Classes → Chosen → Form
   flips : List ℕ → Rows → Chosen → Form
   sum : List ℕ → List PartNames → Form
@@ -76,6 +79,15 @@ behind_ranges m (w ∷ rest) = cond (bytes_eq w (codes "--all")) (all_form m res
 -- the words of `ranges`: M, and what is behind it
 abbrev pub ranges_form : List (List ℕ) → Option Form
 ranges_form words = option_and_then (λ m. behind_ranges m.0 m.1) (name_and_rest words)
+
+-- the words of `cover`: M, HORIZON and CLASS
+abbrev pub class_word : List ℕ → ℕ → List (List ℕ) → Option Form
+class_word m horizon [] = None
+class_word m horizon (w ∷ rest) = option_and_then (λ c. at_end (cover m horizon c) rest) (classes_in w)
+
+abbrev pub cover_form : List (List ℕ) → Option Form
+cover_form words =
+    option_and_then (λ m. option_and_then (λ h. class_word m.0 h.0 h.1) (number_and_rest 0 most_horizon m.1)) (name_and_rest words)
 
 -- which of the sites: without more words all; `--count` asks how many there are; FROM COUNT is a part
 abbrev pub number_word : List ℕ → Option Chosen
@@ -195,10 +207,11 @@ form_of (w ∷ words) =
     (cond (bytes_eq w (codes "dot")) (dot_form words)
     (cond (bytes_eq w (codes "waves")) (waves_form words)
     (cond (bytes_eq w (codes "ranges")) (ranges_form words)
+    (cond (bytes_eq w (codes "cover")) (cover_form words)
     (cond (bytes_eq w (codes "sites")) (sites_form words)
     (cond (bytes_eq w (codes "sum")) (sum_form words)
     (cond (bytes_eq w (codes "faults")) (faults_form words)
-    (cond (bytes_eq w (codes "script")) (script_form words) None)))))))
+    (cond (bytes_eq w (codes "script")) (script_form words) None))))))))
 
 -- a command, as a form
 abbrev pub form : StudyCommand → Form
@@ -206,6 +219,7 @@ form (command.Graph image horizon) = graph image.now horizon
 form (command.Dot image horizon) = dot image.now horizon
 form (command.Waves file) = waves file.now
 form (command.Ranges image all inputs) = ranges image.now all (option_map (λ f. f.now) inputs)
+form (command.Cover image horizon classes) = cover image.now horizon classes
 form (command.Sites image cycles classes which) = sites image.now cycles classes which
 form (command.Flips image rows which) = flips image.now (rows_of rows) which
 form (command.Sum image parts) = sum image.now (names_of parts)
@@ -241,6 +255,7 @@ file_of (dot m horizon) e = m
 file_of (waves file) e = file
 file_of (ranges m all (Some file)) (fault.Rows i) = file
 file_of (ranges m all file) e = m
+file_of (cover m horizon classes) e = m
 file_of (sites m cycles classes which) e = m
 file_of (flips m rows which) (fault.Rows i) = rows_name rows
 file_of (flips m rows which) e = m
@@ -256,6 +271,7 @@ file_of (script_named m named) e = m
 abbrev pub IsSound : Form → Type 0
 IsSound (graph m horizon) = horizon ≤ most_horizon
 IsSound (dot m horizon) = horizon ≤ most_horizon
+IsSound (cover m horizon classes) = horizon ≤ most_horizon
 IsSound (sites m cycles classes which) = cycles ≤ most_cycles
 IsSound (flips m rows which) = AreFew rows
 IsSound (sum m names) = length names ≤ most_parts
@@ -264,4 +280,4 @@ IsSound _ = Unit {0}
 
 -- the usage line
 abbrev pub usage_text : List ℕ
-usage_text = codes "usage: vcp_study graph M HORIZON, dot M HORIZON, waves FILE, ranges M, ranges M --all, ranges M --inputs FILE, ranges M --all --inputs FILE, sites M CYCLES CLASS, sites M CYCLES CLASS FROM COUNT, sites M CYCLES CLASS --count, sites M ROWS flips, sites M ROWS flips FROM COUNT, sites M ROWS flips --count, sum M SCRIPT VERDICTS .., sum M SCRIPT VERDICTS .. ROWS, faults M SCRIPT VERDICTS or script M NAMED\n"
+usage_text = codes "usage: vcp_study graph M HORIZON, dot M HORIZON, waves FILE, ranges M, ranges M --all, ranges M --inputs FILE, ranges M --all --inputs FILE, cover M HORIZON CLASS, sites M CYCLES CLASS, sites M CYCLES CLASS FROM COUNT, sites M CYCLES CLASS --count, sites M ROWS flips, sites M ROWS flips FROM COUNT, sites M ROWS flips --count, sum M SCRIPT VERDICTS .., sum M SCRIPT VERDICTS .. ROWS, faults M SCRIPT VERDICTS or script M NAMED\n"

@@ -1,5 +1,6 @@
 pub mod Answered
 pub mod ApartReach
+pub mod CoverReach
 pub mod FlipsReach
 pub mod Forms
 pub mod PartsReach

@@ -3,7 +3,7 @@
 ghost use Rattle.std.specs.Prelude.{ℕ, List, ◌≡◌, ◌≤◌, IfSome, drop, length};
 ghost use Rattle.std.specs.Option.{option_map, unwrap_or};
 ghost use Rattle.vcp_base.specs.Limits.{most_cycles, most_horizon};
-ghost use Rattle.vcp_study_core.specs.Forms.{form, form_of, file_of, image_and_horizon as image_and_horizon_of, graph_form, dot_form, waves_form, ranges_form, behind_ranges, all_form, inputs_form, IsSound, faults_form, told_file as told_file_of, sites_form, behind_form, class_form, cycles_in as cycles_in_of, flips, names_of, next_of, behind_of, sum_with, sum_form, sum_file as sum_file_of, part_file as part_file_of, as_names, script_form, chosen_of, number_word, part_of};
+ghost use Rattle.vcp_study_core.specs.Forms.{form, form_of, file_of, image_and_horizon as image_and_horizon_of, graph_form, dot_form, waves_form, ranges_form, behind_ranges, all_form, inputs_form, class_word as class_word_of, cover_form, IsSound, faults_form, told_file as told_file_of, sites_form, behind_form, class_form, cycles_in as cycles_in_of, flips, names_of, next_of, behind_of, sum_with, sum_form, sum_file as sum_file_of, part_file as part_file_of, as_names, script_form, chosen_of, number_word, part_of};
 ghost use Rattle.vcp_study_core.specs.SumSteps.{as_next, as_behind, ended_of, IsFew, FewBehind};
 ghost use Rattle.verdict_tables.specs.Parts.{most_parts};
 ghost use Rattle.vcp_words.specs.Forms.{rows_of, AreFew};
@@ -11,6 +11,7 @@ ghost use Rattle.vcp_words.specs.Tables.{rows_name as rows_name_of};
 
 use crate::fault::{Fault, PartFault};
 use crate::part_words::{Named, PartWords};
+use fault_cover::{CoverClasses, classes_named as cover_classes_named};
 use fault_sites::{Chosen, Classes, Part, classes_named};
 use vcp_base::{MOST_CYCLES, MOST_HORIZON, Text, Words, numeral};
 use vcp_words::{CommandWords, RowsWord};
@@ -46,6 +47,15 @@ pub enum StudyCommand<'a> {
         all: bool,
         /// The name of the table of the inputs' ranges.
         inputs: Option<&'a Text>,
+    },
+    /// `cover M HORIZON CLASS`: what becomes of the faults of a class in every run.
+    Cover {
+        /// The name of the image, M.
+        image: &'a Text,
+        /// The greatest number of cycle borders, at most 1000.
+        horizon: u32,
+        /// The class, or all, CLASS.
+        classes: CoverClasses,
     },
     /// `sites M CYCLES CLASS`, with `FROM COUNT` or `--count` behind it or without: the script of the single faults of a class.
     Sites {
@@ -171,6 +181,7 @@ impl StudyCommand<'_> {
                 Fault::Rows(_) => table_name(image, *inputs),
                 _ => image.bytes(),
             },
+            StudyCommand::Cover { image, .. } => image.bytes(),
             StudyCommand::Sites { image, .. } => image.bytes(),
             StudyCommand::Flips { image, rows, .. } => match fault {
                 Fault::Rows(_) => rows_name(*rows),
@@ -212,6 +223,9 @@ pub fn command_of(words: &Words) -> Option<StudyCommand<'_>>
     }
     if command == b"ranges".as_slice() {
         return ranges_words(&mut left);
+    }
+    if command == b"cover".as_slice() {
+        return cover_words(&mut left);
     }
     if command == b"sites".as_slice() {
         return sites_words(&mut left);
@@ -340,6 +354,38 @@ fn ranges_words<'a>(words: &mut CommandWords<'a>) -> Option<StudyCommand<'a>>
 {
     let image = words.name()?;
     behind_ranges_words(image, words)
+}
+
+/// CLASS behind M and HORIZON of `cover`.
+fn class_word<'a>(
+    image: &'a Text,
+    horizon: u32,
+    words: &mut CommandWords<'a>,
+) -> Option<StudyCommand<'a>>
+    requires { horizon ≤ most_horizon }
+    ensures form { option_map form result ≡ class_word_of image.now horizon words.old }
+    ensures sound { IfSome result (λ command. IsSound (form command)) }
+{
+    let word = words.next()?;
+    let classes = cover_classes_named(word.bytes())?;
+    if !words.is_end() {
+        return None;
+    }
+    Some(StudyCommand::Cover {
+        image,
+        horizon,
+        classes,
+    })
+}
+
+/// The words of `cover`: M, HORIZON and CLASS.
+fn cover_words<'a>(words: &mut CommandWords<'a>) -> Option<StudyCommand<'a>>
+    ensures form { option_map form result ≡ cover_form words.old }
+    ensures sound { IfSome result (λ command. IsSound (form command)) }
+{
+    let image = words.name()?;
+    let horizon = words.number(0, MOST_HORIZON)?;
+    class_word(image, horizon, words)
 }
 
 /// Whether only the number is wanted: `--count` says so.

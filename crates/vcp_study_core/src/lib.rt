@@ -1,8 +1,10 @@
-//! The commands that study an image or a run: pictures, which operations can stop, and scripts of faults. And the top call.
+//! The commands that study an image or a run: pictures, which operations can stop, what becomes of faults in every run, and scripts of faults.
+//! And the top call.
 #![tactic(auto)]
 
 mod apart;
 mod command;
+mod cover;
 mod dot;
 mod fault;
 mod faults;

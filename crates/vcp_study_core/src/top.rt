@@ -11,6 +11,7 @@ ghost use Rattle.vcp_study_core.specs.declared.fault.Fault.TheVariants as fault;
 
 use crate::apart::apart_command;
 use crate::command::{StudyCommand, command_of};
+use crate::cover::cover_command;
 use crate::dot::dot_command;
 use crate::fault::Fault;
 use crate::faults::faults_command;
@@ -31,13 +32,13 @@ use vcp_outside::{Failed, Files, Sink};
 ///
 /// | status | comes |
 /// |---|---|
-/// | 0 | the picture, the script or the number was written; or the ranges, and no operation may stop; or the tables, and no fault is unseen |
+/// | 0 | what was asked for was written; and where something is looked for, as an operation that may stop or a fault that may show, there is none |
 /// | 1 | a file is refused |
 /// | 4 | the words are none of the forms |
 /// | 5 | a file failed |
 /// | 6 | a sink failed |
 /// | 7 | memory was wanted, as far as is proved at any time; with words that are none of the forms never |
-/// | 9 | the ranges were written, and an operation may stop; or the tables, and a fault is unseen |
+/// | 9 | it was written, and there is one: of ranges an operation that may stop, of a cover a fault that may show, of tables a fault that is unseen |
 ///
 /// By its clauses:
 /// - `answered`: For the command that the words are, how far it came, what it wrote and why it ended: a module `..Reach` for each command.
@@ -132,6 +133,11 @@ fn study<F: Files, O: Sink>(
         StudyCommand::Ranges { image, all, inputs } => ranges_command(
             alloc, image, *all, *inputs, files, out,
         ),
+        StudyCommand::Cover {
+            image,
+            horizon,
+            classes,
+        } => cover_command(alloc, image, *horizon, *classes, files, out),
         StudyCommand::Sites {
             image,
             cycles,
