@@ -1,94 +1,210 @@
 //! Verdicts on groups of faults, and how groups end that show nowhere.
 
+ghost use Rattle.std.specs.Prelude.{◌≡◌, ◌≤◌, All, length};
+ghost use Rattle.fault_script.specs.Groups.{GroupFits};
+ghost use Rattle.fault_script.specs.ScriptOf.{most_faults};
+ghost use Rattle.signature_table.specs.Signatures.{IsTableOf};
+ghost use Rattle.vcp_base.specs.Limits.{most_cycles};
+
 use crate::faults::inputs::{fits, rows_of, script_of};
+use crate::row_call::RowCall;
 use crate::sources::programs::graph_of;
-use crate::values::units::{KEPT, bad_unit, calls_of};
+use crate::told::Told;
+use crate::values::units::{KEPT, calls_of, replace};
 use coded_unit::BadUnit;
 use fault_reruns::{Reference, verdict};
-use fault_script::read_script;
+use fault_script::{Group, Script};
+use input_rows::RowList;
+use op_graph::Graph;
 use signature_table::Table;
-use std::alloc::Global;
-use std::str::from_utf8;
-use std::test::Fail;
-use vcp_base::MOST_SOURCE_BYTES;
 use vcp_outside::MemSink;
 use verdict_tables::{endings_of, group_ending, read_verdicts, words_left, write_sum_apart};
-use worked_texts::{spelled, word_off};
 
-/// The cycles and operations of the calls that a unit keeps from some number on.
-fn places(alloc: Global, unit: &BadUnit, first: u32) -> Result<String, Fail> {
-    let mut out = String::new(alloc);
-    'entries: for i in first..KEPT {
-        if let Some((call, _)) = unit.entry(i) {
-            out.push_str(&format!(in alloc; " {}.{}", call.cycle, call.op)?)?;
+/// What is asked of a script of faults over rows.
+#[derive(Clone, Copy)]
+enum Asked<'a> {
+    /// The verdict on the first group on a unit that gives these answers, the places of the calls by which it was found, and how many
+    /// answers were wrong.
+    Judged(&'a str),
+    /// The verdict on the first group alone, behind a run without it, and how many calls both took.
+    Alone,
+    /// How the first group ends.
+    Ending,
+    /// The tables of these spelled verdicts, in which those on what shows nowhere are told apart.
+    Apart(&'a str),
+}
+
+/// Answers over the rows and the script that the arguments say and the graph of the given source, with the seed 0 and the step 1.
+fn answer(row: &mut RowCall<'_>, asked: Asked<'_>) {
+    if let Some(graph) = graph_of(row, row.given.as_bytes()) {
+        match Table::new(row.alloc, &graph, 0, 1) {
+            Ok(table) => answer_over_rows(row, asked, &graph, &table),
+            Err(_) => row.told.lack_memory(),
         }
     }
-    Ok(out)
 }
 
-/// The verdict on the first group of a script over these rows on a unit some of whose answers are replaced, the places of the calls by
-/// which it was found, and how many answers were wrong.
-pub fn judged(alloc: Global, given: &str, arguments: &str) -> Result<String, Fail> {
-    let (replaced, rest) = word_off(arguments);
-    let (rows, script) = word_off(rest);
-    let graph = graph_of(alloc, given.as_bytes())?;
-    let table = Table::new(alloc, &graph, 0, 1)?;
-    let rows = rows_of(alloc, &graph, rows)?;
-    fits(&rows, &graph)?;
-    let script = script_of(alloc, &graph, script)?;
-    let mut unit = bad_unit(alloc, KEPT, replaced)?;
-    let reference = Reference::new(alloc, &graph, &table, &rows, &mut unit)?;
-    let first = calls_of(&unit);
-    let verdict = reference.verdict(alloc, script.at(0), &mut unit)?;
-    let places = places(alloc, &unit, first)?;
-    Ok(format!(in alloc; "{verdict:?}{places}, {} wrong", unit.wrong())?)
+fn answer_over_rows(row: &mut RowCall<'_>, asked: Asked<'_>, graph: &Graph, table: &Table)
+    requires { IsTableOf table.now graph.now }
+{
+    if let Some(rows) = rows_of(row, graph) {
+        if fits(&rows, graph) {
+            answer_on_script(row, asked, graph, table, &rows);
+        } else {
+            row.told.fail("rows of another width");
+        }
+    }
 }
 
-/// The verdict on the first group of a script alone, behind a run without it, and how many calls both took.
-pub fn alone(alloc: Global, given: &str, arguments: &str) -> Result<String, Fail> {
-    let (rows, script) = word_off(arguments);
-    let graph = graph_of(alloc, given.as_bytes())?;
-    let table = Table::new(alloc, &graph, 0, 1)?;
-    let rows = rows_of(alloc, &graph, rows)?;
-    fits(&rows, &graph)?;
-    let script = script_of(alloc, &graph, script)?;
-    let mut unit = BadUnit::new(alloc, KEPT)?;
-    let verdict = verdict(alloc, &graph, &table, &rows, script.at(0), &mut unit)?;
-    Ok(format!(in alloc; "{verdict:?}, {} calls", calls_of(&unit))?)
+fn answer_on_script(
+    row: &mut RowCall<'_>,
+    asked: Asked<'_>,
+    graph: &Graph,
+    table: &Table,
+    rows: &RowList,
+)
+    requires table { IsTableOf table.now graph.now }
+    requires width { All (λ row. length row ≡ length graph.now.inputs) rows.now }
+    requires few { length rows.now ≤ most_cycles }
+{
+    if let Some(script) = script_of(row, graph) {
+        match asked {
+            Asked::Judged(answers) => judge(row, graph, table, rows, script.at(0), answers),
+            Asked::Alone => judge_alone(row, graph, table, rows, script.at(0)),
+            Asked::Ending => tell_ending(row, graph, table, rows, script.at(0)),
+            Asked::Apart(verdicts) => tell_apart(row, graph, table, rows, &script, verdicts),
+        }
+    }
+}
+
+/// Tells the cycles and operations of the calls that a unit keeps from some number on.
+fn tell_places(told: &mut Told, unit: &BadUnit, first: u32) {
+    'entries: for i in first..KEPT {
+        if let Some((call, _)) = unit.entry(i) {
+            told.item(call.cycle);
+            told.text(".");
+            told.item(call.op);
+        }
+    }
+}
+
+/// Tells the verdict by a rerun, the places of its calls, and how many answers were wrong.
+fn tell_rerun(row: &mut RowCall<'_>, reference: &Reference<'_>, group: &Group, unit: &mut BadUnit) {
+    let first = calls_of(unit);
+    match reference.verdict(row.alloc, group, unit) {
+        Ok(verdict) => {
+            row.told.shown(&verdict);
+            tell_places(&mut row.told, unit, first);
+            row.told.text(", ");
+            row.told.item(unit.wrong());
+            row.told.text(" wrong");
+        }
+        Err(_) => row.told.lack_memory(),
+    }
+}
+
+fn judge(
+    row: &mut RowCall<'_>,
+    graph: &Graph,
+    table: &Table,
+    rows: &RowList,
+    group: &Group,
+    answers: &str,
+)
+    requires table { IsTableOf table.now graph.now }
+    requires width { All (λ row. length row ≡ length graph.now.inputs) rows.now }
+    requires few { length rows.now ≤ most_cycles }
+{
+    let Ok(mut unit) = BadUnit::new(row.alloc, KEPT) else {
+        return row.told.lack_memory();
+    };
+    replace(row, &mut unit, answers);
+    match Reference::new(row.alloc, graph, table, rows, &mut unit) {
+        Ok(reference) => tell_rerun(row, &reference, group, &mut unit),
+        Err(_) => row.told.lack_memory(),
+    }
+}
+
+fn judge_alone(row: &mut RowCall<'_>, graph: &Graph, table: &Table, rows: &RowList, group: &Group)
+    requires table { IsTableOf table.now graph.now }
+    requires width { All (λ row. length row ≡ length graph.now.inputs) rows.now }
+    requires few { length rows.now ≤ most_cycles }
+{
+    if let Ok(mut unit) = BadUnit::new(row.alloc, KEPT)
+        && let Ok(verdict) = verdict(row.alloc, graph, table, rows, group, &mut unit)
+    {
+        row.told.shown(&verdict);
+        row.told.text(", ");
+        row.told.item(calls_of(&unit));
+        row.told.text(" calls");
+    } else {
+        row.told.lack_memory();
+    }
+}
+
+fn tell_ending(row: &mut RowCall<'_>, graph: &Graph, table: &Table, rows: &RowList, group: &Group)
+    requires table { IsTableOf table.now graph.now }
+    requires width { All (λ row. length row ≡ length graph.now.inputs) rows.now }
+    requires few { length rows.now ≤ most_cycles }
+{
+    if let Ok(without) = words_left(row.alloc, graph, table, rows)
+        && let Ok(ending) = group_ending(row.alloc, graph, table, rows, &without, group)
+    {
+        row.told.shown(&ending);
+    } else {
+        row.told.lack_memory();
+    }
+}
+
+fn tell_apart(
+    row: &mut RowCall<'_>,
+    graph: &Graph,
+    table: &Table,
+    rows: &RowList,
+    script: &Script,
+    verdicts: &str,
+)
+    requires table { IsTableOf table.now graph.now }
+    requires width { All (λ row. length row ≡ length graph.now.inputs) rows.now }
+    requires few { length rows.now ≤ most_cycles }
+    requires fits { All (GroupFits graph.now) script.now }
+    requires groups { length script.now ≤ most_faults }
+{
+    let text = row.spelled(verdicts);
+    if let Ok(verdicts) = read_verdicts(row.alloc, &text, graph, script)
+        && let Ok(endings) = endings_of(row.alloc, graph, table, rows, script, &verdicts)
+        && let Ok(mut out) = MemSink::new(row.alloc, 2000)
+        && write_sum_apart(&mut out, graph, script, &verdicts, &endings).is_ok()
+    {
+        row.told.bytes(out.bytes());
+    } else {
+        row.told.fail("no tables");
+    }
+}
+
+/// The verdict on the first group of a script by a rerun.
+pub fn judged(row: &mut RowCall<'_>) {
+    let answers = row.word();
+    answer(row, Asked::Judged(answers));
+}
+
+/// The verdict on the first group of a script behind a run without it.
+pub fn alone(row: &mut RowCall<'_>) {
+    answer(row, Asked::Alone);
 }
 
 /// How the first group of a script ends.
-pub fn ending(alloc: Global, given: &str, arguments: &str) -> Result<String, Fail> {
-    let (rows, script) = word_off(arguments);
-    let graph = graph_of(alloc, given.as_bytes())?;
-    let table = Table::new(alloc, &graph, 0, 1)?;
-    let rows = rows_of(alloc, &graph, rows)?;
-    fits(&rows, &graph)?;
-    let without = words_left(alloc, &graph, &table, &rows)?;
-    let script = script_of(alloc, &graph, script)?;
-    let ending = group_ending(alloc, &graph, &table, &rows, &without, script.at(0))?;
-    Ok(format!(in alloc; "{ending:?}")?)
+pub fn ending(row: &mut RowCall<'_>) {
+    answer(row, Asked::Ending);
 }
 
-/// The tables of the verdicts on a script, in which those on what shows nowhere are told apart. The arguments are the rows, and the
-/// spelled script and verdicts with ` / ` between them.
-pub fn apart(alloc: Global, given: &str, arguments: &str) -> Result<String, Fail> {
-    let (rows, rest) = word_off(arguments);
-    let (script, verdicts) = rest.split_once(" / ").ok_or("no verdicts")?;
-    let graph = graph_of(alloc, given.as_bytes())?;
-    let rows = rows_of(alloc, &graph, rows)?;
-    fits(&rows, &graph)?;
-    let text = spelled(alloc, script)?;
-    if text.len() as u64 > MOST_SOURCE_BYTES {
-        return Err("too long".into());
+/// The tables of the verdicts on a script. The arguments are the rows, and the spelled script and verdicts with ` / ` between them.
+pub fn apart(row: &mut RowCall<'_>) {
+    match row.rest.split_once(" / ") {
+        Some((front, verdicts)) => {
+            row.rest = front;
+            answer(row, Asked::Apart(verdicts));
+        }
+        None => row.told.fail("no verdicts"),
     }
-    let table = Table::new(alloc, &graph, 0, 1)?;
-    let script = read_script(alloc, &text, &graph)?;
-    let Ok(verdicts) = read_verdicts(alloc, &spelled(alloc, verdicts)?, &graph, &script) else {
-        return Err("verdicts".into());
-    };
-    let endings = endings_of(alloc, &graph, &table, &rows, &script, &verdicts)?;
-    let mut out = MemSink::new(alloc, 2000)?;
-    write_sum_apart(&mut out, &graph, &script, &verdicts, &endings)?;
-    Ok(String::from_str(alloc, from_utf8(out.bytes())?)?)
 }
