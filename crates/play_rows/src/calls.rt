@@ -1,25 +1,16 @@
 //! The calls of rows, by their names.
 
+use crate::row_call::RowCall;
 use crate::{faults, graphs, machines, sources, values};
-use std::alloc::Global;
-use std::test::Fail;
 
-/// What the call of a name tells of the given text and its arguments.
-pub fn told(alloc: Global, name: &str, given: &str, arguments: &str) -> Result<String, Fail> {
-    if let Some(told) = values::told(alloc, name, given, arguments)? {
-        return Ok(told);
+/// Makes the call of a name. Each part of the calls answers whether the name is one of its own.
+pub fn make(row: &mut RowCall<'_>, name: &str) {
+    let is_made = values::make(row, name)
+        || sources::make(row, name)
+        || graphs::make(row, name)
+        || machines::make(row, name)
+        || faults::make(row, name);
+    if !is_made {
+        row.told.fail("no call of this name");
     }
-    if let Some(told) = sources::told(alloc, name, given, arguments)? {
-        return Ok(told);
-    }
-    if let Some(told) = graphs::told(alloc, name, given, arguments)? {
-        return Ok(told);
-    }
-    if let Some(told) = machines::told(alloc, name, given, arguments)? {
-        return Ok(told);
-    }
-    if let Some(told) = faults::told(alloc, name, given, arguments)? {
-        return Ok(told);
-    }
-    Err(Fail::new(name))
 }

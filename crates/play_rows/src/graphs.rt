@@ -6,53 +6,38 @@ mod images;
 mod large_images;
 mod lines;
 
-use std::alloc::Global;
-use std::test::Fail;
-use worked_texts::u32_of;
+use crate::row_call::RowCall;
 
-/// What a call on graphs tells; None where the name is another call's. The given text is a source, or an image in hexadecimal digits.
-pub fn told(
-    alloc: Global,
-    name: &str,
-    given: &str,
-    arguments: &str,
-) -> Result<Option<String>, Fail> {
-    if let Some(told) = of_images(alloc, name, given, arguments)? {
-        return Ok(Some(told));
-    }
+/// Makes a call on graphs or images; false where the name is another call's. The given text is a source, or an image in hexadecimal digits.
+pub fn make(row: &mut RowCall<'_>, name: &str) -> bool {
     flattened::laws();
-    let told = match name {
-        "listing" => flattened::listed(alloc, given)?,
-        "widened" => flattened::widened(alloc, given)?,
-        "profile" => flattened::profile(alloc, arguments)?,
-        "codes" => flattened::codes(alloc, given)?,
-        "entries" => flattened::entries(alloc, given)?,
-        "folded" => flattened::folded(alloc, arguments)?,
-        "passed" => flattened::passed(alloc, given, arguments)?,
-        "counts" => flattened::counts(alloc, arguments)?,
-        "filled" => builders::told(alloc)?,
-        _ => return Ok(None),
-    };
-    Ok(Some(told))
+    match name {
+        "listing" => flattened::listed(row),
+        "widened" => flattened::widened(row),
+        "profile" => flattened::profile(row),
+        "codes" => flattened::codes(row),
+        "entries" => flattened::entries(row),
+        "folded" => flattened::folded(row),
+        "passed" => flattened::passed(row),
+        "counts" => flattened::counts(row),
+        "filled" => builders::tell_filled(row),
+        _ => return make_on_image(row, name),
+    }
+    true
 }
 
-/// What a call on images tells; None where the name is another call's.
-fn of_images(
-    alloc: Global,
-    name: &str,
-    given: &str,
-    arguments: &str,
-) -> Result<Option<String>, Fail> {
-    let told = match name {
-        "image" => images::appended(alloc, given, arguments)?,
-        "patched" => images::patched(alloc, given, arguments)?,
-        "fronts" => images::fronts(alloc, given)?,
-        "changes" => images::changes(alloc, given, arguments)?,
-        "written" => images::written(alloc, given, arguments)?,
-        "names" => large_images::with_names(alloc, u32_of(arguments)?)?,
-        "chain" => large_images::with_turns(alloc, u32_of(arguments)?)?,
-        "innermost" => large_images::innermost(alloc, u32_of(arguments)?)?,
-        _ => return Ok(None),
-    };
-    Ok(Some(told))
+/// Makes a call on images; false where the name is another call's.
+fn make_on_image(row: &mut RowCall<'_>, name: &str) -> bool {
+    match name {
+        "image" => images::appended(row),
+        "patched" => images::patched(row),
+        "fronts" => images::fronts(row),
+        "changes" => images::changes(row),
+        "written" => images::written(row),
+        "names" => large_images::with_names(row),
+        "chain" => large_images::with_turns(row),
+        "innermost" => large_images::innermost(row),
+        _ => return false,
+    }
+    true
 }

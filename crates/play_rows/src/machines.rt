@@ -4,21 +4,20 @@ mod by_hand;
 mod cycles;
 mod numbers;
 
-use std::alloc::Global;
-use std::test::Fail;
+use crate::row_call::RowCall;
+use cycles::Part;
 
-/// What a call on machines tells; None where the name is another call's. The given text is the source of a program.
-pub fn told(
-    alloc: Global,
-    name: &str,
-    given: &str,
-    arguments: &str,
-) -> Result<Option<String>, Fail> {
-    if name == "by_hand" {
-        return Ok(Some(by_hand::told(alloc, given)?));
+/// Makes a call on machines; false where the name is another call's. The given text is the source of a program.
+pub fn make(row: &mut RowCall<'_>, name: &str) -> bool {
+    match name {
+        "by_hand" => by_hand::cycles_by_hand(row),
+        "cycles" => cycles::cycles(row, Part::Words),
+        "ends" => cycles::cycles(row, Part::Ends),
+        "asked" => cycles::cycles(row, Part::Calls),
+        "numbers" => numbers::numbers(row),
+        "expected" => numbers::expected(row),
+        "weights" => numbers::weighed(row),
+        _ => return false,
     }
-    if let Some(told) = cycles::told(alloc, name, given, arguments)? {
-        return Ok(Some(told));
-    }
-    numbers::told(alloc, name, given, arguments)
+    true
 }

@@ -9,32 +9,33 @@ mod faults;
 mod graphs;
 mod machines;
 mod player;
+mod row_call;
 mod sources;
 mod texts;
+mod told;
 mod values;
 
-use player::{Played, Player};
+use player::Player;
 use std::process::ExitCode;
 use std::rt::Files;
 use std::test::Fail;
 use std::{env, fs, io};
 
-/// Plays the rows of a file. A call that fails ends it; its line is told on the errors.
-fn played<R: Files + Eprint + AllocGlobal>(rt: &R, name: &str) -> Result<Played, Fail> {
+/// Plays the rows of a file. One that has no answer ends the program, which tells its file and its line, and why.
+fn played<R: Files + AllocGlobal>(rt: &R, name: &str) -> Result<Player, Fail> {
     let text = fs::read_to_string(rt, name)?;
     let mut player = Player::new(rt.alloc());
-    match player.play(&text) {
-        Ok(()) => Ok(player.played()),
-        Err(fail) => {
-            let number = player.number;
-            let _ = eprintln!(rt; "{name}, line {number}: no answer");
-            Err(fail)
-        }
+    player.play(&text)?;
+    if player.why.is_empty() {
+        return Ok(player);
     }
+    let number = player.number;
+    let why = player.why;
+    Err(Fail::new(format_args!("{name}, line {number}: {why}")))
 }
 
 /// Tells how many rows a file has, and which of them tell something else; whether all are as they say.
-fn tell<R: Print + Eprint>(rt: &R, name: &str, played: &Played) -> io::Result<bool> {
+fn tell<R: Print + Eprint>(rt: &R, name: &str, played: &Player) -> io::Result<bool> {
     let rows = played.rows;
     println!(rt; "{name}: {rows} rows")?;
     for fault in &played.faults {

@@ -6,30 +6,24 @@ mod shown;
 mod tokens;
 mod trees;
 
-use std::alloc::Global;
-use std::test::Fail;
+use crate::row_call::RowCall;
 
-/// What a call on sources tells; None where the name is another call's. The given text is a source, or the front of one.
-pub fn told(
-    alloc: Global,
-    name: &str,
-    given: &str,
-    arguments: &str,
-) -> Result<Option<String>, Fail> {
-    let told = match name {
-        "tokens" => tokens::of_text(alloc, arguments)?,
-        "spots" => tokens::with_spots(alloc, arguments)?,
-        "lexed" => tokens::counted(alloc, arguments)?,
-        "list" => tokens::of_list(alloc)?,
-        "tree" => trees::of_text(alloc, arguments)?,
-        "same" => trees::same(alloc, given, arguments)?,
-        "changed" => trees::changed(alloc, given, arguments)?,
-        "body" => trees::body(alloc, given)?,
-        "signed" => trees::signed(alloc)?,
-        "program" => programs::held(alloc, given)?,
-        "slots" => programs::slots(alloc, arguments)?,
-        "il" => lists::answered(alloc, given, arguments)?,
-        _ => return Ok(None),
-    };
-    Ok(Some(told))
+/// Makes a call on sources; false where the name is another call's. The given text is a source, or the front of one.
+pub fn make(row: &mut RowCall<'_>, name: &str) -> bool {
+    match name {
+        "tokens" => tokens::of_text(row),
+        "spots" => tokens::with_spots(row),
+        "lexed" => tokens::counted(row),
+        "list" => tokens::of_list(row),
+        "tree" => trees::of_text(row),
+        "same" => trees::same(row),
+        "changed" => trees::changed(row),
+        "body" => trees::body(row),
+        "signed" => trees::signed(row),
+        "program" => programs::held(row),
+        "slots" => programs::slots(row),
+        "il" => lists::answered(row),
+        _ => return false,
+    }
+    true
 }

@@ -4,21 +4,9 @@ mod tables;
 pub mod units;
 pub mod words;
 
-use std::alloc::Global;
-use std::test::Fail;
+use crate::row_call::RowCall;
 
-/// What a call on values tells; None where the name is another call's.
-pub fn told(
-    alloc: Global,
-    name: &str,
-    given: &str,
-    arguments: &str,
-) -> Result<Option<String>, Fail> {
-    if let Some(told) = words::told(alloc, name, arguments)? {
-        return Ok(Some(told));
-    }
-    if let Some(told) = tables::told(alloc, name, arguments)? {
-        return Ok(Some(told));
-    }
-    units::told(alloc, name, given, arguments)
+/// Makes a call on values; false where the name is another call's.
+pub fn make(row: &mut RowCall<'_>, name: &str) -> bool {
+    words::make(row, name) || tables::make(row, name) || units::make(row, name)
 }

@@ -19,17 +19,3 @@ pub fn put_repeated(text: &mut Vec<u8>, bytes: &[u8], times: u32) -> Result<(), 
     }
     Ok(())
 }
-
-/// So many times these bytes.
-pub fn repeated(alloc: Global, bytes: &[u8], times: u32) -> Result<Vec<u8>, Memory> {
-    let mut all = Vec::new(alloc);
-    put_repeated(&mut all, bytes, times)?;
-    Ok(all)
-}
-
-/// Appends the decimal digits of a number, with `-` before them where it is below 0.
-pub fn put_number(alloc: Global, text: &mut Vec<u8>, n: i64) -> Result<(), Memory> {
-    let digits = format!(in alloc; "{n}")?;
-    text.extend_from_slice(digits.as_bytes())?;
-    Ok(())
-}

@@ -1,8 +1,8 @@
-//! What stands in rows: cells before and behind ` =>`, spelled bytes, names and numbers.
+//! What stands in rows: cells before and behind ` =>`, spelled bytes, and words.
 
 use std::alloc::Global;
 use std::test::Fail;
-use vcp_base::{Kind, Memory, Ty, kind_name, kind_of_code, ty_name, ty_of_code};
+use vcp_base::Memory;
 
 /// Fails with what is found, where it is something else than what is wanted.
 pub fn same(found: &str, wanted: &str) -> Result<(), Fail> {
@@ -72,53 +72,4 @@ pub fn word_off(text: &str) -> (&str, &str) {
         Some((word, rest)) => (word, rest),
         None => (text, ""),
     }
-}
-
-/// The kind of this name.
-pub fn kind_named(name: &str) -> Result<Kind, Fail> {
-    for code in 0..19u8 {
-        if let Some(kind) = kind_of_code(code)
-            && kind_name(kind) == name.as_bytes()
-        {
-            return Ok(kind);
-        }
-    }
-    Err(Fail::new(name))
-}
-
-/// The type of this name.
-pub fn ty_named(name: &str) -> Result<Ty, Fail> {
-    for code in 0..4u8 {
-        if let Some(ty) = ty_of_code(code)
-            && ty_name(ty) == name.as_bytes()
-        {
-            return Ok(ty);
-        }
-    }
-    Err(Fail::new(name))
-}
-
-/// The number of 32 bits that is written so.
-pub fn u32_of(text: &str) -> Result<u32, Fail> {
-    Ok(text.parse()?)
-}
-
-/// The number of 64 bits that is written so.
-pub fn u64_of(text: &str) -> Result<u64, Fail> {
-    Ok(text.parse()?)
-}
-
-/// The number of 64 bits with a sign that is written so.
-pub fn i64_of(text: &str) -> Result<i64, Fail> {
-    Ok(text.parse()?)
-}
-
-/// The number of 128 bits with a sign that is written so.
-pub fn i128_of(text: &str) -> Result<i128, Fail> {
-    Ok(text.parse()?)
-}
-
-/// The place or the length that is written so.
-pub fn usize_of(text: &str) -> Result<usize, Fail> {
-    Ok(text.parse()?)
 }

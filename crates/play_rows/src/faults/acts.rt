@@ -3,15 +3,14 @@
 ghost use Rattle.std.specs.Prelude.{◌≡◌, ◌∷◌, [], Some, IfOk};
 
 use crate::faults::inputs::script_of;
+use crate::row_call::RowCall;
 use crate::sources::programs::graph_of;
-use crate::values::units::{KEPT, answers, calls_of};
+use crate::values::units::{KEPT, calls_of, tell_answers};
 use coded_unit::{BadUnit, Word};
 use fault_runs::{KeptWords, Scripted, acts_keep_the_step_law, carried_of};
 use fault_script::{Fault, Group};
 use std::alloc::Global;
-use std::test::Fail;
 use vcp_base::Memory;
-use worked_texts::{i128_of, word_off};
 
 /// The program whose operations the faults are of.
 const ADD: &[u8] = b"\
@@ -22,15 +21,16 @@ y := x + 1;
 END_PROGRAM
 ";
 
-/// The first fault of a script.
-fn fault_of(alloc: Global, text: &str) -> Result<Fault, Fail> {
-    let graph = graph_of(alloc, ADD)?;
-    let script = script_of(alloc, &graph, text)?;
+/// The first fault of the script that the rest of the arguments spells; None where there is none.
+fn fault_of(row: &mut RowCall<'_>) -> Option<Fault> {
+    let graph = graph_of(row, ADD)?;
+    let script = script_of(row, &graph)?;
     let group = script.at(0);
-    if group.len() == 0 {
-        return Err("no fault".into());
+    if group.len() > 0 {
+        return Some(group.at(0));
     }
-    Ok(group.at(0))
+    row.told.fail("no fault");
+    None
 }
 
 /// A fault as a group of one.
@@ -51,27 +51,41 @@ fn kept_word(alloc: Global, word: Word) -> Result<KeptWords, Memory>
     Ok(kept)
 }
 
-/// A unit's answers under a fault, how many of them are wrong, and how many calls the unit inside is asked.
-pub fn answers_under(alloc: Global, given: &str, arguments: &str) -> Result<String, Fail> {
+/// Tells a unit's answers under a fault, how many of them are wrong, and how many calls the unit inside is asked.
+fn tell_scripted(row: &mut RowCall<'_>, mut scripted: Scripted<'_, BadUnit>) {
+    tell_answers(row, &mut scripted);
+    row.told.item(scripted.wrong());
+    row.told.text(" wrong, ");
+    row.told.item(calls_of(scripted.into_inner()));
+    row.told.text(" calls");
+}
+
+/// A unit's answers under a fault.
+pub fn answers_under(row: &mut RowCall<'_>) {
     acts_keep_the_step_law();
-    let group = group_of(alloc, fault_of(alloc, arguments)?)?;
-    let mut unit = BadUnit::new(alloc, KEPT)?;
-    let mut scripted = Scripted::of_parts(&mut unit, carried_of(alloc, &group)?);
-    let out = answers(alloc, &mut scripted, given)?;
-    let wrong = scripted.wrong();
-    let calls = calls_of(scripted.into_inner());
-    Ok(format!(in alloc; "{out}{wrong} wrong, {calls} calls")?)
+    if let Some(fault) = fault_of(row)
+        && let Ok(group) = group_of(row.alloc, fault)
+        && let Ok(carried) = carried_of(row.alloc, &group)
+        && let Ok(mut unit) = BadUnit::new(row.alloc, KEPT)
+    {
+        tell_scripted(row, Scripted::of_parts(&mut unit, carried));
+    } else {
+        row.told.lack_memory();
+    }
 }
 
 /// The same where this word was kept before.
-pub fn answers_with_kept(alloc: Global, given: &str, arguments: &str) -> Result<String, Fail> {
-    let (word, fault) = word_off(arguments);
-    let group = group_of(alloc, fault_of(alloc, fault)?)?;
-    let kept = kept_word(alloc, Word::new(i128_of(word)?).ok_or("no word")?)?;
-    let mut unit = BadUnit::new(alloc, KEPT)?;
-    let mut scripted = Scripted::with_kept(alloc, &mut unit, &group, &kept)?;
-    let out = answers(alloc, &mut scripted, given)?;
-    let wrong = scripted.wrong();
-    let calls = calls_of(scripted.into_inner());
-    Ok(format!(in alloc; "{out}{wrong} wrong, {calls} calls")?)
+pub fn answers_with_kept(row: &mut RowCall<'_>) {
+    let code = row.i128();
+    let word = row.coded(code);
+    if let Some(fault) = fault_of(row)
+        && let Ok(group) = group_of(row.alloc, fault)
+        && let Ok(kept) = kept_word(row.alloc, word)
+        && let Ok(mut unit) = BadUnit::new(row.alloc, KEPT)
+        && let Ok(scripted) = Scripted::with_kept(row.alloc, &mut unit, &group, &kept)
+    {
+        tell_scripted(row, scripted);
+    } else {
+        row.told.lack_memory();
+    }
 }

@@ -1,72 +1,93 @@
 //! The scripts of faults and the rows of inputs that calls are about.
 
-ghost use Rattle.std.specs.Prelude.{◌≡◌, ◌≤◌, All, IfOk, length};
+ghost use Rattle.std.specs.Prelude.{◌≡◌, ◌≤◌, All, IfOk, IfSome, length, true};
+ghost use Rattle.fault_script.specs.Groups.{GroupFits};
+ghost use Rattle.fault_script.specs.ScriptOf.{most_faults};
 ghost use Rattle.vcp_base.specs.Limits.{most_cycles};
 
-use fault_script::{Script, read_script};
+use crate::row_call::RowCall;
+use fault_script::{Script, ScriptFault, read_script};
 use input_rows::{RowList, Rows, collect_rows};
 use op_graph::Graph;
-use std::alloc::Global;
-use std::test::Fail;
 use vcp_base::{Columns, MOST_CYCLES, MOST_NAMES, MOST_SOURCE_BYTES};
-use worked_texts::{spelled, u32_of};
 
-/// A script with a group at least, from a text that is spelled.
-pub fn script_of(alloc: Global, graph: &Graph, text: &str) -> Result<Script, Fail>
-    ensures { IfOk result (λ script. 1 ≤ length script) }
+/// The script of a text, or its refusal.
+pub fn read(row: &mut RowCall<'_>, graph: &Graph, text: &[u8]) -> Result<Script, ScriptFault>
+    ensures fits { IfOk result (λ script. All (GroupFits graph.now) script) }
+    ensures few { IfOk result (λ script. length script ≤ most_faults) }
 {
-    let text = spelled(alloc, text)?;
     if text.len() as u64 > MOST_SOURCE_BYTES {
-        return Err("too long".into());
+        row.told.fail("too long");
+        return Err(ScriptFault::Memory);
     }
-    let script = read_script(alloc, &text, graph)?;
-    if script.len() == 0 {
-        return Err("no group".into());
-    }
-    Ok(script)
+    read_script(row.alloc, text, graph)
 }
 
-/// So many cycles without inputs.
-fn cycles_of(alloc: Global, columns: &Columns, text: &str) -> Result<RowList, Fail>
-    ensures { IfOk result (λ rows. length rows ≤ most_cycles) }
+/// The script that the rest of the arguments spells, with a group at least; None where there is none.
+pub fn script_of(row: &mut RowCall<'_>, graph: &Graph) -> Option<Script>
+    ensures some { IfSome result (λ script. 1 ≤ length script) }
+    ensures fits { IfSome result (λ script. All (GroupFits graph.now) script) }
+    ensures few { IfSome result (λ script. length script ≤ most_faults) }
 {
-    let cycles = u32_of(text)?;
-    if cycles > MOST_CYCLES {
-        return Err("too many cycles".into());
+    let text = row.spelled(row.rest);
+    match read(row, graph, &text) {
+        Ok(script) if script.len() > 0 => Some(script),
+        _ => {
+            row.told.fail("no group");
+            None
+        }
     }
-    Ok(collect_rows(alloc, Rows::cycles(cycles, columns)?)?)
 }
 
-/// The rows of a spelled file with these columns.
-fn file_rows(alloc: Global, columns: &Columns, text: &str) -> Result<RowList, Fail>
-    ensures { IfOk result (λ rows. length rows ≤ most_cycles) }
+/// As many cycles without inputs as are written so; None where there can't be so many.
+fn cycle_rows(row: &mut RowCall<'_>, columns: &Columns, text: &str) -> Option<RowList>
+    ensures { IfSome result (λ rows. length rows ≤ most_cycles) }
 {
-    if columns.len() > MOST_NAMES as usize {
-        return Err("too many columns".into());
+    let cycles = row.u32_in(text);
+    if cycles <= MOST_CYCLES
+        && let Ok(rows) = Rows::cycles(cycles, columns)
+        && let Ok(list) = collect_rows(row.alloc, rows)
+    {
+        return Some(list);
     }
-    let text = spelled(alloc, text)?;
-    Ok(collect_rows(alloc, Rows::new(alloc, &text, columns)?)?)
+    row.told.fail("no cycles");
+    None
 }
 
-/// The rows of a graph's inputs: so many cycles without inputs, or the rows of a file, which is spelled.
-pub fn rows_of(alloc: Global, graph: &Graph, text: &str) -> Result<RowList, Fail>
-    ensures { IfOk result (λ rows. length rows ≤ most_cycles) }
+/// The rows of a spelled file with these columns; None where it is refused.
+fn file_rows(row: &mut RowCall<'_>, columns: &Columns, text: &str) -> Option<RowList>
+    ensures { IfSome result (λ rows. length rows ≤ most_cycles) }
 {
-    let columns = graph.columns(alloc)?;
-    if columns.len() == 0 {
-        return cycles_of(alloc, &columns, text);
+    let text = row.spelled(text);
+    if columns.len() <= MOST_NAMES as usize
+        && let Ok(rows) = Rows::new(row.alloc, &text, columns)
+        && let Ok(list) = collect_rows(row.alloc, rows)
+    {
+        return Some(list);
     }
-    file_rows(alloc, &columns, text)
+    row.told.fail("no rows");
+    None
 }
 
-/// Fails where the rows have another width than the graph's inputs.
-pub fn fits(rows: &RowList, graph: &Graph) -> Result<(), Fail>
-    ensures { IfOk result (λ _. All (λ row. length row ≡ length graph.now.inputs) rows.now) }
+/// The rows of a graph's inputs, which the next word says: how many cycles there are without inputs, or the rows of a file, which is
+/// spelled. None where there are none.
+pub fn rows_of(row: &mut RowCall<'_>, graph: &Graph) -> Option<RowList>
+    ensures { IfSome result (λ rows. length rows ≤ most_cycles) }
 {
-    let width = rows.width();
-    let inputs = graph.inputs();
-    if width != inputs {
-        return Err("width".into());
+    let text = row.word();
+    match graph.columns(row.alloc) {
+        Ok(columns) if columns.len() == 0 => cycle_rows(row, &columns, text),
+        Ok(columns) => file_rows(row, &columns, text),
+        Err(_) => {
+            row.told.lack_memory();
+            None
+        }
     }
-    Ok(())
+}
+
+/// Whether the rows have the width of the graph's inputs.
+pub fn fits(rows: &RowList, graph: &Graph) -> bool
+    ensures { result ≡ true → All (λ row. length row ≡ length graph.now.inputs) rows.now }
+{
+    rows.width() == graph.inputs()
 }

@@ -1,24 +1,14 @@
 //! Scripts of faults.
 
+use crate::faults::inputs::read;
+use crate::row_call::RowCall;
 use crate::sources::programs::graph_of;
 use crate::texts::unrolled;
-use fault_script::{Fault, Group, Script, ScriptFault, read_script};
-use op_graph::Graph;
-use std::alloc::Global;
-use std::test::Fail;
-use vcp_base::MOST_SOURCE_BYTES;
-use worked_texts::spelled;
+use crate::told::Told;
+use fault_script::{Fault, Group, Script};
 
-/// The script of a text that isn't too long.
-fn read(alloc: Global, graph: &Graph, text: &[u8]) -> Result<Script, ScriptFault> {
-    if text.len() as u64 > MOST_SOURCE_BYTES {
-        return Err(ScriptFault::Memory);
-    }
-    read_script(alloc, text, graph)
-}
-
-/// Appends the faults of a group, and where they are several that they go together.
-fn put_group(alloc: Global, out: &mut String, group: &Group) -> Result<(), Fail> {
+/// Tells the faults of a group, and where they are several that they go together.
+fn tell_group(told: &mut Told, group: &Group) {
     'faults: for i in 0..group.len() {
         let Fault {
             line,
@@ -26,36 +16,43 @@ fn put_group(alloc: Global, out: &mut String, group: &Group) -> Result<(), Fail>
             op,
             act,
         } = group.at(i);
-        out.push_str(&format!(in alloc; "{line}: {cycle} {op} {act:?} ")?)?;
+        told.item(line);
+        told.text(": ");
+        told.item(cycle);
+        told.item(op);
+        told.shown(&act);
     }
     if group.len() > 1 {
-        out.push_str("together ")?;
+        told.item("together");
     }
-    Ok(())
+}
+
+/// Tells the faults of a script.
+fn tell_groups(told: &mut Told, script: &Script) {
+    'groups: for i in 0..script.len() {
+        tell_group(told, script.at(i));
+    }
 }
 
 /// What a spelled script says: its faults, or its refusal.
-pub fn faults_of(alloc: Global, given: &str, arguments: &str) -> Result<String, Fail> {
-    let graph = graph_of(alloc, given.as_bytes())?;
-    let text = spelled(alloc, arguments)?;
-    let mut out = String::new(alloc);
-    match read(alloc, &graph, &text) {
-        Ok(script) => {
-            'groups: for i in 0..script.len() {
-                put_group(alloc, &mut out, script.at(i))?;
-            }
+pub fn tell_script(row: &mut RowCall<'_>) {
+    if let Some(graph) = graph_of(row, row.given.as_bytes()) {
+        let text = row.spelled(row.rest);
+        match read(row, &graph, &text) {
+            Ok(script) => tell_groups(&mut row.told, &script),
+            Err(fault) => row.told.shown(&fault),
         }
-        Err(fault) => out.push_str(&format!(in alloc; "{fault:?}")?)?,
     }
-    Ok(out)
 }
 
 /// How many groups a spelled script has in which `{NUMBER TEXT}` stands for a repeated text, or its refusal.
-pub fn groups_of(alloc: Global, given: &str, arguments: &str) -> Result<String, Fail> {
-    let graph = graph_of(alloc, given.as_bytes())?;
-    let text = spelled(alloc, &unrolled(alloc, arguments, '{', '}')?)?;
-    match read(alloc, &graph, &text) {
-        Ok(script) => Ok(format!(in alloc; "{}", script.len())?),
-        Err(fault) => Ok(format!(in alloc; "{fault:?}")?),
+pub fn tell_count(row: &mut RowCall<'_>) {
+    if let Some(graph) = graph_of(row, row.given.as_bytes()) {
+        let text = unrolled(row, row.rest, '{', '}');
+        let text = row.spelled(&text);
+        match read(row, &graph, &text) {
+            Ok(script) => row.told.item(script.len()),
+            Err(fault) => row.told.shown(&fault),
+        }
     }
 }

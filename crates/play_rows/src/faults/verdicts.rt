@@ -1,67 +1,167 @@
 //! Verdicts on groups of faults, and how groups end that show nowhere.
 
+ghost use Rattle.std.specs.Prelude.{◌≡◌, ◌≤◌, All, length};
+ghost use Rattle.signature_table.specs.Signatures.{IsTableOf};
+ghost use Rattle.vcp_base.specs.Limits.{most_cycles};
+
 use crate::faults::inputs::{fits, rows_of, script_of};
+use crate::row_call::RowCall;
 use crate::sources::programs::graph_of;
-use crate::values::units::{KEPT, bad_unit, calls_of};
+use crate::told::Told;
+use crate::values::units::{KEPT, calls_of, replace};
 use coded_unit::BadUnit;
 use fault_reruns::{Reference, verdict};
+use fault_script::Group;
+use input_rows::RowList;
+use op_graph::Graph;
 use signature_table::Table;
-use std::alloc::Global;
-use std::test::Fail;
 use verdict_tables::{group_ending, words_left};
-use worked_texts::word_off;
 
-/// The cycles and operations of the calls that a unit keeps from some number on.
-fn places(alloc: Global, unit: &BadUnit, first: u32) -> Result<String, Fail> {
-    let mut out = String::new(alloc);
-    'entries: for i in first..KEPT {
-        if let Some((call, _)) = unit.entry(i) {
-            out.push_str(&format!(in alloc; " {}.{}", call.cycle, call.op)?)?;
+/// What is asked of a script of faults over rows.
+#[derive(Clone, Copy)]
+enum Asked<'a> {
+    /// The verdict on the first group on a unit that gives these answers, the places of the calls by which it was found, and how many
+    /// answers were wrong.
+    Judged(&'a str),
+    /// The verdict on the first group alone, behind a run without it, and how many calls both took.
+    Alone,
+    /// How the first group ends.
+    Ending,
+}
+
+/// Answers over the rows and the script that the arguments say and the graph of the given source, with the seed 0 and the step 1.
+fn answer(row: &mut RowCall<'_>, asked: Asked<'_>) {
+    if let Some(graph) = graph_of(row, row.given.as_bytes()) {
+        match Table::new(row.alloc, &graph, 0, 1) {
+            Ok(table) => answer_over_rows(row, asked, &graph, &table),
+            Err(_) => row.told.lack_memory(),
         }
     }
-    Ok(out)
 }
 
-/// The verdict on the first group of a script over these rows on a unit some of whose answers are replaced, the places of the calls by
-/// which it was found, and how many answers were wrong.
-pub fn judged(alloc: Global, given: &str, arguments: &str) -> Result<String, Fail> {
-    let (replaced, rest) = word_off(arguments);
-    let (rows, script) = word_off(rest);
-    let graph = graph_of(alloc, given.as_bytes())?;
-    let table = Table::new(alloc, &graph, 0, 1)?;
-    let rows = rows_of(alloc, &graph, rows)?;
-    fits(&rows, &graph)?;
-    let script = script_of(alloc, &graph, script)?;
-    let mut unit = bad_unit(alloc, KEPT, replaced)?;
-    let reference = Reference::new(alloc, &graph, &table, &rows, &mut unit)?;
-    let first = calls_of(&unit);
-    let verdict = reference.verdict(alloc, script.at(0), &mut unit)?;
-    let places = places(alloc, &unit, first)?;
-    Ok(format!(in alloc; "{verdict:?}{places}, {} wrong", unit.wrong())?)
+fn answer_over_rows(row: &mut RowCall<'_>, asked: Asked<'_>, graph: &Graph, table: &Table)
+    requires { IsTableOf table.now graph.now }
+{
+    if let Some(rows) = rows_of(row, graph) {
+        if fits(&rows, graph) {
+            answer_on_script(row, asked, graph, table, &rows);
+        } else {
+            row.told.fail("rows of another width");
+        }
+    }
 }
 
-/// The verdict on the first group of a script alone, behind a run without it, and how many calls both took.
-pub fn alone(alloc: Global, given: &str, arguments: &str) -> Result<String, Fail> {
-    let (rows, script) = word_off(arguments);
-    let graph = graph_of(alloc, given.as_bytes())?;
-    let table = Table::new(alloc, &graph, 0, 1)?;
-    let rows = rows_of(alloc, &graph, rows)?;
-    fits(&rows, &graph)?;
-    let script = script_of(alloc, &graph, script)?;
-    let mut unit = BadUnit::new(alloc, KEPT)?;
-    let verdict = verdict(alloc, &graph, &table, &rows, script.at(0), &mut unit)?;
-    Ok(format!(in alloc; "{verdict:?}, {} calls", calls_of(&unit))?)
+fn answer_on_script(
+    row: &mut RowCall<'_>,
+    asked: Asked<'_>,
+    graph: &Graph,
+    table: &Table,
+    rows: &RowList,
+)
+    requires table { IsTableOf table.now graph.now }
+    requires width { All (λ row. length row ≡ length graph.now.inputs) rows.now }
+    requires few { length rows.now ≤ most_cycles }
+{
+    if let Some(script) = script_of(row, graph) {
+        match asked {
+            Asked::Judged(answers) => judge(row, graph, table, rows, script.at(0), answers),
+            Asked::Alone => judge_alone(row, graph, table, rows, script.at(0)),
+            Asked::Ending => tell_ending(row, graph, table, rows, script.at(0)),
+        }
+    }
+}
+
+/// Tells the cycles and operations of the calls that a unit keeps from some number on.
+fn tell_places(told: &mut Told, unit: &BadUnit, first: u32) {
+    'entries: for i in first..KEPT {
+        if let Some((call, _)) = unit.entry(i) {
+            told.item(call.cycle);
+            told.text(".");
+            told.item(call.op);
+        }
+    }
+}
+
+/// Tells the verdict by a rerun, the places of its calls, and how many answers were wrong.
+fn tell_rerun(row: &mut RowCall<'_>, reference: &Reference<'_>, group: &Group, unit: &mut BadUnit) {
+    let first = calls_of(unit);
+    match reference.verdict(row.alloc, group, unit) {
+        Ok(verdict) => {
+            row.told.shown(&verdict);
+            tell_places(&mut row.told, unit, first);
+            row.told.text(", ");
+            row.told.item(unit.wrong());
+            row.told.text(" wrong");
+        }
+        Err(_) => row.told.lack_memory(),
+    }
+}
+
+fn judge(
+    row: &mut RowCall<'_>,
+    graph: &Graph,
+    table: &Table,
+    rows: &RowList,
+    group: &Group,
+    answers: &str,
+)
+    requires table { IsTableOf table.now graph.now }
+    requires width { All (λ row. length row ≡ length graph.now.inputs) rows.now }
+    requires few { length rows.now ≤ most_cycles }
+{
+    let Ok(mut unit) = BadUnit::new(row.alloc, KEPT) else {
+        return row.told.lack_memory();
+    };
+    replace(row, &mut unit, answers);
+    match Reference::new(row.alloc, graph, table, rows, &mut unit) {
+        Ok(reference) => tell_rerun(row, &reference, group, &mut unit),
+        Err(_) => row.told.lack_memory(),
+    }
+}
+
+fn judge_alone(row: &mut RowCall<'_>, graph: &Graph, table: &Table, rows: &RowList, group: &Group)
+    requires table { IsTableOf table.now graph.now }
+    requires width { All (λ row. length row ≡ length graph.now.inputs) rows.now }
+    requires few { length rows.now ≤ most_cycles }
+{
+    if let Ok(mut unit) = BadUnit::new(row.alloc, KEPT)
+        && let Ok(verdict) = verdict(row.alloc, graph, table, rows, group, &mut unit)
+    {
+        row.told.shown(&verdict);
+        row.told.text(", ");
+        row.told.item(calls_of(&unit));
+        row.told.text(" calls");
+    } else {
+        row.told.lack_memory();
+    }
+}
+
+fn tell_ending(row: &mut RowCall<'_>, graph: &Graph, table: &Table, rows: &RowList, group: &Group)
+    requires table { IsTableOf table.now graph.now }
+    requires width { All (λ row. length row ≡ length graph.now.inputs) rows.now }
+    requires few { length rows.now ≤ most_cycles }
+{
+    if let Ok(without) = words_left(row.alloc, graph, table, rows)
+        && let Ok(ending) = group_ending(row.alloc, graph, table, rows, &without, group)
+    {
+        row.told.shown(&ending);
+    } else {
+        row.told.lack_memory();
+    }
+}
+
+/// The verdict on the first group of a script by a rerun.
+pub fn judged(row: &mut RowCall<'_>) {
+    let answers = row.word();
+    answer(row, Asked::Judged(answers));
+}
+
+/// The verdict on the first group of a script behind a run without it.
+pub fn alone(row: &mut RowCall<'_>) {
+    answer(row, Asked::Alone);
 }
 
 /// How the first group of a script ends.
-pub fn ending(alloc: Global, given: &str, arguments: &str) -> Result<String, Fail> {
-    let (rows, script) = word_off(arguments);
-    let graph = graph_of(alloc, given.as_bytes())?;
-    let table = Table::new(alloc, &graph, 0, 1)?;
-    let rows = rows_of(alloc, &graph, rows)?;
-    fits(&rows, &graph)?;
-    let without = words_left(alloc, &graph, &table, &rows)?;
-    let script = script_of(alloc, &graph, script)?;
-    let ending = group_ending(alloc, &graph, &table, &rows, &without, script.at(0))?;
-    Ok(format!(in alloc; "{ending:?}")?)
+pub fn ending(row: &mut RowCall<'_>) {
+    answer(row, Asked::Ending);
 }

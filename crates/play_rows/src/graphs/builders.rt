@@ -2,9 +2,9 @@
 
 ghost use Rattle.std.specs.Prelude.{◌≡◌, length, IfOk};
 
+use crate::row_call::RowCall;
 use op_graph::{Build, GraphBuilder, Op};
 use std::alloc::Global;
-use std::test::Fail;
 use vcp_base::{Kind, Profile, Spot, Ty};
 
 /// A constant of DINT outside every FOR.
@@ -37,15 +37,16 @@ fn filled(alloc: Global) -> Result<GraphBuilder, Build>
 }
 
 /// How many operations a filled builder has, what it answers to one more, how many its graph has, and whether the last is the constant 5.
-pub fn told(alloc: Global) -> Result<String, Fail> {
-    let mut builder = filled(alloc)?;
-    let count = builder.len();
-    let answer = builder.push(constant(6));
+pub fn tell_filled(row: &mut RowCall<'_>) {
+    let Ok(mut builder) = filled(row.alloc) else {
+        return row.told.lack_memory();
+    };
+    row.told.item(builder.len());
+    row.told.shown(&builder.push(constant(6)));
     let graph = builder.finish();
     let length = graph.len();
-    if length == 0 {
-        return Err("no operation".into());
+    row.told.item(length);
+    if length > 0 {
+        row.told.item(graph.operation(length - 1) == constant(5));
     }
-    let is_five = graph.operation(length - 1) == constant(5);
-    Ok(format!(in alloc; "{count} {answer:?} {length} {is_five}")?)
 }

@@ -1,10 +1,10 @@
 //! The graphs of sources and images: their operations, their entries, their codes, and what the passes make of them.
 
 use crate::graphs::images::{bytes_of, read};
-use crate::graphs::lines::listing;
-use crate::sources::programs::{checked, graph_of};
-use crate::texts::{put_columns, unrolled};
-use flat_stmt::flatten;
+use crate::graphs::lines::{tell_line, tell_lines};
+use crate::row_call::RowCall;
+use crate::sources::programs::{checked, flattened, graph_of};
+use crate::texts::{tell_columns, unrolled};
 use graph_passes::{
     closed_parts_are_graphs, closed_parts_mean_the_same, fold, prune, reduce, share,
     what_is_needed_means_the_same, what_is_shared_means_the_same,
@@ -14,10 +14,6 @@ use op_graph::{
     fields_are_wrong_in_order, numbers_have_64_bits, operands_are_in_their_types,
     operands_are_there,
 };
-use std::alloc::Global;
-use std::str::from_utf8;
-use std::test::Fail;
-use worked_texts::{joined, spelled};
 
 /// The laws on graphs and passes.
 pub fn laws() {
@@ -37,97 +33,128 @@ pub fn laws() {
 /// The bytes with which each image begins, as hexadecimal digits.
 const MAGIC: &str = "564350414e42440a";
 
-/// The graph of the given text.
-fn given_graph(alloc: Global, given: &str) -> Result<Graph, Fail> {
-    if given.starts_with(MAGIC) {
-        let (graph, _table) = read(alloc, &bytes_of(alloc, given)?)?;
-        return Ok(graph);
+/// The graph of the given image; None where it is refused.
+fn image_graph(row: &mut RowCall<'_>) -> Option<Graph> {
+    let bytes = bytes_of(row, row.given);
+    match read(row.alloc, &bytes) {
+        Ok((graph, _table)) => Some(graph),
+        Err(_) => {
+            row.told.fail("no image");
+            None
+        }
     }
-    graph_of(alloc, given.as_bytes())
 }
 
-/// A graph's operations, a line each.
-fn lines_of(alloc: Global, graph: &Graph) -> Result<String, Fail> {
-    let lines = listing(alloc, graph)?;
-    Ok(String::from_str(alloc, from_utf8(&lines)?)?)
+/// The graph of the given text; None where it is refused.
+fn given_graph(row: &mut RowCall<'_>) -> Option<Graph> {
+    if row.given.starts_with(MAGIC) {
+        image_graph(row)
+    } else {
+        graph_of(row, row.given.as_bytes())
+    }
 }
 
 /// The operations of the given graph, a line each.
-pub fn listed(alloc: Global, given: &str) -> Result<String, Fail> {
-    lines_of(alloc, &given_graph(alloc, given)?)
+pub fn listed(row: &mut RowCall<'_>) {
+    if let Some(graph) = given_graph(row) {
+        tell_lines(&mut row.told, &graph);
+    }
 }
 
 /// The operations of the given graph in the wide code, a line each.
-pub fn widened(alloc: Global, given: &str) -> Result<String, Fail> {
-    lines_of(alloc, &given_graph(alloc, given)?.widened())
+pub fn widened(row: &mut RowCall<'_>) {
+    if let Some(graph) = given_graph(row) {
+        tell_lines(&mut row.told, &graph.widened());
+    }
 }
 
 /// The code of the graph of a spelled source.
-pub fn profile(alloc: Global, arguments: &str) -> Result<String, Fail> {
-    let graph = graph_of(alloc, &spelled(alloc, arguments)?)?;
-    Ok(format!(in alloc; "{:?}", graph.profile())?)
+pub fn profile(row: &mut RowCall<'_>) {
+    let source = row.spelled(row.rest);
+    if let Some(graph) = graph_of(row, &source) {
+        row.told.shown(&graph.profile());
+    }
 }
 
 /// The code of the given graph, and that of the same graph widened.
-pub fn codes(alloc: Global, given: &str) -> Result<String, Fail> {
-    let graph = given_graph(alloc, given)?;
-    let profile = graph.profile();
-    let widened = graph.widened().profile();
-    Ok(format!(in alloc; "{profile:?} {widened:?}")?)
+pub fn codes(row: &mut RowCall<'_>) {
+    if let Some(graph) = given_graph(row) {
+        row.told.shown(&graph.profile());
+        row.told.shown(&graph.widened().profile());
+    }
 }
 
-/// The first entry of each list of the given graph, where each has one, and its columns.
-pub fn entries(alloc: Global, given: &str) -> Result<String, Fail> {
-    let graph = given_graph(alloc, given)?;
+/// Tells the first entry of each list of a graph, where each has one, and its columns.
+fn tell_entries(row: &mut RowCall<'_>, graph: &Graph) {
     if graph.inputs() == 0
         || graph.outputs() == 0
         || graph.cells() == 0
         || graph.turn_nodes() == 0
     {
-        return Err("no entries".into());
+        return row.told.fail("no entries");
     }
-    let mut out = format!(in alloc;
-        "{:?}\n{:?}\n{:?}\n{:?}\n",
-        graph.input(0),
-        graph.output(0),
-        graph.cell(0),
-        graph.turn_node(1)
-    )?;
-    put_columns(alloc, &mut out, &graph.columns(alloc)?)?;
-    put_columns(alloc, &mut out, &graph.output_columns(alloc)?)?;
-    Ok(out)
+    row.told.shown(&graph.input(0));
+    row.told.text("\n");
+    row.told.shown(&graph.output(0));
+    row.told.text("\n");
+    row.told.shown(&graph.cell(0));
+    row.told.text("\n");
+    row.told.shown(&graph.turn_node(1));
+    row.told.text("\n");
+    tell_columns(row, graph.columns(row.alloc));
+    tell_columns(row, graph.output_columns(row.alloc));
+}
+
+/// The first entry of each list of the given graph, and its columns.
+pub fn entries(row: &mut RowCall<'_>) {
+    if let Some(graph) = given_graph(row) {
+        tell_entries(row, &graph);
+    }
 }
 
 /// The third operation of the folded graph of `y := expression;` of INT, whose expression begins in column 6 of line 3.
-pub fn folded(alloc: Global, expression: &str) -> Result<String, Fail> {
+pub fn folded(row: &mut RowCall<'_>) {
     let front = b"PROGRAM p\nVAR_OUTPUT y : INT; END_VAR\ny := ";
-    let source = joined(alloc, &[front, expression.as_bytes(), b";\nEND_PROGRAM\n"])?;
-    let lines = lines_of(alloc, &fold(alloc, graph_of(alloc, &source)?)?)?;
-    Ok(String::from_str(alloc, lines.as_str().lines().nth(2).unwrap_or(""))?)
+    let source = row.joined(&[front, row.rest.as_bytes(), b";\nEND_PROGRAM\n"]);
+    if let Some(graph) = graph_of(row, &source) {
+        match fold(row.alloc, graph) {
+            Ok(graph) => tell_line(&mut row.told, &graph, 2),
+            Err(_) => row.told.lack_memory(),
+        }
+    }
 }
 
 /// How many names and cells the given graph has behind a pass, and its operations.
-pub fn passed(alloc: Global, given: &str, pass: &str) -> Result<String, Fail> {
-    let graph = given_graph(alloc, given)?;
-    let graph = match pass {
-        "prune" => prune(alloc, graph)?,
-        "share" => share(alloc, graph)?,
-        _ => reduce(alloc, graph)?,
-    };
-    let names = graph.names();
-    let cells = graph.cells();
-    Ok(format!(in alloc;
-        "{names} names, {cells} cells\n{}",
-        lines_of(alloc, &graph)?
-    )?)
+pub fn passed(row: &mut RowCall<'_>) {
+    if let Some(graph) = given_graph(row) {
+        let passed = match row.rest {
+            "prune" => prune(row.alloc, graph),
+            "share" => share(row.alloc, graph),
+            _ => reduce(row.alloc, graph),
+        };
+        match passed {
+            Ok(graph) => {
+                row.told.item(graph.names());
+                row.told.text(" names, ");
+                row.told.item(graph.cells());
+                row.told.text(" cells\n");
+                tell_lines(&mut row.told, &graph);
+            }
+            Err(_) => row.told.lack_memory(),
+        }
+    }
 }
 
 /// The Size of a program, and how many operations and cells its graph has. In its text `{NUMBER TEXT}` stands for a repeated text, and
 /// `<NUMBER TEXT>` for one within it.
-pub fn counts(alloc: Global, text: &str) -> Result<String, Fail> {
-    let text = unrolled(alloc, text, '<', '>')?;
-    let text = unrolled(alloc, &text, '{', '}')?;
-    let program = checked(alloc, text.as_bytes())?;
-    let graph = flatten(alloc, &program)?;
-    Ok(format!(in alloc; "{} {} {}", program.size(), graph.len(), graph.cells())?)
+pub fn counts(row: &mut RowCall<'_>) {
+    let text = unrolled(row, row.rest, '<', '>');
+    let text = unrolled(row, &text, '{', '}');
+    if let Some(program) = checked(row, text.as_bytes()) {
+        row.told.item(program.size());
+        if let Some(graph) = flattened(row, &program) {
+            row.told.item(graph.len());
+            row.told.item(graph.cells());
+        }
+    }
 }

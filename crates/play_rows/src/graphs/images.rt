@@ -3,14 +3,14 @@
 ghost use Rattle.std.specs.Prelude.{IfOk};
 ghost use Rattle.signature_table.specs.Signatures.{IsTableOf};
 
+use crate::row_call::RowCall;
 use crate::sources::programs::graph_of;
+use hex::encode;
 use image_file::{ImageFault, images_are_told_apart, read_image, write_image};
 use op_graph::Graph;
 use signature_table::Table;
 use std::alloc::Global;
-use std::test::Fail;
-use vcp_base::{MOST_IMAGE_BYTES, Memory};
-use worked_texts::{joined, usize_of, word_off};
+use vcp_base::MOST_IMAGE_BYTES;
 
 /// The value of a hexadecimal digit.
 fn digit(c: u8) -> Option<u8> {
@@ -22,30 +22,20 @@ fn digit(c: u8) -> Option<u8> {
 }
 
 /// The bytes that hexadecimal digits spell; what is no digit is passed over.
-pub fn bytes_of(alloc: Global, text: &str) -> Result<Vec<u8>, Memory> {
-    let mut bytes = Vec::new(alloc);
+pub fn bytes_of(row: &mut RowCall<'_>, text: &str) -> Vec<u8> {
+    let mut bytes = Vec::new(row.alloc);
     let mut high = None;
     for c in text.as_bytes() {
         match (digit(*c), high) {
             (None, _) => {}
             (Some(d), None) => high = Some(d),
             (Some(d), Some(h)) => {
-                bytes.push(h.wrapping_mul(16).wrapping_add(d))?;
+                row.push(&mut bytes, h.wrapping_mul(16).wrapping_add(d));
                 high = None;
             }
         }
     }
-    Ok(bytes)
-}
-
-/// The hexadecimal digits of bytes.
-fn digits_of(alloc: Global, bytes: &[u8]) -> Result<String, Memory> {
-    let mut text = String::new(alloc);
-    for byte in bytes {
-        let byte = *byte;
-        text.push_str(&format!(in alloc; "{byte:02x}")?)?;
-    }
-    Ok(text)
+    bytes
 }
 
 /// The graph and the table of bytes that aren't too many.
@@ -58,47 +48,52 @@ pub fn read(alloc: Global, bytes: &[u8]) -> Result<(Graph, Table), ImageFault>
     read_image(alloc, bytes)
 }
 
-/// The fault of bytes, or that they are an image, which is that of the graph and the table that they read to.
-pub fn read_or_refused(alloc: Global, bytes: &[u8]) -> Result<String, Fail> {
+/// Whether bytes are the image of the graph and the table that they read to; the fault where they are refused.
+fn is_image(alloc: Global, bytes: &[u8]) -> Result<bool, ImageFault> {
+    let (graph, table) = read(alloc, bytes)?;
+    match write_image(alloc, &graph, &table) {
+        Ok(image) => Ok(image.bytes() == bytes),
+        Err(_) => Err(ImageFault::Memory),
+    }
+}
+
+/// Tells the fault of bytes, or that they are an image.
+pub fn tell_image(row: &mut RowCall<'_>, bytes: &[u8]) {
     images_are_told_apart();
-    match read(alloc, bytes) {
-        Ok((graph, table)) => {
-            let image = write_image(alloc, &graph, &table)?;
-            if image.bytes() == bytes {
-                return Ok(String::from_str(alloc, "an image")?);
-            }
-            Ok(String::from_str(alloc, "written otherwise")?)
-        }
-        Err(fault) => Ok(format!(in alloc; "{fault:?}")?),
+    match is_image(row.alloc, bytes) {
+        Ok(true) => row.told.text("an image"),
+        Ok(false) => row.told.text("written otherwise"),
+        Err(fault) => row.told.shown(&fault),
     }
 }
 
 /// What is told of the given bytes with more behind them.
-pub fn appended(alloc: Global, given: &str, arguments: &str) -> Result<String, Fail> {
-    let front = bytes_of(alloc, given)?;
-    let more = bytes_of(alloc, arguments)?;
-    let bytes = joined(alloc, &[&front[..], &more[..]])?;
-    read_or_refused(alloc, &bytes)
+pub fn appended(row: &mut RowCall<'_>) {
+    let front = bytes_of(row, row.given);
+    let more = bytes_of(row, row.rest);
+    let bytes = row.joined(&[&front[..], &more[..]]);
+    tell_image(row, &bytes);
 }
 
 /// A copy with other bytes from a place on.
-fn with_patch(alloc: Global, bytes: &[u8], at: usize, patch: &[u8]) -> Result<Vec<u8>, Memory> {
-    let mut copy = Vec::new(alloc);
+fn with_patch(row: &mut RowCall<'_>, bytes: &[u8], at: usize, patch: &[u8]) -> Vec<u8> {
+    let mut copy = Vec::new(row.alloc);
     for (i, b) in bytes.iter().enumerate() {
         match patch.get(i.wrapping_sub(at)) {
-            Some(p) => copy.push(*p)?,
-            None => copy.push(*b)?,
+            Some(p) => row.push(&mut copy, *p),
+            None => row.push(&mut copy, *b),
         }
     }
-    Ok(copy)
+    copy
 }
 
 /// What is told of the given bytes with others from a place on.
-pub fn patched(alloc: Global, given: &str, arguments: &str) -> Result<String, Fail> {
-    let (at, patch) = word_off(arguments);
-    let bytes = bytes_of(alloc, given)?;
-    let patch = bytes_of(alloc, patch)?;
-    read_or_refused(alloc, &with_patch(alloc, &bytes, usize_of(at)?, &patch)?)
+pub fn patched(row: &mut RowCall<'_>) {
+    let at = row.u32() as usize;
+    let bytes = bytes_of(row, row.given);
+    let patch = bytes_of(row, row.rest);
+    let bytes = with_patch(row, &bytes, at, &patch);
+    tell_image(row, &bytes);
 }
 
 /// The first bytes, so many where they are there.
@@ -110,67 +105,79 @@ fn front(bytes: &[u8], n: usize) -> &[u8] {
     }
 }
 
+/// Whether of the front of so many bytes is told that it ends there.
+fn is_short(alloc: Global, bytes: &[u8], n: u32) -> bool {
+    match read(alloc, front(bytes, n as usize)) {
+        Ok(_) => false,
+        Err(fault) => fault == ImageFault::Short { at: n },
+    }
+}
+
 /// The length of the first front of the given bytes of which something else is told than that it ends there; all of them where there is
 /// none.
-pub fn fronts(alloc: Global, given: &str) -> Result<String, Fail> {
-    let bytes = bytes_of(alloc, given)?;
-    let all = u32::try_from(bytes.len())?;
-    for n in 0..all {
-        let is_short = match read(alloc, front(&bytes, n as usize)) {
-            Ok(_) => false,
-            Err(fault) => fault == ImageFault::Short { at: n },
-        };
-        if !is_short {
-            return Ok(format!(in alloc; "{n}")?);
+pub fn fronts(row: &mut RowCall<'_>) {
+    let bytes = bytes_of(row, row.given);
+    for n in 0..u32::MAX {
+        if n as usize >= bytes.len() || !is_short(row.alloc, &bytes, n) {
+            return row.told.item(n);
         }
     }
-    Ok(format!(in alloc; "{all}")?)
 }
 
 /// Whether bytes are refused, or are the image of what they read to.
-fn is_refused_or_written(alloc: Global, bytes: &[u8]) -> Result<bool, Memory> {
-    match read(alloc, bytes) {
-        Ok((graph, table)) => {
-            let image = write_image(alloc, &graph, &table)?;
-            Ok(image.bytes() == bytes)
-        }
-        Err(fault) => Ok(fault != ImageFault::Memory),
+fn is_refused_or_written(alloc: Global, bytes: &[u8]) -> bool {
+    match is_image(alloc, bytes) {
+        Ok(is_image) => is_image,
+        Err(fault) => fault != ImageFault::Memory,
     }
 }
 
 /// Whether this holds of each value of the byte at a place.
-fn all_values(alloc: Global, bytes: &[u8], at: usize) -> Result<bool, Memory> {
+fn all_values(row: &mut RowCall<'_>, bytes: &[u8], at: usize) -> bool {
     for v in 0..256u32 {
-        let changed = with_patch(alloc, bytes, at, &[v as u8])?;
-        if !is_refused_or_written(alloc, &changed)? {
-            return Ok(false);
+        let changed = with_patch(row, bytes, at, &[v as u8]);
+        if !is_refused_or_written(row.alloc, &changed) {
+            return false;
         }
     }
-    Ok(true)
+    true
 }
 
 /// How many of the given bytes, from a place to before another, may have each value and are refused, or are the image of what they read
 /// to, up to the first that isn't.
-pub fn changes(alloc: Global, given: &str, arguments: &str) -> Result<String, Fail> {
-    let (from, to) = word_off(arguments);
-    let bytes = bytes_of(alloc, given)?;
+pub fn changes(row: &mut RowCall<'_>) {
+    let from = row.u32();
+    let to = row.u32();
+    let bytes = bytes_of(row, row.given);
     let mut places = 0u32;
-    for at in usize_of(from)?..usize_of(to)? {
-        if !all_values(alloc, &bytes, at)? {
+    for at in from..to {
+        if !all_values(row, &bytes, at as usize) {
             break;
         }
         places = places.saturating_add(1);
     }
-    Ok(format!(in alloc; "{places}")?)
+    row.told.item(places);
 }
 
-/// The image of the given source with the seed 0 and the step 1, in its code or in the wide one.
-pub fn written(alloc: Global, given: &str, arguments: &str) -> Result<String, Fail> {
-    let mut graph = graph_of(alloc, given.as_bytes())?;
-    if arguments == "wide" {
-        graph = graph.widened();
+/// Tells the image of a graph with the seed 0 and the step 1.
+fn tell_digits(row: &mut RowCall<'_>, graph: &Graph) {
+    if let Ok(table) = Table::new(row.alloc, graph, 0, 1)
+        && let Ok(image) = write_image(row.alloc, graph, &table)
+        && let Ok(digits) = encode(row.alloc, image.bytes())
+    {
+        row.told.text(&digits);
+    } else {
+        row.told.lack_memory();
     }
-    let table = Table::new(alloc, &graph, 0, 1)?;
-    let image = write_image(alloc, &graph, &table)?;
-    Ok(digits_of(alloc, image.bytes())?)
+}
+
+/// The image of the given source, in its code or in the wide one.
+pub fn written(row: &mut RowCall<'_>) {
+    if let Some(graph) = graph_of(row, row.given.as_bytes()) {
+        if row.rest == "wide" {
+            tell_digits(row, &graph.widened());
+        } else {
+            tell_digits(row, &graph);
+        }
+    }
 }

@@ -1,11 +1,13 @@
 //! Images that are too large to be written out.
 
-use crate::graphs::images::{bytes_of, read, read_or_refused};
+ghost use Rattle.std.specs.Prelude.{◌<◌, length};
+
+use crate::graphs::images::{bytes_of, read, tell_image};
+use crate::row_call::RowCall;
+use crate::told::Told;
+use op_graph::Graph;
 use signature_table::signature_of;
-use std::alloc::Global;
-use std::test::Fail;
-use vcp_base::{Memory, Profile};
-use worked_texts::repeated;
+use vcp_base::Profile;
 
 /// The letter or digit of a number below 36.
 fn letter_or_digit(n: u32) -> u8 {
@@ -16,68 +18,96 @@ fn letter_or_digit(n: u32) -> u8 {
     }
 }
 
+/// The first 16 bytes of images with the seed 0 and the step 1, as hexadecimal digits.
+const FRONT: &str = "564350414e42440a0001000100000000";
+
 /// An image of so many names of 2,000 bytes, which differ in their last two alone.
-fn long_names(alloc: Global, count: u32) -> Result<Vec<u8>, Memory> {
-    let mut bytes = bytes_of(alloc, "564350414e42440a0001000100000000")?;
-    bytes.extend_from_slice(&count.to_be_bytes())?;
-    bytes.extend_from_slice(&[0; 20])?;
-    let front = repeated(alloc, b"a", 1998)?;
+fn long_names(row: &mut RowCall<'_>, count: u32) -> Vec<u8> {
+    let mut bytes = bytes_of(row, FRONT);
+    row.append(&mut bytes, &count.to_be_bytes());
+    row.append(&mut bytes, &[0; 20]);
     for n in 0..count {
-        bytes.extend_from_slice(&2000u32.to_be_bytes())?;
-        bytes.extend_from_slice(&front)?;
-        bytes.extend_from_slice(&[letter_or_digit(n % 32), letter_or_digit(n / 32 % 32)])?;
+        row.append(&mut bytes, &2000u32.to_be_bytes());
+        row.append(&mut bytes, &[b'a'; 1998]);
+        row.append(
+            &mut bytes,
+            &[letter_or_digit(n % 32), letter_or_digit(n / 32 % 32)],
+        );
     }
-    Ok(bytes)
+    bytes
+}
+
+/// A turn node in the one before, with its number.
+fn append_turn(row: &mut RowCall<'_>, bytes: &mut Vec<u8>, i: u32) {
+    row.append(bytes, &i.to_be_bytes());
+    row.append(bytes, &[0; 8]);
+    row.append(bytes, &i.to_be_bytes());
+}
+
+/// An operation CONST 0 of DINT in the turn node of its number.
+fn append_constant(row: &mut RowCall<'_>, bytes: &mut Vec<u8>, i: u32) {
+    let correction = (signature_of(Profile::Narrow, 0, i) & 4294967295) as u32;
+    row.append(bytes, &[1, 2, 2]);
+    row.append(bytes, &[0; 28]);
+    row.append(bytes, &i.saturating_add(1).to_be_bytes());
+    row.append(bytes, &correction.to_be_bytes());
 }
 
 /// An image of so many turn nodes, each in the one before and with its number from 0, and so many operations CONST 0, each in its node.
-fn chain(alloc: Global, count: u32) -> Result<Vec<u8>, Memory> {
-    let mut bytes = bytes_of(alloc, "564350414e42440a0001000100000000")?;
-    bytes.extend_from_slice(&1u32.to_be_bytes())?;
-    bytes.extend_from_slice(&[0; 12])?;
-    bytes.extend_from_slice(&count.to_be_bytes())?;
-    bytes.extend_from_slice(&count.to_be_bytes())?;
-    bytes.extend_from_slice(b"\0\0\0\x01x")?;
+fn chain(row: &mut RowCall<'_>, count: u32) -> Vec<u8> {
+    let mut bytes = bytes_of(row, FRONT);
+    row.append(&mut bytes, &1u32.to_be_bytes());
+    row.append(&mut bytes, &[0; 12]);
+    row.append(&mut bytes, &count.to_be_bytes());
+    row.append(&mut bytes, &count.to_be_bytes());
+    row.append(&mut bytes, b"\0\0\0\x01x");
     for i in 0..count {
-        bytes.extend_from_slice(&i.to_be_bytes())?;
-        bytes.extend_from_slice(&[0; 8])?;
-        bytes.extend_from_slice(&i.to_be_bytes())?;
+        append_turn(row, &mut bytes, i);
     }
     for i in 0..count {
-        let correction = (signature_of(Profile::Narrow, 0, i) & 4294967295) as u32;
-        bytes.extend_from_slice(&[1, 2, 2])?;
-        bytes.extend_from_slice(&[0; 28])?;
-        bytes.extend_from_slice(&i.saturating_add(1).to_be_bytes())?;
-        bytes.extend_from_slice(&correction.to_be_bytes())?;
+        append_constant(row, &mut bytes, i);
     }
-    Ok(bytes)
+    bytes
 }
 
 /// What is told of the image of so many long names.
-pub fn with_names(alloc: Global, count: u32) -> Result<String, Fail> {
-    read_or_refused(alloc, &long_names(alloc, count)?)
+pub fn with_names(row: &mut RowCall<'_>) {
+    let count = row.u32();
+    let bytes = long_names(row, count);
+    tell_image(row, &bytes);
 }
 
 /// What is told of the image of so many nested turn nodes and operations.
-pub fn with_turns(alloc: Global, count: u32) -> Result<String, Fail> {
-    read_or_refused(alloc, &chain(alloc, count)?)
+pub fn with_turns(row: &mut RowCall<'_>) {
+    let count = row.u32();
+    let bytes = chain(row, count);
+    tell_image(row, &bytes);
 }
 
-/// The turns round the last operation of such an image, outermost first, and whether no more are told behind them.
-pub fn innermost(alloc: Global, count: u32) -> Result<String, Fail> {
-    let (graph, _table) = read(alloc, &chain(alloc, count)?)?;
-    let mut out = String::new(alloc);
-    let length = graph.len();
-    if length == 0 {
-        return Ok(out);
-    }
-    let mut turns = graph.turns(length - 1);
+/// Tells the turns round an operation, outermost first, and whether no more are told behind them.
+fn tell_turns(told: &mut Told, graph: &Graph, i: u32)
+    requires { i < length graph.now.operations }
+{
+    let mut turns = graph.turns(i);
     for _node in 0..graph.turn_nodes() {
         if let Some(turn) = turns.next() {
-            out.push_str(&format!(in alloc; "{} ", turn.value)?)?;
+            told.item(turn.value);
         }
     }
-    let has_ended = turns.next().is_none() && turns.next().is_none();
-    out.push_str(&format!(in alloc; "{has_ended}")?)?;
-    Ok(out)
+    told.item(turns.next().is_none() && turns.next().is_none());
+}
+
+/// The turns round the last operation of such an image.
+pub fn innermost(row: &mut RowCall<'_>) {
+    let count = row.u32();
+    let bytes = chain(row, count);
+    match read(row.alloc, &bytes) {
+        Ok((graph, _table)) => {
+            let length = graph.len();
+            if length > 0 {
+                tell_turns(&mut row.told, &graph, length - 1);
+            }
+        }
+        Err(_) => row.told.fail("no image"),
+    }
 }

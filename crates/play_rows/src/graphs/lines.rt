@@ -1,87 +1,76 @@
 //! The listing of a graph, without signatures and corrections.
 
+ghost use Rattle.std.specs.Prelude.{◌<◌, length};
+
+use crate::told::Told;
 use op_graph::{Graph, Op};
-use std::alloc::Global;
-use vcp_base::{Kind, Memory, kind_name, operands, ty_name};
-use worked_texts::put_number;
+use vcp_base::{Kind, kind_name, operands, ty_name};
 
 /// The operands of an operation, but for a LOAD, which reads its cell.
-fn put_operands(alloc: Global, text: &mut Vec<u8>, op: &Op) -> Result<(), Memory> {
+fn tell_operands(told: &mut Told, op: &Op) {
     if op.kind == Kind::Load {
-        return Ok(());
+        return;
     }
     let numbers = [op.a, op.b, op.c];
     for (j, number) in numbers.iter().enumerate() {
         if j < operands(op.kind) as usize {
-            text.extend_from_slice(b" ")?;
-            put_number(alloc, text, *number as i64)?;
+            told.item(*number);
         }
     }
-    Ok(())
 }
 
 /// An operation's own number, by its kind.
-fn put_own_number(alloc: Global, text: &mut Vec<u8>, op: &Op) -> Result<(), Memory> {
-    let word = match op.kind {
-        Kind::Input => b" in ".as_slice(),
-        Kind::Const => b" val ".as_slice(),
-        Kind::Load | Kind::Store => b" cell ".as_slice(),
-        Kind::Out => b" out ".as_slice(),
-        _ => return Ok(()),
-    };
-    text.extend_from_slice(word)?;
-    put_number(alloc, text, op.imm)
+fn tell_own_number(told: &mut Told, op: &Op) {
+    match op.kind {
+        Kind::Input => told.item("in"),
+        Kind::Const => told.item("val"),
+        Kind::Load | Kind::Store => told.item("cell"),
+        Kind::Out => told.item("out"),
+        _ => return,
+    }
+    told.item(op.imm);
 }
 
 /// The turns round operation `i`, outermost first.
-fn put_turns(alloc: Global, text: &mut Vec<u8>, graph: &Graph, i: u32) -> Result<(), Memory> {
-    if i >= graph.len() {
-        return Ok(());
-    }
+fn tell_turns(told: &mut Told, graph: &Graph, i: u32)
+    requires { i < length graph.now.operations }
+{
     let mut turns = graph.turns(i);
     for _node in 0..graph.turn_nodes() {
         let Some(turn) = turns.next() else {
-            return Ok(());
+            return;
         };
-        text.extend_from_slice(b" ")?;
         if turn.name < graph.names() {
-            text.extend_from_slice(graph.name(turn.name).bytes())?;
+            told.name(graph.name(turn.name).bytes());
         }
-        text.extend_from_slice(b"=")?;
-        put_number(alloc, text, turn.value)?;
+        told.text("=");
+        told.item(turn.value);
     }
-    Ok(())
 }
 
-/// The line of operation `i`.
-fn put_line(alloc: Global, text: &mut Vec<u8>, graph: &Graph, i: u32) -> Result<(), Memory> {
+/// The line of operation `i`; nothing where there is none.
+pub fn tell_line(told: &mut Told, graph: &Graph, i: u32) {
     if i >= graph.len() {
-        return Ok(());
+        return;
     }
     let op = graph.operation(i);
-    put_number(alloc, text, i as i64)?;
-    text.extend_from_slice(b" ")?;
-    text.extend_from_slice(kind_name(op.kind))?;
-    text.extend_from_slice(b" ")?;
-    text.extend_from_slice(ty_name(op.from))?;
-    text.extend_from_slice(b" ")?;
-    text.extend_from_slice(ty_name(op.ty))?;
-    put_operands(alloc, text, &op)?;
-    put_own_number(alloc, text, &op)?;
-    text.extend_from_slice(b" at ")?;
-    put_number(alloc, text, op.spot.line as i64)?;
-    text.extend_from_slice(b":")?;
-    put_number(alloc, text, op.spot.col as i64)?;
-    put_turns(alloc, text, graph, i)?;
-    text.extend_from_slice(b"\n")?;
-    Ok(())
+    told.item(i);
+    told.name(kind_name(op.kind));
+    told.name(ty_name(op.from));
+    told.name(ty_name(op.ty));
+    tell_operands(told, &op);
+    tell_own_number(told, &op);
+    told.item("at");
+    told.item(op.spot.line);
+    told.text(":");
+    told.item(op.spot.col);
+    tell_turns(told, graph, i);
+    told.text("\n");
 }
 
 /// A line for each operation.
-pub fn listing(alloc: Global, graph: &Graph) -> Result<Vec<u8>, Memory> {
-    let mut text = Vec::new(alloc);
+pub fn tell_lines(told: &mut Told, graph: &Graph) {
     for i in 0..graph.len() {
-        put_line(alloc, &mut text, graph, i)?;
+        tell_line(told, graph, i);
     }
-    Ok(text)
 }

@@ -3,23 +3,24 @@
 ghost use Rattle.std.specs.Prelude.{◌≡◌, ◌≤◌, ◌<◌, ◌+◌, false, None, length};
 ghost use Rattle.coded_machine.specs.Runs.{Turn};
 
-use crate::machines::cycles::{Seen, with_words, words};
+use crate::machines::cycles::{Seen, tell_seen, words};
+use crate::row_call::RowCall;
 use crate::sources::programs::graph_of;
 use coded_machine::{Machine, cycles_by_hand_are_whole};
 use coded_unit::{CpuUnit, Unit};
 use op_graph::Graph;
 use signature_table::Table;
-use std::alloc::Global;
-use std::test::Fail;
-use vcp_base::{Memory, Row};
+use vcp_base::Row;
 
 /// Three cycles of the given program, which has one output and no input.
-pub fn told(alloc: Global, given: &str) -> Result<String, Fail> {
-    let graph = graph_of(alloc, given.as_bytes())?;
-    if graph.outputs() != 1 {
-        return Err("no output".into());
+pub fn cycles_by_hand(row: &mut RowCall<'_>) {
+    if let Some(graph) = graph_of(row, row.given.as_bytes()) {
+        if graph.outputs() == 1 {
+            three_cycles(row, &graph);
+        } else {
+            row.told.fail("no output");
+        }
     }
-    Ok(with_words(alloc, &three_cycles(alloc, &graph)?)?)
 }
 
 /// What is seen of one cycle on a row.
@@ -48,17 +49,28 @@ fn cycle_by_hand<U: Unit>(machine: &mut Machine<'_>, unit: &mut U, row: &Row, ou
 }
 
 /// Three cycles of a new machine with the seed 0 and the step 1.
-fn three_cycles(alloc: Global, graph: &Graph) -> Result<[Seen; 3], Memory>
+fn three_cycles(row: &mut RowCall<'_>, graph: &Graph)
     requires { length graph.now.outputs ≡ 1 }
 {
-    let table = Table::new(alloc, graph, 0, 1)?;
-    let mut machine = Machine::new(alloc, graph, &table)?;
-    let mut unit = CpuUnit::new();
-    let row = Row::new(alloc);
-    let mut out = Row::zeros(alloc, 1)?;
-    Ok([
-        cycle_by_hand(&mut machine, &mut unit, &row, &mut out),
-        cycle_by_hand(&mut machine, &mut unit, &row, &mut out),
-        cycle_by_hand(&mut machine, &mut unit, &row, &mut out),
-    ])
+    if let Ok(table) = Table::new(row.alloc, graph, 0, 1)
+        && let Ok(mut machine) = Machine::new(row.alloc, graph, &table)
+        && let Ok(mut out) = Row::zeros(row.alloc, 1)
+    {
+        let mut unit = CpuUnit::new();
+        let input = Row::new(row.alloc);
+        tell_seen(
+            &mut row.told,
+            cycle_by_hand(&mut machine, &mut unit, &input, &mut out),
+        );
+        tell_seen(
+            &mut row.told,
+            cycle_by_hand(&mut machine, &mut unit, &input, &mut out),
+        );
+        tell_seen(
+            &mut row.told,
+            cycle_by_hand(&mut machine, &mut unit, &input, &mut out),
+        );
+    } else {
+        row.told.lack_memory();
+    }
 }

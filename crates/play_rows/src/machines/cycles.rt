@@ -1,55 +1,25 @@
 //! Three cycles of a machine with the seed 0 and the step 1.
 
 ghost use Rattle.std.specs.Prelude.{◌≡◌, ◌≤◌, ◌<◌, ◌+◌, false, length};
+ghost use Rattle.signature_table.specs.Signatures.{IsTableOf};
 
+use crate::row_call::RowCall;
 use crate::sources::programs::graph_of;
+use crate::told::Told;
 use crate::values::units::{bad_unit, calls_of};
 use coded_machine::{
     CycleEnd, Machine, honest_runs_follow_the_graph, right_answers_stand_for_values,
     runs_follow_their_answers,
 };
-use coded_unit::{BadUnit, Unit};
+use coded_unit::BadUnit;
 use op_graph::Graph;
 use signature_table::{
     Table, constants_are_in_range, expected_residues_are_residues, signatures_are_distinct,
 };
-use std::alloc::Global;
-use std::test::Fail;
-use vcp_base::{Memory, Row};
-use worked_texts::{i64_of, word_off};
+use vcp_base::Row;
 
 /// How many calls of a unit are kept.
 const KEPT: u32 = 15;
-
-/// What a call on machines tells. The given text is the source of a program with one output; the arguments are the answers that are
-/// replaced, and the values of the input in three cycles.
-pub fn told(
-    alloc: Global,
-    name: &str,
-    given: &str,
-    arguments: &str,
-) -> Result<Option<String>, Fail> {
-    match name {
-        "cycles" | "ends" | "asked" => {}
-        _ => return Ok(None),
-    }
-    right_answers_stand_for_values();
-    runs_follow_their_answers();
-    honest_runs_follow_the_graph();
-    constants_are_in_range();
-    signatures_are_distinct();
-    expected_residues_are_residues();
-    let graph = graph_of(alloc, given.as_bytes())?;
-    let (replaced, values) = word_off(arguments);
-    let mut unit = bad_unit(alloc, KEPT, replaced)?;
-    let seen = three_cycles(alloc, &graph, &mut unit, values)?;
-    let told = match name {
-        "cycles" => with_words(alloc, &seen)?,
-        "ends" => without_words(alloc, &seen, &unit)?,
-        _ => asked(alloc, &unit)?,
-    };
-    Ok(Some(told))
-}
 
 /// The word that operation `i` answered; 0 where it answered none.
 fn word(machine: &Machine<'_>, i: u32) -> i128 {
@@ -78,8 +48,32 @@ pub fn words(machine: &Machine<'_>) -> [i128; 5] {
     ]
 }
 
-/// One cycle on a row: its end, the value of the output, and the words.
-fn cycle<U: Unit>(machine: &mut Machine<'_>, unit: &mut U, row: &Row, out: &mut Row) -> Seen
+/// Tells the end of a cycle, the value of the output, and the first words.
+pub fn tell_seen(told: &mut Told, seen: Seen) {
+    told.shown(&seen.end);
+    told.item(seen.y);
+    told.shown(&seen.words);
+    told.text("\n");
+}
+
+/// What is told of cycles.
+#[derive(Clone, Copy)]
+pub enum Part {
+    /// Of each cycle its end, the value of the output, and the first words.
+    Words,
+    /// Of each cycle its end and the value of the output; and how many answers were wrong, and how many calls were asked, up to 15.
+    Ends,
+    /// Of each call that was asked its operation, its first operand and its answer.
+    Calls,
+}
+
+/// A cycle on a row of one value, the next number of the arguments.
+fn cycle(
+    row: &mut RowCall<'_>,
+    machine: &mut Machine<'_>,
+    unit: &mut BadUnit,
+    out: &mut Row,
+) -> Seen
     requires cycle { machine.old.cycles < 1000000 }
     requires between { machine.old.under_way ≡ false }
     requires outputs { length machine.old.graph.outputs ≡ 1 }
@@ -89,7 +83,11 @@ fn cycle<U: Unit>(machine: &mut Machine<'_>, unit: &mut U, row: &Row, out: &mut 
     ensures outputs { length machine.new.graph.outputs ≡ 1 }
     ensures out { length out.new ≡ 1 }
 {
-    let end = machine.cycle(unit, row, out);
+    let mut inputs = Row::new(row.alloc);
+    if inputs.push(row.i64()).is_err() {
+        row.told.lack_memory();
+    }
+    let end = machine.cycle(unit, &inputs, out);
     Seen {
         end,
         y: out.at(0),
@@ -97,80 +95,86 @@ fn cycle<U: Unit>(machine: &mut Machine<'_>, unit: &mut U, row: &Row, out: &mut 
     }
 }
 
-/// A row of one value.
-fn row_of(alloc: Global, value: &str) -> Result<Row, Fail> {
-    let mut row = Row::zeros(alloc, 1)?;
-    row.set(0, i64_of(value)?);
-    Ok(row)
-}
-
-/// Three cycles of a new machine on these values of its input.
-fn three_cycles(
-    alloc: Global,
-    graph: &Graph,
-    unit: &mut BadUnit,
-    values: &str,
-) -> Result<[Seen; 3], Fail> {
-    let (first, rest) = word_off(values);
-    let (second, third) = word_off(rest);
-    let first = row_of(alloc, first)?;
-    let second = row_of(alloc, second)?;
-    let third = row_of(alloc, third)?;
-    if graph.outputs() != 1 {
-        return Err("no output".into());
+/// Tells a part of what is seen of a cycle.
+fn tell_cycle(told: &mut Told, seen: Seen, part: Part) {
+    match part {
+        Part::Words => tell_seen(told, seen),
+        Part::Ends => {
+            told.shown(&seen.end);
+            told.item(seen.y);
+            told.text("\n");
+        }
+        Part::Calls => {}
     }
-    Ok(seen_of(alloc, graph, unit, &first, &second, &third)?)
 }
 
-/// Three cycles of a new machine on these rows.
-fn seen_of(
-    alloc: Global,
-    graph: &Graph,
-    unit: &mut BadUnit,
-    first: &Row,
-    second: &Row,
-    third: &Row,
-) -> Result<[Seen; 3], Memory>
-    requires { length graph.now.outputs ≡ 1 }
+/// Three cycles of a new machine.
+fn three_cycles(row: &mut RowCall<'_>, graph: &Graph, table: &Table, unit: &mut BadUnit, part: Part)
+    requires table { IsTableOf table.now graph.now }
+    requires outputs { length graph.now.outputs ≡ 1 }
 {
-    let table = Table::new(alloc, graph, 0, 1)?;
-    let mut machine = Machine::new(alloc, graph, &table)?;
-    let mut out = Row::zeros(alloc, 1)?;
-    Ok([
-        cycle(&mut machine, unit, first, &mut out),
-        cycle(&mut machine, unit, second, &mut out),
-        cycle(&mut machine, unit, third, &mut out),
-    ])
-}
-
-/// The ends, the values of the output and the first words, a cycle on each line.
-pub fn with_words(alloc: Global, seen: &[Seen; 3]) -> Result<String, Memory> {
-    let mut out = String::new(alloc);
-    for cycle in seen {
-        let Seen { end, y, words } = cycle;
-        out.push_str(&format!(in alloc; "{end:?} {y} {words:?}\n")?)?;
+    if let Ok(mut machine) = Machine::new(row.alloc, graph, table)
+        && let Ok(mut out) = Row::zeros(row.alloc, 1)
+    {
+        let first = cycle(row, &mut machine, unit, &mut out);
+        let second = cycle(row, &mut machine, unit, &mut out);
+        let third = cycle(row, &mut machine, unit, &mut out);
+        tell_cycle(&mut row.told, first, part);
+        tell_cycle(&mut row.told, second, part);
+        tell_cycle(&mut row.told, third, part);
+    } else {
+        row.told.lack_memory();
     }
-    Ok(out)
 }
 
-/// The ends and the values of the output, a cycle on each line; how many answers were wrong, and how many calls were asked, up to 15.
-fn without_words(alloc: Global, seen: &[Seen; 3], unit: &BadUnit) -> Result<String, Memory> {
-    let mut out = String::new(alloc);
-    for cycle in seen {
-        out.push_str(&format!(in alloc; "{:?} {}\n", cycle.end, cycle.y)?)?;
+/// Three cycles of a graph with one output.
+fn graph_cycles(row: &mut RowCall<'_>, graph: &Graph, unit: &mut BadUnit, part: Part) {
+    if graph.outputs() != 1 {
+        return row.told.fail("no output");
     }
-    let calls = calls_of(unit);
-    out.push_str(&format!(in alloc; "{} wrong, {calls} calls\n", unit.wrong())?)?;
-    Ok(out)
+    match Table::new(row.alloc, graph, 0, 1) {
+        Ok(table) => three_cycles(row, graph, &table, unit, part),
+        Err(_) => row.told.lack_memory(),
+    }
 }
 
-/// The operation, the first operand and the answer of each call that was asked.
-fn asked(alloc: Global, unit: &BadUnit) -> Result<String, Memory> {
-    let mut out = String::new(alloc);
+/// Tells how many answers of a unit were wrong, and how many calls were asked.
+fn tell_counts(told: &mut Told, unit: &BadUnit) {
+    told.item(unit.wrong());
+    told.text(" wrong, ");
+    told.item(calls_of(unit));
+    told.text(" calls\n");
+}
+
+/// Tells the operation, the first operand and the answer of each call that was asked.
+fn tell_calls(told: &mut Told, unit: &BadUnit) {
     for i in 0..KEPT {
         if let Some((call, given)) = unit.entry(i) {
-            out.push_str(&format!(in alloc; "{} {} {given:?}\n", call.op, call.a.get())?)?;
+            told.item(call.op);
+            told.item(call.a.get());
+            told.shown(&given);
+            told.text("\n");
         }
     }
-    Ok(out)
+}
+
+/// Three cycles of the given program, which has one output. The arguments are the answers that are replaced, and the values of the input
+/// in three cycles.
+pub fn cycles(row: &mut RowCall<'_>, part: Part) {
+    right_answers_stand_for_values();
+    runs_follow_their_answers();
+    honest_runs_follow_the_graph();
+    constants_are_in_range();
+    signatures_are_distinct();
+    expected_residues_are_residues();
+    if let Some(graph) = graph_of(row, row.given.as_bytes())
+        && let Some(mut unit) = bad_unit(row, KEPT)
+    {
+        graph_cycles(row, &graph, &mut unit, part);
+        match part {
+            Part::Words => {}
+            Part::Ends => tell_counts(&mut row.told, &unit),
+            Part::Calls => tell_calls(&mut row.told, &unit),
+        }
+    }
 }

@@ -1,98 +1,110 @@
 //! The numbers of a graph's table, and the weights of its operations.
 
-ghost use Rattle.std.specs.Prelude.{◌≡◌, IfOk, length};
+ghost use Rattle.std.specs.Prelude.{◌≡◌, ◌<◌, IfSome, length};
 
+use crate::row_call::RowCall;
 use crate::sources::programs::graph_of;
-use crate::values::words::profile_named;
 use op_graph::Graph;
 use signature_table::Table;
-use std::alloc::Global;
-use std::test::Fail;
 use vcp_base::{MOST_CYCLES, MOST_STEP, Profile, SEEDS};
+use weight_audit::Weights;
 use weight_audit::weigh::weights;
-use worked_texts::{u32_of, word_off};
 
-/// What a call on numbers tells. The given text is the source of a program.
-pub fn told(
-    alloc: Global,
-    name: &str,
-    given: &str,
-    arguments: &str,
-) -> Result<Option<String>, Fail> {
-    let told = match name {
-        "numbers" => numbers(alloc, given, arguments)?,
-        "expected" => expected(alloc, given, arguments)?,
-        "weights" => weighed(alloc, given)?,
-        _ => return Ok(None),
-    };
-    Ok(Some(told))
-}
-
-/// The graph of a source, whose values are of DINT at the most, in a code.
-fn graph_in(alloc: Global, source: &str, profile: Profile) -> Result<Graph, Fail> {
-    let graph = graph_of(alloc, source.as_bytes())?;
+/// The graph of the given source, whose values are of DINT at the most, in the code that the next word names; None where it is refused.
+fn graph_in_code(row: &mut RowCall<'_>) -> Option<Graph> {
+    let profile = row.profile();
+    let graph = graph_of(row, row.given.as_bytes())?;
     match profile {
-        Profile::Narrow => Ok(graph),
-        Profile::Wide => Ok(graph.widened()),
+        Profile::Narrow => Some(graph),
+        Profile::Wide => Some(graph.widened()),
     }
 }
 
-/// The table of a graph with a seed and a step.
-fn table_of(alloc: Global, graph: &Graph, seed: u32, step: u32) -> Result<Table, Fail>
-    ensures { IfOk result (λ table. length table.corrections ≡ length graph.now.operations) }
+/// Tells a table's code, its seed and its step, and each operation's signature, its correction, and the residue that is expected in cycle 1.
+fn tell_numbers(row: &mut RowCall<'_>, table: &Table, count: u32)
+    requires { count ≡ length table.now.corrections }
 {
-    let step = u16::try_from(step)?;
-    if seed >= SEEDS || step == 0 || step > MOST_STEP {
-        return Err("no table".into());
+    let told = (table.profile(), table.seed(), table.step());
+    row.told.shown(&told);
+    row.told.text("\n");
+    for i in 0..count {
+        row.told.item(table.signature(i));
+        row.told.item(table.correction(i));
+        row.told.item(table.expected(i, 1));
+        row.told.text("\n");
     }
-    Ok(Table::new(alloc, graph, seed, step)?)
 }
 
-/// The code, the seed and the step of the table with the seed 0 and the step 1, and each operation's signature, its correction, and the
-/// residue that is expected in cycle 1.
-fn numbers(alloc: Global, given: &str, arguments: &str) -> Result<String, Fail> {
-    let graph = graph_in(alloc, given, profile_named(arguments)?)?;
-    let table = Table::new(alloc, &graph, 0, 1)?;
-    let told = (table.profile(), table.seed(), table.step());
-    let mut out = format!(in alloc; "{told:?}\n")?;
-    for i in 0..graph.len() {
-        let signature = table.signature(i);
-        let correction = table.correction(i);
-        let expected = table.expected(i, 1);
-        out.push_str(&format!(in alloc; "{signature} {correction} {expected}\n")?)?;
+/// The numbers of the given source's table with the seed 0 and the step 1.
+pub fn numbers(row: &mut RowCall<'_>) {
+    if let Some(graph) = graph_in_code(row) {
+        match Table::new(row.alloc, &graph, 0, 1) {
+            Ok(table) => tell_numbers(row, &table, graph.len()),
+            Err(_) => row.told.lack_memory(),
+        }
     }
-    Ok(out)
+}
+
+/// The table of a graph with the seed and the step that are written next; None where there is none.
+fn next_table(row: &mut RowCall<'_>, graph: &Graph) -> Option<Table>
+    ensures { IfSome result (λ table. length table.corrections ≡ length graph.now.operations) }
+{
+    let seed = row.u32();
+    let step = row.u32();
+    if seed >= SEEDS || step == 0 || step > MOST_STEP as u32 {
+        row.told.fail("no table");
+        return None;
+    }
+    match Table::new(row.alloc, graph, seed, step as u16) {
+        Ok(table) => Some(table),
+        Err(_) => {
+            row.told.lack_memory();
+            None
+        }
+    }
 }
 
 /// The residue that is expected of an operation in a cycle, with a seed and a step.
-fn expected(alloc: Global, given: &str, arguments: &str) -> Result<String, Fail> {
-    let (code, rest) = word_off(arguments);
-    let (seed, rest) = word_off(rest);
-    let (step, rest) = word_off(rest);
-    let (op, cycle) = word_off(rest);
-    let graph = graph_in(alloc, given, profile_named(code)?)?;
-    let table = table_of(alloc, &graph, u32_of(seed)?, u32_of(step)?)?;
-    let op = u32_of(op)?;
-    let cycle = u32_of(cycle)?;
-    if op >= graph.len() || cycle >= MOST_CYCLES {
-        return Err("no operation or cycle".into());
+pub fn expected(row: &mut RowCall<'_>) {
+    if let Some(graph) = graph_in_code(row)
+        && let Some(table) = next_table(row, &graph)
+    {
+        let op = row.u32();
+        let cycle = row.u32();
+        if op < graph.len() && cycle < MOST_CYCLES {
+            row.told.item(table.expected(op, cycle));
+        } else {
+            row.told.fail("no operation or cycle");
+        }
     }
-    Ok(format!(in alloc; "{}", table.expected(op, cycle))?)
 }
 
-/// Of each operation its weight at the first output, and whether it is reached, in its own cycle and one cycle later.
-fn weighed(alloc: Global, given: &str) -> Result<String, Fail> {
-    let graph = graph_of(alloc, given.as_bytes())?;
-    let mut out = String::new(alloc);
-    if graph.outputs() == 0 {
-        return Ok(out);
+/// Tells of each operation its weight at the first output, and whether it is reached, in its own cycle and one cycle later.
+fn tell_weights(row: &mut RowCall<'_>, audit: &Weights, count: u32)
+    requires operations { count ≡ audit.now.operations }
+    requires outputs { 0 < length audit.now.outputs }
+    requires horizon { audit.now.horizon ≡ 1 }
+{
+    for op in 0..count {
+        row.told.item(audit.weight(op, 0, 0));
+        row.told.item(audit.reached(op, 0, 0));
+        row.told.item(audit.weight(op, 0, 1));
+        row.told.item(audit.reached(op, 0, 1));
+        row.told.text("\n");
     }
-    let table = Table::new(alloc, &graph, 0, 1)?;
-    let audit = weights(alloc, &graph, &table, 1)?;
-    for op in 0..graph.len() {
-        let now = (audit.weight(op, 0, 0), audit.reached(op, 0, 0));
-        let later = (audit.weight(op, 0, 1), audit.reached(op, 0, 1));
-        out.push_str(&format!(in alloc; "{} {} {} {}\n", now.0, now.1, later.0, later.1)?)?;
+}
+
+/// The weights of the given source's operations.
+pub fn weighed(row: &mut RowCall<'_>) {
+    if let Some(graph) = graph_of(row, row.given.as_bytes())
+        && graph.outputs() > 0
+    {
+        match Table::new(row.alloc, &graph, 0, 1) {
+            Ok(table) => match weights(row.alloc, &graph, &table, 1) {
+                Ok(audit) => tell_weights(row, &audit, graph.len()),
+                Err(_) => row.told.fail("no weights"),
+            },
+            Err(_) => row.told.lack_memory(),
+        }
     }
-    Ok(out)
 }

@@ -1,40 +1,70 @@
 //! Checked programs: what they hold, and their graphs.
 
-use crate::texts::put_columns;
+ghost use Rattle.std.specs.Prelude.{IfSome};
+ghost use Rattle.st_tree.specs.Declarable.{HasNames};
+ghost use Rattle.st_tree.specs.ProgramViews.{program_tree};
+
+use crate::row_call::RowCall;
+use crate::texts::tell_columns;
 use flat_stmt::flatten;
 use op_graph::Graph;
 use st_lexer::lex;
 use st_parser::parse;
 use st_spelling::spelled_names_are_declarable;
+use st_tree::Program;
 use st_types::typed;
-use std::alloc::Global;
-use std::test::Fail;
 use vcp_base::MOST_SOURCE_BYTES;
 use vcp_typed::{TStmt, TStmts, Typed};
-use worked_texts::{joined, spelled};
 
-/// The checked program of a source; a failure where the source is refused.
-pub fn checked(alloc: Global, source: &[u8]) -> Result<Typed, Fail> {
+/// The program of a source; None where it is refused.
+pub fn program_of(row: &mut RowCall<'_>, source: &[u8]) -> Option<Program>
+    ensures { IfSome result (λ program. HasNames (program_tree program)) }
+{
     if source.len() as u64 > MOST_SOURCE_BYTES {
-        return Err("too long".into());
+        row.told.fail("too long");
+        return None;
     }
-    let Ok(tokens) = lex(alloc, source) else {
-        return Err("no tokens".into());
-    };
-    let Ok(program) = parse(alloc, source, &tokens) else {
-        return Err("no program".into());
+    let Ok(tokens) = lex(row.alloc, source) else {
+        row.told.fail("no tokens");
+        return None;
     };
     spelled_names_are_declarable();
-    let Ok(typed) = typed(alloc, &program) else {
-        return Err("refused".into());
-    };
-    Ok(typed)
+    match parse(row.alloc, source, &tokens) {
+        Ok(program) => Some(program),
+        Err(_) => {
+            row.told.fail("no program");
+            None
+        }
+    }
 }
 
-/// The flattened graph of a source; a failure where the source is refused.
-pub fn graph_of(alloc: Global, source: &[u8]) -> Result<Graph, Fail> {
-    let program = checked(alloc, source)?;
-    Ok(flatten(alloc, &program)?)
+/// The checked program of a source; None where it is refused.
+pub fn checked(row: &mut RowCall<'_>, source: &[u8]) -> Option<Typed> {
+    let program = program_of(row, source)?;
+    match typed(row.alloc, &program) {
+        Ok(typed) => Some(typed),
+        Err(_) => {
+            row.told.fail("refused");
+            None
+        }
+    }
+}
+
+/// The graph of a checked program; None where there is no memory for it.
+pub fn flattened(row: &mut RowCall<'_>, program: &Typed) -> Option<Graph> {
+    match flatten(row.alloc, program) {
+        Ok(graph) => Some(graph),
+        Err(_) => {
+            row.told.lack_memory();
+            None
+        }
+    }
+}
+
+/// The graph of a source; None where it is refused.
+pub fn graph_of(row: &mut RowCall<'_>, source: &[u8]) -> Option<Graph> {
+    let program = checked(row, source)?;
+    flattened(row, &program)
 }
 
 /// The slot that a body of one assignment sets.
@@ -48,27 +78,33 @@ fn assigned(body: &TStmts) -> Option<u32> {
     }
 }
 
-/// What the checked program of the given source holds: its columns, how many slots it has, its Size, whether it is wide, and the slot
-/// that its one assignment sets.
-pub fn held(alloc: Global, given: &str) -> Result<String, Fail> {
-    let program = checked(alloc, given.as_bytes())?;
-    let mut out = String::new(alloc);
-    put_columns(alloc, &mut out, &program.columns(alloc)?)?;
-    put_columns(alloc, &mut out, &program.output_columns(alloc)?)?;
-    let slots = program.slots().len();
-    let size = program.size();
-    let wide = program.wide();
-    let set = assigned(program.body());
-    out.push_str(&format!(in alloc; "{slots} slots, Size {size}, wide {wide}, sets {set:?}\n")?)?;
-    Ok(out)
+/// Tells what a checked program holds: its columns, how many slots it has, its Size, whether it is wide, and the slot that its one
+/// assignment sets.
+fn tell_program(row: &mut RowCall<'_>, program: &Typed) {
+    tell_columns(row, program.columns(row.alloc));
+    tell_columns(row, program.output_columns(row.alloc));
+    row.told.item(program.slots().len());
+    row.told.text(" slots, Size ");
+    row.told.item(program.size());
+    row.told.text(", wide ");
+    row.told.item(program.wide());
+    row.told.text(", sets ");
+    row.told.shown(&assigned(program.body()));
+    row.told.text("\n");
+}
+
+/// What the checked program of the given source holds.
+pub fn held(row: &mut RowCall<'_>) {
+    if let Some(program) = checked(row, row.given.as_bytes()) {
+        tell_program(row, &program);
+    }
 }
 
 /// How many slots the checked program of spelled declarations has.
-pub fn slots(alloc: Global, arguments: &str) -> Result<String, Fail> {
-    let declarations = spelled(alloc, arguments)?;
-    let source = joined(
-        alloc,
-        &[b"PROGRAM p\n", &declarations[..], b"\nEND_PROGRAM\n"],
-    )?;
-    Ok(format!(in alloc; "{}", checked(alloc, &source)?.slots().len())?)
+pub fn slots(row: &mut RowCall<'_>) {
+    let declarations = row.spelled(row.rest);
+    let source = row.joined(&[b"PROGRAM p\n", &declarations[..], b"\nEND_PROGRAM\n"]);
+    if let Some(program) = checked(row, &source) {
+        row.told.item(program.slots().len());
+    }
 }

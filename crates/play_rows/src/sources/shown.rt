@@ -1,77 +1,81 @@
 //! How trees are written in rows.
 
-use st_lexer::lex;
-use st_parser::{SyntaxFault, parse};
+use crate::told::Told;
 use st_tree::{Arm, BinOp, Block, Branch, Decl, Expr, Label, Program, Section, Stmt, Stmts, UnOp};
-use std::alloc::Global;
-use std::test::Fail;
-use vcp_base::{MOST_SOURCE_BYTES, Spot, ty_name};
+use vcp_base::{Spot, Text, ty_name};
 
-fn unary_bytes(op: UnOp) -> &'static [u8] {
+fn unary_sign(op: UnOp) -> &'static str {
     match op {
-        UnOp::Neg => b"-",
-        UnOp::Not => b"NOT",
+        UnOp::Neg => "-",
+        UnOp::Not => "NOT",
     }
 }
 
-fn binary_bytes(op: BinOp) -> &'static [u8] {
+fn binary_sign(op: BinOp) -> &'static str {
     match op {
-        BinOp::Mul => b"*",
-        BinOp::Div => b"/",
-        BinOp::Mod => b"MOD",
-        BinOp::Add => b"+",
-        BinOp::Sub => b"-",
-        BinOp::Lt => b"<",
-        BinOp::Gt => b">",
-        BinOp::Le => b"<=",
-        BinOp::Ge => b">=",
-        BinOp::Eq => b"=",
-        BinOp::Ne => b"<>",
-        BinOp::And => b"AND",
-        BinOp::Xor => b"XOR",
-        BinOp::Or => b"OR",
+        BinOp::Mul => "*",
+        BinOp::Div => "/",
+        BinOp::Mod => "MOD",
+        BinOp::Add => "+",
+        BinOp::Sub => "-",
+        BinOp::Lt => "<",
+        BinOp::Gt => ">",
+        BinOp::Le => "<=",
+        BinOp::Ge => ">=",
+        BinOp::Eq => "=",
+        BinOp::Ne => "<>",
+        BinOp::And => "AND",
+        BinOp::Xor => "XOR",
+        BinOp::Or => "OR",
     }
 }
 
-fn section_bytes(section: Section) -> &'static [u8] {
+fn section_word(section: Section) -> &'static str {
     match section {
-        Section::Input => b"INPUT",
-        Section::Output => b"OUTPUT",
-        Section::Local => b"VAR",
-        Section::Retain => b"RETAIN",
-        Section::Constant => b"CONSTANT",
+        Section::Input => "INPUT",
+        Section::Output => "OUTPUT",
+        Section::Local => "VAR",
+        Section::Retain => "RETAIN",
+        Section::Constant => "CONSTANT",
     }
 }
 
-fn add(out: &mut Vec<u8>, bytes: &[u8]) -> Result<(), Fail> {
-    out.extend_from_slice(bytes)?;
-    Ok(())
+/// The column of a spot: all of a row stands on one line.
+fn tell_spot(told: &mut Told, spot: Spot) {
+    told.text("@");
+    told.item(spot.col);
 }
 
-/// Bytes, and the column of their spot: all of a row stands on one line.
-fn add_at(alloc: Global, out: &mut Vec<u8>, bytes: &[u8], spot: Spot) -> Result<(), Fail> {
-    let col = spot.col;
-    add(out, bytes)?;
-    add(out, format!(in alloc; "@{col}")?.as_bytes())
+/// A sign or a word, and the column of its spot.
+fn tell_at(told: &mut Told, text: &str, spot: Spot) {
+    told.text(text);
+    tell_spot(told, spot);
+}
+
+/// A name, and the column of its spot.
+fn tell_name(told: &mut Told, name: &Text, spot: Spot) {
+    told.bytes(name.bytes());
+    tell_spot(told, spot);
 }
 
 /// An expression in prefix form, each operation in brackets.
-fn show_expr(alloc: Global, out: &mut Vec<u8>, e: &Expr) -> Result<(), Fail> {
+fn show_expr(told: &mut Told, e: &Expr) {
     match e {
         Expr::Lit { ty, value, spot } => {
             if let Some(ty) = ty {
-                add(out, ty_name(*ty))?;
-                add(out, b"#")?;
+                told.bytes(ty_name(*ty));
+                told.text("#");
             }
-            add_at(alloc, out, format!(in alloc; "{value}")?.as_bytes(), *spot)
+            told.item(*value);
+            tell_spot(told, *spot);
         }
-        Expr::Name { name, spot } => add_at(alloc, out, name.bytes(), *spot),
+        Expr::Name { name, spot } => tell_name(told, name, *spot),
         Expr::Unary { op, arg, spot } => {
-            add(out, b"(")?;
-            add_at(alloc, out, unary_bytes(*op), *spot)?;
-            add(out, b" ")?;
-            show_expr(alloc, out, arg)?;
-            add(out, b")")
+            told.text("(");
+            tell_at(told, unary_sign(*op), *spot);
+            told.text(" ");
+            show_expr(told, arg);
+            told.text(")");
         }
         Expr::Binary {
             op,
@@ -79,56 +83,55 @@ fn show_expr(alloc: Global, out: &mut Vec<u8>, e: &Expr) -> Result<(), Fail> {
             right,
             spot,
         } => {
-            add(out, b"(")?;
-            add_at(alloc, out, binary_bytes(*op), *spot)?;
-            add(out, b" ")?;
-            show_expr(alloc, out, left)?;
-            add(out, b" ")?;
-            show_expr(alloc, out, right)?;
-            add(out, b")")
+            told.text("(");
+            tell_at(told, binary_sign(*op), *spot);
+            told.text(" ");
+            show_expr(told, left);
+            told.text(" ");
+            show_expr(told, right);
+            told.text(")");
         }
         Expr::Call { name, args, spot } => {
-            add(out, b"(")?;
-            add_at(alloc, out, name.bytes(), *spot)?;
+            told.text("(");
+            tell_name(told, name, *spot);
             for arg in &args.items {
-                add(out, b" ")?;
-                show_expr(alloc, out, arg)?;
+                told.text(" ");
+                show_expr(told, arg);
             }
-            add(out, b")")
+            told.text(")");
         }
     }
 }
 
-fn show_label(alloc: Global, out: &mut Vec<u8>, label: &Label) -> Result<(), Fail> {
-    show_expr(alloc, out, &label.first)?;
+fn show_label(told: &mut Told, label: &Label) {
+    show_expr(told, &label.first);
     if let Some(last) = &label.last {
-        add(out, b"..")?;
-        show_expr(alloc, out, last)?;
+        told.text("..");
+        show_expr(told, last);
     }
-    add(out, b" ")
+    told.text(" ");
 }
 
 /// Statements, each followed by a semicolon.
 #[cycle(show)]
-fn show_stmts(alloc: Global, out: &mut Vec<u8>, stmts: &[Stmt]) -> Result<(), Fail> {
+fn show_stmts(told: &mut Told, stmts: &[Stmt]) {
     for stmt in stmts {
-        show_stmt(alloc, out, stmt)?;
-        add(out, b"; ")?;
+        show_stmt(told, stmt);
+        told.text("; ");
     }
-    Ok(())
 }
 
 #[cycle(show)]
-fn show_stmt(alloc: Global, out: &mut Vec<u8>, stmt: &Stmt) -> Result<(), Fail> {
+fn show_stmt(told: &mut Told, stmt: &Stmt) {
     match stmt {
         Stmt::Assign { name, value, spot } => {
-            add_at(alloc, out, name.bytes(), *spot)?;
-            add(out, b" := ")?;
-            show_expr(alloc, out, value)
+            tell_name(told, name, *spot);
+            told.text(" := ");
+            show_expr(told, value)
         }
         Stmt::If { arms, other } => {
-            show_arms(alloc, out, &arms.items)?;
-            show_other(alloc, out, other)
+            show_arms(told, &arms.items);
+            show_other(told, other)
         }
         Stmt::Case {
             on,
@@ -136,11 +139,11 @@ fn show_stmt(alloc: Global, out: &mut Vec<u8>, stmt: &Stmt) -> Result<(), Fail> 
             other,
             spot,
         } => {
-            add_at(alloc, out, b"CASE", *spot)?;
-            add(out, b" ")?;
-            show_expr(alloc, out, on)?;
-            show_branches(alloc, out, &branches.items)?;
-            show_other(alloc, out, other)
+            tell_at(told, "CASE", *spot);
+            told.text(" ");
+            show_expr(told, on);
+            show_branches(told, &branches.items);
+            show_other(told, other)
         }
         Stmt::For {
             name,
@@ -151,118 +154,90 @@ fn show_stmt(alloc: Global, out: &mut Vec<u8>, stmt: &Stmt) -> Result<(), Fail> 
             body,
             spot,
         } => {
-            add_at(alloc, out, b"FOR", *spot)?;
-            add(out, b" ")?;
-            add_at(alloc, out, name.bytes(), *name_spot)?;
-            add(out, b" ")?;
-            show_bounds(alloc, out, first, last, by)?;
-            add(out, b" { ")?;
-            show_stmts(alloc, out, &body.items)?;
-            add(out, b"}")
+            tell_at(told, "FOR", *spot);
+            told.text(" ");
+            tell_name(told, name, *name_spot);
+            told.text(" ");
+            show_bounds(told, first, last, by);
+            told.text(" { ");
+            show_stmts(told, &body.items);
+            told.text("}");
         }
     }
 }
 
-fn show_bounds(
-    alloc: Global,
-    out: &mut Vec<u8>,
-    first: &Expr,
-    last: &Expr,
-    by: &Option<Expr>,
-) -> Result<(), Fail> {
-    show_expr(alloc, out, first)?;
-    add(out, b" TO ")?;
-    show_expr(alloc, out, last)?;
+fn show_bounds(told: &mut Told, first: &Expr, last: &Expr, by: &Option<Expr>) {
+    show_expr(told, first);
+    told.text(" TO ");
+    show_expr(told, last);
     if let Some(by) = by {
-        add(out, b" BY ")?;
-        show_expr(alloc, out, by)?;
+        told.text(" BY ");
+        show_expr(told, by);
     }
-    Ok(())
 }
 
 #[cycle(show)]
-fn show_arms(alloc: Global, out: &mut Vec<u8>, arms: &[Arm]) -> Result<(), Fail> {
+fn show_arms(told: &mut Told, arms: &[Arm]) {
     for arm in arms {
-        add_at(alloc, out, b"IF", arm.spot)?;
-        add(out, b" ")?;
-        show_expr(alloc, out, &arm.cond)?;
-        add(out, b" { ")?;
-        show_stmts(alloc, out, &arm.body.items)?;
-        add(out, b"} ")?;
+        tell_at(told, "IF", arm.spot);
+        told.text(" ");
+        show_expr(told, &arm.cond);
+        told.text(" { ");
+        show_stmts(told, &arm.body.items);
+        told.text("} ");
     }
-    Ok(())
 }
 
 #[cycle(show)]
-fn show_branches(alloc: Global, out: &mut Vec<u8>, branches: &[Branch]) -> Result<(), Fail> {
+fn show_branches(told: &mut Told, branches: &[Branch]) {
     for branch in branches {
-        add(out, b" : ")?;
+        told.text(" : ");
         for label in &branch.labels.items {
-            show_label(alloc, out, label)?;
+            show_label(told, label);
         }
-        add(out, b"{ ")?;
-        show_stmts(alloc, out, &branch.body.items)?;
-        add(out, b"}")?;
+        told.text("{ ");
+        show_stmts(told, &branch.body.items);
+        told.text("}");
     }
-    Ok(())
 }
 
 #[cycle(show)]
-fn show_other(alloc: Global, out: &mut Vec<u8>, other: &Option<Stmts>) -> Result<(), Fail> {
+fn show_other(told: &mut Told, other: &Option<Stmts>) {
     if let Some(body) = other {
-        add(out, b" ELSE { ")?;
-        show_stmts(alloc, out, &body.items)?;
-        add(out, b"}")?;
+        told.text(" ELSE { ");
+        show_stmts(told, &body.items);
+        told.text("}");
     }
-    Ok(())
 }
 
-fn show_decl(alloc: Global, out: &mut Vec<u8>, decl: &Decl) -> Result<(), Fail> {
+fn show_decl(told: &mut Told, decl: &Decl) {
     for declared in &decl.names.items {
-        add_at(alloc, out, declared.name.bytes(), declared.spot)?;
-        add(out, b" ")?;
+        tell_name(told, &declared.name, declared.spot);
+        told.text(" ");
     }
-    add(out, ty_name(decl.ty))?;
+    told.bytes(ty_name(decl.ty));
     if let Some(init) = &decl.init {
-        add(out, b" := ")?;
-        show_expr(alloc, out, init)?;
+        told.text(" := ");
+        show_expr(told, init);
     }
-    add(out, b"; ")
+    told.text("; ");
 }
 
-fn show_block(alloc: Global, out: &mut Vec<u8>, block: &Block) -> Result<(), Fail> {
-    add(out, section_bytes(block.section))?;
-    add(out, b" { ")?;
+fn show_block(told: &mut Told, block: &Block) {
+    told.text(section_word(block.section));
+    told.text(" { ");
     for decl in &block.decls.items {
-        show_decl(alloc, out, decl)?;
+        show_decl(told, decl);
     }
-    add(out, b"} ")
+    told.text("} ");
 }
 
-fn show_program(alloc: Global, out: &mut Vec<u8>, program: &Program) -> Result<(), Fail> {
-    add(out, program.name.bytes())?;
-    add(out, b" ")?;
+/// Tells a program, with the columns of its spots.
+pub fn show_program(told: &mut Told, program: &Program) {
+    told.bytes(program.name.bytes());
+    told.text(" ");
     for block in &program.blocks.items {
-        show_block(alloc, out, block)?;
+        show_block(told, block);
     }
-    show_stmts(alloc, out, &program.body.items)
-}
-
-/// The program of a text, or its fault; a failure where it has no tokens.
-pub fn parsed(alloc: Global, text: &[u8]) -> Result<Result<Program, SyntaxFault>, Fail> {
-    if text.len() as u64 > MOST_SOURCE_BYTES {
-        return Err("too long".into());
-    }
-    let Ok(tokens) = lex(alloc, text) else {
-        return Err("no tokens".into());
-    };
-    Ok(parse(alloc, text, &tokens))
-}
-
-/// What a text is read as: its program, with the columns of spots.
-pub fn shown(alloc: Global, text: &[u8]) -> Result<Vec<u8>, Fail> {
-    let mut out = Vec::new(alloc);
-    let program = parsed(alloc, text)?.map_err(|_| "no program")?;
-    show_program(alloc, &mut out, &program)?;
-    Ok(out)
+    show_stmts(told, &program.body.items)
 }

@@ -1,51 +1,50 @@
 //! The tokens of texts, with their bytes and spots.
 
-use crate::texts::{text_of, unrolled};
-use st_lexer::{Tok, Token, Tokens, key_spelling, lex, symbol_spelling};
-use std::alloc::Global;
-use std::test::Fail;
+use crate::row_call::RowCall;
+use crate::texts::unrolled;
+use crate::told::Told;
+use st_lexer::{LexFault, Tok, Token, Tokens, key_spelling, lex, symbol_spelling};
 use vcp_base::{MOST_SOURCE_BYTES, Spot, ty_name};
-use worked_texts::spelled;
 
-/// Appends what a token is, and a blank: a name as `name`, a number as its type and value.
-fn put_token(alloc: Global, out: &mut Vec<u8>, tok: Tok) -> Result<(), Fail> {
+/// Tells what a token is: a name as `name`, a number as its type and value.
+fn tell_token(told: &mut Told, tok: Tok) {
     match tok {
-        Tok::Name => out.extend_from_slice(b"name")?,
-        Tok::Key(key) => out.extend_from_slice(key_spelling(key))?,
+        Tok::Name => told.item("name"),
+        Tok::Key(key) => told.name(key_spelling(key)),
         Tok::Number { ty, value } => {
             if let Some(ty) = ty {
-                out.extend_from_slice(ty_name(ty))?;
-                out.push(b' ')?;
+                told.name(ty_name(ty));
             }
-            out.extend_from_slice(format!(in alloc; "{value}")?.as_bytes())?;
+            told.item(value);
         }
-        Tok::Sym(symbol) => out.extend_from_slice(symbol_spelling(symbol))?,
+        Tok::Sym(symbol) => told.name(symbol_spelling(symbol)),
     }
-    out.push(b' ')?;
-    Ok(())
 }
 
-/// The tokens of a text that isn't too long.
-fn tokens_of(alloc: Global, text: &[u8]) -> Result<Tokens, Fail> {
+/// The tokens of a text, or its fault.
+fn tokens_of(row: &mut RowCall<'_>, text: &[u8]) -> Result<Tokens, LexFault> {
     if text.len() as u64 > MOST_SOURCE_BYTES {
-        return Err("too long".into());
+        row.told.fail("too long");
+        return Err(LexFault::Memory);
     }
-    Ok(lex(alloc, text)?)
+    lex(row.alloc, text)
 }
 
-/// The tokens that a spelled text is read as.
-pub fn of_text(alloc: Global, arguments: &str) -> Result<String, Fail> {
-    let mut out = Vec::new(alloc);
-    let tokens = tokens_of(alloc, &spelled(alloc, arguments)?)?;
-    for i in 0..tokens.len() {
-        put_token(alloc, &mut out, tokens.at(i).tok)?;
+/// Tells the tokens that a spelled text is read as.
+pub fn of_text(row: &mut RowCall<'_>) {
+    let text = row.spelled(row.rest);
+    match tokens_of(row, &text) {
+        Ok(tokens) => {
+            for i in 0..tokens.len() {
+                tell_token(&mut row.told, tokens.at(i).tok);
+            }
+        }
+        Err(_) => row.told.fail("no tokens"),
     }
-    text_of(alloc, &out)
 }
 
-/// Each token with its bytes and its spot, and the spot of the end.
-fn listed(alloc: Global, tokens: &Tokens) -> Result<String, Fail> {
-    let mut out = String::new(alloc);
+/// Tells each token with its bytes and its spot, and the spot of the end.
+fn tell_list(told: &mut Told, tokens: &Tokens) {
     for i in 0..tokens.len() {
         let Token {
             tok,
@@ -53,40 +52,52 @@ fn listed(alloc: Global, tokens: &Tokens) -> Result<String, Fail> {
             to,
             spot,
         } = tokens.at(i);
-        out.push_str(&format!(in alloc; "{tok:?} {from}..{to} {spot:?}\n")?)?;
+        told.shown(&tok);
+        told.item(from);
+        told.text("..");
+        told.item(to);
+        told.shown(&spot);
+        told.text("\n");
     }
-    out.push_str(&format!(in alloc; "{:?}\n", tokens.end())?)?;
-    Ok(out)
+    told.shown(&tokens.end());
+    told.text("\n");
 }
 
 /// The tokens of a spelled text with their bytes and spots.
-pub fn with_spots(alloc: Global, arguments: &str) -> Result<String, Fail> {
-    listed(alloc, &tokens_of(alloc, &spelled(alloc, arguments)?)?)
+pub fn with_spots(row: &mut RowCall<'_>) {
+    let text = row.spelled(row.rest);
+    match tokens_of(row, &text) {
+        Ok(tokens) => tell_list(&mut row.told, &tokens),
+        Err(_) => row.told.fail("no tokens"),
+    }
 }
 
 /// A list of tokens before it has one, and with one.
-pub fn of_list(alloc: Global) -> Result<String, Fail> {
-    let mut list = Tokens::new(alloc);
-    let mut out = listed(alloc, &list)?;
-    list.push(Token {
+pub fn of_list(row: &mut RowCall<'_>) {
+    let mut list = Tokens::new(row.alloc);
+    tell_list(&mut row.told, &list);
+    let name = Token {
         tok: Tok::Name,
         from: 3,
         to: 4,
         spot: Spot { line: 1, col: 4 },
-    })?;
+    };
+    if list.push(name).is_err() {
+        return row.told.lack_memory();
+    }
     list.set_end(Spot { line: 1, col: 5 });
-    out.push_str(&listed(alloc, &list)?)?;
-    Ok(out)
+    tell_list(&mut row.told, &list);
 }
 
 /// How many tokens a text has in which `{NUMBER TEXT}` stands for a repeated text, with the spot of the end, or its fault.
-pub fn counted(alloc: Global, arguments: &str) -> Result<String, Fail> {
-    let text = unrolled(alloc, arguments, '{', '}')?;
-    if text.len() as u64 > MOST_SOURCE_BYTES {
-        return Err("too long".into());
-    }
-    match lex(alloc, text.as_bytes()) {
-        Ok(tokens) => Ok(format!(in alloc; "{} tokens to {:?}", tokens.len(), tokens.end())?),
-        Err(fault) => Ok(format!(in alloc; "{fault:?}")?),
+pub fn counted(row: &mut RowCall<'_>) {
+    let text = unrolled(row, row.rest, '{', '}');
+    match tokens_of(row, text.as_bytes()) {
+        Ok(tokens) => {
+            row.told.item(tokens.len());
+            row.told.text(" tokens to ");
+            row.told.shown(&tokens.end());
+        }
+        Err(fault) => row.told.shown(&fault),
     }
 }

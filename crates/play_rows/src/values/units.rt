@@ -1,34 +1,28 @@
 //! Units, asked one call after another.
 
-use crate::values::words::{answer_told, call_of};
+use crate::row_call::RowCall;
+use crate::told::Told;
+use crate::values::words::{call_of, tell_answer};
 use coded_unit::{
     Answer, BadUnit, Call, CpuUnit, LogUnit, Unit, Word, right_answers_keep_the_step_law,
     shifted_words_keep_their_parts, words_split_in_one_way,
 };
-use std::alloc::Global;
-use std::test::Fail;
-use worked_texts::{i128_of, u32_of, word_off};
 
 /// How many calls of a unit are kept and told at the most.
 pub const KEPT: u32 = 64;
 
-/// What a call on units tells. The given text has the calls that the unit is asked, a line each.
-pub fn told(
-    alloc: Global,
-    name: &str,
-    given: &str,
-    arguments: &str,
-) -> Result<Option<String>, Fail> {
+/// Makes a call on units; false where the name is another call's. The given text has the calls that the unit is asked, a line each.
+pub fn make(row: &mut RowCall<'_>, name: &str) -> bool {
     words_split_in_one_way();
     shifted_words_keep_their_parts();
     right_answers_keep_the_step_law();
-    let told = match name {
-        "cpu" => answers(alloc, &mut CpuUnit::new(), given)?,
-        "log" => logged(alloc, given, arguments)?,
-        "bad" => replaced(alloc, given, arguments)?,
-        _ => return Ok(None),
-    };
-    Ok(Some(told))
+    match name {
+        "cpu" => tell_answers(row, &mut CpuUnit::new()),
+        "log" => logged(row),
+        "bad" => replaced(row),
+        _ => return false,
+    }
+    true
 }
 
 /// The word of an answer; 0 where it has none.
@@ -39,26 +33,31 @@ fn word_of(answer: &Answer) -> Word {
     }
 }
 
-/// A unit's answers to calls, a line each.
-pub fn answers<U: Unit>(alloc: Global, unit: &mut U, calls: &str) -> Result<String, Fail> {
-    let mut words = Vec::new(alloc);
-    let mut out = String::new(alloc);
-    for line in calls.lines() {
-        let call = call_of(line, &words)?;
+/// Tells a unit's answers to the given calls, a line each.
+pub fn tell_answers<U: Unit>(row: &mut RowCall<'_>, unit: &mut U) {
+    let mut words = Vec::new(row.alloc);
+    for line in row.given.lines() {
+        row.rest = line;
+        let Some(call) = call_of(row, &words) else {
+            return;
+        };
         let answer = unit.perform(&call);
-        words.push(word_of(&answer))?;
-        out.push_str(&answer_told(alloc, call.profile, &answer)?)?;
-        out.push_str("\n")?;
+        tell_answer(&mut row.told, call.profile, &answer);
+        row.told.text("\n");
+        if words.push(word_of(&answer)).is_err() {
+            return row.told.lack_memory();
+        }
     }
-    Ok(out)
 }
 
-/// Appends a kept call: its operation, and the word that was answered.
-fn put_kept(alloc: Global, out: &mut String, kept: Option<(Call, Answer)>) -> Result<(), Fail> {
+/// Tells a kept call: its operation, and the word that was answered.
+fn tell_kept(told: &mut Told, kept: Option<(Call, Answer)>) {
     if let Some((call, answer)) = kept {
-        out.push_str(&format!(in alloc; "kept {} {}\n", call.op, word_of(&answer).get())?)?;
+        told.text("kept ");
+        told.item(call.op);
+        told.item(word_of(&answer).get());
+        told.text("\n");
     }
-    Ok(())
 }
 
 /// How many calls a unit keeps.
@@ -73,44 +72,67 @@ pub fn calls_of(unit: &BadUnit) -> u32 {
 }
 
 /// The answers of a unit that has room for so many calls, and those that it kept.
-fn logged(alloc: Global, given: &str, arguments: &str) -> Result<String, Fail> {
-    let mut unit = LogUnit::new(alloc, u32_of(arguments)?)?;
-    let mut out = answers(alloc, &mut unit, given)?;
+fn logged(row: &mut RowCall<'_>) {
+    let Ok(mut unit) = LogUnit::new(row.alloc, row.u32()) else {
+        return row.told.lack_memory();
+    };
+    tell_answers(row, &mut unit);
     for i in 0..KEPT {
-        put_kept(alloc, &mut out, unit.entry(i))?;
+        tell_kept(&mut row.told, unit.entry(i));
     }
-    Ok(out)
 }
 
 /// The answer that is written so.
-fn answer_named(text: &str) -> Result<Answer, Fail> {
+fn answer_in(row: &mut RowCall<'_>, text: &str) -> Answer {
     match text {
-        "Range" => Ok(Answer::Range),
-        "DivZero" => Ok(Answer::DivZero),
-        "Operand" => Ok(Answer::Operand),
-        _ => Ok(Answer::Word(Word::new(i128_of(text)?).ok_or("no word")?)),
+        "Range" => Answer::Range,
+        "DivZero" => Answer::DivZero,
+        "Operand" => Answer::Operand,
+        _ => {
+            let code = row.i128_in(text);
+            Answer::Word(row.coded(code))
+        }
     }
 }
 
-/// A unit that has room for so many calls and gives these answers, with `,` between them, each as a call's number, `=` and the answer.
-pub fn bad_unit(alloc: Global, room: u32, replaced: &str) -> Result<BadUnit, Fail> {
-    let mut unit = BadUnit::new(alloc, room)?;
-    for text in replaced.split(',') {
+/// Gives a unit these answers, with `,` between them, each as a call's number, `=` and the answer.
+pub fn replace(row: &mut RowCall<'_>, unit: &mut BadUnit, answers: &str) {
+    for text in answers.split(',') {
         if let Some((number, answer)) = text.split_once('=') {
-            unit.replace(u32_of(number)? as u64, answer_named(answer)?)?;
+            let number = row.u32_in(number) as u64;
+            let answer = answer_in(row, answer);
+            if unit.replace(number, answer).is_err() {
+                row.told.lack_memory();
+            }
         }
     }
-    Ok(unit)
+}
+
+/// A unit that has room for so many calls and gives the answers of the next word.
+pub fn bad_unit(row: &mut RowCall<'_>, room: u32) -> Option<BadUnit> {
+    match BadUnit::new(row.alloc, room) {
+        Ok(mut unit) => {
+            let answers = row.word();
+            replace(row, &mut unit, answers);
+            Some(unit)
+        }
+        Err(_) => {
+            row.told.lack_memory();
+            None
+        }
+    }
 }
 
 /// The answers of a unit some of which are replaced, how many of them are wrong, and the calls that it kept.
-fn replaced(alloc: Global, given: &str, arguments: &str) -> Result<String, Fail> {
-    let (room, answers_in) = word_off(arguments);
-    let mut unit = bad_unit(alloc, u32_of(room)?, answers_in)?;
-    let mut out = answers(alloc, &mut unit, given)?;
-    out.push_str(&format!(in alloc; "wrong {}\n", unit.wrong())?)?;
-    for i in 0..KEPT {
-        put_kept(alloc, &mut out, unit.entry(i))?;
+fn replaced(row: &mut RowCall<'_>) {
+    let room = row.u32();
+    if let Some(mut unit) = bad_unit(row, room) {
+        tell_answers(row, &mut unit);
+        row.told.text("wrong ");
+        row.told.item(unit.wrong());
+        row.told.text("\n");
+        for i in 0..KEPT {
+            tell_kept(&mut row.told, unit.entry(i));
+        }
     }
-    Ok(out)
 }

@@ -1,128 +1,131 @@
 //! Words, calls of a unit, and the right answers.
 
-ghost use Rattle.std.specs.Prelude.{IfOk};
+ghost use Rattle.std.specs.Prelude.{IfSome};
 ghost use Rattle.coded_unit.specs.Asked.{Asked};
 
+use crate::row_call::RowCall;
+use crate::told::Told;
 use coded_unit::{Answer, Call, Word, table};
-use std::alloc::Global;
-use std::test::Fail;
 use vcp_base::{MOST_STAMP, Profile, admits, modulus};
-use worked_texts::{i64_of, i128_of, kind_named, ty_named, u32_of, u64_of, usize_of, word_off};
 
-/// What a call on words tells.
-pub fn told(alloc: Global, name: &str, arguments: &str) -> Result<Option<String>, Fail> {
-    let told = match name {
-        "answer" => answered(alloc, arguments)?,
-        "word" => word(alloc, arguments)?,
-        "packed" => packed(alloc, arguments)?,
-        "shift" => shifted(alloc, arguments)?,
-        _ => return Ok(None),
-    };
-    Ok(Some(told))
+/// Makes a call on words; false where the name is another call's.
+pub fn make(row: &mut RowCall<'_>, name: &str) -> bool {
+    match name {
+        "answer" => answered(row),
+        "word" => word(row),
+        "packed" => packed(row),
+        "shift" => shifted(row),
+        _ => return false,
+    }
+    true
 }
 
-/// The code of this name.
-pub fn profile_named(name: &str) -> Result<Profile, Fail> {
-    match name {
-        "narrow" => Ok(Profile::Narrow),
-        "wide" => Ok(Profile::Wide),
-        _ => Err(Fail::new(name)),
+/// The earlier answer of this number.
+fn earlier(row: &mut RowCall<'_>, number: &str, answers: &[Word]) -> Word {
+    match answers.get(row.u32_in(number) as usize) {
+        Some(word) => *word,
+        None => {
+            row.told.fail("no answer of this number");
+            Word::ZERO
+        }
     }
 }
 
-/// The word that is written so: as an integer, as its value and its residue with `:` between them, or as `@` and the number of an
-/// earlier answer, which has the word 0 where it stopped.
-fn word_of(profile: Profile, text: &str, answers: &[Word]) -> Result<Word, Fail> {
+/// The next word of the row as a coded word: as an integer, as its value and its residue with `:` between them, or as `@` and the number of
+/// an earlier answer, which has the word 0 where it stopped.
+fn coded_word(row: &mut RowCall<'_>, profile: Profile, answers: &[Word]) -> Word {
+    let text = row.word();
     if let Some(number) = text.strip_prefix("@") {
-        return Ok(*answers.get(usize_of(number)?).ok_or("no answer")?);
+        return earlier(row, number, answers);
     }
     let code = match text.split_once(':') {
         Some((value, residue)) => (modulus(profile) as i128)
-            .wrapping_mul(i128_of(value)?)
-            .wrapping_add(i128_of(residue)?),
-        None => i128_of(text)?,
+            .wrapping_mul(row.i128_in(value))
+            .wrapping_add(row.i128_in(residue)),
+        None => row.i128_in(text),
     };
-    Ok(Word::new(code).ok_or("no word")?)
+    row.coded(code)
 }
 
-/// The call that is written so: its operation and cycle, its code, kind and types, the words of its operands, its number, its
-/// correction and its stamp.
-pub fn call_of(text: &str, answers: &[Word]) -> Result<Call, Fail>
-    ensures { IfOk result (λ call. Asked call) }
+/// The call that is written next: its operation and cycle, its code, kind and types, the words of its operands, its number, its
+/// correction and its stamp; None where no unit is asked it.
+pub fn call_of(row: &mut RowCall<'_>, answers: &[Word]) -> Option<Call>
+    ensures { IfSome result (λ call. Asked call) }
 {
-    let (op, rest) = word_off(text);
-    let (cycle, rest) = word_off(rest);
-    let (code, rest) = word_off(rest);
-    let (kind, rest) = word_off(rest);
-    let (from, rest) = word_off(rest);
-    let (ty, rest) = word_off(rest);
-    let (a, rest) = word_off(rest);
-    let (b, rest) = word_off(rest);
-    let (c, rest) = word_off(rest);
-    let (imm, rest) = word_off(rest);
-    let (corr, stamp) = word_off(rest);
-    let profile = profile_named(code)?;
+    let op = row.u32();
+    let cycle = row.u32();
+    let profile = row.profile();
     let call = Call {
         profile,
-        op: u32_of(op)?,
-        cycle: u32_of(cycle)?,
-        kind: kind_named(kind)?,
-        from: ty_named(from)?,
-        ty: ty_named(ty)?,
-        a: word_of(profile, a, answers)?,
-        b: word_of(profile, b, answers)?,
-        c: word_of(profile, c, answers)?,
-        imm: i64_of(imm)?,
-        corr: u64_of(corr)?,
-        stamp: u32_of(stamp)?,
+        op,
+        cycle,
+        kind: row.kind(),
+        from: row.ty(),
+        ty: row.ty(),
+        a: coded_word(row, profile, answers),
+        b: coded_word(row, profile, answers),
+        c: coded_word(row, profile, answers),
+        imm: row.i64(),
+        corr: row.u64(),
+        stamp: row.u32(),
     };
-    asked(call)
+    let asked = asked(call);
+    if asked.is_none() {
+        row.told.fail("no unit is asked this");
+    }
+    asked
 }
 
-/// A call that a unit may be asked.
-fn asked(call: Call) -> Result<Call, Fail>
-    ensures { IfOk result (λ call. Asked call) }
+/// A call, where a unit may be asked it.
+fn asked(call: Call) -> Option<Call>
+    ensures { IfSome result (λ call. Asked call) }
 {
     let in_code = admits(call.profile, call.from) && admits(call.profile, call.ty);
     if in_code && call.corr < modulus(call.profile) && call.stamp <= MOST_STAMP {
-        return Ok(call);
+        return Some(call);
     }
-    Err("no unit is asked this".into())
+    None
 }
 
-/// An answer: its word, with its value and its residue, or why there is none.
-pub fn answer_told(alloc: Global, profile: Profile, answer: &Answer) -> Result<String, Fail> {
+/// Tells an answer: its word, with its value and its residue, or why there is none.
+pub fn tell_answer(told: &mut Told, profile: Profile, answer: &Answer) {
     match answer {
         Answer::Word(word) => {
             let (value, residue) = word.split(profile);
-            Ok(format!(in alloc; "{} {value}:{residue}", word.get())?)
+            told.item(word.get());
+            told.item(value);
+            told.text(":");
+            told.item(residue);
         }
-        _ => Ok(format!(in alloc; "{answer:?}")?),
+        _ => told.shown(answer),
     }
 }
 
 /// The right answer to a call.
-fn answered(alloc: Global, arguments: &str) -> Result<String, Fail> {
-    let call = call_of(arguments, &[])?;
-    answer_told(alloc, call.profile, &table::answer(&call))
+fn answered(row: &mut RowCall<'_>) {
+    if let Some(call) = call_of(row, &[]) {
+        tell_answer(&mut row.told, call.profile, &table::answer(&call));
+    }
 }
 
 /// Whether an integer is a word.
-fn word(alloc: Global, arguments: &str) -> Result<String, Fail> {
-    let is_word = Word::new(i128_of(arguments)?).is_some();
-    Ok(format!(in alloc; "{is_word}")?)
+fn word(row: &mut RowCall<'_>) {
+    let code = row.i128();
+    row.told.item(Word::new(code).is_some());
 }
 
 /// The word of a value and a residue in the narrow code, and its parts.
-fn packed(alloc: Global, arguments: &str) -> Result<String, Fail> {
-    let (value, residue) = word_off(arguments);
-    let word = Word::packed(Profile::Narrow, i64_of(value)? as i128, u64_of(residue)?);
-    answer_told(alloc, Profile::Narrow, &Answer::Word(word))
+fn packed(row: &mut RowCall<'_>) {
+    let value = row.i64();
+    let residue = row.u64();
+    let word = Word::packed(Profile::Narrow, value as i128, residue);
+    tell_answer(&mut row.told, Profile::Narrow, &Answer::Word(word));
 }
 
 /// A word that is shifted.
-fn shifted(alloc: Global, arguments: &str) -> Result<String, Fail> {
-    let (word, change) = word_off(arguments);
-    let word = Word::new(i128_of(word)?).ok_or("no word")?;
-    Ok(format!(in alloc; "{}", word.shift(i64_of(change)?).get())?)
+fn shifted(row: &mut RowCall<'_>) {
+    let code = row.i128();
+    let word = row.coded(code);
+    let change = row.i64();
+    row.told.item(word.shift(change).get());
 }
