@@ -56,10 +56,6 @@ BY_KIND = ("Abouts", "Answer", "Endings", "GraphsOf", "Kinds", "Reports")
 WITH_ARMS = {("vcp_words", "Forms"), ("vcp_core", "Tasks"), *(("command_meaning", module) for module in BY_KIND)}
 
 
-OF_IMAGES = "WrittenImagesAreTaken"
-"""What a clause of `vcp` says of those commands alone that write or read images."""
-
-
 def without_arms(text, left_out):
     """A definition without the arms of these constructors: equations and constructors, with the lines behind them that go on with one."""
     head = re.compile(rf"(\s*)(?:[\w']+ \((?:{'|'.join(left_out)})\b|(?:{'|'.join(left_out)}) :)")
@@ -216,10 +212,7 @@ def lines_read(crates, wanted, commands=()):
     """Of a public item, for these commands alone: the crates and modules that it rests on, each with the lines that are cited of it and all of its lines."""
     name, _, item = wanted.partition("::")
     reading = Reading(crates, Definitions(crates, commands))
-    contract = crates[name].public[item]
-    if commands and not set(commands) & {"compile", "list", "exec", "trace", "widen"}:
-        contract = contract.replace(OF_IMAGES, "")
-    reading.of_item(crates[name], item, contract)
+    reading.of_item(crates[name], item, crates[name].public[item])
     cited = {}
     for node in reading.reached:
         if node[0] != "type":

@@ -8,9 +8,8 @@ use Rattle.pair_channel.specs.declared.pair_end.PairEnd.{PairEnd}
 use Rattle.pair_channel.specs.declared.pair_end.PairEnd.TheVariants as pair
 use Rattle.pair_channel.specs.PairRuns.{PairOutcome}
 use Rattle.command_meaning.specs.Answer.{Answer}
-use Rattle.command_meaning.specs.CampaignKind.{verdicts_answer}
+use Rattle.command_meaning.specs.CampaignKind.{pairs_answer, verdicts_answer}
 use Rattle.fault_campaign.specs.declared.pairs.verdict.PairVerdict.{PairVerdict}
-use Rattle.command_meaning.specs.PairsKind.{pairs_answer}
 use Rattle.command_meaning.specs.PairKind.{pair_answer, pair_read, pair_status}
 use Rattle.command_meaning.specs.Printing.{Report}
 use Rattle.command_meaning.specs.Endings.{TellsLine, ended, cut, wanting, unread, unmade, Given, Causes, NothingFailed, HasOwnStatus, DoneHasStatus, DoneIsMeant, EndingsHaveCauses, GivingUpHasCauses}

@@ -32,7 +32,7 @@
 -- last, if the files say it; and 1 too, unless the line tells that a file that the command reads has more
 -- bytes than it may, and it has, of which exactly one more than it may was taken. The status is none but 0 to
 -- 7, and what is held stays.
-use Rattle.std.specs.Prelude.{ℕ, ◌≡◌, ◌≢◌, ◌⊎◌, ◌+◌, ◌<◌, false, true, List, [], ◌∷◌, ◌++◌, length, drop, Option, Some, IfSome}
+use Rattle.std.specs.Prelude.{ℕ, ◌≡◌, ◌≢◌, ◌⊎◌, ◌+◌, ◌<◌, false, true, List, [], ◌∷◌, ◌++◌, length, drop, Option, Some, IsSome, IfSome}
 use Rattle.std.specs.Io.KnownBytes.{Appends, IsAtEnd}
 use Rattle.vcp_outside.specs.Counts.{Rose}
 use Rattle.vcp_outside.specs.Held.{Held}
@@ -40,8 +40,7 @@ use Rattle.run_report.specs.Lines.{stop_text}
 use Rattle.vcp_words.specs.Forms.{usage_text}
 use Rattle.vcp_inputs.specs.declared.refusal.Refusal.TheVariants as refusal
 use Rattle.vcp_inputs.specs.declared.refusal.Refusal.{Refusal}
-use Rattle.vcp_inputs.specs.Lines.{memory_text, read_fault_text, refusal_text, write_fault_text}
-use Rattle.vcp_inputs.specs.Refusals.{IsCause}
+use Rattle.vcp_inputs.specs.Lines.{diagnostic_of, memory_text, read_fault_text, refusal_text, write_fault_text}
 use Rattle.command_meaning.specs.Answer.{Answer}
 use Rattle.command_meaning.specs.Abouts.{Among, About, FileWord, AllHeld}
 use Rattle.command_meaning.specs.Endings.{Answered, Came, Causes, NothingFailed, TellsLine}
@@ -88,11 +87,11 @@ NamesFile c name = (word : FileWord) × Among word c.files × (name ≡ word.nam
 abbrev pub MayName : About → List ℕ → Type 0
 MayName c name = NamesFile c name ⊎ Among name c.others
 
--- The line of a status: none where the command came to its end; of 1 the refusal of what the command may name, for another cause than want of
--- memory; of 5 that of a file that it reads; of 6 that of the output, and of 7 that of memory, which name no file.
+-- The line of a status: none where the command came to its end; of 1 the refusal of what the command may name, with a place and a code, and so
+-- for another cause than want of memory; of 5 that of a file that it reads; of 6 that of the output, and of 7 that of memory, which name no file.
 pub record IsLine (c : About) (code : ℕ) (line : List ℕ) : Type 0 where
   pub none : IsEnd code → line ≡ []
-  pub refused : code ≡ 1 → (name : List ℕ) × (r : Refusal) × MayName c name × IsCause r × (line ≡ refusal_text name r)
+  pub refused : code ≡ 1 → (name : List ℕ) × (r : Refusal) × MayName c name × IsSome (diagnostic_of r) × (line ≡ refusal_text name r)
   pub file : code ≡ 5 → (name : List ℕ) × NamesFile c name × (line ≡ read_fault_text name)
   pub output : code ≡ 6 → line ≡ write_fault_text
   pub memory : code ≡ 7 → line ≡ memory_text

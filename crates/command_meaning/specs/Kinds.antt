@@ -1,5 +1,5 @@
--- Kinds: what words and files come to, and what each kind of task leaves behind, a line a kind. A kind that calls the unit has a record of
--- its own for a whole course and one for a course that was cut off.
+-- Kinds: what words and files come to, and what each kind of task leaves behind, a line a kind. A kind that calls the unit has a record for
+-- a whole course and one for a course that was cut off; the two kinds of groups of faults share theirs.
 -- Definitions: the task that a command and files come to, with what each file may be and how long; what is
 -- meant by a task, what stands when it was done and when it was cut off, for runs, for faults that are
 -- judged, for runs of two channels, also with faults in one, and for wires; what all deliver that a wire's
@@ -17,11 +17,13 @@ use Rattle.coded_unit.specs.Seen.{UnitSeen}
 use Rattle.machine_run.specs.Moments.{Moment}
 use Rattle.command_meaning.specs.Seen.{Appending}
 use Rattle.command_meaning.specs.RunKind.{Job, RunDone, RunLeft, meant_answer}
-use Rattle.command_meaning.specs.CampaignKind.{CampaignDone, CampaignLeft, verdicts_answer, verdicts_meant}
+use Rattle.fault_campaign.specs.Campaign.{verdict_lines}
+use Rattle.fault_campaign.specs.PairCampaigns.{group_lines}
+use Rattle.command_meaning.specs.CampaignKind.{GroupsDone, GroupsLeft, RerunsAsked, PairRunsAsked, verdicts_answer, verdicts_meant, pairs_answer, pairs_meant}
 use Rattle.telegram.specs.declared.script.script.WireScript.{WireScript}
 use Rattle.command_meaning.specs.WireKind.{WireDone, WireLeft, wire_meant}
-use Rattle.command_meaning.specs.PairsKind.{PairsDone, PairsLeft, pairs_answer, pairs_meant}
-use Rattle.command_meaning.specs.PairKind.{PairJob, PairJobDone, PairJobLeft, pair_answer, pair_meant}
+use Rattle.command_meaning.specs.PairKind.{PairJob, PairJobDone, pair_answer, pair_meant}
+use Rattle.pair_channel.specs.BesideDone.{BesideLeft}
 
 -- What a command and files come to: a name that is lacking; an answer for which no unit is called; a program of which the image of some
 -- graph that means it is written, with the numbers of a code; a run; groups of faults that are judged; a run of two
@@ -73,10 +75,10 @@ Done (lacks name) before after x = NoCall (Meant (lacks name)) before after x
 Done (answers a) before after x = NoCall (Meant (answers a)) before after x
 Done (compiles p code) before after x = NoCall (Meant (compiles p code)) before after x
 Done (runs j) before after x = RunDone j before after x
-Done (judges c) before after x = CampaignDone c before after x
+Done (judges c) before after x = GroupsDone c (RerunsAsked c) (verdicts_answer c) (verdicts_meant c) before after x
 Done (wires s) before after x = WireDone s before after x
 Done (compares j) before after x = PairJobDone j before after x
-Done (pairs_ c) before after x = PairsDone c before after x
+Done (pairs_ c) before after x = GroupsDone c (PairRunsAsked c) (pairs_answer c) (pairs_meant c) before after x
 
 -- ---- what stands where a sink or want of memory cut it off
 
@@ -90,7 +92,7 @@ Left (lacks name) Writes before after = NoCallLeft (Meant (lacks name)) Writes b
 Left (answers a) Writes before after = NoCallLeft (Meant (answers a)) Writes before after
 Left (compiles p code) Writes before after = NoCallLeft (Meant (compiles p code)) Writes before after
 Left (runs j) Writes before after = RunLeft j Writes before after
-Left (judges c) Writes before after = CampaignLeft c Writes before after
+Left (judges c) Writes before after = GroupsLeft c (RerunsAsked c) (verdicts_answer c) (verdicts_meant c) (verdict_lines c.graph c.groups) Writes before after
 Left (wires s) Writes before after = WireLeft s Writes before after
-Left (compares j) Writes before after = PairJobLeft j Writes before after
-Left (pairs_ c) Writes before after = PairsLeft c Writes before after
+Left (compares j) Writes before after = BesideLeft j.graph j.table j.rows Writes before after
+Left (pairs_ c) Writes before after = GroupsLeft c (PairRunsAsked c) (pairs_answer c) (pairs_meant c) (group_lines c.groups) Writes before after

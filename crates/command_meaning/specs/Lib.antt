@@ -6,7 +6,6 @@ pub mod CycleWords
 pub mod Endings
 pub mod FileTasks
 pub mod GraphsOf
-pub mod PairsKind
 pub mod Kinds
 pub mod PairKind
 pub mod Performing

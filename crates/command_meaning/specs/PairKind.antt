@@ -1,4 +1,4 @@
--- PairKind: a run of two channels that are compared: what stands after a whole one, and what stands where it was cut off.
+-- PairKind: a run of two channels that are compared, and what stands after a whole one; what stands where it was cut off, `pair_channel` says.
 -- Whatever the unit answers in `pair`: the rows that are written are the first of the graph's run on plain
 -- integers, all of them where the status is 0 or 2, and a stop is that run's stop; status 3 comes only where
 -- the unit's count of wrong answers rose.
@@ -18,16 +18,14 @@ use Rattle.coded_unit.specs.Seen.{UnitSeen, StaysHonest}
 use Rattle.op_graph.specs.Lists.{Lists}
 use Rattle.op_graph.specs.GraphRun.{graph_run, initial}
 use Rattle.signature_table.specs.Signatures.{Numbers}
-use Rattle.machine_run.specs.Moments.{Moment}
 use Rattle.pair_channel.specs.declared.pair_end.PairEnd.{PairEnd}
 use Rattle.pair_channel.specs.declared.pair_end.PairEnd.TheVariants as pair
 use Rattle.pair_channel.specs.Beside.{AllBeside}
 use Rattle.pair_channel.specs.PairRuns.{PairOutcome, FrontOfRun, pair_outcome_for}
-use Rattle.pair_channel.specs.BesideDone.{BesideLeft, beside_calls, beside_read}
+use Rattle.pair_channel.specs.BesideDone.{beside_calls, beside_read}
 use Rattle.pair_channel.specs.PairLines.{pair_text}
 use Rattle.command_meaning.specs.Answer.{Answer}
-use Rattle.command_meaning.specs.Reports.{EndKind, with_rows, at_stop, unaccepted, line_behind, status_behind}
-use Rattle.command_meaning.specs.Seen.{Appending}
+use Rattle.command_meaning.specs.Reports.{line_and_status}
 
 -- A run of two channels: of which graph, with which table of the first channel, on which rows of inputs with the refusal behind them, and the
 -- name by which lines tell ROWS. Of the second channel, which is on the processor itself, nothing shows by its own table.
@@ -37,27 +35,24 @@ pub record PairJob : Type 0 where
   pub rows : RowsLeft
   pub rows_name : List ℕ
 
--- how a run of two channels ended: no value is accepted where they disagree
-abbrev pub pair_end_kind : PairEnd → EndKind
-pair_end_kind pair.Released = with_rows
-pair_end_kind (pair.Stopped op why) = at_stop
-pair_end_kind (pair.Parted first second) = unaccepted
-pair_end_kind (pair.Differ output first second) = unaccepted
+-- the status of a run of two channels that didn't come to the end of its rows: no value is accepted where they disagree
+abbrev pub pair_early_status : PairEnd → Option ℕ
+pair_early_status pair.Released = None
+pair_early_status (pair.Stopped op why) = Some 2
+pair_early_status (pair.Parted first second) = Some 3
+pair_early_status (pair.Differ output first second) = Some 3
 
 -- the line of the row that is refused behind the others, and the status
 abbrev pub pair_behind : List ℕ → PairEnd → Option RowFault → List ℕ
-pair_behind name e behind = line_behind name (pair_end_kind e) behind
+pair_behind name e behind = (line_and_status name (pair_early_status e) behind).0
 
 abbrev pub pair_status : PairEnd → Option RowFault → ℕ
-pair_status e behind = status_behind (pair_end_kind e) behind
+pair_status e behind = (line_and_status [] (pair_early_status e) behind).1
 
 -- the answer where a run of two channels comes to this
 abbrev pub pair_answer : PairJob → PairOutcome → Answer
-pair_answer j o = record {
-  out = pair_text j.graph o j.rows.refusal;
-  err = pair_behind j.rows_name o.end j.rows.refusal;
-  status = pair_status o.end j.rows.refusal;
-}
+pair_answer j o =
+    record { out = pair_text j.graph o j.rows.refusal; err = pair_behind j.rows_name o.end j.rows.refusal; status = pair_status o.end j.rows.refusal }
 
 -- the outcome that is read off the first channel's answers
 abbrev pub pair_read : PairJob → List (List UnitAnswer) → PairOutcome
@@ -80,7 +75,3 @@ pub record PairJobDone (j : PairJob) (before after : UnitSeen) (x : Answer) : Ty
   pub front : FrontOfRun (pair_read j cycles) (graph_run j.graph j.rows.rows)
   pub rose : x.status ≡ 3 → Rose before.wrong after.wrong
   pub honest : StaysHonest before after → pair_read j cycles ≡ pair_meant j
-
--- a run that was cut off between two of its cycles, where `Writes` says how much was written of what is printed of it
-abbrev pub PairJobLeft : PairJob → Appending → Moment → Moment → Type 0
-PairJobLeft j Writes before after = BesideLeft j.graph j.table j.rows Writes before after

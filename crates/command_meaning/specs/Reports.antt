@@ -9,7 +9,8 @@ use Rattle.coded_machine.specs.declared.cycle_end.CycleEnd.{CycleEnd}
 use Rattle.coded_machine.specs.declared.cycle_end.CycleEnd.TheVariants as cycle
 use Rattle.flat_expr.specs.Told.{Told, names_of, source_end, told_source, told_graph, halted_at}
 use Rattle.il_front.specs.Accumulator.{Il, acc_run}
-use Rattle.vcp_inputs.specs.Lines.{rows_text}
+use Rattle.vcp_inputs.specs.declared.refusal.Refusal.TheVariants as refusal
+use Rattle.vcp_inputs.specs.Lines.{refusal_text}
 use Rattle.command_meaning.specs.Answer.{Subject, source, listed, image}
 
 -- How a run ended: with its rows; at a stop; or at an output, counted from 0, with the residue that was found and the expected one.
@@ -54,34 +55,21 @@ subject_outputs (source p) = output_names p
 subject_outputs (listed i) = map (λ c. c.name) (output_columns i.slots)
 subject_outputs (image g) = map (λ c. c.name) (map (output_column g.names) g.outputs)
 
--- how a run ended, whatever its last line tells: with its rows, at a stop, or at a value that isn't accepted
-pub data EndKind : Type 0 where
-  with_rows : EndKind
-  at_stop : EndKind
-  unaccepted : EndKind
+-- the status of a run that didn't come to the end of its rows: 2 of a stop, 3 of a value that isn't accepted
+abbrev pub early_status : RunEnd → Option ℕ
+early_status complete = None
+early_status (stopped s) = Some 2
+early_status (refused output found wanted) = Some 3
 
--- the line of the row that is refused behind the others, to which a run comes that ends with its rows; rows are told by ROWS' name
-abbrev pub line_behind : List ℕ → EndKind → Option RowFault → List ℕ
-line_behind name with_rows (Some why) = rows_text name why
-line_behind name with_rows None = []
-line_behind name at_stop behind = []
-line_behind name unaccepted behind = []
-
--- and the status
-abbrev pub status_behind : EndKind → Option RowFault → ℕ
-status_behind with_rows None = 0
-status_behind with_rows (Some why) = 1
-status_behind at_stop behind = 2
-status_behind unaccepted behind = 3
-
--- so of a run of one channel
-abbrev pub end_kind : RunEnd → EndKind
-end_kind complete = with_rows
-end_kind (stopped s) = at_stop
-end_kind (refused output found wanted) = unaccepted
+-- The line and the status of a run that ended early with this status or not, where this refusal or none stands behind its rows: to that a run comes
+-- which ends with them. Rows are told by ROWS' name.
+abbrev pub line_and_status : List ℕ → Option ℕ → Option RowFault → List ℕ × ℕ
+line_and_status name None None = ([], 0)
+line_and_status name None (Some why) = (refusal_text name (refusal.Rows why), 1)
+line_and_status name (Some status) behind = ([], status)
 
 abbrev pub behind_text : List ℕ → RunEnd → Option RowFault → List ℕ
-behind_text name e behind = line_behind name (end_kind e) behind
+behind_text name e behind = (line_and_status name (early_status e) behind).0
 
 abbrev pub run_status : RunEnd → Option RowFault → ℕ
-run_status e behind = status_behind (end_kind e) behind
+run_status e behind = (line_and_status [] (early_status e) behind).1

@@ -57,19 +57,13 @@ calls_of j g cycles = calls_over g (numbers j g) 0 (initial_words g j.code.seed)
 
 -- the run that is read off the unit's answers
 abbrev pub run_read : Job → Lists → List (List UnitAnswer) → Report
-run_read j g cycles = record {
-  rows = (outcome_over g (numbers j g) 0 cycles).rows;
-  end = end_read g (outcome_over g (numbers j g) 0 cycles).end;
-  words = j.words.read cycles;
-}
+run_read j g cycles =
+    let o = outcome_over g (numbers j g) 0 cycles in record { rows = o.rows; end = end_read g o.end; words = j.words.read cycles }
 
 -- the run that is meant: the subject's own, on plain values
 abbrev pub run_meant : Job → Report
-run_meant j = record {
-  rows = (told_of j.subject j.rows.rows).rows;
-  end = end_told (told_of j.subject j.rows.rows).end;
-  words = j.words.meant j.rows.rows;
-}
+run_meant j =
+    let told = told_of j.subject j.rows.rows in record { rows = told.rows; end = end_told told.end; words = j.words.meant j.rows.rows }
 
 -- the answer to a job whose run is told so
 abbrev pub job_answer : Job → Report → Answer

@@ -17,14 +17,14 @@ use Rattle.command_meaning.specs.Kinds.{prints, refusal_task}
 use Rattle.command_meaning.specs.Performing.{Reaches, done, unmade}
 use Rattle.vcp_outside.specs.Seen.{FilesSeen}
 use Rattle.machine_run.specs.Moments.{Moment}
-use Rattle.vcp_core.specs.Tasks.{Audited, AuditTask, too_large}
+use Rattle.vcp_core.specs.Tasks.{Audited, too_large, TaskOf}
 use Rattle.vcp_core.specs.Tasks as tasks
 use Rattle.vcp_core.proofs.Performing.{file_takes, still}
 
 -- its audit
 pub audit_told : (m : List ℕ) (horizon : ℕ) (held : Held) (i : Image)
     → ((text : List ℕ) × (held m ≡ Some text) × (length text ≤ most_image_bytes) × ImageOf text i) → (a : Audit)
-    → weights_up_to i.graph horizon ≤ most_weights → IsAudit i.graph horizon a → AuditTask m horizon held (prints (audit_text i.graph a horizon))
+    → weights_up_to i.graph horizon ≤ most_weights → IsAudit i.graph horizon a → TaskOf (audit m horizon) held (prints (audit_text i.graph a horizon))
 audit_told m horizon held i loads a few kept =
     file_takes ImageOf NotImage most_image_bytes (Audited horizon m) m held i (prints (audit_text i.graph a horizon)) loads
     (tasks.printed few (audit_text i.graph a horizon) (record { audit = a; is = kept; told = refl }))
@@ -36,13 +36,13 @@ NoWeights i horizon e = (e ≡ input.Memory) ⊎ ((e ≡ input.Refused refusal.A
 -- then nothing was done
 pub too_large_audit : (m : List ℕ) (horizon : ℕ) (held : Held) (i : Image) (files later : FilesSeen) (at : Moment) (e : NoInput)
     → ((text : List ℕ) × (held m ≡ Some text) × (length text ≤ most_image_bytes) × ImageOf text i) → NoWeights i horizon e →
-    Reaches (about (audit m horizon)) (AuditTask m horizon held) files later at at (input_text m e) (input_status e)
+    Reaches (about (audit m horizon)) (TaskOf (audit m horizon) held) files later at at (input_text m e) (input_status e)
 too_large_audit m horizon held i files later at e loads (inl is) =
-    subst (λ (x : NoInput). Reaches (about (audit m horizon)) (AuditTask m horizon held) files later at at (input_text m x) (input_status x))
+    subst (λ (x : NoInput). Reaches (about (audit m horizon)) (TaskOf (audit m horizon) held) files later at at (input_text m x) (input_status x))
     (sym is) (unmade (still at) refl refl)
 too_large_audit m horizon held i files later at e loads (inr (is, large)) =
     let s = still at in
-    subst (λ (x : NoInput). Reaches (about (audit m horizon)) (AuditTask m horizon held) files later at at (input_text m x) (input_status x))
+    subst (λ (x : NoInput). Reaches (about (audit m horizon)) (TaskOf (audit m horizon) held) files later at at (input_text m x) (input_status x))
     (sym is)
     (done (refusal_task m refusal.Audit) (record { out = []; err = refusal_text m refusal.Audit; status = 1 })
     (file_takes ImageOf NotImage most_image_bytes (Audited horizon m) m held i (refusal_task m refusal.Audit) loads (too_large large)) (refl, refl) s.out refl
@@ -56,4 +56,4 @@ weights_read i horizon e (inr (because, more)) is = cc
 -- they are refused for a cause
 pub weights_caused : (i : Image) (horizon : ℕ) (e : NoInput) → NoWeights i horizon e → IsCaused e
 weights_caused i horizon e (inl memory) = subst IsCaused (sym memory) tt
-weights_caused i horizon e (inr (because, more)) = subst IsCaused (sym because) tt
+weights_caused i horizon e (inr (because, more)) = subst IsCaused (sym because) refl

@@ -64,7 +64,7 @@ use Rattle.command_meaning.specs.FileTasks.{TakenFile, missing, untaken, taken, 
 use Rattle.command_meaning.specs.Kinds.{Task, lacks, answers, compiles, runs, judges, compares, pairs_, wires, prints, refusal_task}
 use Rattle.vcp_core.specs.Demo.{made_held, summary_job}
 use Rattle.vcp_core.specs.EachTask.{HoldsBytes}
-use Rattle.vcp_core.specs.Tasks.{TaskOf, Audited, too_large, printed, WholeRows, FewRows, too_many, few, JudgedScript, Apart, same_seed, two_seeds, Compared, PairsRows, PairsScript, pair_job, plain_answer, rows_job, words_job, ok_text, most_trace, table_code, listing, widened}
+use Rattle.vcp_core.specs.Tasks.{TaskOf, Audited, too_large, printed, WholeRows, FewRows, too_many, few, Apart, same_seed, two_seeds, Compared, PairsRows, pair_job, plain_answer, rows_job, words_job, ok_text, most_trace, table_code, listing, widened, ScriptedTask}
 use Rattle.vcp_inputs.specs.RowsRead.{graph_columns}
 use Rattle.vcp_core.proofs.ScriptsTold.{script_not_memory, wire_not_memory}
 
@@ -256,17 +256,17 @@ module _ (laws : AnswerLaws) where
       (λ i is. some_rows (rows_name rows) (Then i) (rows_outcome rows held (graph_columns i.graph)) (next i))
 
   judged : (name f : List ℕ) (held : Held) (i : Image) (left : RowsLeft)
-      → (task : Task) × WholeRows name (FewRows name i.graph (JudgedScript i f held)) left.rows left.refusal task
+      → (task : Task) × WholeRows name (FewRows name i.graph (ScriptedTask judges i f held)) left.rows left.refusal task
   judged name f held i left =
-      some_whole name (FewRows name i.graph (JudgedScript i f held)) left.rows left.refusal
-      (some_few name i.graph (JudgedScript i f held) left.rows
+      some_whole name (FewRows name i.graph (ScriptedTask judges i f held)) left.rows left.refusal
+      (some_few name i.graph (ScriptedTask judges i f held) left.rows
       (some_script i.graph (λ groups. judges (record { graph = i.graph; table = i.table; rows = left.rows; groups = groups })) f held))
 
   held_by_pair : (rows : Rows) (f : List ℕ) (held : Held) (i : Image) → (task : Task) × PairsRows rows f held i task
   held_by_pair rows f held i =
-      some_rows (rows_name rows) (λ left. WholeRows (rows_name rows) (PairsScript i f held) left.rows left.refusal)
+      some_rows (rows_name rows) (λ left. WholeRows (rows_name rows) (ScriptedTask pairs_ i f held) left.rows left.refusal)
       (rows_outcome rows held (graph_columns i.graph))
-      (λ left. some_whole (rows_name rows) (PairsScript i f held) left.rows left.refusal
+      (λ left. some_whole (rows_name rows) (ScriptedTask pairs_ i f held) left.rows left.refusal
       (some_script i.graph (λ groups. pairs_ (record { graph = i.graph; table = i.table; rows = left.rows; groups = groups })) f held))
 
   pub some_task : (f : Form) (held : Held) → HoldsBytes held → (task : Task) × TaskOf f held task
@@ -286,7 +286,7 @@ module _ (laws : AnswerLaws) where
   some_task (widen m) held bytes = image_is (λ i. prints (image_of (widened i.graph) i.table.seed i.table.step)) m held bytes
   some_task (audit m horizon) held bytes = some_image (Audited horizon m) m held bytes (some_audit horizon m)
   some_task (inject m rows f) held bytes =
-      graph_on (λ i left. WholeRows (rows_name rows) (FewRows (rows_name rows) i.graph (JudgedScript i f held)) left.rows left.refusal) m rows held bytes
+      graph_on (λ i left. WholeRows (rows_name rows) (FewRows (rows_name rows) i.graph (ScriptedTask judges i f held)) left.rows left.refusal) m rows held bytes
       (judged (rows_name rows) f held)
   some_task (pair m rows seed) held bytes =
       some_image (Apart m seed (Compared rows held)) m held bytes (λ i is. some_apart m seed (Compared rows held) i

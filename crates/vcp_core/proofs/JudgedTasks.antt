@@ -1,10 +1,10 @@
 -- What `inject` comes to and how far it comes, from what reading its files and judging the groups give.
-use Rattle.std.proofs.Common.{ℕ, ℤ, ◌+◌, ◌≤◌, ◌≡◌, ◌≢◌, ◌⊎◌, inl, inr, refl, sym, ap, subst, ◌∙◌, arith, List, [], ◌∷◌, ◌++◌, append_assoc, length, length-append, take, drop, false, IfSome, Option, Some, Ok, Err}
+use Rattle.std.proofs.Common.{ℕ, ℤ, ◌+◌, ◌≤◌, ◌≡◌, ◌≢◌, ◌⊎◌, inl, inr, refl, sym, ap, subst, ◌∙◌, arith, List, [], ◌∷◌, ◌++◌, append_assoc, length, length-append, take, drop, false, All, IfSome, Option, Some, Ok, Err}
 use Rattle.std.proofs.lemmas.List.{length-map, take-append-drop}
 use Rattle.std.proofs.Math.Seq.{take-length}
 use Rattle.std.specs.Io.KnownBytes.{Appends, IsAtEnd}
 use Rattle.vcp_base.specs.Limits.{most_image_bytes, most_source_bytes}
-use Rattle.coded_unit.specs.Seen.{UnitSeen}
+use Rattle.coded_unit.specs.Seen.{StaysHonest, UnitSeen}
 use Rattle.vcp_outside.specs.Counts.{Rose}
 use Rattle.vcp_outside.specs.Held.{Held}
 use Rattle.vcp_outside.specs.Written.{AppendsFront, AppendsPart}
@@ -16,9 +16,10 @@ use Rattle.fault_script.specs.Groups.{line_of}
 use Rattle.fault_injector.specs.declared.verdict.Verdict.{Verdict}
 use Rattle.fault_campaign.specs.declared.fault.CampaignFault.{CampaignFault}
 use Rattle.fault_campaign.specs.declared.fault.CampaignFault.TheVariants as campaign
-use Rattle.fault_campaign.specs.Campaign.{JudgedOnce, Told, campaign_text, verdict_lines}
+use Rattle.fault_campaign.specs.Campaign.{JudgedOnce, Told, verdict_lines}
 use Rattle.fault_campaign.specs.Written.{EarlierWritten}
-use Rattle.fault_injector.specs.FaultLines.{verdict_text, totals_of, totals_text}
+use Rattle.fault_injector.specs.FaultLines.{lines_by, verdict_text, totals_of, totals_text}
+use Rattle.fault_injector.specs.Names.{Names}
 use Rattle.vcp_words.specs.Forms.{Rows, inject}
 use Rattle.vcp_words.specs.Tables.{rows_name}
 use Rattle.vcp_inputs.specs.declared.images.Image.{Image}
@@ -33,15 +34,16 @@ use Rattle.vcp_inputs.specs.RowsOutcome.{RowsOutcome, opened, rows_outcome}
 use Rattle.vcp_inputs.specs.RowsRead.{AllRead, NoneRead, RowsBroken, at_header, at_row, graph_columns}
 use Rattle.vcp_inputs.specs.Scripts.{ScriptOf, NotScript}
 use Rattle.command_meaning.specs.Abouts.{About, about, FileWord, rows_words, script_word, Among}
-use Rattle.command_meaning.specs.Answer.{Campaign}
-use Rattle.command_meaning.specs.CampaignKind.{CampaignDone, CampaignLeft, verdicts_answer, verdicts_meant}
+use Rattle.command_meaning.specs.Answer.{Answer, Campaign, printed}
+use Rattle.command_meaning.specs.CampaignKind.{GroupsDone, GroupsLeft, RerunsAsked, verdicts_answer, verdicts_meant}
+use Rattle.command_meaning.specs.Seen.{Appending, Still}
 use Rattle.command_meaning.specs.Clauses.{IsTooLong}
 use Rattle.command_meaning.specs.FileTasks.{OnRows, taken}
 use Rattle.command_meaning.specs.Kinds.{Task, judges, refusal_task}
 use Rattle.command_meaning.specs.Performing.{Reaches, done, cut, wanting, unread, unmade, Performs}
 use Rattle.vcp_outside.specs.Seen.{FilesSeen, SinkSeen}
 use Rattle.machine_run.specs.Moments.{Moment, moment}
-use Rattle.vcp_core.specs.Tasks.{FewRows, InjectTask, JudgedScript, WholeRows}
+use Rattle.vcp_core.specs.Tasks.{FewRows, WholeRows, TaskOf, ScriptedTask}
 use Rattle.vcp_core.specs.Tasks as task
 use Rattle.vcp_core.specs.Faults.{of_campaign}
 use Rattle.vcp_core.specs.Inject.{AllRows, NoRows, RowsRefused, broken, too_many}
@@ -106,7 +108,7 @@ campaign_of i list groups = record { graph = i.graph; table = i.table; rows = li
 
 -- what its rows come to, once they are opened
 abbrev pub OnLeft : Rows → List ℕ → Held → Image → RowsLeft → Task → Type 0
-OnLeft rows f held i left t = WholeRows (rows_name rows) (FewRows (rows_name rows) i.graph (JudgedScript i f held)) left.rows left.refusal t
+OnLeft rows f held i left t = WholeRows (rows_name rows) (FewRows (rows_name rows) i.graph (ScriptedTask judges i f held)) left.rows left.refusal t
 
 -- M holds this image, and ROWS come to this for its graph
 abbrev pub LoadsAt : List ℕ → Rows → Image → RowsOutcome → Held → Type 0
@@ -119,28 +121,28 @@ module _ (m : List ℕ) (rows : Rows) (f : List ℕ) (held : Held) where
 
   -- M was loaded
   rows_come : (i : Image) (o : RowsOutcome) → Loads ImageOf NotImage held m most_image_bytes 0 0 (Ok i) → rows_outcome rows held (graph_columns i.graph) ≡ o
-      → (t : Task) → Comes i o t → InjectTask m rows f held t
+      → (t : Task) → Comes i o t → TaskOf (inject m rows f) held t
   rows_come i o (text, found, few, is) same t comes =
       taken text i t found few is (subst (λ (x : RowsOutcome). Comes i x t) (sym same) comes)
 
   -- ROWS are refused
   rows_refused : (i : Image) (o : RowsOutcome) (r : Refusal) → RowsRefused o i.graph r → Comes i o (refusal_task (rows_name rows) r)
-  rows_refused i o r (broken _ why) = whole_broken rows o (FewRows (rows_name rows) i.graph (JudgedScript i f held)) r why
+  rows_refused i o r (broken _ why) = whole_broken rows o (FewRows (rows_name rows) i.graph (ScriptedTask judges i f held)) r why
   rows_refused i o _ (too_many left is none more) =
       subst (λ (x : RowsOutcome). Comes i x (refusal_task (rows_name rows) refusal.Trace)) (sym is)
-      (subst (λ (x : Option RowFault). WholeRows (rows_name rows) (FewRows (rows_name rows) i.graph (JudgedScript i f held)) left.rows x
+      (subst (λ (x : Option RowFault). WholeRows (rows_name rows) (FewRows (rows_name rows) i.graph (ScriptedTask judges i f held)) left.rows x
       (refusal_task (rows_name rows) refusal.Trace)) (sym none) (task.too_many more))
 
   -- or all of them were read
-  script_comes : (i : Image) (o : RowsOutcome) (list : List (List ℤ)) → AllRows o i.graph list → (t : Task) → JudgedScript i f held list t → Comes i o t
+  script_comes : (i : Image) (o : RowsOutcome) (list : List (List ℤ)) → AllRows o i.graph list → (t : Task) → ScriptedTask judges i f held list t → Comes i o t
   script_comes i o list all t comes =
-      whole_comes rows o (FewRows (rows_name rows) i.graph (JudgedScript i f held)) list all.read t (task.few t all.few comes)
+      whole_comes rows o (FewRows (rows_name rows) i.graph (ScriptedTask judges i f held)) list all.read t (task.few t all.few comes)
 
   module _ (files later : FilesSeen) (i : Image) (o : RowsOutcome) (loads : Loads ImageOf NotImage held m most_image_bytes 0 0 (Ok i))
       (same : rows_outcome rows held (graph_columns i.graph) ≡ o) where
     -- there are no rows, and nothing was done
     pub rows_lost : (at : Moment) (e : NoInput) → NoRows o i.graph e
-        → Reaches (about (inject m rows f)) (InjectTask m rows f held) files later at at (input_text (rows_name rows) e) (input_status e)
+        → Reaches (about (inject m rows f)) (TaskOf (inject m rows f) held) files later at at (input_text (rows_name rows) e) (input_status e)
     rows_lost at (input.Refused r) h =
         done (refusal_task (rows_name rows) r) (record { out = []; err = refusal_text (rows_name rows) r; status = 1 })
         (rows_come i o loads same (refusal_task (rows_name rows) r) (rows_refused i o r h)) (refl, refl) (still at).out refl refl
@@ -149,12 +151,12 @@ module _ (m : List ℕ) (rows : Rows) (f : List ℕ) (held : Held) where
 
     module _ (list : List (List ℤ)) (all : AllRows o i.graph list) where
       -- the task of the script is that of the command
-      judged_comes : (t : Task) → JudgedScript i f held list t → InjectTask m rows f held t
+      judged_comes : (t : Task) → ScriptedTask judges i f held list t → TaskOf (inject m rows f) held t
       judged_comes t comes = rows_come i o loads same t (script_comes i o list all t comes)
 
       script_reaches : (before after : Moment) (line : List ℕ) (code : ℕ)
-          → Reaches (about (inject m rows f)) (JudgedScript i f held list) files later before after line code
-          → Reaches (about (inject m rows f)) (InjectTask m rows f held) files later before after line code
+          → Reaches (about (inject m rows f)) (ScriptedTask judges i f held list) files later before after line code
+          → Reaches (about (inject m rows f)) (TaskOf (inject m rows f) held) files later before after line code
       script_reaches before after line code (done t x comes d w line_is code_is) = done t x (judged_comes t comes) d w line_is code_is
       script_reaches before after line code (cut t comes left rose line_is code_is) = cut t (judged_comes t comes) left rose line_is code_is
       script_reaches before after line code (wanting t comes left late line_is code_is) = wanting t (judged_comes t comes) left late line_is code_is
@@ -163,7 +165,7 @@ module _ (m : List ℕ) (rows : Rows) (f : List ℕ) (held : Held) where
 
       -- there is no script, and nothing was done
       pub script_lost : (at : Moment) (e : NoInput) → FileLost (NotScript i.graph) held f most_source_bytes files.broken later.broken e
-          → Reaches (about (inject m rows f)) (InjectTask m rows f held) files later at at (input_text f e) (input_status e)
+          → Reaches (about (inject m rows f)) (TaskOf (inject m rows f) held) files later at at (input_text f e) (input_status e)
       script_lost at e lost =
           script_reaches at at (input_text f e) (input_status e)
           (file_lost (about (inject m rows f)) files later at at (ScriptOf i.graph) (NotScript i.graph) most_source_bytes
@@ -172,7 +174,7 @@ module _ (m : List ℕ) (rows : Rows) (f : List ℕ) (held : Held) where
       -- the groups are there
       pub groups_come : (groups : List (List ScriptedFault))
           → ((text : List ℕ) × (held f ≡ Some text) × (length text ≤ most_source_bytes) × ScriptOf i.graph text groups)
-          → InjectTask m rows f held (judges (campaign_of i list groups))
+          → TaskOf (inject m rows f) held (judges (campaign_of i list groups))
       groups_come groups found =
           judged_comes (judges (campaign_of i list groups))
           (file_takes (ScriptOf i.graph) (NotScript i.graph) most_source_bytes (λ fs x. x ≡ judges (campaign_of i list fs)) f held groups
@@ -194,25 +196,31 @@ pub script_taken : (m : List ℕ) (rows : Rows) (f : List ℕ) (held : Held) (i 
 script_taken m rows f held i rest =
     file_taken (about (inject m rows f)) f held (script_word f) (script_named m rows f) refl i rest
 
--- ---- the lines of verdicts
+-- ---- the lines of verdicts of either kind
 
 -- those of more verdicts go on from them
-pub lines_go_on : (g : Lists) (groups : List (List ScriptedFault)) (vs later : List Verdict)
-    → (more : List ℕ) × (verdict_lines g groups (vs ++ later) ≡ verdict_lines g groups vs ++ more)
-lines_go_on g [] vs later = ([], refl)
-lines_go_on g (f ∷ groups) [] later = (verdict_lines g (f ∷ groups) later, refl)
-lines_go_on g (f ∷ groups) (v ∷ vs) later =
-    let (more, is) = lines_go_on g groups vs later in
-    let line : List ℕ = verdict_text g (line_of f) v in
-    (more, ap (λ t. line ++ t) is ∙ sym (append_assoc line (verdict_lines g groups vs) more))
+pub lines_go_on : {V : Type 0} (text : ℕ → V → List ℕ) (groups : List (List ScriptedFault)) (vs later : List V)
+    → (more : List ℕ) × (lines_by text groups (vs ++ later) ≡ lines_by text groups vs ++ more)
+lines_go_on text [] vs later = ([], refl)
+lines_go_on text (f ∷ groups) [] later = (lines_by text (f ∷ groups) later, refl)
+lines_go_on text (f ∷ groups) (v ∷ vs) later =
+    let (more, is) = lines_go_on text groups vs later in
+    let line : List ℕ = text (line_of f) v in
+    (more, ap (λ t. line ++ t) is ∙ sym (append_assoc line (lines_by text groups vs) more))
 
--- so they are a front of the whole text
-pub lines_front : (g : Lists) (groups : List (List ScriptedFault)) (vs later : List Verdict) (old new : Option (List ℕ))
-    → Appends old new (verdict_lines g groups vs) → AppendsFront old new (campaign_text g groups (vs ++ later))
-lines_front g groups vs later old new w =
-    let (more, is) = lines_go_on g groups vs later in
-    let totals : List ℕ = totals_text (totals_of (vs ++ later)) in
-    (verdict_lines g groups vs, more ++ totals, ap (λ t. t ++ totals) is ∙ append_assoc (verdict_lines g groups vs) more totals, w)
+-- there are none of no verdicts
+no_verdict_lines : (g : Lists) (groups : List (List ScriptedFault)) → verdict_lines g groups [] ≡ []
+no_verdict_lines g [] = refl
+no_verdict_lines g (faults ∷ groups) = refl
+
+-- so they are a front of the whole text, which ends with the totals
+pub lines_front : {V : Type 0} (text : ℕ → V → List ℕ) (totals : List V → List ℕ) (groups : List (List ScriptedFault)) (vs later : List V)
+    (old new : Option (List ℕ)) → Appends old new (lines_by text groups vs)
+    → AppendsFront old new (lines_by text groups (vs ++ later) ++ totals (vs ++ later))
+lines_front text totals groups vs later old new w =
+    let (more, is) = lines_go_on text groups vs later in
+    let end : List ℕ = totals (vs ++ later) in
+    (lines_by text groups vs, more ++ end, ap (λ t. t ++ end) is ∙ append_assoc (lines_by text groups vs) more end, w)
 
 -- the verdicts that are left of all
 pub left_of : {X : Type 0} (vs all : List X) → vs ≡ take (length vs) all → all ≡ vs ++ drop (length vs) all
@@ -225,7 +233,67 @@ left_count vs all n is count = sym (length-append vs (drop (length vs) all)) ∙
 pub all_of : {X : Type 0} (vs all : List X) → vs ≡ take (length vs) all → length vs ≡ length all → vs ≡ all
 all_of vs all is same = is ∙ ap (λ n. take n all) same ∙ take-length all
 
--- ---- how far the groups were judged
+-- ---- how far groups were judged, by verdicts of either kind
+
+module _ {V : Type 0} (c : Campaign) (Asked : List V → UnitSeen → UnitSeen → Type 0) (text : ℕ → V → List ℕ) (totals : List V → List ℕ) (meant : List V)
+    (as_many : length meant ≡ length c.groups) (before after : Moment) (vs : List V) (asked : Asked vs before.unit after.unit)
+    (right : StaysHonest before.unit after.unit → vs ≡ take (length vs) meant) where
+  abbrev lines : List V → List ℕ
+  lines ws = lines_by text c.groups ws
+
+  abbrev answer : List V → Answer
+  answer ws = printed (lines ws ++ totals ws)
+
+  -- all of them
+  pub groups_done : length vs ≡ length c.groups → GroupsDone c Asked answer meant before.unit after.unit (answer vs)
+  groups_done each = record {
+    verdicts = vs;
+    each = each;
+    asked = asked;
+    read = refl;
+    honest = λ h. all_of vs meant (right h) (each ∙ sym as_many);
+  }
+
+  -- what was written of these and any later ones was written of those that are meant
+  of_meant : (Writes : Appending) → ((later : List V) → length vs + length later ≡ length c.groups
+      → Writes before.out.written after.out.written (answer (vs ++ later)).out) → StaysHonest before.unit after.unit
+      → Writes before.out.written after.out.written (answer meant).out
+  of_meant Writes written h =
+      subst (λ (l : List V). Writes before.out.written after.out.written (answer l).out) (sym (left_of vs meant (right h)))
+      (written (drop (length vs) meant) (left_count vs meant (length c.groups) (right h) as_many))
+
+  -- until writing failed
+  pub groups_part : length vs ≤ length c.groups
+      → ((later : List V) → length vs + length later ≡ length c.groups → AppendsPart before.out.written after.out.written (answer (vs ++ later)).out)
+      → EarlierWritten lines vs before.out.written after.out.written → GroupsLeft c Asked answer meant lines AppendsPart before after
+  groups_part few part earlier = record {
+    verdicts = vs;
+    few = few;
+    asked = asked;
+    text = part;
+    earlier = earlier;
+    honest = of_meant AppendsPart part;
+  }
+
+  -- until memory was wanted
+  pub groups_front : length vs ≤ length c.groups → Appends before.out.written after.out.written (lines vs)
+      → GroupsLeft c Asked answer meant lines AppendsFront before after
+  groups_front few w =
+      let front : (later : List V) → length vs + length later ≡ length c.groups
+      → AppendsFront before.out.written after.out.written (answer (vs ++ later)).out =
+      λ later follows. lines_front text totals c.groups vs later before.out.written after.out.written w in
+      record {
+        verdicts = vs;
+        few = few;
+        asked = asked;
+        text = front;
+        earlier = λ earlier last is.
+            let (more, go_on) = lines_go_on text c.groups earlier (last ∷ []) in
+            (more, subst (λ (t : List ℕ). Appends before.out.written after.out.written t) (ap lines is ∙ go_on) w);
+        honest = of_meant AppendsFront front;
+      }
+
+-- ---- how far they were judged by one channel
 
 module _ (c : Campaign) (unit unit' : UnitSeen) (out out' : SinkSeen) where
   abbrev before : Moment
@@ -234,84 +302,51 @@ module _ (c : Campaign) (unit unit' : UnitSeen) (out out' : SinkSeen) where
   abbrev after : Moment
   after = moment unit' out'
 
-  -- all of them
-  pub all_judged : (told : Told c.table c.graph c.groups c.rows unit unit' out.written out'.written (Ok tt))
-      → CampaignDone c before.unit after.unit (verdicts_answer c told.verdicts)
-  all_judged told = record {
-    verdicts = told.verdicts;
-    each = told.written.0;
-    names = told.names;
-    asked = told.asked;
-    read = refl;
-    honest = λ h. all_of told.verdicts (verdicts_meant c) (told.right h) (told.written.0 ∙ sym (length-map c.groups _));
-  }
+  abbrev totals : List Verdict → List ℕ
+  totals vs = totals_text (totals_of vs)
 
-  -- until writing failed
-  pub judged_part : Told c.table c.graph c.groups c.rows unit unit' out.written out'.written (Err campaign.Write) → CampaignLeft c AppendsPart
-      before after
-  judged_part told = record {
-    verdicts = told.verdicts;
-    few = told.few;
-    names = told.names;
-    asked = inl told.asked;
-    text = λ later follows. told.written.0 later follows;
-    earlier = told.written.1;
-    honest = λ h.
-        let is = told.right h in
-        subst (λ (l : List Verdict). AppendsPart out.written out'.written (campaign_text c.graph c.groups l))
-        (sym (left_of told.verdicts (verdicts_meant c) is))
-        (told.written.0 (drop (length told.verdicts) (verdicts_meant c))
-        (left_count told.verdicts (verdicts_meant c) _ is (length-map c.groups _)));
-  }
+  as_many : length (verdicts_meant c) ≡ length c.groups
+  as_many = length-map c.groups _
 
-  -- the lines before the last were written
-  earlier_lines : (vs : List Verdict) → Appends out.written out'.written (verdict_lines c.graph c.groups vs)
-      → EarlierWritten (verdict_lines c.graph c.groups) vs out.written out'.written
-  earlier_lines vs w earlier last is =
-      let (more, lines) = lines_go_on c.graph c.groups earlier (last ∷ []) in
-      (more, subst (λ (t : List ℕ). Appends out.written out'.written t) (ap (verdict_lines c.graph c.groups) is ∙ lines) w)
+  judged : (vs : List Verdict) → All (Names (length c.graph.outputs) (length c.graph.operations)) vs
+      → JudgedOnce c.table c.graph c.groups c.rows vs unit unit' → RerunsAsked c vs unit unit'
+  judged vs names asked = record { names = names; asked = asked }
 
-  -- no line was written where no group was judged
-  no_lines : (groups : List (List ScriptedFault)) → verdict_lines c.graph groups [] ≡ []
-  no_lines [] = refl
-  no_lines (faults ∷ groups) = refl
+  -- no group was judged, and nothing was done
+  none_judged : (vs : List Verdict) → Appends out.written out'.written (verdict_lines c.graph c.groups vs) → vs ≡ [] → unit' ≡ unit → Still before after
+  none_judged vs w none quiet =
+      record {
+        unit = quiet;
+        out = subst (λ (t : List ℕ). Appends out.written out'.written t) (ap (verdict_lines c.graph c.groups) none ∙ no_verdict_lines c.graph c.groups) w;
+      }
 
-  none_asked : (vs : List Verdict) → Appends out.written out'.written (verdict_lines c.graph c.groups vs)
-      → JudgedOnce c.table c.graph c.groups c.rows vs unit unit' ⊎ ((vs ≡ []) × (unit' ≡ unit))
-      → JudgedOnce c.table c.graph c.groups c.rows vs unit unit' ⊎ ((vs ≡ []) × (unit' ≡ unit) × AppendsFront out.written out'.written [])
-  none_asked vs w (inl judged) = inl judged
-  none_asked vs w (inr none) =
-      let lines : verdict_lines c.graph c.groups vs ≡ [] = ap (verdict_lines c.graph c.groups) none.0 ∙ no_lines c.groups in
-      inr (none.0, none.1, ([], [], refl, subst (λ (t : List ℕ). Appends out.written out'.written t) lines w))
-
-  -- until memory was wanted
-  pub judged_front : Told c.table c.graph c.groups c.rows unit unit' out.written out'.written (Err campaign.Memory) → CampaignLeft c
-      AppendsFront before after
-  judged_front told = record {
-    verdicts = told.verdicts;
-    few = told.few;
-    names = told.names;
-    asked = none_asked told.verdicts told.written told.asked;
-    text = λ later follows. lines_front c.graph c.groups told.verdicts later out.written out'.written told.written;
-    earlier = earlier_lines told.verdicts told.written;
-    honest = λ h.
-        let is = told.right h in
-        subst (λ (l : List Verdict). AppendsFront out.written out'.written (campaign_text c.graph c.groups l))
-        (sym (left_of told.verdicts (verdicts_meant c) is))
-        (lines_front c.graph c.groups told.verdicts (drop (length told.verdicts) (verdicts_meant c)) out.written out'.written told.written);
-  }
-
-  module _ (m : List ℕ) (rows : Rows) (f : List ℕ) (held : Held) (files later : FilesSeen) (comes : InjectTask m rows f held (judges c)) where
+  module _ (m : List ℕ) (rows : Rows) (f : List ℕ) (held : Held) (files later : FilesSeen) (comes : TaskOf (inject m rows f) held (judges c)) where
     pub judged_whole : Told c.table c.graph c.groups c.rows unit unit' out.written out'.written (Ok tt)
-        → Reaches (about (inject m rows f)) (InjectTask m rows f held) files later before after [] 0
-    judged_whole told = done (judges c) (verdicts_answer c told.verdicts) comes (all_judged told) told.written.1 refl refl
+        → Reaches (about (inject m rows f)) (TaskOf (inject m rows f) held) files later before after [] 0
+    judged_whole told =
+        done (judges c) (verdicts_answer c told.verdicts) comes
+        (groups_done c (RerunsAsked c) (verdict_text c.graph) totals (verdicts_meant c) as_many before after told.verdicts
+        (judged told.verdicts told.names told.asked) told.right told.written.0)
+        told.written.1 refl refl
 
     pub judged_to : (e : CampaignFault) → (e ≡ campaign.Write → Rose out.faults out'.faults) → Told c.table c.graph c.groups c.rows unit unit'
         out.written out'.written (Err e)
-        → Reaches (about (inject m rows f)) (InjectTask m rows f held) files later before after (fault_text (of_campaign e))
+        → Reaches (about (inject m rows f)) (TaskOf (inject m rows f) held) files later before after (fault_text (of_campaign e))
         (fault_status (of_campaign e))
-    judged_to campaign.Write rose told = cut (judges c) comes (judged_part told) (rose refl) refl refl
-    judged_to campaign.Memory rose told = wanting (judges c) comes (judged_front told) refl refl refl
+    judged_to campaign.Write rose told =
+        cut (judges c) comes
+        (groups_part c (RerunsAsked c) (verdict_text c.graph) totals (verdicts_meant c) as_many before after told.verdicts
+        (judged told.verdicts told.names told.asked) told.right told.few told.written.0 told.written.1)
+        (rose refl) refl refl
+    judged_to campaign.Memory rose told =
+        elim told.asked [
+          | inl asked ↦
+              wanting (judges c) comes
+              (groups_front c (RerunsAsked c) (verdict_text c.graph) totals (verdicts_meant c) as_many before after told.verdicts
+              (judged told.verdicts told.names asked) told.right told.few told.written)
+              refl refl refl
+          | inr none ↦ unmade (none_judged told.verdicts told.written none.0 none.1) refl refl
+        ]
 
 -- the groups weren't all judged, behind all files
 pub campaign_performs : (c : About) (Comes : Held → Task → Type 0) (files later : FilesSeen) → c.files ≢ [] → later.held ≡ files.held →

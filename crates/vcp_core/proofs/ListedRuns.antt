@@ -24,7 +24,7 @@ use Rattle.il_front.specs.Accumulator.{Il, Now, acc_cycle, acc_from, acc_run, ac
 use Rattle.il_front.specs.Answers.{IsIl, most_il_bytes}
 use Rattle.il_front.specs.Outcomes.{AccumulatorRuns, IsTypedIl}
 use Rattle.il_front.specs.TypedForm.{all_types, hidden_of, hidden_slot, hidden_slots, typed_il, used_by}
-use Rattle.vcp_words.specs.Forms.{Code, Rows}
+use Rattle.vcp_words.specs.Forms.{Code, Rows, il}
 use Rattle.vcp_words.specs.Tables.{rows_name}
 use Rattle.vcp_inputs.specs.Listings.{NotListing}
 use Rattle.vcp_inputs.specs.RowsOutcome.{RowsOutcome, lacking, opened, refused, rows_outcome}
@@ -33,7 +33,7 @@ use Rattle.command_meaning.specs.FileTasks.{OnRows, TakenFile, TakenRows, missin
 use Rattle.command_meaning.specs.Kinds.{Task, runs}
 use Rattle.command_meaning.specs.Reports.{told_listed}
 use Rattle.vcp_core.specs.MachineRun.{StandsAs}
-use Rattle.vcp_core.specs.Tasks.{IlTask, rows_job}
+use Rattle.vcp_core.specs.Tasks.{rows_job, TaskOf}
 
 -- ---- hidden variables are neither inputs nor outputs
 
@@ -186,7 +186,7 @@ module _ (p : List ℕ) (rows : Rows) (code : Code) (held : Held) where
   -- where P was loaded, and ROWS come to this for the columns of its typed program
   pub il_comes : (text : List ℕ) (i : Il) (t : Program) (columns : List Column) (o : RowsOutcome) (task : Task) → held p ≡ Some text
       → length text ≤ most_il_bytes → IsIl text i → t ≡ typed_il i → columns ≡ input_columns t.slots → rows_outcome rows held columns ≡ o
-      → OnRows (rows_name rows) (RunsList i) o task → IlTask p rows code held task
+      → OnRows (rows_name rows) (RunsList i) o task → TaskOf (il p rows code) held task
   il_comes text i t columns o task found few is same columns_are o_is comes =
       let own : input_columns i.slots ≡ columns = sym (columns_are ∙ ap (λ (q : Program). input_columns q.slots) same ∙ inputs_are i) in
       let outcome : rows_outcome rows held (input_columns i.slots) ≡ o = ap (rows_outcome rows held) own ∙ o_is in
@@ -194,7 +194,7 @@ module _ (p : List ℕ) (rows : Rows) (code : Code) (held : Held) where
 
   -- what the file comes to as a typed program is what it comes to as a list
   pub il_by : (task : Task) → TakenFile IsTypedIl NotListing most_il_bytes (λ t. TakenRows RunsHeld rows held (input_columns t.slots)) p (held p) task
-      → IlTask p rows code held task
+      → TaskOf (il p rows code) held task
   il_by _ (missing none) = missing none
   il_by _ (untaken text r found why) = untaken text r found why
   il_by task (taken text t _ found few (i, is, same) comes) =

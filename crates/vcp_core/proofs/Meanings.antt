@@ -48,7 +48,7 @@ use Rattle.command_meaning.specs.PairKind.{PairJob}
 use Rattle.command_meaning.specs.Reports.{end_told, run_status}
 use Rattle.command_meaning.specs.RunKind.{Job, job_answer, run_meant}
 use Rattle.vcp_core.proofs.OneFile.{one_file, file_has}
-use Rattle.vcp_core.specs.Tasks.{Audited, too_large, printed, FewRows, too_many, few, JudgedScript, WholeRows, Apart, same_seed, two_seeds, Compared, PairsRows, PairsScript, pair_job, TaskOf, PlainTask, RunTask, plain_answer, rows_job, words_job, ok_text, most_trace, table_code, listing, widened}
+use Rattle.vcp_core.specs.Tasks.{Audited, too_large, printed, FewRows, too_many, few, WholeRows, Apart, same_seed, two_seeds, Compared, PairsRows, pair_job, TaskOf, plain_answer, rows_job, words_job, ok_text, most_trace, table_code, listing, widened, ScriptedTask}
 use Rattle.vcp_core.specs.PerformedLaws.{RunMeansPlain}
 use Rattle.vcp_inputs.specs.RowsRead.{graph_columns}
 use Rattle.vcp_core.specs.Demo.{made_held, summary_job}
@@ -197,18 +197,18 @@ module _ (laws : Laws) where
       graph_once_on (λ i left x. x ≡ What i left) m rows held (λ i left c d. one_is (What i left) c d) a b h k
 
   judged_once : (name f : List ℕ) (held : Held) (i : Image) (left : RowsLeft) (a b : Task) →
-      WholeRows name (FewRows name i.graph (JudgedScript i f held)) left.rows left.refusal a →
-      WholeRows name (FewRows name i.graph (JudgedScript i f held)) left.rows left.refusal b → a ≡ b
+      WholeRows name (FewRows name i.graph (ScriptedTask judges i f held)) left.rows left.refusal a →
+      WholeRows name (FewRows name i.graph (ScriptedTask judges i f held)) left.rows left.refusal b → a ≡ b
   judged_once name f held i left a b h k =
-      whole_once name (FewRows name i.graph (JudgedScript i f held)) left.rows left.refusal a b
-      (few_once name i.graph (JudgedScript i f held) left.rows
+      whole_once name (FewRows name i.graph (ScriptedTask judges i f held)) left.rows left.refusal a b
+      (few_once name i.graph (ScriptedTask judges i f held) left.rows
       (λ c d. script_file_once i.graph (λ groups. judges (record { graph = i.graph; table = i.table; rows = left.rows; groups = groups })) f held c d) a b) h k
 
   pairs_once : (rows : Rows) (f : List ℕ) (held : Held) (i : Image) (a b : Task) → PairsRows rows f held i a → PairsRows rows f held i b → a ≡ b
   pairs_once rows f held i a b h k =
       let name = rows_name rows in
-      rows_once name (λ left. WholeRows name (PairsScript i f held) left.rows left.refusal)
-      (λ left x y. whole_once name (PairsScript i f held) left.rows left.refusal x y
+      rows_once name (λ left. WholeRows name (ScriptedTask pairs_ i f held) left.rows left.refusal)
+      (λ left x y. whole_once name (ScriptedTask pairs_ i f held) left.rows left.refusal x y
       (script_file_once i.graph (λ groups. pairs_ (record { graph = i.graph; table = i.table; rows = left.rows; groups = groups })) f held x y))
       (rows_outcome rows held (graph_columns i.graph)) a b h k
 
@@ -227,7 +227,7 @@ module _ (laws : Laws) where
   task_once (widen m) held a b h k = image_file_is wide_prints m held a b h k
   task_once (audit m horizon) held a b h k = image_file_once laws.images (Audited horizon m) m held (audited_once laws.audits horizon m) a b h k
   task_once (inject m rows f) held a b h k =
-      graph_once_on (λ i left. WholeRows (rows_name rows) (FewRows (rows_name rows) i.graph (JudgedScript i f held)) left.rows left.refusal) m rows held
+      graph_once_on (λ i left. WholeRows (rows_name rows) (FewRows (rows_name rows) i.graph (ScriptedTask judges i f held)) left.rows left.refusal) m rows held
       (judged_once (rows_name rows) f held) a b h k
   task_once (pair m rows seed) held a b h k =
       image_file_once laws.images (Apart m seed (Compared rows held)) m held (apart_once m seed (Compared rows held) (compared_once rows held)) a b h k
@@ -405,19 +405,19 @@ module _ (P : Task → Type 0) (given : (a : Answer) → a.status ≤ 2 → P (a
   campaign i left groups = record { graph = i.graph; table = i.table; rows = left.rows; groups = groups }
 
   judged_has : (name f : List ℕ) (held : Held) → (held f ≡ None → P (lacks f)) → ((c : Campaign) → P (judges c)) → (i : Image) (left : RowsLeft) (task : Task) →
-      WholeRows name (FewRows name i.graph (JudgedScript i f held)) left.rows left.refusal task → P task
+      WholeRows name (FewRows name i.graph (ScriptedTask judges i f held)) left.rows left.refusal task → P task
   judged_has name f held none judging i left task comes =
-      whole_has name (FewRows name i.graph (JudgedScript i f held)) left.rows left.refusal task
-      (few_has name i.graph (JudgedScript i f held) left.rows
+      whole_has name (FewRows name i.graph (ScriptedTask judges i f held)) left.rows left.refusal task
+      (few_has name i.graph (ScriptedTask judges i f held) left.rows
       (λ x. file_has (ScriptOf i.graph) (NotScript i.graph) most_source_bytes (λ groups y. y ≡ judges (campaign i left groups)) f (held f) P none (refused f)
       (λ groups y is. is_has y (judges (campaign i left groups)) (judging (campaign i left groups)) is) x) task) comes
 
   pairs_has : (rows : Rows) (f : List ℕ) (held : Held) → Lacking P held (rows_words rows) → (held f ≡ None → P (lacks f)) → ((c : Campaign) → P (pairs_ c)) →
       (i : Image) (task : Task) → PairsRows rows f held i task → P task
   pairs_has rows f held none script pairing i task comes =
-      rows_have (λ left. WholeRows (rows_name rows) (PairsScript i f held) left.rows left.refusal) rows held (graph_columns i.graph) none
+      rows_have (λ left. WholeRows (rows_name rows) (ScriptedTask pairs_ i f held) left.rows left.refusal) rows held (graph_columns i.graph) none
       (λ left x.
-      whole_has (rows_name rows) (PairsScript i f held) left.rows left.refusal x
+      whole_has (rows_name rows) (ScriptedTask pairs_ i f held) left.rows left.refusal x
       (file_has (ScriptOf i.graph) (NotScript i.graph) most_source_bytes (λ groups y. y ≡ pairs_ (campaign i left groups)) f (held f) P script (refused f)
       (λ groups y is. is_has y (pairs_ (campaign i left groups)) (pairing (campaign i left groups)) is) x)) task comes
 
@@ -453,7 +453,7 @@ module _ (P : Task → Type 0) (given : (a : Answer) → a.status ≤ 2 → P (a
   task_has (audit m horizon) held none running writing judging comparing pairing wiring task comes =
       image_has (Audited horizon m) m held (none (image_word m) (inl refl)) (audited_has horizon m) task comes
   task_has (inject m rows f) held none running writing judging comparing pairing wiring task comes =
-      graph_has (λ i left. WholeRows (rows_name rows) (FewRows (rows_name rows) i.graph (JudgedScript i f held)) left.rows left.refusal) m rows held
+      graph_has (λ i left. WholeRows (rows_name rows) (FewRows (rows_name rows) i.graph (ScriptedTask judges i f held)) left.rows left.refusal) m rows held
       (λ word among. none word (among_front word (image_word m ∷ rows_words rows) (script_word f ∷ []) among))
       (judged_has (rows_name rows) f held (none (script_word f) (among_behind (script_word f) (image_word m ∷ rows_words rows) (script_word f ∷ []) (inl refl)))
       judging) task comes
@@ -541,7 +541,7 @@ rows_meant name code t outcome.lacking task h = ap as_meant h
 rows_meant name code t (outcome.refused r) task h = ap as_meant h
 rows_meant name code t (opened left) task h = ap as_meant h
 
-run_is_plain : (p : List ℕ) (rows : Rows) (code : Code) (held : Held) (task : Task) → RunTask p rows code held task → PlainTask p rows held (as_meant task)
+run_is_plain : (p : List ℕ) (rows : Rows) (code : Code) (held : Held) (task : Task) → TaskOf (run p rows code) held task → TaskOf (plain p rows) held (as_meant task)
 run_is_plain p rows code held _ (missing none) = missing none
 run_is_plain p rows code held _ (untaken text r found why) = untaken text r found why
 run_is_plain p rows code held _ (taken text t task found less is comes) =

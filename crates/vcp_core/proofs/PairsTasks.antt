@@ -36,14 +36,14 @@ use Rattle.command_meaning.specs.Abouts.{Among, FileWord, about, rows_words, scr
 use Rattle.command_meaning.specs.Answer.{Campaign}
 use Rattle.command_meaning.specs.Clauses.{IsTooLong}
 use Rattle.command_meaning.specs.FileTasks.{OnRows, taken}
-use Rattle.command_meaning.specs.PairsKind.{PairsDone, PairsLeft, pairs_answer, pairs_meant}
+use Rattle.command_meaning.specs.CampaignKind.{PairRunsAsked, pairs_answer, pairs_meant}
 use Rattle.command_meaning.specs.Kinds.{Task, pairs_, refusal_task}
 use Rattle.command_meaning.specs.Performing.{Reaches, done, cut, wanting, unread, unmade}
 use Rattle.vcp_core.specs.Faults.{of_campaign}
 use Rattle.vcp_core.specs.Reach.{fault_status, fault_text}
 use Rattle.vcp_inputs.specs.RowsRead.{AllRead, NoneRead, graph_columns}
-use Rattle.vcp_core.specs.Tasks.{PairsScript, PairsTask, two_seeds}
-use Rattle.vcp_core.proofs.JudgedTasks.{WholeLeft, all_of, campaign_of, left_count, left_of, rows_front, script_end, whole_broken, whole_comes}
+use Rattle.vcp_core.specs.Tasks.{two_seeds, TaskOf, ScriptedTask}
+use Rattle.vcp_core.proofs.JudgedTasks.{WholeLeft, campaign_of, groups_done, groups_front, groups_part, rows_front, script_end, whole_broken, whole_comes}
 use Rattle.vcp_core.proofs.Performing.{file_lost, file_taken, file_takes, still}
 
 -- that is no read fault
@@ -65,7 +65,7 @@ script_named m rows seed f = inr (script_end (script_word f) (rows_words rows) (
 
 -- what its rows come to, once they are opened
 abbrev pub OnLeft : Rows → List ℕ → Held → Image → RowsLeft → Task → Type 0
-OnLeft rows f held i left t = WholeLeft rows (PairsScript i f held) left t
+OnLeft rows f held i left t = WholeLeft rows (ScriptedTask pairs_ i f held) left t
 
 -- M holds this image, and ROWS come to this for its graph
 abbrev pub LoadsAt : List ℕ → Rows → Image → RowsOutcome → Held → Type 0
@@ -77,28 +77,28 @@ module _ (m : List ℕ) (rows : Rows) (seed : ℕ) (f : List ℕ) (held : Held) 
   abbrev Comes : RowsOutcome → Task → Type 0
   Comes x t = OnRows (rows_name rows) (OnLeft rows f held i) x t
 
-  rows_come : (t : Task) → Comes o t → PairsTask m rows seed f held t
+  rows_come : (t : Task) → Comes o t → TaskOf (pairs m rows seed f) held t
   rows_come t comes =
       let (text, found, few, is) = loads in
       taken text i t found few is (two_seeds t apart (subst (λ (x : RowsOutcome). Comes x t) (sym same) comes))
 
   -- there are no rows, and nothing was done
   pub rows_lost : (at : Moment) (e : NoInput) → NoneRead o e →
-      Reaches (about (pairs m rows seed f)) (PairsTask m rows seed f held) files later at at (input_text (rows_name rows) e) (input_status e)
+      Reaches (about (pairs m rows seed f)) (TaskOf (pairs m rows seed f) held) files later at at (input_text (rows_name rows) e) (input_status e)
   rows_lost at (input.Refused r) h =
       done (refusal_task (rows_name rows) r) (record { out = []; err = refusal_text (rows_name rows) r; status = 1 })
-      (rows_come (refusal_task (rows_name rows) r) (whole_broken rows o (PairsScript i f held) r h)) (refl, refl) (still at).out refl refl
+      (rows_come (refusal_task (rows_name rows) r) (whole_broken rows o (ScriptedTask pairs_ i f held) r h)) (refl, refl) (still at).out refl refl
   rows_lost at input.Memory h = unmade (still at) refl refl
   rows_lost at input.Unread h = absurd h
 
   module _ (list : List (List ℤ)) (all : AllRead o list) where
     -- the task of the script is that of the command
-    script_comes : (t : Task) → PairsScript i f held list t → PairsTask m rows seed f held t
-    script_comes t comes = rows_come t (whole_comes rows o (PairsScript i f held) list all t comes)
+    script_comes : (t : Task) → ScriptedTask pairs_ i f held list t → TaskOf (pairs m rows seed f) held t
+    script_comes t comes = rows_come t (whole_comes rows o (ScriptedTask pairs_ i f held) list all t comes)
 
     script_reaches : (before after : Moment) (line : List ℕ) (code : ℕ)
-        → Reaches (about (pairs m rows seed f)) (PairsScript i f held list) files later before after line code
-        → Reaches (about (pairs m rows seed f)) (PairsTask m rows seed f held) files later before after line code
+        → Reaches (about (pairs m rows seed f)) (ScriptedTask pairs_ i f held list) files later before after line code
+        → Reaches (about (pairs m rows seed f)) (TaskOf (pairs m rows seed f) held) files later before after line code
     script_reaches before after line code (done t x comes d w line_is code_is) = done t x (script_comes t comes) d w line_is code_is
     script_reaches before after line code (cut t comes left rose line_is code_is) = cut t (script_comes t comes) left rose line_is code_is
     script_reaches before after line code (wanting t comes left late line_is code_is) = wanting t (script_comes t comes) left late line_is code_is
@@ -107,7 +107,7 @@ module _ (m : List ℕ) (rows : Rows) (seed : ℕ) (f : List ℕ) (held : Held) 
 
     -- there is no script, and nothing was done
     pub script_lost : (at : Moment) (e : NoInput) → FileLost (NotScript i.graph) held f most_source_bytes files.broken later.broken e
-        → Reaches (about (pairs m rows seed f)) (PairsTask m rows seed f held) files later at at (input_text f e) (input_status e)
+        → Reaches (about (pairs m rows seed f)) (TaskOf (pairs m rows seed f) held) files later at at (input_text f e) (input_status e)
     script_lost at e lost =
         script_reaches at at (input_text f e) (input_status e)
         (file_lost (about (pairs m rows seed f)) files later at at (ScriptOf i.graph) (NotScript i.graph) most_source_bytes
@@ -116,7 +116,7 @@ module _ (m : List ℕ) (rows : Rows) (seed : ℕ) (f : List ℕ) (held : Held) 
     -- the groups are there
     pub groups_come : (groups : List (List ScriptedFault))
         → ((text : List ℕ) × (held f ≡ Some text) × (length text ≤ most_source_bytes) × ScriptOf i.graph text groups)
-        → PairsTask m rows seed f held (pairs_ (campaign_of i list groups))
+        → TaskOf (pairs m rows seed f) held (pairs_ (campaign_of i list groups))
     groups_come groups found =
         script_comes (pairs_ (campaign_of i list groups))
         (file_takes (ScriptOf i.graph) (NotScript i.graph) most_source_bytes (λ fs x. x ≡ pairs_ (campaign_of i list fs)) f held groups
@@ -130,26 +130,6 @@ pub script_taken : (m : List ℕ) (rows : Rows) (seed : ℕ) (f : List ℕ) (hel
 script_taken m rows seed f held i rest =
     file_taken (about (pairs m rows seed f)) f held (script_word f) (script_named m rows seed f) refl i rest
 
--- ---- the lines of verdicts
-
--- those of more verdicts go on from them
-lines_go_on : (groups : List (List ScriptedFault)) (vs later : List PairVerdict)
-    → (more : List ℕ) × (group_lines groups (vs ++ later) ≡ group_lines groups vs ++ more)
-lines_go_on [] vs later = ([], refl)
-lines_go_on (f ∷ groups) [] later = (group_lines (f ∷ groups) later, refl)
-lines_go_on (f ∷ groups) (v ∷ vs) later =
-    let (more, is) = lines_go_on groups vs later in
-    let line : List ℕ = group_text (line_of f) v in
-    (more, ap (λ t. line ++ t) is ∙ sym (append_assoc line (group_lines groups vs) more))
-
--- so they are a front of the whole text
-lines_front : (groups : List (List ScriptedFault)) (vs later : List PairVerdict) (old new : Option (List ℕ))
-    → Appends old new (group_lines groups vs) → AppendsFront old new (pairs_text groups (vs ++ later))
-lines_front groups vs later old new w =
-    let (more, is) = lines_go_on groups vs later in
-    let totals : List ℕ = pair_totals_text (totals_of (vs ++ later)) in
-    (group_lines groups vs, more ++ totals, ap (λ t. t ++ totals) is ∙ append_assoc (group_lines groups vs) more totals, w)
-
 -- ---- how far the groups were run
 
 module _ (c : Campaign) (unit unit' : UnitSeen) (out out' : SinkSeen) where
@@ -159,63 +139,30 @@ module _ (c : Campaign) (unit unit' : UnitSeen) (out out' : SinkSeen) where
   abbrev after : Moment
   after = moment unit' out'
 
+  abbrev totals : List PairVerdict → List ℕ
+  totals vs = pair_totals_text (totals_of vs)
+
   as_many : length (pairs_meant c) ≡ length c.groups
   as_many = length-map (verdicts_of c.table c.graph c.groups c.rows) told_verdict ∙ length-map c.groups _
 
-  -- all of them
-  all_held : (told : PairsTold c.table c.graph c.groups c.rows unit unit' out.written out'.written (Ok tt))
-      → PairsDone c before.unit after.unit (pairs_answer c told.verdicts)
-  all_held told = record {
-    verdicts = told.verdicts;
-    each = told.written.0;
-    ran = told.ran;
-    read = refl;
-    honest = λ h. all_of told.verdicts (pairs_meant c) (told.right h) (told.written.0 ∙ sym as_many);
-  }
-
-  -- until writing failed
-  pairs_part : PairsTold c.table c.graph c.groups c.rows unit unit' out.written out'.written (Err campaign.Write) → PairsLeft c AppendsPart before after
-  pairs_part told = record {
-    verdicts = told.verdicts;
-    few = told.few;
-    ran = told.ran;
-    text = λ later follows. told.written.0 later follows;
-    earlier = told.written.1;
-    honest = λ h.
-        let is = told.right h in
-        subst (λ (l : List PairVerdict). AppendsPart out.written out'.written (pairs_text c.groups l)) (sym (left_of told.verdicts (pairs_meant c) is))
-        (told.written.0 (drop (length told.verdicts) (pairs_meant c)) (left_count told.verdicts (pairs_meant c) _ is as_many));
-  }
-
-  -- the lines before the last were written
-  earlier_lines : (vs : List PairVerdict) → Appends out.written out'.written (group_lines c.groups vs)
-      → EarlierWritten (group_lines c.groups) vs out.written out'.written
-  earlier_lines vs w earlier last is =
-      let (more, lines) = lines_go_on c.groups earlier (last ∷ []) in
-      (more, subst (λ (t : List ℕ). Appends out.written out'.written t) (ap (group_lines c.groups) is ∙ lines) w)
-
-  -- until memory was wanted
-  pairs_front : PairsTold c.table c.graph c.groups c.rows unit unit' out.written out'.written (Err campaign.Memory) → PairsLeft c AppendsFront before after
-  pairs_front told = record {
-    verdicts = told.verdicts;
-    few = told.few;
-    ran = told.ran;
-    text = λ later follows. lines_front c.groups told.verdicts later out.written out'.written told.written;
-    earlier = earlier_lines told.verdicts told.written;
-    honest = λ h.
-        let is = told.right h in
-        subst (λ (l : List PairVerdict). AppendsFront out.written out'.written (pairs_text c.groups l)) (sym (left_of told.verdicts (pairs_meant c) is))
-        (lines_front c.groups told.verdicts (drop (length told.verdicts) (pairs_meant c)) out.written out'.written told.written);
-  }
-
-  module _ (m : List ℕ) (rows : Rows) (seed : ℕ) (f : List ℕ) (held : Held) (files later : FilesSeen) (comes : PairsTask m rows seed f held (pairs_ c)) where
+  module _ (m : List ℕ) (rows : Rows) (seed : ℕ) (f : List ℕ) (held : Held) (files later : FilesSeen) (comes : TaskOf (pairs m rows seed f) held (pairs_ c)) where
     pub pairs_whole : PairsTold c.table c.graph c.groups c.rows unit unit' out.written out'.written (Ok tt)
-        → Reaches (about (pairs m rows seed f)) (PairsTask m rows seed f held) files later before after [] 0
-    pairs_whole told = done (pairs_ c) (pairs_answer c told.verdicts) comes (all_held told) told.written.1 refl refl
+        → Reaches (about (pairs m rows seed f)) (TaskOf (pairs m rows seed f) held) files later before after [] 0
+    pairs_whole told =
+        done (pairs_ c) (pairs_answer c told.verdicts) comes
+        (groups_done c (PairRunsAsked c) group_text totals (pairs_meant c) as_many before after told.verdicts told.ran told.right told.written.0)
+        told.written.1 refl refl
 
     pub pairs_to : (e : CampaignFault) → (e ≡ campaign.Write → Rose out.faults out'.faults)
         → PairsTold c.table c.graph c.groups c.rows unit unit' out.written out'.written (Err e)
-        → Reaches (about (pairs m rows seed f)) (PairsTask m rows seed f held) files later before after (fault_text (of_campaign e))
+        → Reaches (about (pairs m rows seed f)) (TaskOf (pairs m rows seed f) held) files later before after (fault_text (of_campaign e))
         (fault_status (of_campaign e))
-    pairs_to campaign.Write rose told = cut (pairs_ c) comes (pairs_part told) (rose refl) refl refl
-    pairs_to campaign.Memory rose told = wanting (pairs_ c) comes (pairs_front told) refl refl refl
+    pairs_to campaign.Write rose told =
+        cut (pairs_ c) comes
+        (groups_part c (PairRunsAsked c) group_text totals (pairs_meant c) as_many before after told.verdicts told.ran told.right told.few told.written.0
+        told.written.1)
+        (rose refl) refl refl
+    pairs_to campaign.Memory rose told =
+        wanting (pairs_ c) comes
+        (groups_front c (PairRunsAsked c) group_text totals (pairs_meant c) as_many before after told.verdicts told.ran told.right told.few told.written)
+        refl refl refl

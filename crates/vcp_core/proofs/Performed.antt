@@ -16,7 +16,7 @@ use Rattle.vcp_outside.specs.Seen.{SinkSeen}
 use Rattle.command_meaning.specs.Seen.{Outside, moment_of}
 use Rattle.vcp_core.specs.Performed.{Performed}
 use Rattle.vcp_core.specs.PerformedLaws.{RunMeansPlain, RunWritesPlain}
-use Rattle.vcp_core.specs.Tasks.{TaskOf, PlainTask, RunTask}
+use Rattle.vcp_core.specs.Tasks.{TaskOf}
 
 -- What is known of tasks: of each what its endings cause, and that a command comes to one at most, to an answer only with a status of its own,
 -- and to a lacking name only where not all of its files are held.
@@ -336,10 +336,10 @@ gave_no_answer c before after status (ends.unmade u (inl told)) fine = fine.memo
 gave_no_answer c before after status (ends.unmade u (inr told)) fine = fine.sinks told.0
 
 module _ (p : List ℕ) (rows : Rows) (code : Code) (before after : Outside) (status : ℕ) (h : Held)
-    (same : (task : Task) → RunTask p rows code h task → (x y : Answer) → PlainTask p rows h (answers x) → Meant task y → y ≡ x)
-    (causes : (task : Task) → RunTask p rows code h task → Causes task before after status) where
-  answered_as_plain : Answered (about (run p rows code)) (RunTask p rows code h) before after status
-      → (x : Answer) → PlainTask p rows h (answers x) → StaysHonest before.unit after.unit → IsNoFault status → Came x before after status
+    (same : (task : Task) → TaskOf (run p rows code) h task → (x y : Answer) → TaskOf (plain p rows) h (answers x) → Meant task y → y ≡ x)
+    (causes : (task : Task) → TaskOf (run p rows code) h task → Causes task before after status) where
+  answered_as_plain : Answered (about (run p rows code)) (TaskOf (run p rows code) h) before after status
+      → (x : Answer) → TaskOf (plain p rows) h (answers x) → StaysHonest before.unit after.unit → IsNoFault status → Came x before after status
   answered_as_plain (known task comes finish) x also honest fine =
       let (y, meant, came) = (causes task comes).meant honest fine in
       subst (λ (z : Answer). Came z before after status) (same task comes x y also meant) came

@@ -34,7 +34,7 @@ use Rattle.vcp_core.specs.declared.ending.Ending.{Ending}
 use Rattle.vcp_core.specs.ChannelsRun.{ComparesTo, PairAnswers}
 use Rattle.vcp_core.specs.Reach.{end_status, run_code, run_line}
 use Rattle.vcp_inputs.specs.RowsRead.{graph_columns}
-use Rattle.vcp_core.specs.Tasks.{Apart, same_seed, two_seeds, Compared, PairTask, pair_job}
+use Rattle.vcp_core.specs.Tasks.{Apart, same_seed, two_seeds, Compared, pair_job, TaskOf}
 use Rattle.vcp_core.proofs.Facts.{if_some_weaker}
 use Rattle.vcp_core.proofs.JobRun.{record-of}
 use Rattle.vcp_core.proofs.Performing.{file_takes, row_told, still}
@@ -168,7 +168,7 @@ apart_by m seed Then found task (taken text i _ here few is comes) = taken text 
 
 pub apart_comes : (m : List ℕ) (rows : Rows) (seed : ℕ) (held : Held) (task : Task) →
     TakenFile (ApartImage seed) NotImage most_image_bytes (λ i. TakenRows (Comparing rows held i) rows held (graph_columns i.graph)) m (held m) task →
-    PairTask m rows seed held task
+    TaskOf (form.pair m rows seed) held task
 apart_comes m rows seed held task comes = apart_by m seed (Compared rows held) (held m) task comes
 
 pub loads_apart : (m : List ℕ) (seed : ℕ) (held : Option Held) (b n : ℕ) (i : Image) → seed ≢ i.table.seed →
@@ -187,6 +187,6 @@ seeds_same c m seed Then held i files later at loads same =
 
 pub seed_refused : (m : List ℕ) (rows : Rows) (seed : ℕ) (held : Held) (i : Image) (files later : FilesSeen) (at : Moment) →
     ((text : List ℕ) × (held m ≡ Some text) × (length text ≤ most_image_bytes) × ImageOf text i) → seed ≡ i.table.seed →
-    Reaches (about (form.pair m rows seed)) (PairTask m rows seed held) files later at at (refusal_text m refusal.Seed) 1
+    Reaches (about (form.pair m rows seed)) (TaskOf (form.pair m rows seed) held) files later at at (refusal_text m refusal.Seed) 1
 seed_refused m rows seed held i files later at loads same =
     seeds_same (about (form.pair m rows seed)) m seed (Compared rows held) held i files later at loads same

@@ -31,7 +31,7 @@ use Rattle.command_meaning.specs.WireKind.{WireDone, WireLeft, WritesTold, wire_
 use Rattle.vcp_core.proofs.OneFile.{one_file}
 use Rattle.vcp_core.specs.Faults.{of_wire}
 use Rattle.vcp_core.specs.Reach.{end_status, fault_status, fault_text, wire_ending}
-use Rattle.vcp_core.specs.Tasks.{WireTask}
+use Rattle.vcp_core.specs.Tasks.{TaskOf}
 use Rattle.vcp_core.proofs.Facts.{if_some_weaker}
 use Rattle.vcp_core.proofs.Performing.{no_line, on_held, part_performs, wanted_performs}
 use Rattle.vcp_core.proofs.PlainTurns.{appends-nothing}
@@ -50,7 +50,7 @@ wire_or_none : (text : List ℕ) (x : WireScript) (r : Refusal) → WireOf text 
 wire_or_none text x _ h (no_wire f known is) = let one : script_of text ≡ Ok x = h in cc
 
 -- a file comes to one task
-pub wire_task_once : (f : List ℕ) (held : Held) (a b : Task) → WireTask f held a → WireTask f held b → a ≡ b
+pub wire_task_once : (f : List ℕ) (held : Held) (a b : Task) → TaskOf (wire f) held a → TaskOf (wire f) held b → a ≡ b
 wire_task_once f held a b h k =
     one_file WireOf NotWire most_source_bytes (λ s x. x ≡ wires s) f (held f) wire_once no_wire_once wire_or_none
     (λ s c d is also. is ∙ sym also) a b h k
@@ -132,7 +132,7 @@ module _ (s : WireScript) (fits : ScriptFits s) (unit unit' : UnitSeen) (out out
 
 module _ (f : List ℕ) (files later : FilesSeen) (held : later.held ≡ files.held) (ended : IsAtEnd later.rest) (read : later.faults ≡ files.faults)
     (s : WireScript) (fits : ScriptFits s)
-    (comes : IfSome files.held (λ h. WireTask f h (wires s))) (unit unit' : UnitSeen) (out out' : SinkSeen) where
+    (comes : IfSome files.held (λ h. TaskOf (wire f) h (wires s))) (unit unit' : UnitSeen) (out out' : SinkSeen) where
   reads : (about (wire f)).files ≢ []
   reads none = cc
 
@@ -150,12 +150,12 @@ module _ (f : List ℕ) (files later : FilesSeen) (held : later.held ≡ files.h
 
   -- to its end, or to a sending that was answered by no word
   pub wire_ended : (e : WireEnd) → RunsWire s.wire s.events unit unit' out out' (Ok e) → out'.faults ≡ out.faults
-      → Performs (about (wire f)) (WireTask f) files later (moment unit out) (moment unit' out') [] (end_status (wire_ending e))
+      → Performs (about (wire f)) (TaskOf (wire f)) files later (moment unit out) (moment unit' out') [] (end_status (wire_ending e))
   wire_ended e r kept =
       let (x, is, written, err, status) = wire_whole s fits unit unit' out out' e r in
       record {
-        reaches = on_held (about (wire f)) (WireTask f) files later reads held
-            (λ h. Reaches (about (wire f)) (WireTask f h) files later (moment unit out) (moment unit' out') [] (end_status (wire_ending e)))
+        reaches = on_held (about (wire f)) (TaskOf (wire f)) files later reads held
+            (λ h. Reaches (about (wire f)) (TaskOf (wire f) h) files later (moment unit out) (moment unit' out') [] (end_status (wire_ending e)))
             (if_some_weaker files.held _ _ (λ h task. done (wires s) x task is written err status) comes);
         statuses = status_among e;
         told = no_line (about (wire f)) (end_status (wire_ending e)) (is_end e);
@@ -174,11 +174,11 @@ module _ (f : List ℕ) (files later : FilesSeen) (held : later.held ≡ files.h
 
   -- or not
   pub wire_failed : (e : WireRunFault) → RunsWire s.wire s.events unit unit' out out' (Err e)
-      → Performs (about (wire f)) (WireTask f) files later (moment unit out) (moment unit' out') (fault_text (of_wire e)) (fault_status (of_wire e))
+      → Performs (about (wire f)) (TaskOf (wire f)) files later (moment unit out) (moment unit' out') (fault_text (of_wire e)) (fault_status (of_wire e))
   wire_failed fault.Write r =
-      part_performs (about (wire f)) (WireTask f) files later reads held (moment unit out) (moment unit' out') ended read (λ no. absurd cc) r.ends.0
+      part_performs (about (wire f)) (TaskOf (wire f)) files later reads held (moment unit out) (moment unit' out') ended read (λ no. absurd cc) r.ends.0
       (if_some_weaker files.held _ _ (λ h task. cut (wires s) task (wire_part s fits unit unit' out out' r) r.ends.0 refl refl) comes)
   wire_failed fault.Memory r =
-      wanted_performs (about (wire f)) (WireTask f) files later held (λ none. absurd (reads none)) (moment unit out) (moment unit' out')
+      wanted_performs (about (wire f)) (TaskOf (wire f)) files later held (λ none. absurd (reads none)) (moment unit out) (moment unit' out')
       (record { unit = r.still refl; out = subst (λ (o : SinkSeen). Appends out.written o.written []) (sym r.ends.0) (appends-nothing out.written) })
       read (ap (λ (o : SinkSeen). o.faults) r.ends.0)

@@ -8,7 +8,8 @@ use Rattle.machine_run.specs.declared.fault.RunFault.TheVariants as run
 use Rattle.vcp_inputs.specs.Lines.{input_status, input_text}
 use Rattle.vcp_inputs.specs.Refusals.{no_rows}
 use Rattle.command_meaning.specs.Answer.{Answer}
-use Rattle.command_meaning.specs.PairKind.{PairJob, PairJobDone, PairJobLeft}
+use Rattle.command_meaning.specs.PairKind.{PairJob, PairJobDone}
+use Rattle.pair_channel.specs.BesideDone.{BesideLeft}
 use Rattle.command_meaning.specs.Seen.{Still}
 use Rattle.vcp_core.specs.declared.ending.Ending.{Ending}
 use Rattle.vcp_core.specs.Reach.{end_status}
@@ -22,5 +23,5 @@ PairAnswers j line status before after =
 abbrev pub ComparesTo : PairJob → Moment → Moment → Result Ending RunFault → Type 0
 ComparesTo j before after (Ok e) = PairAnswers j [] (end_status e) before after
 ComparesTo j before after (Err (run.Rows f)) = PairAnswers j (input_text j.rows_name (no_rows f)) (input_status (no_rows f)) before after
-ComparesTo j before after (Err run.Write) = PairJobLeft j AppendsPart before after
-ComparesTo j before after (Err run.Memory) = Still before after ⊎ PairJobLeft j AppendsFront before after
+ComparesTo j before after (Err run.Write) = BesideLeft j.graph j.table j.rows AppendsPart before after
+ComparesTo j before after (Err run.Memory) = Still before after ⊎ BesideLeft j.graph j.table j.rows AppendsFront before after

@@ -43,12 +43,8 @@ sum_of (row ∷ rows) = first_value row +ℤ sum_of rows
 
 -- the line that sums up the run of the made program of a number
 abbrev pub summed_up : ℕ → Printing
-summed_up number = record {
-  header = [];
-  row = λ cycle row. [];
-  lines = λ words. [];
-  done = λ rows. summary_text number (length rows) (last_value rows) (sum_of rows);
-}
+summed_up number =
+    record { header = []; row = λ cycle row. []; lines = λ words. []; done = λ rows. summary_text number (length rows) (last_value rows) (sum_of rows) }
 
 -- ---- the task
 
@@ -58,14 +54,8 @@ made_held number = λ name. Some (made_source number)
 
 -- the run of a program of which that line is printed
 abbrev pub summary_job : ℕ → Program → RowsLeft → Job
-summary_job number p left = record {
-  subject = source p;
-  rows = left;
-  rows_name = made_name;
-  code = default_code;
-  printing = summed_up number;
-  words = no_words;
-}
+summary_job number p left =
+    record { subject = source p; rows = left; rows_name = made_name; code = default_code; printing = summed_up number; words = no_words }
 
 -- The words `demo N` lead to the refusals of the made source of N, told as `demo`, where it has one, or to
 -- those of the made rows; else to a run on the unit of its checked program over the made rows, as `run` runs

@@ -1,7 +1,7 @@
 -- PerformedLaws: what follows where a command was performed, for each command.
 use Rattle.std.specs.Prelude.{ℕ, ◌≡◌, ◌≢◌, ◌≤◌, List}
 use Rattle.vcp_outside.specs.Held.{Held}
-use Rattle.vcp_words.specs.Forms.{Form, Rows, Code, run}
+use Rattle.vcp_words.specs.Forms.{Form, Rows, Code, run, plain}
 use Rattle.coded_unit.specs.Seen.{StaysHonest}
 use Rattle.command_meaning.specs.Abouts.{about}
 use Rattle.command_meaning.specs.Answer.{Answer}
@@ -10,7 +10,7 @@ use Rattle.command_meaning.specs.Endings.{Came, IsNoFault}
 use Rattle.command_meaning.specs.Kinds.{Task, answers, Meant}
 use Rattle.command_meaning.specs.Seen.{Outside}
 use Rattle.vcp_core.specs.Performed.{Performed}
-use Rattle.vcp_core.specs.Tasks.{TaskOf, PlainTask, RunTask}
+use Rattle.vcp_core.specs.Tasks.{TaskOf}
 
 -- for the one task that its words lead to with what is held, it ended for it or was given up, and each status has its cause
 abbrev pub PerformedServes : Type 0
@@ -32,11 +32,11 @@ PerformedKnown = (f : Form) (before after : Outside) (status : ℕ) → Performe
 
 -- the answer that is meant where `run` comes to a task is the one to which `plain` comes, where it comes to one
 abbrev pub RunMeansPlain : Type 0
-RunMeansPlain = (p : List ℕ) (rows : Rows) (code : Code) (h : Held) (task : Task) → RunTask p rows code h task →
-    (x y : Answer) → PlainTask p rows h (answers x) → Meant task y → y ≡ x
+RunMeansPlain = (p : List ℕ) (rows : Rows) (code : Code) (h : Held) (task : Task) → TaskOf (run p rows code) h task →
+    (x y : Answer) → TaskOf (plain p rows) h (answers x) → Meant task y → y ≡ x
 
 -- so where no answer was wrong `run` wrote the answer of `plain`, with its status, but for 5, 6 and 7
 abbrev pub RunWritesPlain : Type 0
 RunWritesPlain = (p : List ℕ) (rows : Rows) (code : Code) (before after : Outside) (status : ℕ) → Performed (run p rows code) before after status →
     (h : Held) → MayHold (about (run p rows code)) before.files.held h →
-    (x : Answer) → PlainTask p rows h (answers x) → StaysHonest before.unit after.unit → IsNoFault status → Came x before after status
+    (x : Answer) → TaskOf (plain p rows) h (answers x) → StaysHonest before.unit after.unit → IsNoFault status → Came x before after status

@@ -11,7 +11,7 @@ ghost use Rattle.command_meaning.specs.Abouts.{about};
 ghost use Rattle.command_meaning.specs.Performing.{Performs};
 ghost use Rattle.coded_unit.specs.Seen.{UnitSeen};
 ghost use Rattle.machine_run.specs.Moments.{moment};
-ghost use Rattle.vcp_core.specs.Tasks.{AuditTask};
+ghost use Rattle.vcp_core.specs.Tasks.{TaskOf};
 ghost use Rattle.vcp_core.specs.Reach.{told_line, told_status};
 
 use crate::ending::Ending;
@@ -49,7 +49,7 @@ pub fn audit_command<'a, F: Files, O: Sink>(
     out: &mut O,
 ) -> Result<Ending, Fault<'a>>
     requires horizon { horizon ≤ most_horizon }
-    ensures { (unit : UnitSeen) → Performs (about (audit image.now horizon)) (AuditTask image.now horizon)
+    ensures { (unit : UnitSeen) → Performs (about (audit image.now horizon)) (TaskOf (audit image.now horizon))
         (F.seen files.old) (F.seen files.new) (moment unit (O.seen out.old)) (moment unit (O.seen out.new))
         (told_line result) (told_status result) }
 {

@@ -3,7 +3,7 @@
 ghost use Rattle.std.specs.Prelude.{List, Option, ℕ};
 ghost use Rattle.vcp_outside.specs.Written.{WritesTo};
 ghost use Rattle.vcp_words.specs.Forms.{check};
-ghost use Rattle.vcp_core.specs.Tasks.{ok_text, CheckTask};
+ghost use Rattle.vcp_core.specs.Tasks.{ok_text, TaskOf};
 ghost use Rattle.command_meaning.specs.Abouts.{about};
 ghost use Rattle.command_meaning.specs.Performing.{Performs};
 ghost use Rattle.coded_unit.specs.Seen.{UnitSeen};
@@ -35,7 +35,7 @@ pub fn check_command<'a, F: Files, O: Sink>(
     files: &mut F,
     out: &mut O,
 ) -> Result<Ending, Fault<'a>>
-    ensures { (unit : UnitSeen) → Performs (about (check source.now)) (CheckTask source.now)
+    ensures { (unit : UnitSeen) → Performs (about (check source.now)) (TaskOf (check source.now))
         (F.seen files.old) (F.seen files.new) (moment unit (O.seen out.old)) (moment unit (O.seen out.new))
         (told_line result) (told_status result) }
 {

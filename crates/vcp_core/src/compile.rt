@@ -7,7 +7,7 @@ ghost use Rattle.command_meaning.specs.Abouts.{about};
 ghost use Rattle.command_meaning.specs.Performing.{Performs};
 ghost use Rattle.coded_unit.specs.Seen.{UnitSeen};
 ghost use Rattle.machine_run.specs.Moments.{moment};
-ghost use Rattle.vcp_core.specs.Tasks.{CompileTask};
+ghost use Rattle.vcp_core.specs.Tasks.{TaskOf};
 ghost use Rattle.vcp_core.specs.Reach.{told_line, told_status};
 
 use crate::ending::Ending;
@@ -44,7 +44,7 @@ pub fn compile_command<'a, F: Files, O: Sink>(
 ) -> Result<Ending, Fault<'a>>
     requires code { IsCode (as_code code) }
     ensures { (unit : UnitSeen) → Performs (about (compile source.now (as_code code)))
-        (CompileTask source.now (as_code code))
+        (TaskOf (compile source.now (as_code code)))
         (F.seen files.old) (F.seen files.new) (moment unit (O.seen out.old)) (moment unit (O.seen out.new))
         (told_line result) (told_status result) }
 {

@@ -4,7 +4,7 @@ ghost use Rattle.vcp_words.specs.Forms.{exec, rows_of, AreFew};
 ghost use Rattle.command_meaning.specs.Abouts.{about};
 ghost use Rattle.command_meaning.specs.Performing.{Performs};
 ghost use Rattle.machine_run.specs.Moments.{moment};
-ghost use Rattle.vcp_core.specs.Tasks.{ExecTask};
+ghost use Rattle.vcp_core.specs.Tasks.{TaskOf};
 ghost use Rattle.vcp_core.specs.Reach.{told_line, told_status};
 
 use crate::ending::{Ending, run_ended};
@@ -31,7 +31,7 @@ pub fn exec_command<'a, F: Files, U: Unit, O: Sink>(
     out: &mut O,
 ) -> Result<Ending, Fault<'a>>
     requires few { AreFew (rows_of rows) }
-    ensures { Performs (about (exec image.now (rows_of rows.entry))) (ExecTask image.now (rows_of rows.entry))
+    ensures { Performs (about (exec image.now (rows_of rows.entry))) (TaskOf (exec image.now (rows_of rows.entry)))
         (F.seen files.old) (F.seen files.new) (moment (U.seen unit.old) (O.seen out.old)) (moment (U.seen unit.new) (O.seen out.new))
         (told_line result) (told_status result) }
 {

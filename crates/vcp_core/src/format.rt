@@ -6,7 +6,7 @@ ghost use Rattle.command_meaning.specs.Abouts.{about};
 ghost use Rattle.command_meaning.specs.Performing.{Performs};
 ghost use Rattle.coded_unit.specs.Seen.{UnitSeen};
 ghost use Rattle.machine_run.specs.Moments.{moment};
-ghost use Rattle.vcp_core.specs.Tasks.{FormatTask};
+ghost use Rattle.vcp_core.specs.Tasks.{TaskOf};
 ghost use Rattle.vcp_core.specs.Reach.{told_line, told_status};
 
 use crate::ending::Ending;
@@ -25,7 +25,7 @@ pub fn format_command<'a, F: Files, O: Sink>(
     files: &mut F,
     out: &mut O,
 ) -> Result<Ending, Fault<'a>>
-    ensures { (unit : UnitSeen) → Performs (about (format source.now)) (FormatTask source.now)
+    ensures { (unit : UnitSeen) → Performs (about (format source.now)) (TaskOf (format source.now))
         (F.seen files.old) (F.seen files.new) (moment unit (O.seen out.old)) (moment unit (O.seen out.new))
         (told_line result) (told_status result) }
 {

@@ -4,7 +4,7 @@ ghost use Rattle.vcp_words.specs.Forms.{il, rows_of, as_code, AreFew, IsCode};
 ghost use Rattle.command_meaning.specs.Abouts.{about};
 ghost use Rattle.command_meaning.specs.Performing.{Performs};
 ghost use Rattle.machine_run.specs.Moments.{moment};
-ghost use Rattle.vcp_core.specs.Tasks.{IlTask};
+ghost use Rattle.vcp_core.specs.Tasks.{TaskOf};
 ghost use Rattle.vcp_core.specs.Reach.{told_line, told_status};
 
 use crate::ending::{Ending, run_ended};
@@ -33,7 +33,7 @@ pub fn il_command<'a, F: Files, U: Unit, O: Sink>(
 ) -> Result<Ending, Fault<'a>>
     requires few { AreFew (rows_of rows) }
     requires code { IsCode (as_code code) }
-    ensures { Performs (about (il source.now (rows_of rows.entry) (as_code code))) (IlTask source.now (rows_of rows.entry) (as_code code))
+    ensures { Performs (about (il source.now (rows_of rows.entry) (as_code code))) (TaskOf (il source.now (rows_of rows.entry) (as_code code)))
         (F.seen files.old) (F.seen files.new) (moment (U.seen unit.old) (O.seen out.old)) (moment (U.seen unit.new) (O.seen out.new))
         (told_line result) (told_status result) }
 {

@@ -8,7 +8,7 @@ ghost use Rattle.vcp_inputs.specs.RowsOutcome.{HasFewCycles, source_outcome};
 ghost use Rattle.command_meaning.specs.Abouts.{about};
 ghost use Rattle.command_meaning.specs.Performing.{Performs};
 ghost use Rattle.machine_run.specs.Moments.{moment};
-ghost use Rattle.vcp_core.specs.Tasks.{InjectTask};
+ghost use Rattle.vcp_core.specs.Tasks.{TaskOf};
 ghost use Rattle.vcp_core.specs.Inject.{AllRows, NoRows};
 ghost use Rattle.vcp_core.specs.Reach.{told_line, told_status};
 
@@ -68,7 +68,7 @@ pub fn inject_command<'a, F: Files, U: Unit, O: Sink>(
     out: &mut O,
 ) -> Result<Ending, Fault<'a>>
     requires few { AreFew (rows_of rows) }
-    ensures { Performs (about (inject image.now (rows_of rows.entry) script.now)) (InjectTask image.now (rows_of rows.entry) script.now)
+    ensures { Performs (about (inject image.now (rows_of rows.entry) script.now)) (TaskOf (inject image.now (rows_of rows.entry) script.now))
         (F.seen files.old) (F.seen files.new) (moment (U.seen unit.old) (O.seen out.old)) (moment (U.seen unit.new) (O.seen out.new))
         (told_line result) (told_status result) }
 {

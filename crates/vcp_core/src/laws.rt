@@ -11,14 +11,14 @@ ghost use Rattle.image_file.specs.Graphs.{HasImage};
 ghost use Rattle.image_file.specs.Image.{image_of};
 ghost use Rattle.weight_audit.specs.Audit.{most_weights, weights_up_to};
 ghost use Rattle.weight_audit.specs.AuditText.{AuditOf};
-ghost use Rattle.vcp_words.specs.Forms.{Form};
+ghost use Rattle.vcp_words.specs.Forms.{Form, audit};
 ghost use Rattle.command_meaning.specs.Abouts.{about, AllHeld};
 ghost use Rattle.command_meaning.specs.FileTasks.{ImageFile};
 ghost use Rattle.command_meaning.specs.Endings.{HasOwnStatus};
 ghost use Rattle.command_meaning.specs.Kinds.{Task, lacks, prints};
 ghost use Rattle.vcp_core.specs.EachTask.{EachHasTask};
 ghost use Rattle.vcp_core.specs.PerformedLaws.{PerformedCompletes, PerformedKeeps, PerformedKnown, PerformedServes, RunMeansPlain, RunWritesPlain};
-ghost use Rattle.vcp_core.specs.Tasks.{AuditTask, TaskOf, widened};
+ghost use Rattle.vcp_core.specs.Tasks.{TaskOf, widened};
 ghost use Rattle.command_meaning.specs.WireKind.{WiresDeliver};
 ghost use Rattle.vcp_core.specs.StaleSeen.{StaleShows};
 ghost use Rattle.vcp_core.specs.WrittenImages.{WrittenImagesAreTaken};
@@ -89,7 +89,7 @@ pub fn written_images_are_taken()
         task ≡ Then g (table_of seed step g) }
     ensures audited { (g : Lists) (seed step horizon : ℕ) (name : List ℕ) (held : Held) (task : Task) →
         HasImage g seed step → length (image_of g seed step) ≤ most_image_bytes →
-        held name ≡ Some (image_of g seed step) → weights_up_to g horizon ≤ most_weights → AuditTask name horizon held task →
+        held name ≡ Some (image_of g seed step) → weights_up_to g horizon ≤ most_weights → TaskOf (audit name horizon) held task →
         (told : List ℕ) × AuditOf g horizon told × (task ≡ prints told) }
     ensures commands { WrittenImagesAreTaken }
     ensures widened { (g : Lists) (seed step : ℕ) → HasImage g seed step → HasImage (widened g) seed step }

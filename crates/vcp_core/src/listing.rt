@@ -3,7 +3,7 @@
 ghost use Rattle.std.specs.Prelude.{◌≡◌, length, List, Option, ℕ};
 ghost use Rattle.vcp_outside.specs.Written.{WritesTo};
 ghost use Rattle.vcp_words.specs.Forms.{list};
-ghost use Rattle.vcp_core.specs.Tasks.{listing, ListTask};
+ghost use Rattle.vcp_core.specs.Tasks.{listing, TaskOf};
 ghost use Rattle.command_meaning.specs.Abouts.{about};
 ghost use Rattle.command_meaning.specs.Performing.{Performs};
 ghost use Rattle.coded_unit.specs.Seen.{UnitSeen};
@@ -39,7 +39,7 @@ pub fn list_command<'a, F: Files, O: Sink>(
     files: &mut F,
     out: &mut O,
 ) -> Result<Ending, Fault<'a>>
-    ensures { (unit : UnitSeen) → Performs (about (list image.now)) (ListTask image.now)
+    ensures { (unit : UnitSeen) → Performs (about (list image.now)) (TaskOf (list image.now))
         (F.seen files.old) (F.seen files.new) (moment unit (O.seen out.old)) (moment unit (O.seen out.new))
         (told_line result) (told_status result) }
 {

@@ -6,7 +6,7 @@ ghost use Rattle.command_meaning.specs.Abouts.{about};
 ghost use Rattle.command_meaning.specs.Performing.{Performs};
 ghost use Rattle.coded_unit.specs.Seen.{UnitSeen};
 ghost use Rattle.machine_run.specs.Moments.{moment};
-ghost use Rattle.vcp_core.specs.Tasks.{PlainTask};
+ghost use Rattle.vcp_core.specs.Tasks.{TaskOf};
 ghost use Rattle.vcp_core.specs.Reach.{told_line, told_status};
 
 use crate::ending::{Ending, run_ended};
@@ -30,7 +30,7 @@ pub fn plain_command<'a, F: Files, O: Sink>(
 ) -> Result<Ending, Fault<'a>>
     requires few { AreFew (rows_of rows) }
     ensures { (unit : UnitSeen) → Performs (about (plain source.now (rows_of rows.entry)))
-        (PlainTask source.now (rows_of rows.entry))
+        (TaskOf (plain source.now (rows_of rows.entry)))
         (F.seen files.old) (F.seen files.new) (moment unit (O.seen out.old)) (moment unit (O.seen out.new))
         (told_line result) (told_status result) }
 {

@@ -10,7 +10,6 @@ ghost use Rattle.command_meaning.specs.Seen.{outside};
 ghost use Rattle.vcp_core.specs.Performed.{Performed};
 ghost use Rattle.vcp_core.specs.Tasks.{TaskOf};
 ghost use Rattle.vcp_core.specs.Reach.{told_line, told_status};
-ghost use Rattle.vcp_core.specs.WrittenImages.{WrittenImagesAreTaken};
 
 use crate::audit::audit_command;
 use crate::check::check_command;
@@ -22,7 +21,6 @@ use crate::fault::Fault;
 use crate::format::format_command;
 use crate::il::il_command;
 use crate::inject::inject_command;
-use crate::laws::written_images_are_taken;
 use crate::listing::list_command;
 use crate::pair::pair_command;
 use crate::pairs::pairs_command;
@@ -58,13 +56,10 @@ use vcp_words::{Command, command_of};
 /// - `performed`: Words that are a command's have it performed: as far as it came, for the one task to which they lead with what is held; and the
 ///   line of its fault told, if it ended by one. How far that is and what each command keeps: `Performs`, in `command_meaning`; to which task each
 ///   command leads: `TaskOf`.
-/// - `written`: An image that `compile` or `widen` wrote is never refused as none where it is read again and no longer than an image may be: `list`
-///   prints the operations of its graph, and `exec` runs that graph with the numbers of its code, unless ROWS are refused. The graph that `widen`
-///   writes has an image too, and the same run.
 ///
 /// What follows from these is said by laws: `a_performed_command` of how a command serves and completes, what it keeps and which statuses it has;
-/// `one_task` of the tasks; `accepted_outputs_are_released`, `stale_operands_are_seen`, `accumulator_runs` and `wires_deliver` of faults, lists and
-/// telegrams.
+/// `one_task` of the tasks; `written_images_are_taken` of the images that commands write and others read; `accepted_outputs_are_released`,
+/// `stale_operands_are_seen`, `accumulator_runs` and `wires_deliver` of faults, lists and telegrams.
 pub fn vcp<F: Files, U: Unit, O: Sink, E: Sink>(
     alloc: Global,
     words: &Words,
@@ -82,12 +77,7 @@ pub fn vcp<F: Files, U: Unit, O: Sink, E: Sink>(
     ensures performed { IfSome (form_of words.now) (λ f. Performed f
         (outside (F.seen files.old) (U.seen unit.old) (O.seen out.old) (E.seen err.old))
         (outside (F.seen files.new) (U.seen unit.new) (O.seen out.new) (E.seen err.new)) result) }
-
-    // Of the images that `compile` and `widen` write: where one is read again it is never refused as none, `list` tells its graph and `exec`
-    // runs it; and the wide graph has the same run.
-    ensures written { WrittenImagesAreTaken }
 {
-    written_images_are_taken();
     match command_of(words) {
         Some(command) => serve(alloc, &command, files, unit, out, err),
         None => match tell_usage(err) {

@@ -6,7 +6,7 @@ ghost use Rattle.vcp_words.specs.Forms.{trace, rows_of, AreFew};
 ghost use Rattle.command_meaning.specs.Abouts.{about};
 ghost use Rattle.command_meaning.specs.Performing.{Performs};
 ghost use Rattle.machine_run.specs.Moments.{moment};
-ghost use Rattle.vcp_core.specs.Tasks.{TraceTask};
+ghost use Rattle.vcp_core.specs.Tasks.{TaskOf};
 ghost use Rattle.vcp_core.specs.Reach.{told_line, told_status};
 
 use crate::ending::{Ending, run_ended};
@@ -34,7 +34,7 @@ pub fn trace_command<'a, F: Files, U: Unit, O: Sink>(
 ) -> Result<Ending, Fault<'a>>
     requires few { AreFew (rows_of rows) }
     requires cycle { cycle < most_cycles }
-    ensures { Performs (about (trace image.now (rows_of rows.entry) cycle)) (TraceTask image.now (rows_of rows.entry) cycle)
+    ensures { Performs (about (trace image.now (rows_of rows.entry) cycle)) (TaskOf (trace image.now (rows_of rows.entry) cycle))
         (F.seen files.old) (F.seen files.new) (moment (U.seen unit.old) (O.seen out.old)) (moment (U.seen unit.new) (O.seen out.new))
         (told_line result) (told_status result) }
 {

@@ -3,7 +3,7 @@
 ghost use Rattle.std.specs.Prelude.{◌≡◌, IfOk, List, Option, ℕ};
 ghost use Rattle.image_file.specs.Image.{image_of};
 ghost use Rattle.vcp_words.specs.Forms.{widen};
-ghost use Rattle.vcp_core.specs.Tasks.{widened, WidenTask};
+ghost use Rattle.vcp_core.specs.Tasks.{widened, TaskOf};
 ghost use Rattle.command_meaning.specs.Abouts.{about};
 ghost use Rattle.command_meaning.specs.Performing.{Performs};
 ghost use Rattle.coded_unit.specs.Seen.{UnitSeen};
@@ -38,7 +38,7 @@ pub fn widen_command<'a, F: Files, O: Sink>(
     files: &mut F,
     out: &mut O,
 ) -> Result<Ending, Fault<'a>>
-    ensures { (unit : UnitSeen) → Performs (about (widen image.now)) (WidenTask image.now)
+    ensures { (unit : UnitSeen) → Performs (about (widen image.now)) (TaskOf (widen image.now))
         (F.seen files.old) (F.seen files.new) (moment unit (O.seen out.old)) (moment unit (O.seen out.new))
         (told_line result) (told_status result) }
 {

@@ -5,7 +5,7 @@ ghost use Rattle.vcp_words.specs.Forms.{wire};
 ghost use Rattle.command_meaning.specs.Abouts.{about};
 ghost use Rattle.command_meaning.specs.Performing.{Performs};
 ghost use Rattle.machine_run.specs.Moments.{moment};
-ghost use Rattle.vcp_core.specs.Tasks.{WireTask};
+ghost use Rattle.vcp_core.specs.Tasks.{TaskOf};
 ghost use Rattle.vcp_core.specs.Reach.{told_line, told_status, wire_ending};
 
 use crate::ending::Ending;
@@ -26,7 +26,7 @@ pub fn wire_command<'a, F: Files, U: Unit, O: Sink>(
     unit: &mut U,
     out: &mut O,
 ) -> Result<Ending, Fault<'a>>
-    ensures { Performs (about (wire script.now)) (WireTask script.now) (F.seen files.old) (F.seen files.new)
+    ensures { Performs (about (wire script.now)) (TaskOf (wire script.now)) (F.seen files.old) (F.seen files.new)
         (moment (U.seen unit.old) (O.seen out.old)) (moment (U.seen unit.new) (O.seen out.new)) (told_line result) (told_status result) }
 {
     let loaded = match load_wire(alloc, files, script) {

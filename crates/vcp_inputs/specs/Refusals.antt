@@ -1,5 +1,5 @@
 -- Refusals: a fault of a layer below, as a refusal of the file, or as want of memory; and that no refusal is want of memory.
-use Rattle.std.specs.Prelude.{◌≢◌}
+use Rattle.std.specs.Prelude.{IsSome}
 use Rattle.vcp_outside.specs.declared.reading.ReadAll.{ReadAll}
 use Rattle.vcp_outside.specs.declared.reading.ReadAll.TheVariants as reading
 use Rattle.st_lexer.specs.declared.fault.LexFault.{LexFault}
@@ -18,10 +18,10 @@ use Rattle.fault_script.specs.declared.script_fault.ScriptFault.{ScriptFault}
 use Rattle.fault_script.specs.declared.script_fault.ScriptFault.TheVariants as script
 use Rattle.telegram.specs.declared.script.wire_fault.WireFault.{WireFault}
 use Rattle.telegram.specs.declared.script.wire_fault.WireFault.TheVariants as wire
-use Rattle.vcp_inputs.specs.declared.refusal.Refusal.{Refusal}
 use Rattle.vcp_inputs.specs.declared.refusal.Refusal.TheVariants as refusal
 use Rattle.vcp_inputs.specs.declared.refusal.NoInput.{NoInput}
 use Rattle.vcp_inputs.specs.declared.refusal.NoInput.TheVariants as input
+use Rattle.vcp_inputs.specs.Lines.{diagnostic_of}
 
 -- of the reading of a whole file
 abbrev pub unread : ReadAll → NoInput
@@ -110,36 +110,8 @@ unwired wire.Memory = input.Memory
 
 -- ---- no refusal is want of memory
 
--- the fault of a reader of instructions is no want of memory, nor is that of their tokens, their head or their types
-abbrev pub IsIlCause : IlFault → Type 0
-IsIlCause (il.Lex f) = f ≢ lexer.Memory
-IsIlCause (il.Syntax f) = f ≢ syntax.Memory
-IsIlCause (il.Types f) = f ≢ typing.Memory
-IsIlCause (il.Instruction spot) = Unit {0}
-IsIlCause (il.Operand spot) = Unit {0}
-IsIlCause (il.Target spot) = Unit {0}
-IsIlCause (il.Empty spot) = Unit {0}
-IsIlCause (il.Mismatch spot) = Unit {0}
-IsIlCause (il.Reserved spot) = Unit {0}
-IsIlCause il.Memory = ⊥
-
--- the fault that a refusal has is no want of memory
-abbrev pub IsCause : Refusal → Type 0
-IsCause refusal.Bytes = Unit {0}
-IsCause (refusal.Lexing f) = f ≢ lexer.Memory
-IsCause (refusal.Parsing f) = f ≢ syntax.Memory
-IsCause (refusal.Typing f) = f ≢ typing.Memory
-IsCause (refusal.Listing f) = IsIlCause f
-IsCause (refusal.Rows f) = f ≢ rows.Memory
-IsCause (refusal.Image f) = f ≢ image.Memory
-IsCause refusal.Audit = Unit {0}
-IsCause refusal.Trace = Unit {0}
-IsCause refusal.Seed = Unit {0}
-IsCause (refusal.Script f) = f ≢ script.Memory
-IsCause (refusal.Wire f) = f ≢ wire.Memory
-
--- where a file is refused, it is for such a fault
+-- where a file is refused, it is for a fault that has a place and a code
 abbrev pub IsCaused : NoInput → Type 0
 IsCaused input.Unread = Unit {0}
-IsCaused (input.Refused r) = IsCause r
+IsCaused (input.Refused r) = IsSome (diagnostic_of r)
 IsCaused input.Memory = Unit {0}

@@ -1,9 +1,9 @@
 //! The lines of refusals.
 
-ghost use Rattle.std.specs.Prelude.{◌≡◌, ◌++◌, codes};
+ghost use Rattle.std.specs.Prelude.{◌≡◌, [], ◌∷◌, ◌++◌, codes, decimal};
 ghost use Rattle.vcp_outside.specs.Written.{WritesTo};
-ghost use Rattle.input_rows.specs.declared.fault.RowFault.TheVariants as rows;
-ghost use Rattle.vcp_inputs.specs.Lines.{spot_text, lexing_text, parsing_text, typing_text, listing_text, rows_text, place_text, correction_text, image_text, script_text, wire_text, refusal_text, input_text, input_status as status_of_input};
+ghost use Rattle.vcp_inputs.specs.Lines.{at_spot, diagnostic, diagnostic_text, of_lexing, of_parsing, of_typing, refusal_text, input_text, input_status as status_of_input};
+ghost use Rattle.vcp_inputs.specs.declared.refusal.Refusal.TheVariants as refusal;
 
 use crate::refusal::{NoInput, Refusal};
 use fault_script::ScriptFault;
@@ -75,7 +75,7 @@ pub fn tell_of<E: Sink>(err: &mut E, name: &[u8], what: &[u8]) -> Result<(), Fai
 
 /// Prints a line of a place in a source and what is said of it.
 fn tell_at<E: Sink>(err: &mut E, name: &[u8], spot: Spot, what: &[u8]) -> Result<(), Failed>
-    ensures { WritesTo (E.seen err.old) (E.seen err.new) (spot_text name.now spot what.now) result }
+    ensures { WritesTo (E.seen err.old) (E.seen err.new) (diagnostic_text name.now (at_spot spot what.now)) result }
 {
     let mut line = Line::new();
     line.text(err, name);
@@ -90,7 +90,7 @@ fn tell_at<E: Sink>(err: &mut E, name: &[u8], spot: Spot, what: &[u8]) -> Result
 
 /// Prints a line of a number's place, as a record, an offset or a line of a script, and what is said of it.
 pub fn tell_place<E: Sink>(err: &mut E, name: &[u8], place: u32, what: &[u8]) -> Result<(), Failed>
-    ensures { WritesTo (E.seen err.old) (E.seen err.new) (place_text name.now place what.now) result }
+    ensures { WritesTo (E.seen err.old) (E.seen err.new) (diagnostic_text name.now (diagnostic (place ∷ []) what.now)) result }
 {
     let mut line = Line::new();
     line.text(err, name);
@@ -103,7 +103,7 @@ pub fn tell_place<E: Sink>(err: &mut E, name: &[u8], place: u32, what: &[u8]) ->
 
 /// Prints the line of a fault of the lexer.
 fn tell_lexing<E: Sink>(err: &mut E, name: &[u8], fault: LexFault) -> Result<(), Failed>
-    ensures { WritesTo (E.seen err.old) (E.seen err.new) (lexing_text name.now fault) result }
+    ensures { WritesTo (E.seen err.old) (E.seen err.new) (diagnostic_text name.now (of_lexing fault)) result }
 {
     match fault {
         LexFault::Byte { spot } => tell_at(err, name, spot, b"S1 Byte"),
@@ -115,7 +115,7 @@ fn tell_lexing<E: Sink>(err: &mut E, name: &[u8], fault: LexFault) -> Result<(),
 
 /// Prints the line of a fault of the parser.
 fn tell_parsing<E: Sink>(err: &mut E, name: &[u8], fault: SyntaxFault) -> Result<(), Failed>
-    ensures { WritesTo (E.seen err.old) (E.seen err.new) (parsing_text name.now fault) result }
+    ensures { WritesTo (E.seen err.old) (E.seen err.new) (diagnostic_text name.now (of_parsing fault)) result }
 {
     match fault {
         SyntaxFault::Syntax { spot } => tell_at(err, name, spot, b"S4 Syntax"),
@@ -126,7 +126,7 @@ fn tell_parsing<E: Sink>(err: &mut E, name: &[u8], fault: SyntaxFault) -> Result
 
 /// Prints the line of a fault of typing.
 fn tell_typing<E: Sink>(err: &mut E, name: &[u8], fault: TypeFault) -> Result<(), Failed>
-    ensures { WritesTo (E.seen err.old) (E.seen err.new) (typing_text name.now fault) result }
+    ensures { WritesTo (E.seen err.old) (E.seen err.new) (diagnostic_text name.now (of_typing fault)) result }
 {
     match fault {
         TypeFault::Duplicate { spot } => tell_at(err, name, spot, b"T1 Duplicate"),
@@ -145,7 +145,7 @@ fn tell_typing<E: Sink>(err: &mut E, name: &[u8], fault: TypeFault) -> Result<()
 
 /// Prints the line of a fault of a reader of instructions.
 fn tell_listing<E: Sink>(err: &mut E, name: &[u8], fault: IlFault) -> Result<(), Failed>
-    ensures { WritesTo (E.seen err.old) (E.seen err.new) (listing_text name.now fault) result }
+    ensures { WritesTo (E.seen err.old) (E.seen err.new) (refusal_text name.now (refusal.Listing fault)) result }
 {
     match fault {
         IlFault::Lex(fault) => tell_lexing(err, name, fault),
@@ -163,10 +163,10 @@ fn tell_listing<E: Sink>(err: &mut E, name: &[u8], fault: IlFault) -> Result<(),
 
 /// Prints the line of a refusal of rows.
 fn tell_rows<E: Sink>(err: &mut E, name: &[u8], fault: RowFault) -> Result<(), Failed>
-    ensures { WritesTo (E.seen err.old) (E.seen err.new) (rows_text name.now fault) result }
+    ensures { WritesTo (E.seen err.old) (E.seen err.new) (refusal_text name.now (refusal.Rows fault)) result }
 {
     match fault {
-        RowFault::Header => tell_of(err, name, b":1 R1 Header"),
+        RowFault::Header => tell_place(err, name, 1, b"R1 Header"),
         RowFault::Width { row } => tell_place(err, name, row, b"R2 Width"),
         RowFault::Cell { row, column } => tell_cell(err, name, row, column),
         RowFault::Form => tell_of(err, name, b" R4 Form"),
@@ -178,7 +178,7 @@ fn tell_rows<E: Sink>(err: &mut E, name: &[u8], fault: RowFault) -> Result<(), F
 
 /// Prints the line of a cell that spells no value.
 fn tell_cell<E: Sink>(err: &mut E, name: &[u8], row: u32, column: u32) -> Result<(), Failed>
-    ensures { WritesTo (E.seen err.old) (E.seen err.new) (rows_text name.now (rows.Cell row column)) result }
+    ensures { WritesTo (E.seen err.old) (E.seen err.new) (diagnostic_text name.now (diagnostic (row ∷ column ∷ []) (codes "R3 Cell"))) result }
 {
     let mut line = Line::new();
     line.text(err, name);
@@ -192,7 +192,7 @@ fn tell_cell<E: Sink>(err: &mut E, name: &[u8], row: u32, column: u32) -> Result
 
 /// Prints the line of a fault of an image.
 fn tell_image<E: Sink>(err: &mut E, name: &[u8], fault: ImageFault) -> Result<(), Failed>
-    ensures { WritesTo (E.seen err.old) (E.seen err.new) (image_text name.now fault) result }
+    ensures { WritesTo (E.seen err.old) (E.seen err.new) (refusal_text name.now (refusal.Image fault)) result }
 {
     match fault {
         ImageFault::Magic { at } => tell_place(err, name, at, b"I1 Magic"),
@@ -218,7 +218,8 @@ fn tell_correction<E: Sink>(
     stored: Residue,
     expected: Residue,
 ) -> Result<(), Failed>
-    ensures { WritesTo (E.seen err.old) (E.seen err.new) (correction_text name.now offset stored expected) result }
+    ensures { WritesTo (E.seen err.old) (E.seen err.new) (diagnostic_text name.now
+        (diagnostic (offset ∷ []) (codes "I6 Table stored " ++ (decimal stored ++ (codes " expected " ++ decimal expected))))) result }
 {
     let mut line = Line::new();
     line.text(err, name);
@@ -233,7 +234,7 @@ fn tell_correction<E: Sink>(
 
 /// Prints the line of a fault of a script.
 fn tell_script<E: Sink>(err: &mut E, name: &[u8], fault: ScriptFault) -> Result<(), Failed>
-    ensures { WritesTo (E.seen err.old) (E.seen err.new) (script_text name.now fault) result }
+    ensures { WritesTo (E.seen err.old) (E.seen err.new) (refusal_text name.now (refusal.Script fault)) result }
 {
     match fault {
         ScriptFault::Form { line } => tell_place(err, name, line, b"F1 Form"),
@@ -249,7 +250,7 @@ fn tell_script<E: Sink>(err: &mut E, name: &[u8], fault: ScriptFault) -> Result<
 
 /// Prints the line of a fault of the script of a wire.
 fn tell_wire<E: Sink>(err: &mut E, name: &[u8], fault: WireFault) -> Result<(), Failed>
-    ensures { WritesTo (E.seen err.old) (E.seen err.new) (wire_text name.now fault) result }
+    ensures { WritesTo (E.seen err.old) (E.seen err.new) (refusal_text name.now (refusal.Wire fault)) result }
 {
     match fault {
         WireFault::Form { line } => tell_place(err, name, line, b"G1 Form"),

@@ -5,7 +5,7 @@ use Rattle.vcp_inputs.specs.Images.{ImageOf, NotImage}
 use Rattle.command_meaning.specs.Abouts.{about, image_word}
 use Rattle.command_meaning.specs.Answer.{printed as printed_answer}
 use Rattle.command_meaning.specs.Kinds.{prints}
-use Rattle.vcp_core.specs.Tasks.{Audited, AuditTask}
+use Rattle.vcp_core.specs.Tasks.{Audited, TaskOf}
 use Rattle.vcp_core.proofs.AuditKinds.{audit_told, too_large_audit, weights_caused, weights_read}
 use Rattle.vcp_core.proofs.Facts.{if_some_always, if_some_weaker}
 use Rattle.vcp_core.proofs.Performing.{files_lost, quiet_lost, quiet_part, quiet_whole}
@@ -33,7 +33,7 @@ returns-in_err-write_audit-in-Ok-weights_of g c unit =
     let q = err_from_is_err_and c.from_residual.result c.from_residual.ensures.1 in
     let w = c.in_err-write_audit-in-Ok-weights_of.ensures in
     rw (q.1, q.2)
-    (quiet_part (about (audit m horizon)) (AuditTask m horizon) files later (λ none. cc) c.load_image.ensures.held _ _ c.in-Ok.ensures.ended (c.in-Ok.ensures.stayed (λ e. cc)) refl
+    (quiet_part (about (audit m horizon)) (TaskOf (audit m horizon)) files later (λ none. cc) c.load_image.ensures.held _ _ c.in-Ok.ensures.ended (c.in-Ok.ensures.stayed (λ e. cc)) refl
     (if_some_weaker files.held _ _
     (λ h loads. (
       prints _,
@@ -48,7 +48,7 @@ returns-in-Ok-weights_of g c unit =
     let horizon = c.args.horizon in
     let files = g.F.Files.seen c.args.files.now in
     let later = g.F.Files.seen c.load_image.new.files in
-    quiet_whole (about (audit m horizon)) (AuditTask m horizon) files later (λ none. cc) c.load_image.ensures.held _ _ c.in-Ok.ensures.ended (c.in-Ok.ensures.stayed (λ e. cc)) refl (inl refl) _
+    quiet_whole (about (audit m horizon)) (TaskOf (audit m horizon)) files later (λ none. cc) c.load_image.ensures.held _ _ c.in-Ok.ensures.ended (c.in-Ok.ensures.stayed (λ e. cc)) refl (inl refl) _
     (if_some_weaker files.held _ _
     (λ h loads. (
       prints _,
@@ -66,7 +66,7 @@ returns g c unit =
     let why = c.in-Err-weights_of.ensures.fault in
     let e = c.in-Err-weights_of.input in
     rw c.bytes-in-Err-weights_of.ensures
-    (files_lost (about (audit m horizon)) (AuditTask m horizon) files later (λ none. cc) c.load_image.ensures.held (inr (inl refl)) _ m e
+    (files_lost (about (audit m horizon)) (TaskOf (audit m horizon)) files later (λ none. cc) c.load_image.ensures.held (inr (inl refl)) _ m e
     (if_some_weaker files.held _ _ (λ h loads. too_large_audit m horizon h c.in-Ok.loaded files later _ e loads why) c.in-Ok.ensures.loads)
     (λ is. if_some_always files.held _ (λ h. inl c.in-Ok.ensures.ended)) (λ is. absurd (weights_read c.in-Ok.loaded horizon e why is))
     (λ no. c.in-Ok.ensures.stayed (λ e. cc)) (λ is. absurd (weights_read c.in-Ok.loaded horizon e why is)) (weights_caused c.in-Ok.loaded horizon e why)

@@ -6,7 +6,7 @@ use Rattle.vcp_inputs.specs.Programs.{TypedOf, NotTyped}
 use Rattle.command_meaning.specs.Abouts.{about, source_word}
 use Rattle.command_meaning.specs.Answer.{printed as printed_answer}
 use Rattle.command_meaning.specs.Kinds.{prints}
-use Rattle.vcp_core.specs.Tasks.{ok_text, CheckTask}
+use Rattle.vcp_core.specs.Tasks.{ok_text, TaskOf}
 use Rattle.vcp_core.proofs.Facts.{if_some_weaker}
 use Rattle.vcp_core.proofs.Performing.{quiet_lost, quiet_part, quiet_whole}
 use Rattle.vcp_core.proofs.Sized.{sized}
@@ -32,7 +32,7 @@ returns-in_err-ok_line-in-Ok g c unit =
     let q = err_from_is_err_and c.from_residual.result c.from_residual.ensures.1 in
     let w = c.in_err-ok_line-in-Ok.ensures in
     rw (q.1, q.2)
-    (quiet_part (about (check p)) (CheckTask p) files later (λ none. cc) c.load_typed.ensures.held _ _ c.in-Ok.ensures.ended (c.in-Ok.ensures.stayed (λ e. cc)) refl
+    (quiet_part (about (check p)) (TaskOf (check p)) files later (λ none. cc) c.load_typed.ensures.held _ _ c.in-Ok.ensures.ended (c.in-Ok.ensures.stayed (λ e. cc)) refl
     (if_some_weaker files.held _ _
     (λ h loads. (
       prints (ok_text c.size.result),
@@ -46,7 +46,7 @@ returns-in_ok-ok_line-in-Ok g c unit =
     let p = c.args.source.now in
     let files = g.F.Files.seen c.args.files.now in
     let later = g.F.Files.seen c.load_typed.new.files in
-    quiet_whole (about (check p)) (CheckTask p) files later (λ none. cc) c.load_typed.ensures.held _ _ c.in-Ok.ensures.ended (c.in-Ok.ensures.stayed (λ e. cc)) refl (inl refl)
+    quiet_whole (about (check p)) (TaskOf (check p)) files later (λ none. cc) c.load_typed.ensures.held _ _ c.in-Ok.ensures.ended (c.in-Ok.ensures.stayed (λ e. cc)) refl (inl refl)
     (ok_text c.size.result)
     (if_some_weaker files.held _ _
     (λ h loads. (prints (ok_text c.size.result), sized p h c.in-Ok.program c.size.result loads c.size.ensures.size, (refl, refl))) c.in-Ok.ensures.loads)

@@ -8,7 +8,7 @@ use Rattle.image_file.specs.Image.{image_of}
 use Rattle.command_meaning.specs.Abouts.{about, source_word}
 use Rattle.command_meaning.specs.GraphsOf.{image_answer}
 use Rattle.command_meaning.specs.Kinds.{compiles as compiles_to}
-use Rattle.vcp_core.specs.Tasks.{CompileTask}
+use Rattle.vcp_core.specs.Tasks.{TaskOf}
 use Rattle.vcp_core.proofs.Performing.{file_takes, files_wanted, quiet_lost, quiet_part, quiet_whole}
 use Rattle.vcp_core.proofs.compile.compile_command.Goals as goal
 
@@ -33,7 +33,7 @@ returns-in_err-image-in-Ok g c unit =
     let later = g.F.Files.seen c.load_typed.new.files in
     let q = err_from_is_err_and c.from_residual.result c.from_residual.ensures.1 in
     rw (q.1, q.2)
-    (files_wanted (about (compile p code)) (CompileTask p code) files later (λ none. cc) c.load_typed.ensures.held _ (c.in-Ok.ensures.stayed (λ e. cc)))
+    (files_wanted (about (compile p code)) (TaskOf (compile p code)) files later (λ none. cc) c.load_typed.ensures.held _ (c.in-Ok.ensures.stayed (λ e. cc)))
 
 pub returns-in_err-write_all-in-Ok : goal.returns-in_err-write_all-in-Ok
 returns-in_err-write_all-in-Ok g c unit =
@@ -44,7 +44,7 @@ returns-in_err-write_all-in-Ok g c unit =
     let q = err_from_is_err_and c.from_residual-in_err-write_all-in-Ok.result c.from_residual-in_err-write_all-in-Ok.ensures.1 in
     let (graph, may, is) = c.in_ok-image-in-Ok.ensures in
     rw (q.1, q.2)
-    (quiet_part (about (compile p code)) (CompileTask p code) files later (λ none. cc) c.load_typed.ensures.held _ _ c.in-Ok.ensures.ended (c.in-Ok.ensures.stayed (λ e. cc)) refl
+    (quiet_part (about (compile p code)) (TaskOf (compile p code)) files later (λ none. cc) c.load_typed.ensures.held _ _ c.in-Ok.ensures.ended (c.in-Ok.ensures.stayed (λ e. cc)) refl
     (if_some_weaker files.held _ _
     (λ h loads. (
       compiles_to c.in-Ok.program code,
@@ -61,7 +61,7 @@ returns-in_ok-write_all-in-Ok g c unit =
     let files = g.F.Files.seen c.args.files.now in
     let later = g.F.Files.seen c.load_typed.new.files in
     let (graph, may, is) = c.in_ok-image-in-Ok.ensures in
-    quiet_whole (about (compile p code)) (CompileTask p code) files later (λ none. cc) c.load_typed.ensures.held _ _ c.in-Ok.ensures.ended (c.in-Ok.ensures.stayed (λ e. cc)) refl (inl refl)
+    quiet_whole (about (compile p code)) (TaskOf (compile p code)) files later (λ none. cc) c.load_typed.ensures.held _ _ c.in-Ok.ensures.ended (c.in-Ok.ensures.stayed (λ e. cc)) refl (inl refl)
     (image_of graph code.seed code.step)
     (if_some_weaker files.held _ _
     (λ h loads. (

@@ -13,7 +13,7 @@ use Rattle.command_meaning.specs.Reports.{subject_outputs}
 use Rattle.vcp_core.specs.MachineRun.{RunsTo}
 use Rattle.vcp_core.proofs.PrintedRun.{rows-shown}
 use Rattle.vcp_inputs.specs.RowsRead.{graph_columns}
-use Rattle.vcp_core.specs.Tasks.{table_code, rows_job, ExecTask}
+use Rattle.vcp_core.specs.Tasks.{table_code, rows_job, TaskOf}
 use Rattle.vcp_core.proofs.Facts.{if_some_weaker}
 use Rattle.vcp_core.proofs.ImageLoaded.{image-carried, table-is-of, types-width}
 use Rattle.vcp_core.proofs.LoadedRows.{opened_comes, rows_may, rows_unloaded, rows_unopened}
@@ -52,7 +52,7 @@ returns-in_err-columns g c =
     let files = g.F.Files.seen c.args.files.now in
     let mid = g.F.Files.seen c.load_image.new.files in
     let q = err_from_is_err_and c.from_residual.result c.from_residual.ensures.1 in
-    rw (q.1, q.2) (files_wanted (about f) (ExecTask m rows) files mid (λ none. cc) c.load_image.ensures.held _ (c.in-Ok.ensures.stayed (λ e. cc)))
+    rw (q.1, q.2) (files_wanted (about f) (TaskOf (exec m rows)) files mid (λ none. cc) c.load_image.ensures.held _ (c.in-Ok.ensures.stayed (λ e. cc)))
 
 -- ---- there is nothing of ROWS
 
@@ -110,11 +110,11 @@ returns-in-Ok-open g c =
     (image-carried c.in-Ok.loaded.graph c.in-Ok.loaded.table c.in-Ok-open.rows c.in-Ok.ensures.table)
     (rows-shown _ _ (image c.in-Ok.loaded.graph) (table_code c.in-Ok.loaded.table) c.in-Ok-open.rows (rows_name rows) c.in-Ok.loaded.graph) in
     rw (c.run_ended.ensures.line, c.run_ended.ensures.status, c.rows_name-name.ensures)
-    (files_run (about f) (ExecTask m rows) files later (λ none. cc) (c.load_rows.ensures.held ∙ c.load_image.ensures.held) (inr (inl refl)) before after
+    (files_run (about f) (TaskOf (exec m rows)) files later (λ none. cc) (c.load_rows.ensures.held ∙ c.load_image.ensures.held) (inr (inl refl)) before after
     (rows_name rows)
     c.run_printed.result (λ e is. run_ends e)
     (if_some_weaker files.held _ _
-    (λ h comes. ran (about f) files later before after (ExecTask m rows h) j c.run_printed.result refl comes c.run_printed.ensures.causes.write ended)
+    (λ h comes. ran (about f) files later before after (TaskOf (exec m rows) h) j c.run_printed.result refl comes c.run_printed.ensures.causes.write ended)
     (opened_comes ImageOf NotImage (λ i. graph_columns i.graph) (about f) (image_word m) rows (λ none. cc) (inr (inl refl)) (λ w among. inr among)
     (λ n among. among) (λ h i left x. x ≡ runs_to (rows_job (rows_name rows) (table_code i.table) (image i.graph) left))
     files mid later c.in-Ok.loaded c.in_ok-columns.columns

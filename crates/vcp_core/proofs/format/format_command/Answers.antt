@@ -7,7 +7,7 @@ use Rattle.vcp_core.proofs.Facts.{if_some_weaker}
 use Rattle.command_meaning.specs.Abouts.{about, source_word}
 use Rattle.command_meaning.specs.Answer.{printed as printed_answer}
 use Rattle.command_meaning.specs.Kinds.{prints}
-use Rattle.vcp_core.specs.Tasks.{FormatTask}
+use Rattle.vcp_core.specs.Tasks.{TaskOf}
 use Rattle.vcp_core.proofs.Performing.{file_takes, files_wanted, quiet_lost, quiet_part, quiet_whole}
 use Rattle.st_tree.specs.ProgramViews.{program_tree}
 use Rattle.st_writer.specs.CanonicalProgram.{canonical}
@@ -32,7 +32,7 @@ returns-in_err-text-in-Ok g c unit =
     let later = g.F.Files.seen c.load_program.new.files in
     let q = err_from_is_err_and c.from_residual.result c.from_residual.ensures.1 in
     rw (q.1, q.2)
-    (files_wanted (about (format p)) (FormatTask p) files later (λ none. cc) c.load_program.ensures.held _ (c.in-Ok.ensures.stayed (λ e. cc)))
+    (files_wanted (about (format p)) (TaskOf (format p)) files later (λ none. cc) c.load_program.ensures.held _ (c.in-Ok.ensures.stayed (λ e. cc)))
 
 pub returns-in_err-write_all-in-Ok : goal.returns-in_err-write_all-in-Ok
 returns-in_err-write_all-in-Ok g c unit =
@@ -41,7 +41,7 @@ returns-in_err-write_all-in-Ok g c unit =
     let later = g.F.Files.seen c.load_program.new.files in
     let q = err_from_is_err_and c.from_residual-in_err-write_all-in-Ok.result c.from_residual-in_err-write_all-in-Ok.ensures.1 in
     rw (q.1, q.2)
-    (quiet_part (about (format p)) (FormatTask p) files later (λ none. cc) c.load_program.ensures.held _ _ c.in-Ok.ensures.ended (c.in-Ok.ensures.stayed (λ e. cc)) refl
+    (quiet_part (about (format p)) (TaskOf (format p)) files later (λ none. cc) c.load_program.ensures.held _ _ c.in-Ok.ensures.ended (c.in-Ok.ensures.stayed (λ e. cc)) refl
     (if_some_weaker files.held _ _
     (λ h loads. (
       prints (canonical (program_tree c.in-Ok.program)),
@@ -64,7 +64,7 @@ returns-in_ok-write_all-in-Ok g c unit =
     let p = c.args.source.now in
     let files = g.F.Files.seen c.args.files.now in
     let later = g.F.Files.seen c.load_program.new.files in
-    quiet_whole (about (format p)) (FormatTask p) files later (λ none. cc) c.load_program.ensures.held _ _ c.in-Ok.ensures.ended (c.in-Ok.ensures.stayed (λ e. cc)) refl (inl refl)
+    quiet_whole (about (format p)) (TaskOf (format p)) files later (λ none. cc) c.load_program.ensures.held _ _ c.in-Ok.ensures.ended (c.in-Ok.ensures.stayed (λ e. cc)) refl (inl refl)
     (canonical (program_tree c.in-Ok.program))
     (if_some_weaker files.held _ _
     (λ h loads. (

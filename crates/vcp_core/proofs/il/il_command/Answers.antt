@@ -15,7 +15,7 @@ use Rattle.command_meaning.specs.Kinds.{runs as runs_to}
 use Rattle.command_meaning.specs.Printing.{every_row, no_words}
 use Rattle.command_meaning.specs.Reports.{subject_outputs}
 use Rattle.vcp_core.proofs.PrintedRun.{rows-shown}
-use Rattle.vcp_core.specs.Tasks.{rows_job, IlTask}
+use Rattle.vcp_core.specs.Tasks.{rows_job, TaskOf}
 use Rattle.vcp_core.proofs.Facts.{if_some_both}
 use Rattle.vcp_core.proofs.ListedRuns.{RunsHeld, il_by, il_comes, stands_listed}
 use Rattle.vcp_core.proofs.TwoChannels.{performs_by}
@@ -39,7 +39,7 @@ returns-in-Err g c =
     let files = g.F.Files.seen c.args.files.now in
     let mid = g.F.Files.seen c.load_il.new.files in
     rw c.bytes.ensures
-    (performs_by (about f) _ (IlTask p rows code) (il_by p rows code) files mid _ _ _ _
+    (performs_by (about f) _ (TaskOf (il p rows code)) (il_by p rows code) files mid _ _ _ _
     (quiet_lost (about f) IsTypedIl NotListing (λ h t. TakenRows (RunsHeld p rows code h) rows h (input_columns t.slots)) (listing_word p) files mid _
     c.in-Err.input (inl refl) (λ none. cc) (inr (inl refl)) c.load_il.ensures.held
     c.in-Err.ensures.loads (λ r is. c.in-Err.ensures.whole r (ap Err is)) (λ is. c.in-Err.ensures.left (ap Err is))
@@ -55,7 +55,7 @@ returns-in_err-columns g c =
     let files = g.F.Files.seen c.args.files.now in
     let mid = g.F.Files.seen c.load_il.new.files in
     let q = err_from_is_err_and c.from_residual.result c.from_residual.ensures.1 in
-    rw (q.1, q.2) (files_wanted (about f) (IlTask p rows code) files mid (λ none. cc) c.load_il.ensures.held _ (c.in-Ok.ensures.stayed (λ e. cc)))
+    rw (q.1, q.2) (files_wanted (about f) (TaskOf (il p rows code)) files mid (λ none. cc) c.load_il.ensures.held _ (c.in-Ok.ensures.stayed (λ e. cc)))
 
 -- ---- there is nothing of ROWS
 
@@ -69,7 +69,7 @@ returns-in-Err-load_rows g c =
     let mid = g.F.Files.seen c.load_il.new.files in
     let later = g.F.Files.seen c.load_rows.new.files in
     rw c.rows_name-name.ensures
-    (performs_by (about f) _ (IlTask p rows code) (il_by p rows code) files later _ _ _ _
+    (performs_by (about f) _ (TaskOf (il p rows code)) (il_by p rows code) files later _ _ _ _
     (rows_unloaded IsTypedIl NotListing (λ t. input_columns t.slots) (about f) (listing_word p) rows (λ none. cc) (inr (inl refl)) (λ w among. inr among)
     (λ n among. among) (λ h t. RunsHeld p rows code h)
     files mid later c.in-Ok.program c.in_ok-columns.columns
@@ -90,7 +90,7 @@ returns g c =
     let mid = g.F.Files.seen c.load_il.new.files in
     let later = g.F.Files.seen c.load_rows.new.files in
     rw c.rows_name-name.ensures
-    (performs_by (about f) _ (IlTask p rows code) (il_by p rows code) files later _ _ _ _
+    (performs_by (about f) _ (TaskOf (il p rows code)) (il_by p rows code) files later _ _ _ _
     (rows_unopened IsTypedIl NotListing (λ t. input_columns t.slots) (about f) (listing_word p) rows (λ none. cc) (inr (inl refl)) (λ w among. inr among)
     (λ n among. among) (λ h t. RunsHeld p rows code h)
     files mid later c.in-Ok.program c.in_ok-columns.columns
@@ -115,12 +115,12 @@ returns-in-Ok-open g c =
     let after = moment (g.U.Unit.seen c.run_program.new.unit) (g.O.Sink.seen c.run_program.new.out) in
     let o = source_outcome c.in-Ok-load_rows.inputs c.in_ok-columns.columns in
     rw (c.run_ended.ensures.line, c.run_ended.ensures.status, c.rows_name-name.ensures)
-    (files_run (about f) (IlTask p rows code) files later (λ none. cc) (c.load_rows.ensures.held ∙ c.load_il.ensures.held) (inr (inl refl)) before
+    (files_run (about f) (TaskOf (il p rows code)) files later (λ none. cc) (c.load_rows.ensures.held ∙ c.load_il.ensures.held) (inr (inl refl)) before
     after (rows_name rows)
     c.run_program.result (λ e is. run_ends e)
     (if_some_both files.held mid.held _ _ _ c.load_il.ensures.held
     (λ h (text, found, few, (i, is, same)) outcome.
-    ran (about f) files later before after (IlTask p rows code h) (rows_job (rows_name rows) code (listed i) left) c.run_program.result refl
+    ran (about f) files later before after (TaskOf (il p rows code) h) (rows_job (rows_name rows) code (listed i) left) c.run_program.result refl
     (il_comes p rows code h text i c.in-Ok.program c.in_ok-columns.columns o (runs_to (rows_job (rows_name rows) code (listed i) left)) found few is same
     c.in_ok-columns.ensures.columns outcome
     (subst (λ x. OnRows (rows_name rows) (λ l y. y ≡ runs_to (rows_job (rows_name rows) code (listed i) l)) x

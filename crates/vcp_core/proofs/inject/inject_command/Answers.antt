@@ -13,7 +13,7 @@ use Rattle.command_meaning.specs.Abouts.{about, image_word, script_word}
 use Rattle.command_meaning.specs.FileTasks.{TakenRows}
 use Rattle.machine_run.specs.Moments.{moment}
 use Rattle.vcp_inputs.specs.RowsRead.{graph_columns}
-use Rattle.vcp_core.specs.Tasks.{InjectTask}
+use Rattle.vcp_core.specs.Tasks.{TaskOf}
 use Rattle.vcp_core.proofs.Facts.{if_some_always, if_some_weaker, if_some_both, if_some_same, if_some_when}
 use Rattle.vcp_core.proofs.ImageLoaded.{table-is-of}
 use Rattle.vcp_core.proofs.JudgedTasks.{LoadsAt, OnLeft, campaign_of, campaign_performs, groups_come as groups_come_to, judged_to as judged_so_far, judged_whole as judged_all, lost_for, rows_are_read, rows_lost as rows_lost_all, rows_named, script_lost as script_lost_all, script_named as script_named_of, script_taken as script_taken_all}
@@ -50,7 +50,7 @@ returns-in_err-columns g c =
     let files = g.F.Files.seen c.args.files.now in
     let mid = g.F.Files.seen c.load_image.new.files in
     let q = err_from_is_err_and c.from_residual.result c.from_residual.ensures.1 in
-    rw (q.1, q.2) (files_wanted (about f) (InjectTask m rows s) files mid (λ none. cc) c.load_image.ensures.held _ (c.in-Ok.ensures.stayed (λ e. cc)))
+    rw (q.1, q.2) (files_wanted (about f) (TaskOf (inject m rows s)) files mid (λ none. cc) c.load_image.ensures.held _ (c.in-Ok.ensures.stayed (λ e. cc)))
 
 -- ---- there is nothing of ROWS
 
@@ -88,7 +88,7 @@ returns-in-Err-all_rows g c =
     let end = c.in-Ok-load_rows.ensures.ended c.in-Ok.ensures.ended in
     let e = c.in-Err-all_rows.input in
     rw c.rows_name-name.ensures
-    (files_lost (about f) (InjectTask m rows s) files later (λ none. cc) (c.load_rows.ensures.held ∙ c.load_image.ensures.held) (inr (inl refl)) _
+    (files_lost (about f) (TaskOf (inject m rows s)) files later (λ none. cc) (c.load_rows.ensures.held ∙ c.load_image.ensures.held) (inr (inl refl)) _
     (rows_name rows) e
     (if_some_weaker files.held (LoadsAt m rows i o) _ (λ h (l, same). rows_lost_all m rows s h files later i o l same _ e c.in-Err-all_rows.ensures.fault)
     (if_some_both files.held mid.held _ (λ h. rows_outcome rows h c.in_ok-columns.columns ≡ o) (LoadsAt m rows i o) c.load_image.ensures.held
@@ -115,7 +115,7 @@ returns-in-Err-load_script g c =
     let end = c.in-Ok-load_rows.ensures.ended c.in-Ok.ensures.ended in
     let e = c.in-Err-load_script.input in
     rw c.bytes-in-Err-load_script.ensures
-    (files_lost (about f) (InjectTask m rows s) files final (λ none. cc)
+    (files_lost (about f) (TaskOf (inject m rows s)) files final (λ none. cc)
     (c.load_script.ensures.held ∙ c.load_rows.ensures.held ∙ c.load_image.ensures.held) (inr (inl refl)) _ s e
     (if_some_both files.held later.held (LoadsAt m rows i o) _ _ (c.load_rows.ensures.held ∙ c.load_image.ensures.held)
     (λ h (l, same) lost. script_lost_all m rows s h files final i o l same c.in-Ok-all_rows.list c.in-Ok-all_rows.ensures.rows _ e
@@ -153,7 +153,7 @@ returns-in_err-run_campaign g c =
     let q = err_from_is_err_and c.from_residual-in_err-run_campaign.result c.from_residual-in_err-run_campaign.ensures.1 in
     let e = c.in_err-run_campaign.field-0.0 in
     rw (q.1, q.2)
-    (campaign_performs (about f) (InjectTask m rows s) files final (λ none. cc)
+    (campaign_performs (about f) (TaskOf (inject m rows s)) files final (λ none. cc)
     (c.load_script.ensures.held ∙ c.load_rows.ensures.held ∙ c.load_image.ensures.held) before after
     c.in-Ok-load_script.ensures.ended (c.in-Ok-load_script.ensures.stayed (λ e. cc) ∙ (c.in-Ok-load_rows.ensures.stayed (λ e. cc) ∙ c.in-Ok.ensures.stayed (λ e. cc))) (λ no. absurd cc) e
     (if_some_both files.held later.held (LoadsAt m rows i o) _ _ (c.load_rows.ensures.held ∙ c.load_image.ensures.held)
@@ -182,7 +182,7 @@ returns g c =
     let end = c.in-Ok-load_rows.ensures.ended c.in-Ok.ensures.ended in
     let before = moment (g.U.Unit.seen c.args.unit.now) (g.O.Sink.seen c.args.out.now) in
     let after = moment (g.U.Unit.seen c.run_campaign.new.unit) (g.O.Sink.seen c.run_campaign.new.out) in
-    whole_performs (about f) (InjectTask m rows s) files final (λ none. cc)
+    whole_performs (about f) (TaskOf (inject m rows s)) files final (λ none. cc)
     (c.load_script.ensures.held ∙ c.load_rows.ensures.held ∙ c.load_image.ensures.held) before after
     c.in-Ok-load_script.ensures.ended (c.in-Ok-load_script.ensures.stayed (λ e. cc) ∙ (c.in-Ok-load_rows.ensures.stayed (λ e. cc) ∙ c.in-Ok.ensures.stayed (λ e. cc))) (inl refl) (λ no. absurd cc)
     (if_some_both files.held later.held (LoadsAt m rows i o) _ _ (c.load_rows.ensures.held ∙ c.load_image.ensures.held)

@@ -6,7 +6,7 @@ use Rattle.vcp_core.proofs.ImageLoaded.{corrections-long, table-is-of}
 use Rattle.command_meaning.specs.Abouts.{about, image_word}
 use Rattle.command_meaning.specs.Answer.{printed as printed_answer}
 use Rattle.command_meaning.specs.Kinds.{prints}
-use Rattle.vcp_core.specs.Tasks.{ListTask, listing}
+use Rattle.vcp_core.specs.Tasks.{listing, TaskOf}
 use Rattle.vcp_core.proofs.Performing.{file_takes, quiet_lost, quiet_part, quiet_whole}
 use Rattle.vcp_base.specs.Limits.{most_image_bytes}
 use Rattle.vcp_inputs.specs.Images.{ImageOf, NotImage}
@@ -35,7 +35,7 @@ returns-in_err-list_operations-in-Ok g c unit =
     let later = g.F.Files.seen c.load_image.new.files in
     let q = err_from_is_err_and c.from_residual.result c.from_residual.ensures.1 in
     rw (q.1, q.2)
-    (quiet_part (about (list m)) (ListTask m) files later (λ none. cc) c.load_image.ensures.held _ _ c.in-Ok.ensures.ended (c.in-Ok.ensures.stayed (λ e. cc)) refl
+    (quiet_part (about (list m)) (TaskOf (list m)) files later (λ none. cc) c.load_image.ensures.held _ _ c.in-Ok.ensures.ended (c.in-Ok.ensures.stayed (λ e. cc)) refl
     (if_some_weaker files.held _ _
     (λ h loads. (
       prints (listing c.in-Ok.loaded.graph c.in-Ok.loaded.table),
@@ -51,7 +51,7 @@ returns-in_ok-list_operations-in-Ok g c unit =
     let m = c.args.image.now in
     let files = g.F.Files.seen c.args.files.now in
     let later = g.F.Files.seen c.load_image.new.files in
-    quiet_whole (about (list m)) (ListTask m) files later (λ none. cc) c.load_image.ensures.held _ _ c.in-Ok.ensures.ended (c.in-Ok.ensures.stayed (λ e. cc)) refl (inl refl)
+    quiet_whole (about (list m)) (TaskOf (list m)) files later (λ none. cc) c.load_image.ensures.held _ _ c.in-Ok.ensures.ended (c.in-Ok.ensures.stayed (λ e. cc)) refl (inl refl)
     (listing c.in-Ok.loaded.graph c.in-Ok.loaded.table)
     (if_some_weaker files.held _ _
     (λ h loads. (

@@ -10,7 +10,7 @@ use Rattle.command_meaning.specs.Abouts.{about, image_word}
 use Rattle.command_meaning.specs.Kinds.{compares}
 use Rattle.vcp_core.specs.ChannelsRun.{ComparesTo}
 use Rattle.vcp_inputs.specs.RowsRead.{graph_columns}
-use Rattle.vcp_core.specs.Tasks.{Apart, Compared, PairTask, pair_job}
+use Rattle.vcp_core.specs.Tasks.{Apart, Compared, pair_job, TaskOf}
 use Rattle.vcp_core.proofs.TwoChannels.{ApartImage, Comparing, apart_comes, compared, loads_apart, performs_by, seed_refused}
 use Rattle.vcp_core.proofs.Facts.{if_some_always, if_some_weaker}
 use Rattle.vcp_core.proofs.ImageLoaded.{types-width}
@@ -48,7 +48,7 @@ returns-in_err-columns g c =
     let files = g.F.Files.seen c.args.files.now in
     let mid = g.F.Files.seen c.load_image.new.files in
     let q = err_from_is_err_and c.from_residual.result c.from_residual.ensures.1 in
-    rw (q.1, q.2) (files_wanted (about f) (PairTask m rows c.args.seed) files mid (λ none. cc) c.load_image.ensures.held _ (c.in-Ok.ensures.stayed (λ e. cc)))
+    rw (q.1, q.2) (files_wanted (about f) (TaskOf (pair m rows c.args.seed)) files mid (λ none. cc) c.load_image.ensures.held _ (c.in-Ok.ensures.stayed (λ e. cc)))
 
 pub returns-then-seed : goal.returns-then-seed
 returns-then-seed g c =
@@ -60,10 +60,10 @@ returns-then-seed g c =
     let mid = g.F.Files.seen c.load_image.new.files in
     let same : seed ≡ c.in-Ok.loaded.table.seed = sym (sym c.seed.ensures.value ∙ c.if-seed.true) in
     rw c.bytes-then-seed.ensures
-    (files_lost (about f) (PairTask m rows seed) files mid (λ none. cc) c.load_image.ensures.held (inr (inl refl)) _ m (input.Refused refusal.Seed)
+    (files_lost (about f) (TaskOf (pair m rows seed)) files mid (λ none. cc) c.load_image.ensures.held (inr (inl refl)) _ m (input.Refused refusal.Seed)
     (if_some_weaker files.held _ _ (λ h loads. seed_refused m rows seed h c.in-Ok.loaded files mid _ loads same) c.in-Ok.ensures.loads)
     (λ is. if_some_always files.held _ (λ h. inl c.in-Ok.ensures.ended)) (λ is. cc)
-    (λ no. c.in-Ok.ensures.stayed (λ e. cc)) (λ is. absurd cc) tt (inl (image_word m, inl refl, refl)))
+    (λ no. c.in-Ok.ensures.stayed (λ e. cc)) (λ is. absurd cc) refl (inl (image_word m, inl refl, refl)))
 
 -- ---- there is nothing of ROWS
 
@@ -78,7 +78,7 @@ returns-in-Err-load_rows g c =
     let later = g.F.Files.seen c.load_rows.new.files in
     let apart : seed ≢ c.in-Ok.loaded.table.seed = λ same. c.if-seed.false (c.seed.ensures.value ∙ sym same) in
     rw c.rows_name-name.ensures
-    (performs_by (about f) _ (PairTask m rows seed) (apart_comes m rows seed) files later _ _ _ _
+    (performs_by (about f) _ (TaskOf (pair m rows seed)) (apart_comes m rows seed) files later _ _ _ _
     (rows_unloaded (ApartImage seed) NotImage (λ i. graph_columns i.graph) (about f) (image_word m) rows (λ none. cc) (inr (inl refl)) (λ w among. inr among)
     (λ n among. among) (Comparing rows)
     files mid later c.in-Ok.loaded c.in_ok-columns.columns
@@ -101,7 +101,7 @@ returns g c =
     let later = g.F.Files.seen c.load_rows.new.files in
     let apart : seed ≢ c.in-Ok.loaded.table.seed = λ same. c.if-seed.false (c.seed.ensures.value ∙ sym same) in
     rw c.rows_name-name.ensures
-    (performs_by (about f) _ (PairTask m rows seed) (apart_comes m rows seed) files later _ _ _ _
+    (performs_by (about f) _ (TaskOf (pair m rows seed)) (apart_comes m rows seed) files later _ _ _ _
     (rows_unopened (ApartImage seed) NotImage (λ i. graph_columns i.graph) (about f) (image_word m) rows (λ none. cc) (inr (inl refl)) (λ w among. inr among)
     (λ n among. among) (Comparing rows)
     files mid later c.in-Ok.loaded c.in_ok-columns.columns
@@ -128,11 +128,11 @@ returns-in-Ok-open g c =
     let after = moment (g.U.Unit.seen c.run_channels.new.unit) (g.O.Sink.seen c.run_channels.new.out) in
     let ended : ComparesTo j before after c.run_channels.result = c.run_channels.ensures.ran (rows_name rows) in
     rw (c.run_ended.ensures.line, c.run_ended.ensures.status, c.rows_name-name.ensures)
-    (files_run (about f) (PairTask m rows seed) files later (λ none. cc) (c.load_rows.ensures.held ∙ c.load_image.ensures.held) (inr (inl refl)) before after
+    (files_run (about f) (TaskOf (pair m rows seed)) files later (λ none. cc) (c.load_rows.ensures.held ∙ c.load_image.ensures.held) (inr (inl refl)) before after
     (rows_name rows)
     c.run_channels.result (λ e is. run_ends e)
     (if_some_weaker files.held _ _
-    (λ h comes. compared j before after (about f) (PairTask m rows seed h) files later c.run_channels.result refl
+    (λ h comes. compared j before after (about f) (TaskOf (pair m rows seed) h) files later c.run_channels.result refl
     (apart_comes m rows seed h (compares j) comes) c.run_channels.ensures.causes.write ended)
     (opened_comes (ApartImage seed) NotImage (λ i. graph_columns i.graph) (about f) (image_word m) rows (λ none. cc) (inr (inl refl)) (λ w among. inr among)
     (λ n among. among) (Comparing rows)

@@ -13,7 +13,7 @@ use Rattle.vcp_inputs.specs.Scripts.{NotScript}
 use Rattle.command_meaning.specs.Abouts.{about, image_word, script_word}
 use Rattle.machine_run.specs.Moments.{moment}
 use Rattle.vcp_inputs.specs.RowsRead.{graph_columns}
-use Rattle.vcp_core.specs.Tasks.{Apart, PairsRows, PairsTask}
+use Rattle.vcp_core.specs.Tasks.{Apart, PairsRows, TaskOf}
 use Rattle.vcp_core.proofs.Facts.{if_some_always, if_some_weaker, if_some_both, if_some_same, if_some_when}
 use Rattle.vcp_core.proofs.PairsTasks.{LoadsAt, OnLeft, groups_come as groups_come_to, pairs_to as pairs_so_far, pairs_whole as pairs_all, none_is_read, rows_lost as rows_lost_all, rows_named, script_lost as script_lost_all, script_named as script_named_of, script_taken as script_taken_all}
 use Rattle.vcp_core.proofs.ImageLoaded.{table-is-of}
@@ -58,11 +58,11 @@ returns-then-seed g c =
     let mid = g.F.Files.seen c.load_image.new.files in
     let same : seed ≡ c.in-Ok.loaded.table.seed = sym c.if-seed.true ∙ c.seed.ensures.value in
     rw c.bytes-then-seed.ensures
-    (files_lost (about f) (PairsTask m rows seed s) files mid (λ none. cc) c.load_image.ensures.held (inr (inl refl)) _ m (input.Refused refusal.Seed)
+    (files_lost (about f) (TaskOf (pairs m rows seed s)) files mid (λ none. cc) c.load_image.ensures.held (inr (inl refl)) _ m (input.Refused refusal.Seed)
     (if_some_weaker files.held _ _
     (λ h loads. seeds_same (about f) m seed (PairsRows rows s h) h c.in-Ok.loaded files mid _ loads same) c.in-Ok.ensures.loads)
     (λ is. if_some_always files.held _ (λ h. inl c.in-Ok.ensures.ended)) (λ is. cc)
-    (λ no. c.in-Ok.ensures.stayed (λ e. cc)) (λ is. absurd cc) tt (inl (image_word m, inl refl, refl)))
+    (λ no. c.in-Ok.ensures.stayed (λ e. cc)) (λ is. absurd cc) refl (inl (image_word m, inl refl, refl)))
 
 pub returns-in_err-columns : goal.returns-in_err-columns
 returns-in_err-columns g c =
@@ -74,7 +74,7 @@ returns-in_err-columns g c =
     let files = g.F.Files.seen c.args.files.now in
     let mid = g.F.Files.seen c.load_image.new.files in
     let q = err_from_is_err_and c.from_residual.result c.from_residual.ensures.1 in
-    rw (q.1, q.2) (files_wanted (about f) (PairsTask m rows seed s) files mid (λ none. cc) c.load_image.ensures.held _ (c.in-Ok.ensures.stayed (λ e. cc)))
+    rw (q.1, q.2) (files_wanted (about f) (TaskOf (pairs m rows seed s)) files mid (λ none. cc) c.load_image.ensures.held _ (c.in-Ok.ensures.stayed (λ e. cc)))
 
 -- ---- there is nothing of ROWS
 
@@ -90,7 +90,7 @@ returns-in-Err-load_rows g c =
     let later = g.F.Files.seen c.load_rows.new.files in
     let apart : seed ≢ c.in-Ok.loaded.table.seed = λ same. c.if-seed.false (c.seed.ensures.value ∙ sym same) in
     rw c.rows_name-name.ensures
-    (performs_by (about f) _ (PairsTask m rows seed s) (λ h task. apart_by m seed (PairsRows rows s h) (h m) task) files later _ _ _ _
+    (performs_by (about f) _ (TaskOf (pairs m rows seed s)) (λ h task. apart_by m seed (PairsRows rows s h) (h m) task) files later _ _ _ _
     (rows_unloaded (ApartImage seed) NotImage (λ i. graph_columns i.graph) (about f) (image_word m) rows (λ none. cc) (inr (inl refl))
     (rows_named m rows seed s) (λ n among. among) (λ h. OnLeft rows s h)
     files mid later c.in-Ok.loaded c.in_ok-columns.columns
@@ -118,7 +118,7 @@ returns-in-Err-whole_rows g c =
     let apart : seed ≢ c.in-Ok.loaded.table.seed = λ same. c.if-seed.false (c.seed.ensures.value ∙ sym same) in
     let e = c.in-Err-whole_rows.input in
     rw c.rows_name-name.ensures
-    (files_lost (about f) (PairsTask m rows seed s) files later (λ none. cc) (c.load_rows.ensures.held ∙ c.load_image.ensures.held) (inr (inl refl)) _
+    (files_lost (about f) (TaskOf (pairs m rows seed s)) files later (λ none. cc) (c.load_rows.ensures.held ∙ c.load_image.ensures.held) (inr (inl refl)) _
     (rows_name rows) e
     (if_some_weaker files.held (LoadsAt m rows i o) _
     (λ h (l, same). rows_lost_all m rows seed s h files later i apart o l same _ e c.in-Err-whole_rows.ensures.fault)
@@ -148,7 +148,7 @@ returns-in-Err-load_script g c =
     let apart : seed ≢ c.in-Ok.loaded.table.seed = λ same. c.if-seed.false (c.seed.ensures.value ∙ sym same) in
     let e = c.in-Err-load_script.input in
     rw c.bytes-in-Err-load_script.ensures
-    (files_lost (about f) (PairsTask m rows seed s) files final (λ none. cc)
+    (files_lost (about f) (TaskOf (pairs m rows seed s)) files final (λ none. cc)
     (c.load_script.ensures.held ∙ c.load_rows.ensures.held ∙ c.load_image.ensures.held) (inr (inl refl)) _ s e
     (if_some_both files.held later.held (LoadsAt m rows i o) _ _ (c.load_rows.ensures.held ∙ c.load_image.ensures.held)
     (λ h (l, same) lost. script_lost_all m rows seed s h files final i apart o l same c.in-Ok-whole_rows.list c.in-Ok-whole_rows.ensures.rows _ e
@@ -182,7 +182,7 @@ returns-in_err-other g c =
     let final = g.F.Files.seen c.load_script.new.files in
     let q = err_from_is_err_and c.from_residual-in_err-other.result c.from_residual-in_err-other.ensures.1 in
     rw (q.1, q.2)
-    (files_wanted (about f) (PairsTask m rows seed s) files final (λ none. cc)
+    (files_wanted (about f) (TaskOf (pairs m rows seed s)) files final (λ none. cc)
     (c.load_script.ensures.held ∙ c.load_rows.ensures.held ∙ c.load_image.ensures.held) _ (c.in-Ok-load_script.ensures.stayed (λ e. cc) ∙ (c.in-Ok-load_rows.ensures.stayed (λ e. cc) ∙ c.in-Ok.ensures.stayed (λ e. cc))))
 
 pub returns-in_err-run_pairs : goal.returns-in_err-run_pairs
@@ -205,7 +205,7 @@ returns-in_err-run_pairs g c =
     let q = err_from_is_err_and c.from_residual-in_err-run_pairs.result c.from_residual-in_err-run_pairs.ensures.1 in
     let e = c.in_err-run_pairs.field-0.0 in
     rw (q.1, q.2)
-    (campaign_performs (about f) (PairsTask m rows seed s) files final (λ none. cc)
+    (campaign_performs (about f) (TaskOf (pairs m rows seed s)) files final (λ none. cc)
     (c.load_script.ensures.held ∙ c.load_rows.ensures.held ∙ c.load_image.ensures.held) before after
     c.in-Ok-load_script.ensures.ended (c.in-Ok-load_script.ensures.stayed (λ e. cc) ∙ (c.in-Ok-load_rows.ensures.stayed (λ e. cc) ∙ c.in-Ok.ensures.stayed (λ e. cc))) (λ no. absurd cc) e
     (if_some_both files.held later.held (LoadsAt m rows i o) _ _ (c.load_rows.ensures.held ∙ c.load_image.ensures.held)
@@ -236,7 +236,7 @@ returns g c =
     let apart : seed ≢ c.in-Ok.loaded.table.seed = λ same. c.if-seed.false (c.seed.ensures.value ∙ sym same) in
     let before = moment (g.U.Unit.seen c.args.unit.now) (g.O.Sink.seen c.args.out.now) in
     let after = moment (g.U.Unit.seen c.run_pairs.new.unit) (g.O.Sink.seen c.run_pairs.new.out) in
-    whole_performs (about f) (PairsTask m rows seed s) files final (λ none. cc)
+    whole_performs (about f) (TaskOf (pairs m rows seed s)) files final (λ none. cc)
     (c.load_script.ensures.held ∙ c.load_rows.ensures.held ∙ c.load_image.ensures.held) before after
     c.in-Ok-load_script.ensures.ended (c.in-Ok-load_script.ensures.stayed (λ e. cc) ∙ (c.in-Ok-load_rows.ensures.stayed (λ e. cc) ∙ c.in-Ok.ensures.stayed (λ e. cc))) (inl refl) (λ no. absurd cc)
     (if_some_both files.held later.held (LoadsAt m rows i o) _ _ (c.load_rows.ensures.held ∙ c.load_image.ensures.held)

@@ -9,7 +9,7 @@ use Rattle.vcp_inputs.specs.Programs.{TypedOf, NotTyped}
 use Rattle.command_meaning.specs.Abouts.{about, source_word}
 use Rattle.command_meaning.specs.FileTasks.{TakenRows}
 use Rattle.command_meaning.specs.Kinds.{answers}
-use Rattle.vcp_core.specs.Tasks.{plain_answer as plain_answer_to, PlainTask}
+use Rattle.vcp_core.specs.Tasks.{plain_answer as plain_answer_to, TaskOf}
 use Rattle.vcp_core.proofs.Facts.{if_some_weaker}
 use Rattle.vcp_core.proofs.LoadedRows.{opened_comes, rows_may, rows_unloaded, rows_unopened}
 use Rattle.vcp_core.proofs.Performing.{files_run, files_wanted, quiet_lost}
@@ -46,7 +46,7 @@ returns-in_err-columns g c unit =
     let files = g.F.Files.seen c.args.files.now in
     let mid = g.F.Files.seen c.load_typed.new.files in
     let q = err_from_is_err_and c.from_residual.result c.from_residual.ensures.1 in
-    rw (q.1, q.2) (files_wanted (about f) (PlainTask p rows) files mid (λ none. cc) c.load_typed.ensures.held _ (c.in-Ok.ensures.stayed (λ e. cc)))
+    rw (q.1, q.2) (files_wanted (about f) (TaskOf (plain p rows)) files mid (λ none. cc) c.load_typed.ensures.held _ (c.in-Ok.ensures.stayed (λ e. cc)))
 
 -- ---- there is nothing of ROWS
 
@@ -103,11 +103,11 @@ returns-in-Ok-open g c unit =
     let after = g.O.Sink.seen c.print_run.new.out in
     let prints = c.print_run.ensures.prints in
     rw (c.run_ended.ensures.line, c.run_ended.ensures.status, c.rows_name-name.ensures)
-    (files_run (about f) (PlainTask p rows) files later (λ none. cc) (c.load_rows.ensures.held ∙ c.load_typed.ensures.held) (inr (inl refl))
+    (files_run (about f) (TaskOf (plain p rows)) files later (λ none. cc) (c.load_rows.ensures.held ∙ c.load_typed.ensures.held) (inr (inl refl))
     (moment unit before)
     (moment unit after) (rows_name rows) r (plain_ends t left before after r prints)
     (if_some_weaker files.held _ _
-    (λ h comes. plain_reaches t left before after p rows (PlainTask p rows h) files later unit comes r prints c.print_run.ensures.write)
+    (λ h comes. plain_reaches t left before after p rows (TaskOf (plain p rows) h) files later unit comes r prints c.print_run.ensures.write)
     (opened_comes TypedOf NotTyped (λ t. input_columns t.slots) (about f) (source_word p) rows (λ none. cc) (inr (inl refl)) (λ w among. inr among)
     (λ n among. among) (λ h t left x. x ≡ answers (plain_answer_to (rows_name rows) t left))
     files mid later c.in-Ok.program c.in_ok-columns.columns

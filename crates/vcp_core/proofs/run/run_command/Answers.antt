@@ -15,7 +15,7 @@ use Rattle.command_meaning.specs.Reports.{subject_outputs}
 use Rattle.vcp_core.specs.MachineRun.{RunsTo}
 use Rattle.vcp_core.proofs.JobFacts.{as-itself}
 use Rattle.vcp_core.proofs.PrintedRun.{rows-shown}
-use Rattle.vcp_core.specs.Tasks.{rows_job, RunTask}
+use Rattle.vcp_core.specs.Tasks.{rows_job, TaskOf}
 use Rattle.vcp_core.proofs.Facts.{if_some_weaker}
 use Rattle.vcp_core.proofs.LoadedRows.{opened_comes, rows_may, rows_unloaded, rows_unopened}
 use Rattle.vcp_core.proofs.Performing.{files_run, files_wanted, quiet_lost, ran, run_ends}
@@ -53,7 +53,7 @@ returns-in_err-columns g c =
     let files = g.F.Files.seen c.args.files.now in
     let mid = g.F.Files.seen c.load_typed.new.files in
     let q = err_from_is_err_and c.from_residual.result c.from_residual.ensures.1 in
-    rw (q.1, q.2) (files_wanted (about f) (RunTask p rows code) files mid (λ none. cc) c.load_typed.ensures.held _ (c.in-Ok.ensures.stayed (λ e. cc)))
+    rw (q.1, q.2) (files_wanted (about f) (TaskOf (run p rows code)) files mid (λ none. cc) c.load_typed.ensures.held _ (c.in-Ok.ensures.stayed (λ e. cc)))
 
 -- ---- there is nothing of ROWS
 
@@ -113,11 +113,11 @@ returns-in-Ok-open g c =
     (every_row (subject_outputs (source c.in-Ok.program))) no_words (as-itself c.in-Ok.program c.in-Ok-open.rows)
     (rows-shown _ _ (source c.in-Ok.program) code c.in-Ok-open.rows (rows_name rows)) in
     rw (c.run_ended.ensures.line, c.run_ended.ensures.status, c.rows_name-name.ensures)
-    (files_run (about f) (RunTask p rows code) files later (λ none. cc) (c.load_rows.ensures.held ∙ c.load_typed.ensures.held) (inr (inl refl)) before
+    (files_run (about f) (TaskOf (run p rows code)) files later (λ none. cc) (c.load_rows.ensures.held ∙ c.load_typed.ensures.held) (inr (inl refl)) before
     after (rows_name rows)
     c.run_program.result (λ e is. run_ends e)
     (if_some_weaker files.held _ _
-    (λ h comes. ran (about f) files later before after (RunTask p rows code h) j c.run_program.result refl comes c.run_program.ensures.causes.write ended)
+    (λ h comes. ran (about f) files later before after (TaskOf (run p rows code) h) j c.run_program.result refl comes c.run_program.ensures.causes.write ended)
     (opened_comes TypedOf NotTyped (λ t. input_columns t.slots) (about f) (source_word p) rows (λ none. cc) (inr (inl refl)) (λ w among. inr among)
     (λ n among. among) (λ h t left x. x ≡ runs_to (rows_job (rows_name rows) code (source t) left))
     files mid later c.in-Ok.program c.in_ok-columns.columns

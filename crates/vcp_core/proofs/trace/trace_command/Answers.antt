@@ -10,7 +10,7 @@ use Rattle.command_meaning.specs.FileTasks.{TakenRows}
 use Rattle.command_meaning.specs.Kinds.{runs as runs_to}
 use Rattle.vcp_core.specs.MachineRun.{RunsTo}
 use Rattle.vcp_inputs.specs.RowsRead.{graph_columns}
-use Rattle.vcp_core.specs.Tasks.{table_code, words_job, TraceTask}
+use Rattle.vcp_core.specs.Tasks.{table_code, words_job, TaskOf}
 use Rattle.vcp_core.proofs.Facts.{if_some_weaker}
 use Rattle.vcp_core.proofs.ImageLoaded.{types-width}
 use Rattle.vcp_core.proofs.LoadedRows.{opened_comes, rows_may, rows_unloaded, rows_unopened}
@@ -58,7 +58,7 @@ returns-in_err-columns g c =
     let files = g.F.Files.seen c.args.files.now in
     let mid = g.F.Files.seen c.load_image.new.files in
     let q = err_from_is_err_and c.from_residual.result c.from_residual.ensures.1 in
-    rw (q.1, q.2) (files_wanted (about f) (TraceTask m rows n) files mid (λ none. cc) c.load_image.ensures.held _ (c.in-Ok.ensures.stayed (λ e. cc)))
+    rw (q.1, q.2) (files_wanted (about f) (TaskOf (trace m rows n)) files mid (λ none. cc) c.load_image.ensures.held _ (c.in-Ok.ensures.stayed (λ e. cc)))
 
 -- ---- there is nothing of ROWS
 
@@ -118,11 +118,11 @@ returns-in-Ok-open g c =
     subst (λ left. RunsTo (words_job (rows_name rows) n c.in-Ok.loaded.graph (table_code c.in-Ok.loaded.table) left) before after c.run_words.result)
     c.through.ensures.rows (c.run_words.ensures.ran (rows_name rows)) in
     rw (c.run_ended.ensures.line, c.run_ended.ensures.status, c.rows_name-name.ensures)
-    (files_run (about f) (TraceTask m rows n) files later (λ none. cc) (c.load_rows.ensures.held ∙ c.load_image.ensures.held) (inr (inl refl)) before after
+    (files_run (about f) (TaskOf (trace m rows n)) files later (λ none. cc) (c.load_rows.ensures.held ∙ c.load_image.ensures.held) (inr (inl refl)) before after
     (rows_name rows)
     c.run_words.result (λ e is. run_ends e)
     (if_some_weaker files.held _ _
-    (λ h comes. ran (about f) files later before after (TraceTask m rows n h) j c.run_words.result refl comes c.run_words.ensures.causes.write ended)
+    (λ h comes. ran (about f) files later before after (TaskOf (trace m rows n) h) j c.run_words.result refl comes c.run_words.ensures.causes.write ended)
     (opened_comes ImageOf NotImage (λ i. graph_columns i.graph) (about f) (image_word m) rows (λ none. cc) (inr (inl refl)) (λ w among. inr among)
     (λ n among. among) (λ h i left x. x ≡ runs_to (words_job (rows_name rows) n i.graph (table_code i.table) (through n left)))
     files mid later c.in-Ok.loaded c.in_ok-columns.columns

@@ -5,7 +5,7 @@ use Rattle.vcp_core.proofs.Facts.{if_some_weaker}
 use Rattle.command_meaning.specs.Abouts.{about, image_word}
 use Rattle.command_meaning.specs.Answer.{printed as printed_answer}
 use Rattle.command_meaning.specs.Kinds.{prints}
-use Rattle.vcp_core.specs.Tasks.{WidenTask, widened}
+use Rattle.vcp_core.specs.Tasks.{widened, TaskOf}
 use Rattle.vcp_core.proofs.Performing.{file_takes, files_wanted, quiet_lost, quiet_part, quiet_whole}
 use Rattle.vcp_base.specs.Limits.{most_image_bytes}
 use Rattle.vcp_inputs.specs.Images.{ImageOf, NotImage}
@@ -31,7 +31,7 @@ returns-in_err-wide-in-Ok g c unit =
     let later = g.F.Files.seen c.load_image.new.files in
     let q = err_from_is_err_and c.from_residual.result c.from_residual.ensures.1 in
     rw (q.1, q.2)
-    (files_wanted (about (widen m)) (WidenTask m) files later (λ none. cc) c.load_image.ensures.held _ (c.in-Ok.ensures.stayed (λ e. cc)))
+    (files_wanted (about (widen m)) (TaskOf (widen m)) files later (λ none. cc) c.load_image.ensures.held _ (c.in-Ok.ensures.stayed (λ e. cc)))
 
 pub returns-in_err-write_all-in-Ok : goal.returns-in_err-write_all-in-Ok
 returns-in_err-write_all-in-Ok g c unit =
@@ -40,7 +40,7 @@ returns-in_err-write_all-in-Ok g c unit =
     let later = g.F.Files.seen c.load_image.new.files in
     let q = err_from_is_err_and c.from_residual-in_err-write_all-in-Ok.result c.from_residual-in_err-write_all-in-Ok.ensures.1 in
     rw (q.1, q.2)
-    (quiet_part (about (widen m)) (WidenTask m) files later (λ none. cc) c.load_image.ensures.held _ _ c.in-Ok.ensures.ended (c.in-Ok.ensures.stayed (λ e. cc)) refl
+    (quiet_part (about (widen m)) (TaskOf (widen m)) files later (λ none. cc) c.load_image.ensures.held _ _ c.in-Ok.ensures.ended (c.in-Ok.ensures.stayed (λ e. cc)) refl
     (if_some_weaker files.held _ _
     (λ h loads. (
       prints (image_of (widened c.in-Ok.loaded.graph) c.in-Ok.loaded.table.seed c.in-Ok.loaded.table.step),
@@ -62,7 +62,7 @@ returns-in_ok-write_all-in-Ok g c unit =
     let m = c.args.image.now in
     let files = g.F.Files.seen c.args.files.now in
     let later = g.F.Files.seen c.load_image.new.files in
-    quiet_whole (about (widen m)) (WidenTask m) files later (λ none. cc) c.load_image.ensures.held _ _ c.in-Ok.ensures.ended (c.in-Ok.ensures.stayed (λ e. cc)) refl (inl refl)
+    quiet_whole (about (widen m)) (TaskOf (widen m)) files later (λ none. cc) c.load_image.ensures.held _ _ c.in-Ok.ensures.ended (c.in-Ok.ensures.stayed (λ e. cc)) refl (inl refl)
     (image_of (widened c.in-Ok.loaded.graph) c.in-Ok.loaded.table.seed c.in-Ok.loaded.table.step)
     (if_some_weaker files.held _ _
     (λ h loads. (

@@ -3,6 +3,9 @@ use Rattle.vcp_inputs.proofs.telling.tell_typing.Goals as goal
 pub returns-in-Duplicate : goal.returns-in-Duplicate
 returns-in-Duplicate g c = rw c.in-Duplicate.is c.tell_at.ensures
 
+pub returns-in-Unknown : goal.returns-in-Unknown
+returns-in-Unknown g c = rw c.in-Unknown.is c.tell_at-in-Unknown.ensures
+
 pub returns-in-Mismatch : goal.returns-in-Mismatch
 returns-in-Mismatch g c = rw c.in-Mismatch.is c.tell_at-in-Mismatch.ensures
 
