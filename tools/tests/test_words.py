@@ -5,6 +5,7 @@ import os
 import shutil
 import subprocess
 import sys
+import unittest
 from pathlib import Path
 from unittest import mock
 
@@ -27,12 +28,27 @@ CALLS = (
 """Calls of all tools, with `@` in the place of a file that can't be read."""
 WRITES = (("report", "a.st", "a.csv", "-o", "@"), ("lower", "a.st", "--cycle-time", "100ms", "-o", "@"))
 """Calls with `@` in the place of a file that can't be written."""
-CAMPAIGN_CALLS = (("campaign", "@", "a.csv", "skip"), ("campaign", "a.img", "@", "skip"), ("campaign", "a.img", "a.csv", "@"),
-                  ("campaign", "a.img", "skip", "--rows", "a.csv", "--rows", "@"), ("explain", "--source", "@", "inject", "a.img", "a.csv", "f.txt"))
+CAMPAIGN_CALLS = (
+    ("campaign", "@", "a.csv", "skip"), ("campaign", "a.img", "@", "skip"), ("campaign", "a.img", "a.csv", "@"), ("campaign", "a.img", "@", "flips"),
+    ("campaign", "a.img", "skip", "--rows", "a.csv", "--rows", "@"), ("campaign", "a.img", "a.csv", "skip", "--hosts", "@"),
+    ("campaign", "a.img", "a.csv", "skip", "--source", "@"), ("explain", "--source", "@", "inject", "a.img", "a.csv", "f.txt"),
+)
 CAMPAIGN_WRITES = (("campaign", "a.img", "a.csv", "f.txt", "--quiet", "--store", "@"), ("campaign", "a.img", "a.csv", "f.txt", "--quiet", "--out", "@"))
 """The same of campaigns, and of an image's verdicts."""
+EXPLAINED = (
+    ("check", "@"), ("run", "@", "a.csv"), ("run", "a.st", "@"), ("il", "@", "a.csv"), ("il", "a.st", "@"), ("compile", "@"), ("list", "@"),
+    ("exec", "a.img", "@"), ("inject", "@", "a.csv", "f.txt"), ("inject", "a.img", "@", "f.txt"), ("inject", "a.img", "a.csv", "@"), ("wire", "@"),
+)
+"""Words of vcp with `@` in the place of a file, which `explain` runs."""
 PRINTING = (("rows", "make", "a.stim"), ("rows", "stimuli", "a.csv"), ("rows", "check", "a.csv"), ("help",), ("--version",), ("rows", "--help"), ("--help",))
 """Calls that print something, and need no program."""
+UNREADABLE = ("nowhere", "folder", "nowhere/x", "a.st/x", os.fsdecode(b"no\xff"), "new\nline", "")
+UNWRITABLE = ("nodir/x.html", "folder", "a.st/x.html", "/dev/full", "/proc/x.html", "/sys/x.html")
+GARBAGE = (
+    b"", b"\0" * 99, bytes(range(256)), b'"', b"\xff\xfex\0\n\0001\0\n\0", b"VCPANBD\n", b"VCPANBD\n" + b"\xff" * 200, b"x\n" + b"9" * 5000, b"x=1\n" * 3,
+    b"begin\n" * 3, b"skip 99999999999 1\n", b"PROGRAM p " + b"(" * 3000, b"<section", b"\r\r\n", "x\n\u0663\n".encode(), b"1e5 x=\xc3\n",
+)
+"""Contents that no tool wants."""
 
 
 class Files(InFolder):
@@ -54,15 +70,40 @@ class Files(InFolder):
     @needs_program
     def test_files_that_cannot_be_read(self) -> None:
         for words in CALLS:
-            for file in ("nowhere", "folder", "nowhere/x"):
+            for file in UNREADABLE:
                 with self.subTest((words, file)):
                     self.refused(words, file)
         self.assertEqual({words[0] for words in (*CALLS, *CAMPAIGN_CALLS)}, set(TOOLS) - {"help", "version"})
 
     @needs_program
+    def test_files_with_contents_that_no_tool_wants(self) -> None:
+        self.write("a.img", self.program("compile", "a.st"))
+        self.write("f.txt", "result 0 2 add 1\n")
+        calls = [words for words in CALLS if words[0] != "evidence"]
+        calls += [("explain", *more, *words) for words in EXPLAINED for more in ((), ("--all",)) if not more or words[0] == "check"]
+        for content in GARBAGE:
+            self.write("garbage", content)
+            for words in (*calls, ("explain", "--source", "garbage", "inject", "a.img", "a.csv", "f.txt")):
+                with self.subTest((words, content[:20])):
+                    self.tool(*("garbage" if word == "@" else word for word in words), status=None)
+
+    @unittest.skipIf(hasattr(os, "geteuid") and os.geteuid() == 0, "root may read and write every file")
+    @needs_program
+    def test_files_without_permission(self) -> None:
+        self.write("shut", "x\n1\n").chmod(0)
+        (self.folder / "shut_folder").mkdir(0o555)
+        for words in CALLS:
+            with self.subTest(words):
+                self.refused(words, "shut")
+        for words in WRITES:
+            for file in ("shut", "shut_folder/x"):
+                with self.subTest((words, file)):
+                    self.refused(words, file)
+
+    @needs_program
     def test_files_that_cannot_be_written(self) -> None:
         for words in WRITES:
-            for file in ("nodir/x.html", "folder", "a.st/x.html", "/dev/full"):
+            for file in UNWRITABLE:
                 with self.subTest((words, file)):
                     self.refused(words, file)
 
@@ -71,13 +112,15 @@ class Files(InFolder):
         self.write("a.img", self.program("compile", "a.st"))
         self.write("f.txt", "result 0 2 add 1\n")
         for words in CAMPAIGN_CALLS:
-            for file in ("nowhere", "folder", "nowhere/x"):
+            for file in UNREADABLE:
                 with self.subTest((words, file)):
                     self.refused(words, file)
         for words in CAMPAIGN_WRITES:
-            for file in ("a.st", "a.st/x"):
+            for file in ("a.st", "a.st/x", "nodir/x"):
                 with self.subTest((words, file)):
                     self.refused(words, file)
+        for file in ("folder", "/dev/full"):
+            self.refused(CAMPAIGN_WRITES[0], file)
 
     def call(self, words: tuple[str, ...], more: str) -> subprocess.CompletedProcess[str]:
         """A tool as a user calls it from a shell, with some redirection, and with a buffer whatever the caller's environment says."""
