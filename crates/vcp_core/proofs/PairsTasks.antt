@@ -1,24 +1,21 @@
 -- What `pairs` comes to and how far it comes, from what reading its files and running the groups give.
-use Rattle.std.proofs.Common.{ℕ, ℤ, ◌≤◌, ◌≡◌, ◌≢◌, ◌⊎◌, inl, inr, refl, sym, ap, subst, ◌∙◌, List, [], ◌∷◌, ◌++◌, append_assoc, length, drop, Option, Some, Ok, Err}
+use Rattle.std.proofs.Common.{ℕ, ℤ, ◌≤◌, ◌≡◌, ◌≢◌, ◌⊎◌, inl, inr, refl, sym, subst, ◌∙◌, List, [], ◌∷◌, length, Option, Some, Ok, Err}
 use Rattle.std.proofs.lemmas.List.{length-map}
-use Rattle.std.specs.Io.KnownBytes.{Appends, IsAtEnd}
+use Rattle.std.specs.Io.KnownBytes.{IsAtEnd}
 use Rattle.vcp_base.specs.Limits.{most_image_bytes, most_source_bytes}
 use Rattle.coded_unit.specs.Seen.{UnitSeen}
 use Rattle.vcp_outside.specs.Counts.{Rose}
 use Rattle.vcp_outside.specs.Held.{Held}
 use Rattle.vcp_outside.specs.Seen.{FilesSeen, SinkSeen}
-use Rattle.vcp_outside.specs.Written.{AppendsFront, AppendsPart}
 use Rattle.input_rows.specs.RowsOf.{RowsLeft}
 use Rattle.machine_run.specs.Moments.{Moment, moment}
 use Rattle.fault_script.specs.declared.act.Fault.{Fault as ScriptedFault}
-use Rattle.fault_script.specs.Groups.{line_of}
 use Rattle.fault_campaign.specs.Campaign.{verdicts_of}
 use Rattle.fault_campaign.specs.declared.fault.CampaignFault.{CampaignFault}
 use Rattle.fault_campaign.specs.declared.fault.CampaignFault.TheVariants as campaign
 use Rattle.fault_campaign.specs.declared.pairs.verdict.PairVerdict.{PairVerdict}
 use Rattle.fault_campaign.specs.GroupLines.{group_text, pair_totals_text, totals_of}
-use Rattle.fault_campaign.specs.PairCampaigns.{PairsTold, group_lines, pairs_text}
-use Rattle.fault_campaign.specs.Written.{EarlierWritten}
+use Rattle.fault_campaign.specs.PairCampaigns.{PairsTold}
 use Rattle.fault_campaign.specs.PairVerdicts.{told_verdict}
 use Rattle.vcp_words.specs.Forms.{Rows, pairs}
 use Rattle.vcp_words.specs.Tables.{rows_name}
