@@ -23,7 +23,7 @@ use Rattle.vcp_study_core.specs.declared.fault.Fault.TheVariants as fault
 use Rattle.vcp_study_core.specs.Reach.{IsImage, Lost}
 
 -- A text is the cover of an image's faults of these classes, by operations that may stop of which no others do; and it is found whether a fault is neither
--- told to be refused nor to come to nothing. What is told is certain in every run over rows that fit.
+-- told to be refused nor to come to nothing. What is told is certain in every run over rows that fit: of a fault at one operation, so of each class but `rest`.
 pub record IsCover (i : Image) (horizon : ℕ) (classes : CoverClasses) (text : List ℕ) (found : Bool) : Type 0 where
   pub few : weights_up_to i.graph horizon ≤ most_weights
   pub stops : List Stops
