@@ -1,16 +1,18 @@
 // Flips one bit of a running process at a time, and sorts what came of it. x86-64 Linux alone.
 //
-//     inject count RIGHT PROGRAM WORD..
-//     inject flips RIGHT LENGTH HASH SEED DONE KIND FROM COUNT [KIND FROM COUNT].. -- PROGRAM WORD..
+//     inject trace RIGHT TRACE PROGRAM WORD..
+//     inject flips RIGHT TRACE SEED DONE KIND FROM COUNT [KIND FROM COUNT].. -- PROGRAM WORD..
 //
-// The program is carried out once, instruction by instruction: this process is the leader. At each moment that was drawn the leader is copied (as by fork), a
-// bit of the copy is flipped, and the copy goes on by itself, at full speed, to its end. The leader isn't disturbed, and goes on to the next moment. So a
-// moment is the number of an instruction, from 0 to LENGTH - 1, and has nothing to do with the clock: each is as likely as each other, none lies behind the
-// program's end, and a seed gives the same flips on a machine that is busy.
+// `trace` carries out the program once, instruction by instruction, writes their addresses to TRACE, 8 bytes each, and prints how many there are. A moment is
+// a number in this list: an instruction is drawn, each as likely as each other, and where it repeats itself, as a copy of bytes does, one of its times. So it
+// has nothing to do with the clock, none lies behind the program's end, and a seed gives the same flips on a machine that is busy.
 //
-// `count` prints `LENGTH HASH`: how many instructions there are, and a hash of their addresses in order. `flips` ends with status 1 where the leader of this
-// run has others. RIGHT is the file of what the undisturbed program prints. KIND is `register`, `flags`, `memory` or `none`, which flips nothing. Flip i of a
-// kind is drawn from the seed, the kind and i alone. For each, in the order of the moments, a line is printed, but for the first DONE:
+// `flips` carries out the program once more: this process is the leader. It is brought to each moment that was drawn, one after another, by breakpoints and
+// single steps, stands there at the address of the trace, or else all ends with status 1, and is copied, as by fork. A bit of the copy is flipped, and the copy
+// goes on by itself, at full speed, to its end. The leader isn't disturbed, and goes on to the next moment.
+//
+// RIGHT is the file of what the undisturbed program prints. KIND is `register`, `flags`, `memory` or `none`, which flips nothing. Flip i of a kind is drawn
+// from the seed, the kind and i alone. For each, in the order of the moments, a line is printed, but for the first DONE:
 //
 //     KIND NUMBER MOMENT OBJECT+OFFSET LINES PLACE BIT OUTCOME STATUS [got TEXT want TEXT]
 //
@@ -37,7 +39,8 @@
 #include <time.h>
 #include <unistd.h>
 
-enum { TEXT_MOST = 1 << 20, FDS_MOST = 16, REGIONS_MOST = 256, PAGE = 4096, RED_ZONE = 128, NOBODY = 65534 };
+enum { TEXT_MOST = 1 << 20, FDS_MOST = 16, REGIONS_MOST = 4096, PAGE = 4096, RED_ZONE = 128, NOBODY = 65534, LIST_FD = 100 };
+enum { LOOK_MOST = 20000, STEPS_MOST = 4 }; // instructions that a breakpoint passes over at the most, and that are stepped rather than to set one
 static const unsigned long long TRAP_FLAG = 0x100;
 static const double CPU_MOST = 0.5;    // seconds of the processor, many times what a whole run takes: a copy that takes more hangs
 static const double ASLEEP_MOST = 2.0; // seconds of the clock that a copy may sleep: nothing that it could wait for comes
@@ -52,6 +55,17 @@ static void fail(const char *form, ...) {
 }
 
 // ---- what is drawn
+
+// The way of the undisturbed program.
+typedef struct {
+    uint64_t *address; // at each moment: of the instruction that comes next
+    uint32_t *id;      // a number for each address
+    uint32_t *seen;    // by which look at the way an address was last seen
+    uint32_t looks;
+    size_t length;
+    size_t *from; // the moment of each instruction: one that repeats itself has a moment for each time, and is drawn as one
+    size_t instructions;
+} Trace;
 
 typedef enum { REGISTER, FLAGS, MEMORY, NONE } Kind;
 static const char *const KINDS[] = {"register", "flags", "memory", "none"};
@@ -71,10 +85,12 @@ static uint64_t mixed(uint64_t z) { // splitmix64
 // A number below `bound`, by a draw of 64 bits: the bias is below bound / 2^64.
 static uint64_t below(uint64_t bound, uint64_t draw) { return (unsigned __int128)draw * bound >> 64; }
 
-static Flip drawn(uint64_t seed, Kind kind, long number, uint64_t length) {
-    uint64_t draw[3];
-    for (int i = 0; i < 3; i++) draw[i] = mixed(mixed(mixed(seed) + kind) + 0x9E3779B97F4A7C15ull * (3 * (uint64_t)number + (uint64_t)i + 1));
-    return (Flip){kind, number, below(length, draw[0]), draw[1], draw[2]};
+static Flip drawn(uint64_t seed, Kind kind, long number, const Trace *trace) {
+    uint64_t draw[4];
+    for (int i = 0; i < 4; i++) draw[i] = mixed(mixed(mixed(seed) + kind) + 0x9E3779B97F4A7C15ull * (4 * (uint64_t)number + (uint64_t)i + 1));
+    size_t which = below(trace->instructions, draw[0]);
+    size_t from = trace->from[which], to = which + 1 < trace->instructions ? trace->from[which + 1] : trace->length;
+    return (Flip){kind, number, from + below(to - from, draw[3]), draw[1], draw[2]};
 }
 
 static int by_moment(const void *a, const void *b) {
@@ -204,8 +220,9 @@ static void limit(int what, rlim_t most) {
 }
 
 // Becomes the program: always at the same addresses, with no environment, and as a user that owns nothing where this one may become it.
-static void become(int out, char **words) {
+static void become(int out, int list, char **words) {
     int none = open("/dev/null", O_RDWR);
+    if (list >= 0) dup2(list, LIST_FD);
     dup2(none, 0);
     dup2(out, 1);
     dup2(none, 2);
@@ -227,11 +244,11 @@ static void become(int out, char **words) {
     _exit(99);
 }
 
-static Leader start(char **words) {
+static Leader start(char **words, int list) {
     Leader leader = {.program = words[0], .out = memfd_create("out", 0)};
     leader.pid = fork();
     if (leader.pid < 0) fail("no process can be made");
-    if (leader.pid == 0) become(leader.out, words);
+    if (leader.pid == 0) become(leader.out, list, words);
     if (!WIFSTOPPED(wait_for(leader.pid))) fail("%s can't be carried out", words[0]);
     ptrace(PTRACE_SETOPTIONS, leader.pid, NULL, PTRACE_O_EXITKILL | PTRACE_O_TRACEFORK | PTRACE_O_TRACEVFORK | PTRACE_O_TRACECLONE);
     char path[64];
@@ -407,13 +424,14 @@ static size_t common_lines(Text a, Text b) {
     return same;
 }
 
-// Whether what stands behind the right lines is the one line by which a run says why it ended: no row.
-static int says_why(Text told, size_t at, int code) {
-    const char *rest = told.text + at;
-    size_t length = told.length - at;
-    if (length == 0 || memchr(rest, '\n', length) != rest + length - 1) return 0;
-    if (code == 2) return begins(rest, length, "stop ");
-    return code == 3 && (begins(rest, length, "refused ") || begins(rest, length, "parted ") || begins(rest, length, "differ "));
+// Whether what stands behind the right lines is the one line, or its beginning, by which a run says why it ends: no row.
+static int says_why(Text told, size_t at) {
+    static const char *const words[] = {"stop ", "refused ", "parted ", "differ "};
+    const char *rest = told.text + at, *line_end = memchr(rest, '\n', told.length - at);
+    if (line_end && line_end != told.text + told.length - 1) return 0;
+    for (size_t i = 0; i < sizeof words / sizeof *words; i++)
+        if (begins(rest, told.length - at, words[i])) return 1;
+    return 0;
 }
 
 // `wrong`: something was printed that the right text doesn't begin with, other than the line that says why the run ended; or the status is 0, and something is
@@ -422,7 +440,7 @@ static const char *sorted(Text told, Text right, int status) {
     int beginning = is_beginning(told, right);
     int code = status >= 0 && WIFEXITED(status) ? WEXITSTATUS(status) : -1;
     if (code == 0) return beginning && told.length == right.length ? "same" : "wrong";
-    if (!beginning && !says_why(told, common_lines(told, right), code)) return "wrong";
+    if (!beginning && !says_why(told, common_lines(told, right))) return "wrong";
     if (status < 0) return "hung";
     if (code < 0) return "signal";
     return code == 3 ? "refused" : code == 2 ? "stopped" : "status";
@@ -468,32 +486,184 @@ static int try_flip(const Leader *leader, const Flip *flip, Text right, const si
     return !strcmp(outcome, "same");
 }
 
-// ---- the passes
+// ---- the way of the leader
 
-typedef struct {
-    uint64_t length, hash;
-} Path;
+static int by_number(const void *a, const void *b) {
+    uint64_t x = *(const uint64_t *)a, y = *(const uint64_t *)b;
+    return x < y ? -1 : x > y;
+}
 
-// Carries out the program once, with the flips on its way, which are in the order of their moments.
-static Path pass(char **words, const Flip *flip, const Flip *last, Text right) {
+static Trace read_trace(const char *name) {
+    FILE *file = fopen(name, "r");
+    if (!file || fseek(file, 0, SEEK_END)) fail("%s can't be read", name);
+    Trace trace = {.length = (size_t)ftell(file) / sizeof(uint64_t)};
+    rewind(file);
+    trace.address = malloc(trace.length * sizeof(uint64_t));
+    uint64_t *each = malloc(trace.length * sizeof(uint64_t));
+    trace.id = malloc(trace.length * sizeof(uint32_t));
+    trace.seen = calloc(trace.length, sizeof(uint32_t));
+    if (fread(trace.address, sizeof(uint64_t), trace.length, file) != trace.length) fail("%s can't be read", name);
+    fclose(file);
+    trace.from = malloc(trace.length * sizeof(size_t));
+    for (size_t i = 0; i < trace.length; i++)
+        if (i == 0 || trace.address[i] != trace.address[i - 1]) trace.from[trace.instructions++] = i;
+    memcpy(each, trace.address, trace.length * sizeof(uint64_t));
+    qsort(each, trace.length, sizeof(uint64_t), by_number);
+    size_t count = 0;
+    for (size_t i = 0; i < trace.length; i++)
+        if (count == 0 || each[count - 1] != each[i]) each[count++] = each[i];
+    for (size_t i = 0; i < trace.length; i++) {
+        const uint64_t *found = bsearch(&trace.address[i], each, count, sizeof(uint64_t), by_number);
+        trace.id[i] = (uint32_t)(found - each);
+    }
+    free(each);
+    return trace;
+}
+
+// The last moment up to `to` whose address comes there for the first time from `at` on: a breakpoint leads there.
+static size_t landmark(Trace *trace, size_t at, size_t to) {
+    size_t last = at;
+    uint32_t look = ++trace->looks;
+    for (size_t i = at; i <= to && i < at + LOOK_MOST; i++) {
+        if (trace->seen[trace->id[i]] != look) last = i;
+        trace->seen[trace->id[i]] = look;
+    }
+    return last;
+}
+
+static void run_to(const Leader *leader, uint64_t address) {
+    long word = ptrace(PTRACE_PEEKTEXT, leader->pid, address, NULL);
+    ptrace(PTRACE_POKETEXT, leader->pid, address, (word & ~0xffl) | 0xcc);
+    ptrace(PTRACE_CONT, leader->pid, NULL, 0);
+    if (wait_for(leader->pid) >> 8 != SIGTRAP) fail("a breakpoint isn't reached");
+    ptrace(PTRACE_POKETEXT, leader->pid, address, word);
+    ptrace(PTRACE_POKEUSER, leader->pid, offsetof(struct user_regs_struct, rip), address);
+}
+
+static uint64_t address_of(const Leader *leader) {
+    return (uint64_t)ptrace(PTRACE_PEEKUSER, leader->pid, offsetof(struct user_regs_struct, rip), NULL);
+}
+
+// Brings the leader from one moment to another.
+static void bring(const Leader *leader, Trace *trace, size_t at, size_t to) {
+    while (at < to) {
+        size_t next = landmark(trace, at, to);
+        if (next < at + STEPS_MOST) {
+            step(leader);
+            at++;
+        } else {
+            run_to(leader, trace->address[next]);
+            at = next;
+        }
+    }
+    if (address_of(leader) != trace->address[to]) fail("the undisturbed program took another way");
+}
+
+static void check_end(const Leader *leader, Text right) {
+    static char buffer[TEXT_MOST];
+    ssize_t count = pread(leader->out, buffer, sizeof buffer, 0);
+    Text told = {buffer, count > 0 ? (size_t)count : 0};
+    if (told.length != right.length || !is_beginning(told, right)) fail("the undisturbed program prints something else");
+}
+
+// ---- the trace
+
+// The program lists its own addresses: it is carried out with the trap flag set, and after each instruction a handler of SIGTRAP, which is put into it, appends
+// the address of the next one to a list that both share. This takes a third of the time of single steps from outside. Behind a system call the trap comes an
+// instruction late: the address of that one is put in between. The list begins with its number of addresses and the last of them. The first instructions are
+// stepped, since libraries look there at what the process has in its memory.
+enum { LIST_MOST = 1 << 26, LIST_HEAD = 2, STEPPED = 100000 };
+static const unsigned long CODE_AT = 0x10000000, LIST_AT = 0x20000000; // where the system puts nothing
+extern const unsigned char handler_code[], handler_restorer[], handler_end[];
+__asm__(".text\n"
+        "handler_code: mov 168(%rdx), %rax\n" // the address in the context that the handler is given
+        "movabs $0x20000000, %rsi\n mov (%rsi), %rdi\n mov 8(%rsi), %rcx\n"
+        "cmpw $0x050f, (%rcx)\n jne 1f\n add $2, %rcx\n mov %rcx, 16(%rsi, %rdi, 8)\n inc %rdi\n"
+        "1: mov %rax, 16(%rsi, %rdi, 8)\n inc %rdi\n mov %rdi, (%rsi)\n mov %rax, 8(%rsi)\n ret\n"
+        "handler_restorer: mov $15, %eax\n syscall\n"
+        "handler_end:\n");
+
+// Has the leader make a system call.
+static long called(const Leader *leader, long number, const unsigned long *words) {
+    struct user_regs_struct before, call;
+    ptrace(PTRACE_GETREGS, leader->pid, NULL, &before);
+    call = before;
+    call.rip = leader->syscall_at;
+    call.rax = (unsigned long)number;
+    call.rdi = words[0], call.rsi = words[1], call.rdx = words[2], call.r10 = words[3], call.r8 = words[4], call.r9 = words[5];
+    ptrace(PTRACE_SETREGS, leader->pid, NULL, &call);
+    step(leader);
+    ptrace(PTRACE_GETREGS, leader->pid, NULL, &call);
+    ptrace(PTRACE_SETREGS, leader->pid, NULL, &before);
+    return (long)call.rax;
+}
+
+static void put_into(const Leader *leader, unsigned long at, const void *bytes, size_t count) {
+    for (size_t i = 0; i < count; i += 8) {
+        long word = 0;
+        memcpy(&word, (const char *)bytes + i, count - i < 8 ? count - i : 8);
+        if (ptrace(PTRACE_POKEDATA, leader->pid, at + i, word)) fail("the handler can't be put into the program");
+    }
+}
+
+// Puts the handler and the list into the leader.
+static void put_handler(const Leader *leader, size_t bytes) {
+    unsigned long code[] = {CODE_AT, PAGE, PROT_READ | PROT_EXEC, MAP_PRIVATE | MAP_ANONYMOUS | MAP_FIXED_NOREPLACE, (unsigned long)-1, 0};
+    unsigned long list[] = {LIST_AT, bytes, PROT_READ | PROT_WRITE, MAP_SHARED | MAP_FIXED_NOREPLACE, LIST_FD, 0};
+    unsigned long restorer = CODE_AT + (unsigned long)(handler_restorer - handler_code);
+    unsigned long action[] = {CODE_AT, SA_SIGINFO | SA_NODEFER | 0x04000000, restorer, 0}; // the third flag: it has a restorer
+    unsigned long action_at = CODE_AT + PAGE / 2;
+    unsigned long handled[] = {SIGTRAP, action_at, 0, 8, 0, 0}, closed[] = {LIST_FD, 0, 0, 0, 0, 0};
+    if (called(leader, SYS_mmap, code) != (long)CODE_AT || called(leader, SYS_mmap, list) != (long)LIST_AT) fail("the list can't be shared");
+    put_into(leader, CODE_AT, handler_code, (size_t)(handler_end - handler_code));
+    put_into(leader, action_at, action, sizeof action);
+    if (called(leader, SYS_rt_sigaction, handled) || called(leader, SYS_close, closed)) fail("the handler can't be named");
+}
+
+static void write_trace(char **words, const char *name, Text right) {
+    size_t bytes = (LIST_MOST + LIST_HEAD) * sizeof(uint64_t);
+    int shared = memfd_create("list", 0);
+    if (ftruncate(shared, (off_t)bytes)) fail("there is no memory for the list");
+    uint64_t *list = mmap(NULL, bytes, PROT_READ | PROT_WRITE, MAP_SHARED, shared, 0);
+    Leader leader = start(words, shared);
+    int goes_on = 1;
+    for (; goes_on && list[0] < STEPPED; goes_on = step(&leader)) list[LIST_HEAD + list[0]++] = address_of(&leader);
+    if (goes_on) {
+        put_handler(&leader, bytes);
+        struct user_regs_struct regs;
+        ptrace(PTRACE_GETREGS, leader.pid, NULL, &regs);
+        list[1] = list[LIST_HEAD + list[0]++] = regs.rip;
+        regs.eflags |= TRAP_FLAG;
+        ptrace(PTRACE_SETREGS, leader.pid, NULL, &regs);
+        ptrace(PTRACE_DETACH, leader.pid, NULL, 0);
+        int status = wait_for(leader.pid);
+        if (!WIFEXITED(status) || WEXITSTATUS(status)) fail("the undisturbed program ended by %d", status);
+    }
+    check_end(&leader, right);
+    FILE *file = fopen(name, "w");
+    if (!file || fwrite(list + LIST_HEAD, sizeof(uint64_t), list[0], file) != list[0] || fclose(file)) fail("%s can't be written", name);
+    printf("%lu\n", (unsigned long)list[0]);
+}
+
+// ---- the flips
+
+// Tries the flips, which are in the order of their moments.
+static void try_all(char **words, const Flip *flip, const Flip *last, Trace *trace, Text right) {
     sigset_t child;
     sigemptyset(&child);
     sigaddset(&child, SIGCHLD);
     sigprocmask(SIG_BLOCK, &child, NULL);
-    Leader leader = start(words);
-    Path path = {0, 14695981039346656037ull};
-    do {
-        for (; flip < last && flip->moment == path.length; flip++)
-            if (!try_flip(&leader, flip, right, &child) && flip->kind == NONE) fail("a copy without a flip came to another end");
-        long rip = ptrace(PTRACE_PEEKUSER, leader.pid, offsetof(struct user_regs_struct, rip), NULL);
-        path.hash = (path.hash ^ (uint64_t)rip) * 1099511628211ull;
-        path.length++;
-    } while (step(&leader));
-    static char buffer[TEXT_MOST];
-    ssize_t count = pread(leader.out, buffer, sizeof buffer, 0);
-    Text told = {buffer, count > 0 ? (size_t)count : 0};
-    if (told.length != right.length || !is_beginning(told, right)) fail("the undisturbed program prints something else");
-    return path;
+    Leader leader = start(words, -1);
+    size_t at = 0;
+    for (; flip < last; flip++) {
+        bring(&leader, trace, at, flip->moment);
+        at = flip->moment;
+        if (!try_flip(&leader, flip, right, &child) && flip->kind == NONE) fail("a copy without a flip came to another end");
+    }
+    ptrace(PTRACE_CONT, leader.pid, NULL, 0);
+    int status = wait_for(leader.pid);
+    if (!WIFEXITED(status) || WEXITSTATUS(status)) fail("the undisturbed program ended by %d", status);
+    check_end(&leader, right);
 }
 
 static Text file_text(const char *name) {
@@ -513,30 +683,27 @@ static Kind kind_of(const char *word) {
 }
 
 int main(int count, char **words) {
-    if (count >= 4 && !strcmp(words[1], "count")) {
-        Path path = pass(words + 3, NULL, NULL, file_text(words[2]));
-        printf("%lu %lx\n", (unsigned long)path.length, (unsigned long)path.hash);
+    setvbuf(stdout, NULL, _IOLBF, 0);
+    if (count >= 5 && !strcmp(words[1], "trace")) {
+        write_trace(words + 4, words[3], file_text(words[2]));
         return 0;
     }
-    if (count < 9 || strcmp(words[1], "flips")) fail("its words are in its first lines");
+    if (count < 8 || strcmp(words[1], "flips")) fail("its words are in its first lines");
     Text right = file_text(words[2]);
-    Path known = {strtoull(words[3], NULL, 10), strtoull(words[4], NULL, 16)};
-    uint64_t seed = strtoull(words[5], NULL, 10);
+    Trace trace = read_trace(words[3]);
+    uint64_t seed = strtoull(words[4], NULL, 10);
+    size_t done = strtoull(words[5], NULL, 10), all = 0;
     Flip *flips = NULL;
-    size_t all = 0;
-    size_t done = strtoull(words[6], NULL, 10);
-    int at = 7;
+    int at = 6;
     for (; at + 2 < count && strcmp(words[at], "--"); at += 3) {
         Kind kind = kind_of(words[at]);
         long from = atol(words[at + 1]), more = atol(words[at + 2]);
         flips = realloc(flips, (all + (size_t)more) * sizeof *flips);
-        for (long i = from; i < from + more; i++) flips[all++] = drawn(seed, kind, i, known.length);
+        for (long i = from; i < from + more; i++) flips[all++] = drawn(seed, kind, i, &trace);
     }
     if (at + 1 >= count || strcmp(words[at], "--")) fail("-- and the program are lacking");
     if (done > all) fail("more flips are done than there are");
     if (all) qsort(flips, all, sizeof *flips, by_moment);
-    setvbuf(stdout, NULL, _IOLBF, 0);
-    Path path = pass(words + at + 1, flips + done, flips + all, right);
-    if (path.length != known.length || path.hash != known.hash) fail("the undisturbed program took another way");
+    try_all(words + at + 1, flips + done, flips + all, &trace, right);
     return 0;
 }

@@ -58,9 +58,10 @@ def main(words: list[str]) -> int:
         subprocess.run(["cc", *FLAGS, "-o", program, str(HERE / "self_test.c")], check=True)
         symbols = {name: int(address, 16) for address, _, name in
                    (line.split(" ") for line in subprocess.run(["nm", program], check=True, capture_output=True, text=True).stdout.splitlines())}
-        way = subprocess.run([inject, "count", right, program], check=True, capture_output=True, text=True).stdout.split()
+        trace = str(folder / "trace")
+        subprocess.run([inject, "trace", right, trace, program], check=True, capture_output=True)
         plan = ["register", "0", str(count), "flags", "0", str(count // 2), "memory", "0", str(count // 2), "none", "0", str(count)]
-        told = subprocess.run([inject, "flips", right, *way, SEED, "0", *plan, "--", program], check=True, capture_output=True, text=True).stdout
+        told = subprocess.run([inject, "flips", right, trace, SEED, "0", *plan, "--", program], check=True, capture_output=True, text=True).stdout
         lowest = lowest_address(Path(program).read_bytes())
     compared = otherwise = 0
     for line in told.splitlines():

@@ -5,8 +5,9 @@
     bench/upsets/table.py FOLDER 0          makes the table of what there is, and flips nothing
 
 All that is made stands in FOLDER, which is made where it isn't there. What was flipped there before isn't flipped again: the same words go on where a call
-was ended, and a greater COUNT adds to it. FOLDER is of one program, image, rows, injector and seed, and is refused for others. With VCP=FILE before it another
-program than the built one is tried. It needs cc, rustc and nm, and Linux on x86-64. Where it is called by root, the programs are run as the user nobody.
+was ended, and a greater COUNT adds to it. FOLDER is of one program, image, rows, injector and seed, and is refused for others. Its path is in the words of each
+program, so that exactly the same flips come where it is as long. With VCP=FILE before it another
+program than the built one is tried. It needs cc, rustc and binutils, and Linux on x86-64. Where it is called by root, the programs are run as the user nobody.
 """
 from __future__ import annotations
 
@@ -19,6 +20,7 @@ import sys
 from bisect import bisect_right
 from collections import Counter
 from dataclasses import dataclass
+from itertools import groupby
 from pathlib import Path
 from typing import Iterator, Sequence
 
@@ -31,11 +33,25 @@ from vcp_tools.campaign.interval import clopper_pearson  # noqa: E402
 SEED = 20261130
 MOST_IN_A_PASS = 20_000  # flips of registers
 UNDISTURBED = 1_000
-KINDS = {"register": 1.0, "flags": 0.2, "memory": 0.4}
+KINDS = {"register": 1.0, "flags": 0.1, "memory": 0.2}
 """The places that are flipped, and how many of them for each register's bit."""
 OUTCOMES = {"same": "same", "refused": "refused (3)", "stopped": "stopped (2)", "status": "another status", "signal": "signal", "hung": "hung",
             "wrong": "wrong"}
 SECOND_SEED = "7"
+PARTS = (
+    ("unit", r"coded_unit::"),
+    ("division on 128 bits", r"__u?(div|mod)ti3$"),
+    ("machine, channel", r"coded_machine::|pair_channel::"),
+    ("meaning in `plain`", r"st_plain::"),
+    ("rows", r"input_rows::|csv::|vcp_base::integers"),
+    ("lines", r"vcp_outside::line|run_report::|core::fmt::|<\S*fmt|<std::io|write"),
+    ("image", r"image_file::"),
+    ("source to table", r"st_|flat_|graph_|op_graph::|signature_table::|vcp_typed::|indexmap::"),
+    ("commands, files", r"vcp_core::|vcp_inputs::|vcp_words::|vcp::|il_front::"),
+    ("plain Rust, inlined", r"coded::"),
+    ("libraries, the rest", r""),
+)
+"""The parts of the programs, by the names of their functions: the first that fits."""
 
 
 class Refusal(Exception):
@@ -82,14 +98,6 @@ class Flip:
         return 1 <= self.lines <= lines - 2
 
 
-def told_by(words: Sequence[str | Path], **more: str) -> bytes:
-    """What a command prints; a refusal where its status isn't 0."""
-    done = subprocess.run([str(word) for word in words], stdout=subprocess.PIPE, stderr=subprocess.PIPE, env={**os.environ, **more})
-    if done.returncode:
-        raise Refusal(f"`{' '.join(map(str, words))}` ended with status {done.returncode}: {done.stderr.decode(errors='replace').strip()}")
-    return done.stdout
-
-
 # ---- what is flipped
 
 class Folder:
@@ -108,6 +116,13 @@ class Folder:
         """The words of a target, with the files' paths."""
         return [str(self.path(word)) if self.path(word).is_file() else word for word in target.words]
 
+    def told(self, *words: str | Path) -> bytes:
+        """What a command prints that is called in the folder."""
+        done = subprocess.run([str(word) for word in words], cwd=self.at, stdout=subprocess.PIPE, stderr=subprocess.PIPE)
+        if done.returncode:
+            raise Refusal(f"`{' '.join(map(str, words))}` ended with status {done.returncode}: {done.stderr.decode(errors='replace').strip()}")
+        return done.stdout
+
     def prepare(self) -> None:
         """Builds the injector and the plain programs, and makes the images; where all is there, it looks whether it is the same."""
         vcp = Path(os.environ.get("VCP") or TOP / "crates/vcp/out/vcp")
@@ -124,29 +139,31 @@ class Folder:
         for name, path in given.items():
             self.path(name).write_bytes(path.read_bytes())
         self.path("vcp").chmod(0o755)
-        told_by(["cc", "-O2", "-o", self.path("inject"), sources[0]])
-        told_by(["rustc", "--edition", "2024", "-O", "-C", "target-feature=+crt-static", "-o", self.path("coded"), sources[1]])
-        right = told_by(self.words(TARGETS[2]))
+        self.told("cc", "-O2", "-o", "inject", sources[0])
+        self.told("rustc", "--edition", "2024", "-O", "-C", "target-feature=+crt-static", "-o", "coded", sources[1])
+        right = self.told(*self.words(TARGETS[2]))
         self.path("right").write_bytes(right)
-        self.path("narrow.img").write_bytes(told_by([vcp, "compile", self.path("program.st")]))
-        self.path("wide.img").write_bytes(told_by([vcp, "widen", self.path("narrow.img")]))
-        listed = re.sub(rb" sig \d+ cor \d+", b"", told_by([vcp, "list", self.path("narrow.img")]))
+        self.path("narrow.img").write_bytes(self.told("./vcp", "compile", "program.st"))
+        self.path("wide.img").write_bytes(self.told("./vcp", "widen", "narrow.img"))
+        listed = re.sub(rb" sig \d+ cor \d+", b"", self.told("./vcp", "list", "narrow.img"))
         self.path("list").write_bytes(right[: right.index(b"\n") + 1] + listed)
         for target in TARGETS:
-            if told_by(self.words(target)) != right:
-                raise Refusal(f"{target.title} prints something else than {TARGETS[2].title}")
+            if self.told(*self.words(target)) != right:
+                raise Refusal(f"{target.title} prints something else than `vcp plain`")
         self.path("what").write_text("\n".join(what) + "\n")
 
     def lines(self) -> int:
         """How many lines the right text has."""
         return self.path("right").read_bytes().count(b"\n")
 
-    def way_of(self, target: Target) -> list[str]:
-        """The number of instructions of an undisturbed run, and a hash of their addresses."""
-        way = self.path(f"{target.name}.way")
-        if not way.is_file():
-            way.write_bytes(told_by([self.path("inject"), "count", self.path("right"), *self.words(target)]))
-        return way.read_text().split()
+    def trace_of(self, target: Target) -> Path:
+        """The file of the addresses of an undisturbed run's instructions."""
+        trace = self.path(f"{target.name}.trace")
+        if not trace.is_file():
+            part = self.path(f"{target.name}.trace.part")
+            self.told("./inject", "trace", "right", part, *self.words(target))
+            part.rename(trace)
+        return trace
 
     def done(self, target: Target) -> int:
         """How many bits of registers were flipped, in whole passes."""
@@ -166,9 +183,9 @@ class Folder:
             plan += [kind, str(int(done * share)), str(int(until * share) - int(done * share))]
         if done == 0:
             plan += ["none", "0", str(UNDISTURBED)]
-        words = ["flips", str(self.path("right")), *self.way_of(target), str(SEED), str(told.count(b"\n")), *plan, "--", *self.words(target)]
+        words = ["./inject", "flips", "right", self.trace_of(target).name, str(SEED), str(told.count(b"\n")), *plan, "--", *self.words(target)]
         with part.open("ab") as into:
-            if subprocess.run([str(self.path("inject")), *words], stdout=into).returncode:
+            if subprocess.run(words, cwd=self.at, stdout=into).returncode:
                 raise Refusal(f"the flips of {target.name} weren't ended")
         named = [f"{line} in {self.function(line)}\n" for line in part.read_text().splitlines()]
         with self.path(f"{target.name}.flips").open("a") as into_all:
@@ -179,8 +196,23 @@ class Folder:
         """The function at whose instruction the run was when the bit of this line was flipped."""
         name, _, offset = line.split()[3].rpartition("+")
         if name not in _SYMBOLS:
-            _SYMBOLS[name] = Symbols.of(self.path(name)) if self.path(name).is_file() else Symbols([], [])
-        return _SYMBOLS[name].at(int(offset, 16)) or name
+            libraries = re.findall(r"(/\S+) \(0x", self.told("ldd", "./vcp").decode())
+            at = self.path(name) if self.path(name).is_file() else next((Path(path) for path in libraries if Path(path).name == name), None)
+            _SYMBOLS[name] = self.symbols(at) if at else Symbols([], [])
+        return _SYMBOLS[name].at(int(offset, 16)) or f"{name}+{offset}"
+
+    def symbols(self, path: Path) -> Symbols:
+        """The functions that `nm` lists, of a library those of what is installed for debugging it."""
+        lowest = lowest_address(path.read_bytes())
+        build = re.search(r"Build ID: (..)(\S+)", self.told("readelf", "-n", path).decode(errors="replace"))
+        debug = Path(f"/usr/lib/debug/.build-id/{build[1]}/{build[2]}.debug") if build else path
+        found: dict[int, str] = {}
+        for line in self.told("nm", "-C", "--defined-only", debug if debug.is_file() else path).decode(errors="replace").splitlines():
+            address, kind, name = line.split(" ", 2)
+            if kind in "tTwWiI":
+                found.setdefault(int(address, 16) - lowest, re.sub(r"::h[0-9a-f]{16}$|::<#[0-9a-f]{16}>$", "", name))
+        starts = sorted(found)
+        return Symbols(starts, [found[start] for start in starts])
 
     def flips(self, target: Target) -> Iterator[Flip]:
         """All that were flipped in whole passes."""
@@ -197,18 +229,6 @@ class Symbols:
 
     starts: list[int]
     names: list[str]
-
-    @staticmethod
-    def of(path: Path) -> Symbols:
-        """Those that `nm` lists."""
-        lowest = lowest_address(path.read_bytes())
-        found: dict[int, str] = {}
-        for line in told_by(["nm", "-C", "--defined-only", path]).decode(errors="replace").splitlines():
-            address, kind, name = line.split(" ", 2)
-            if kind in "tTwWiI":
-                found.setdefault(int(address, 16) - lowest, re.sub(r"::h[0-9a-f]{16}$", "", name))
-        starts = sorted(found)
-        return Symbols(starts, [found[start] for start in starts])
 
     def at(self, offset: int) -> str:
         """The function that has this offset, or nothing."""
@@ -251,6 +271,38 @@ def by_function(flips: Sequence[Flip], lines: int) -> list[str]:
     return [f"  {count:5} {inside[function]:5}  {function}" for function, count in counts.most_common()]
 
 
+def part_of(function: str) -> str:
+    """The part of a program that a function is of."""
+    return next(part for part, form in PARTS if re.match(f"<*(?:{form})", function))
+
+
+def by_part(folder: Folder) -> list[str]:
+    """For each part and program, how many flips of registers were wrong there, of how many that came there."""
+    rows = ["| part | " + " | ".join(target.name for target in TARGETS) + " |", "|---" * (1 + len(TARGETS)) + "|"]
+    came: Counter[tuple[str, str]] = Counter()
+    wrong: Counter[tuple[str, str]] = Counter()
+    for target in TARGETS:
+        for flip in folder.flips(target):
+            if flip.kind == "register":
+                came[part_of(flip.function), target.name] += 1
+                wrong[part_of(flip.function), target.name] += flip.outcome == "wrong"
+    for part, _ in PARTS:
+        cells = [f"{wrong[part, target.name]} of {came[part, target.name]:,}" if came[part, target.name] else "" for target in TARGETS]
+        rows.append(f"| {part} | " + " | ".join(cells) + " |")
+    return rows
+
+
+def lengths(folder: Folder) -> list[str]:
+    """For each program, how many instructions its run has, and how many copies without a flip were tried, which all ended as it does."""
+    done = [target for target in TARGETS if folder.done(target)]
+    moments = [folder.trace_of(target).read_bytes() for target in done]
+    counts = [sum(1 for _ in groupby(struct.unpack(f"<{len(each) // 8}Q", each))) for each in moments]
+    copies = [sum(flip.kind == "none" for flip in folder.flips(target)) for target in done]
+    return ["| | " + " | ".join(target.name for target in done) + " |", "|---" * (1 + len(done)) + "|",
+            "| instructions | " + " | ".join(f"{count:,}" for count in counts) + " |",
+            "| copies without a flip | " + " | ".join(f"{count:,}" for count in copies) + " |"]
+
+
 def table(folder: Folder) -> str:
     """The table of all that was flipped, and behind it the functions of the wrong ones."""
     lines = folder.lines()
@@ -263,14 +315,12 @@ def table(folder: Folder) -> str:
             if flips:
                 rows.append(row(target.title, kind, flips, lines))
                 functions += ["", f"{target.name}, {kind}: wrong, of these in cycles, function", *by_function(flips, lines)]
-    ways = [f"{target.name}: {' '.join(folder.way_of(target))}, and {sum(flip.kind == 'none' for flip in folder.flips(target))} copies without a flip the same"
-            for target in TARGETS if folder.done(target)]
-    return "\n".join([*rows, "", *folder.path("what").read_text().splitlines(), *ways, *functions, ""])
+    return "\n".join([*rows, "", *lengths(folder), "", *by_part(folder), "", *folder.path("what").read_text().splitlines(), *functions, ""])
 
 
 def write_wrong(folder: Folder) -> None:
-    """All lines of wrong ones."""
-    lines = (f"{target.name} {line}" for target in TARGETS if folder.path(f"{target.name}.flips").is_file()
+    """A line for each wrong one, without what was printed."""
+    lines = (f"{target.name} {re.sub(' got .* in ', ' in ', line)}" for target in TARGETS if folder.path(f"{target.name}.flips").is_file()
              for line in folder.path(f"{target.name}.flips").open() if line.split()[7] == "wrong")
     folder.path("wrong").write_text("".join(lines))
 
