@@ -4,7 +4,8 @@
 //! The words are LIST ROWS MODE. LIST begins with the line that the run begins with, and has then a line an operation, in the
 //! form of `docs/dev/FLATTENING.md`; all cells begin with 0. ROWS has the inputs in their order. MODE is `long`, which splits words on
 //! `i128`, `short`, which splits them on `i64` where a word has no more than 64 bits, or `uncoded`, which carries plain values
-//! alone, as `vcp plain` means them. Where a run doesn't come to its end, it says so on standard error.
+//! alone, as `vcp plain` means them. Where a run doesn't come to its end, it says so on standard error, and the status is that of
+//! `vcp`: 1 where a record is refused, 2 at a stop, 3 at a refused output.
 
 mod code;
 
@@ -134,9 +135,17 @@ impl<W: Write> Lines<W> {
     }
 }
 
-/// Carries a cycle, and answers whether its outputs are released.
+/// Why a run doesn't come to its end; the status is the number.
+#[derive(Clone, Copy)]
+enum Early {
+    Record = 1,
+    Stop = 2,
+    Refused = 3,
+}
+
+/// Carries a cycle, to its released outputs.
 trait Carries {
-    fn carry(&mut self, graph: &Graph, row: &[i64], cycle: usize) -> bool;
+    fn carry(&mut self, graph: &Graph, row: &[i64], cycle: usize) -> Result<(), Early>;
 
     fn output(&self, out: usize) -> i128;
 }
@@ -165,7 +174,7 @@ impl<C: Code> Coded<C> {
 }
 
 impl<C: Code> Carries for Coded<C> {
-    fn carry(&mut self, graph: &Graph, row: &[i64], cycle: usize) -> bool {
+    fn carry(&mut self, graph: &Graph, row: &[i64], cycle: usize) -> Result<(), Early> {
         let stamp = (STEP as usize * (cycle + 1)) as i64;
         for (k, (op, correction)) in graph.ops.iter().zip(&self.corrections).enumerate() {
             let read = |j: usize| match op.kind {
@@ -178,18 +187,18 @@ impl<C: Code> Carries for Coded<C> {
             };
             match word::<C>(op, read, imm, *correction, stamp) {
                 Some(w) => self.words[k] = w,
-                None => return false,
+                None => return Err(Early::Stop),
             }
         }
         for out in &graph.outs {
             if C::split(self.words[*out]).1 != C::signature(*out) + stamp {
-                return false;
+                return Err(Early::Refused);
             }
         }
         for (cell, store) in self.cells.iter_mut().zip(&graph.stores) {
             *cell = self.words[*store];
         }
-        true
+        Ok(())
     }
 
     fn output(&self, out: usize) -> i128 {
@@ -204,7 +213,7 @@ struct Uncoded {
 }
 
 impl Carries for Uncoded {
-    fn carry(&mut self, graph: &Graph, row: &[i64], _cycle: usize) -> bool {
+    fn carry(&mut self, graph: &Graph, row: &[i64], _cycle: usize) -> Result<(), Early> {
         self.values.clear();
         for op in &graph.ops {
             let mut read = [0; 3];
@@ -214,7 +223,7 @@ impl Carries for Uncoded {
                     _ => self.values[op.operands[j]],
                 };
                 if !fits(operand_type(op.kind, j, op.from), *read) {
-                    return false;
+                    return Err(Early::Stop);
                 }
             }
             let imm = match op.kind {
@@ -222,18 +231,18 @@ impl Carries for Uncoded {
                 _ => op.imm,
             };
             if matches!(op.kind, Kind::Div | Kind::Mod) && read[1] == 0 {
-                return false;
+                return Err(Early::Stop);
             }
             let v = value(op.kind, imm, read);
             if !fits(op.ty, v) {
-                return false;
+                return Err(Early::Stop);
             }
             self.values.push(v);
         }
         for (cell, store) in self.cells.iter_mut().zip(&graph.stores) {
             *cell = self.values[*store];
         }
-        true
+        Ok(())
     }
 
     fn output(&self, out: usize) -> i128 {
@@ -241,7 +250,7 @@ impl Carries for Uncoded {
     }
 }
 
-fn run<C: Carries>(graph: &Graph, rows: &str, mut machine: C) -> io::Result<bool> {
+fn run<C: Carries>(graph: &Graph, rows: &str, mut machine: C) -> io::Result<Result<(), Early>> {
     let out = io::stdout().lock();
     let line = Vec::with_capacity(256);
     let mut lines = Lines { out, line };
@@ -249,14 +258,17 @@ fn run<C: Carries>(graph: &Graph, rows: &str, mut machine: C) -> io::Result<bool
     let mut row = Vec::with_capacity(graph.inputs.len());
     let mut cycles = 0;
     for record in rows.lines().skip(1) {
-        if !read_record(record, &graph.inputs, &mut row) || !machine.carry(graph, &row, cycles) {
-            return Ok(false);
+        if !read_record(record, &graph.inputs, &mut row) {
+            return Ok(Err(Early::Record));
+        }
+        if let Err(early) = machine.carry(graph, &row, cycles) {
+            return Ok(Err(early));
         }
         lines.row(cycles, graph.outs.iter().map(|out| machine.output(*out)))?;
         cycles += 1;
     }
     lines.text(&format!("end {cycles}"))?;
-    Ok(true)
+    Ok(Ok(()))
 }
 
 fn main() -> io::Result<()> {
@@ -279,9 +291,9 @@ fn main() -> io::Result<()> {
             run(&graph, &rows, Uncoded { cells, values })?
         }
     };
-    if !ended {
+    if let Err(early) = ended {
         eprintln!("the run was not ended");
-        process::exit(2);
+        process::exit(early as i32);
     }
     Ok(())
 }
