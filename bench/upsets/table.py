@@ -17,10 +17,12 @@ import re
 import struct
 import subprocess
 import sys
+from array import array
 from bisect import bisect_right
 from collections import Counter
 from dataclasses import dataclass
-from itertools import groupby
+from itertools import islice
+from operator import ne
 from pathlib import Path
 from typing import Iterator, Sequence
 
@@ -174,7 +176,7 @@ class Folder:
         """A pass: the next flips, up to this number of registers. What a pass that was ended has told is kept."""
         done = self.done(target)
         until = min(until, done + MOST_IN_A_PASS)
-        part = self.path(f"{target.name}.part.{until}")
+        part = self.path(f"{target.name}.part.{done}.{until}")
         told = part.read_bytes() if part.is_file() else b""
         told = told[: told.rfind(b"\n") + 1]
         part.write_bytes(told)
@@ -295,8 +297,8 @@ def by_part(folder: Folder) -> list[str]:
 def lengths(folder: Folder) -> list[str]:
     """For each program, how many instructions its run has, and how many copies without a flip were tried, which all ended as it does."""
     done = [target for target in TARGETS if folder.done(target)]
-    moments = [folder.trace_of(target).read_bytes() for target in done]
-    counts = [sum(1 for _ in groupby(struct.unpack(f"<{len(each) // 8}Q", each))) for each in moments]
+    ways = [array("Q", folder.trace_of(target).read_bytes()) for target in done]
+    counts = [1 + sum(map(ne, way, islice(way, 1, None))) for way in ways]
     copies = [sum(flip.kind == "none" for flip in folder.flips(target)) for target in done]
     return ["| | " + " | ".join(target.name for target in done) + " |", "|---" * (1 + len(done)) + "|",
             "| instructions | " + " | ".join(f"{count:,}" for count in counts) + " |",
