@@ -170,18 +170,18 @@ class Grammars(InFolder):
         return code not in ("S1", "S2", "S3", "S4", "S5", "Q1"), outcome.fault
 
     def compare(self, texts: list[bytes], is_list: bool) -> None:
-        """Compares both answers on each text; a text that is too deep is one of the program's limits. Where MADE is given, it is told how many there were."""
+        """Compares both answers on each text; one too deep or too long is beyond the limits of the program. Where MADE is given, the numbers are told."""
         with ThreadPoolExecutor(4) as pool:
             answers = list(pool.map(lambda it: self.judged(it[0], it[1], is_list), enumerate(texts)))
         counts: Counter[str] = Counter()
         for data, (wanted, fault) in zip(texts, answers):
             found = refused_at(data, is_list)
-            if " S5 " in fault:
-                counts["too deep"] += 1
+            if " S5 " in fault or " L1 " in fault:
+                counts["beyond a limit"] += 1
             elif wanted and found is not None and is_list and self.hides(fault, found):
                 counts["with an earlier fault of another kind"] += 1
             else:
-                self.assertEqual(found is None, wanted, f"{fault}\n{data.decode('latin-1')}")
+                self.assertEqual(found is None, wanted, f"{fault}\n{data[:4000].decode('latin-1')}")
                 counts["taken by both" if wanted else "refused by both"] += 1
         if "MADE" in os.environ:
             told = ", ".join(f"{count} {what}" for what, count in sorted(counts.items()))
