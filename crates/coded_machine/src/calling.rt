@@ -33,7 +33,7 @@ pub struct Setting<'a> {
 /// What an operation reads.
 ///
 /// An operand that the kind does not have is `Word::ZERO` by custom; no answer depends on it.
-#[derive(Clone, Copy, Debug, PartialEq, Eq)]
+#[derive(Clone, Copy, PartialEq, Eq)]
 pub struct Operands {
     /// The word of the first operand.
     pub a: Word,

@@ -19,7 +19,7 @@ use vcp_base::Memory;
 /// right answers at all other calls.
 ///
 /// It keeps its first calls, and tells its log until it does a call for which there is no room.
-#[derive(Debug, Drop)]
+#[derive(Drop)]
 pub struct BadUnit {
     kept: CallLog,
     calls: u64,

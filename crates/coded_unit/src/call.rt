@@ -6,7 +6,7 @@ use vcp_base::{Kind, Profile, Residue, Ty};
 /// One elementary operation, with all that a unit is told of it.
 ///
 /// An operand that the kind does not have is `Word::ZERO` by custom; no answer depends on it.
-#[derive(Clone, Copy, Debug, PartialEq, Eq)]
+#[derive(Clone, Copy, PartialEq, Eq)]
 pub struct Call {
     /// The code of its words.
     pub profile: Profile,

@@ -9,7 +9,7 @@ use std::marker::Model;
 use vcp_base::Memory;
 
 /// The first calls of a unit, as many as there is room for, and whether there were more.
-#[derive(Debug, Drop)]
+#[derive(Drop)]
 pub(crate) struct CallLog {
     entries: Vec<(Call, Answer)>,
     room: u32,

@@ -10,7 +10,7 @@ use crate::table;
 use crate::unit::Unit;
 
 /// The processor that runs the program: it gives the right answers, and tells no log.
-#[derive(Debug, Drop)]
+#[derive(Drop)]
 pub struct CpuUnit;
 
 impl CpuUnit {

@@ -17,7 +17,7 @@ use vcp_base::Memory;
 ///
 /// It tells its log until it does a call for which there is no room; that call and the later ones
 /// are answered all the same.
-#[derive(Debug, Drop)]
+#[derive(Drop)]
 pub struct LogUnit {
     calls: CallLog,
 }

@@ -23,7 +23,7 @@ use vcp_outside::{Line, MemSink, Sink};
 pub(crate) const DELAYS: usize = 17;
 
 /// What is counted of the faults of a class.
-#[derive(Clone, Copy, Debug)]
+#[derive(Clone, Copy)]
 pub struct Counting {
     pub(crate) tally: Tally,
     pub(crate) delays: [u64; DELAYS],
@@ -79,7 +79,7 @@ impl Listener for Counting {
 }
 
 /// A class, and what is counted of its faults.
-#[derive(Clone, Copy, Debug)]
+#[derive(Clone, Copy)]
 pub struct ClassCount {
     pub(crate) class: CoverClass,
     pub(crate) counting: Counting,

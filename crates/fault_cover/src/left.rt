@@ -20,7 +20,7 @@ use vcp_base::Memory;
 use vcp_outside::{Line, MemSink, Sink};
 
 /// So many faults of an operation that are neither refused nor come to nothing, nor show.
-#[derive(Clone, Copy, Debug)]
+#[derive(Clone, Copy)]
 pub enum LeftLine {
     /// They run on.
     RunsOn {
@@ -43,7 +43,7 @@ pub enum LeftLine {
 }
 
 /// A fault runs on across so many borders at an operation that may stop.
-#[derive(Clone, Copy, Debug)]
+#[derive(Clone, Copy)]
 pub(crate) struct Run {
     borders: u32,
     op: u32,

@@ -7,7 +7,7 @@ ghost use Rattle.fault_cover.specs.Counts.{counted, together};
 use crate::told::Told;
 
 /// How many faults are told to be what. A graph has fewer than 2^40 faults of a class.
-#[derive(Clone, Copy, Debug, PartialEq, Eq)]
+#[derive(Clone, Copy, PartialEq, Eq)]
 pub struct Tally {
     /// Refused.
     pub refused: u64,

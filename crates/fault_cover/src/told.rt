@@ -1,7 +1,7 @@
 //! What a fault is told to be.
 
 /// What becomes of a fault in every run, over all rows that fit and whatever is added.
-#[derive(Clone, Copy, Debug, PartialEq, Eq)]
+#[derive(Clone, Copy, PartialEq, Eq)]
 pub enum Told {
     /// No wrong output is released, and no stop is passed: an output refuses what comes to it.
     Refused {

@@ -12,7 +12,7 @@ use script_text::WordsLeft;
 use vcp_base::{Kind, Ty, number_in};
 
 /// What the words before the operation say.
-#[derive(Clone, Copy, Debug)]
+#[derive(Clone, Copy)]
 pub enum Doing {
     /// A number is added.
     Add {
@@ -38,7 +38,7 @@ pub enum Doing {
 }
 
 /// An operation, or an operand of it.
-#[derive(Clone, Copy, Debug)]
+#[derive(Clone, Copy)]
 pub struct Target {
     /// The operand, where it is one.
     pub operand: Option<u32>,

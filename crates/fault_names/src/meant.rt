@@ -14,7 +14,7 @@ use op_graph::Graph;
 use script_text::WordsLeft;
 
 /// The acts of a line: one, or the two of which one flips a bit.
-#[derive(Clone, Copy, Debug)]
+#[derive(Clone, Copy)]
 pub struct Acts {
     /// The first.
     pub act: Act,
@@ -23,7 +23,7 @@ pub struct Acts {
 }
 
 /// What a line means: acts at an operation in each of some cycles.
-#[derive(Clone, Copy, Debug)]
+#[derive(Clone, Copy)]
 pub struct Meant {
     /// The number of the operation.
     pub op: u32,

@@ -60,7 +60,7 @@ fn is_named(graph: &Graph, kind: Option<Kind>, name: &[u8], place: Option<Spot>,
 }
 
 /// Which of some operations have a name.
-#[derive(Clone, Copy, Debug)]
+#[derive(Clone, Copy)]
 pub enum Found {
     /// None.
     Nothing,

@@ -11,7 +11,7 @@ use fault_script::{cycle_number, index_number};
 use script_text::WordsLeft;
 
 /// Cycles, from one to another, which may be the same.
-#[derive(Clone, Copy, Debug, PartialEq, Eq)]
+#[derive(Clone, Copy, PartialEq, Eq)]
 pub struct Span {
     /// The first, below 1,000,000.
     pub first: u32,

@@ -12,7 +12,7 @@ use input_rows::RowList;
 use vcp_base::{Row, StopKind};
 
 /// The answers of a run, of which the words are kept, cycle by cycle, up to the end of the run or its stop.
-#[derive(Debug, Drop)]
+#[derive(Drop)]
 pub(crate) struct Kept {
     /// The words.
     pub words: Vec<Word>,

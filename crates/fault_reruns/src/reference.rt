@@ -55,7 +55,7 @@ impl<'a> Model for Reference<'a> {
 }
 
 /// The answers of one cycle: its words, and behind them the stop of an operation, where one stopped.
-#[derive(Clone, Copy, Debug)]
+#[derive(Clone, Copy)]
 pub struct CycleAnswers<'r> {
     /// The words, one for each operation in order.
     pub words: &'r [Word],

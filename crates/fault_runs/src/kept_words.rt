@@ -8,7 +8,7 @@ use std::marker::Model;
 use vcp_base::Memory;
 
 /// For each fault of a group the word of an earlier call that its act takes, where there is one, seen as a list.
-#[derive(Debug, Drop)]
+#[derive(Drop)]
 pub struct KeptWords {
     words: Vec<Option<Word>>,
 }

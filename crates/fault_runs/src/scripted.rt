@@ -20,7 +20,7 @@ use std::alloc::Global;
 use vcp_base::{Kind, Memory};
 
 /// A fault, and the word that was kept for it of an earlier call, where there is one.
-#[derive(Clone, Copy, Debug)]
+#[derive(Clone, Copy)]
 pub struct Carried {
     /// The fault.
     pub fault: Fault,
@@ -176,7 +176,7 @@ impl<'u, U: Unit> Unit for Scripted<'u, U> {
 }
 
 /// What is carried out at a call: an act, with the word that it takes.
-#[derive(Clone, Copy, Debug)]
+#[derive(Clone, Copy)]
 struct Doing {
     act: Act,
     word: Word,

@@ -13,7 +13,7 @@ use crate::numbers::{addend, cycle_number, index_number, kind_named};
 use script_text::WordsLeft;
 
 /// What a well-formed line says: an act at an operation in a cycle.
-#[derive(Clone, Copy, Debug)]
+#[derive(Clone, Copy)]
 pub struct Change {
     /// The cycle, below 1,000,000.
     pub cycle: u32,

@@ -9,7 +9,7 @@ use std::marker::Model;
 use vcp_base::Memory;
 
 /// Faults that are carried out in one run, in the order of their lines, seen as a list.
-#[derive(Debug, Drop)]
+#[derive(Drop)]
 pub struct Group {
     faults: Vec<Fault>,
 }

@@ -9,7 +9,7 @@ use vcp_base::Memory;
 
 /// The groups of a script in the order of its lines, seen as a list. A fault outside `begin` and `end` is a
 /// group of one.
-#[derive(Debug, Drop)]
+#[derive(Drop)]
 pub struct Script {
     groups: Vec<Group>,
 }

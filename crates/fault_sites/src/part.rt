@@ -1,7 +1,7 @@
 //! Parts of sites.
 
 /// A part of the sites, in their order.
-#[derive(Clone, Copy, Debug, PartialEq, Eq)]
+#[derive(Clone, Copy, PartialEq, Eq)]
 pub struct Part {
     /// How many sites stand before it.
     pub skip: u64,

@@ -16,7 +16,7 @@ use vcp_base::{Kind, Memory, kind_code, ty_code};
 
 /// What an operation does, wherever it stands, over operands that are numbered anew: the codes of its
 /// kind and types, its operands and its own number.
-#[derive(Clone, Copy, Debug, PartialEq, Eq, Hash)]
+#[derive(Clone, Copy, PartialEq, Eq, Hash)]
 struct Work {
     kind: u8,
     from: u8,

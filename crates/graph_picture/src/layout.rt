@@ -11,7 +11,7 @@ use std::marker::Model;
 use vcp_base::Memory;
 
 /// The place of a box: its column from the left and its row from above, counted from 0.
-#[derive(Clone, Copy, Debug, PartialEq, Eq)]
+#[derive(Clone, Copy, PartialEq, Eq)]
 pub struct BoxPlace {
     /// The column.
     pub column: u32,
@@ -36,7 +36,7 @@ pub(crate) fn top(place: BoxPlace) -> u64
 }
 
 /// The places of the boxes of a graph's operations, in order, and the size of the picture in pixels.
-#[derive(Debug, Drop)]
+#[derive(Drop)]
 pub struct GraphLayout {
     places: Vec<BoxPlace>,
     width: u64,

@@ -10,7 +10,7 @@ use svg_text::{Name, Piece, Tag, then_element};
 use vcp_outside::{Line, Sink};
 
 /// A sample of a legend: a small rectangle of a class, and beside it what it says.
-#[derive(Clone, Copy, Debug)]
+#[derive(Clone, Copy)]
 pub struct Sample<'a> {
     /// The distance of the rectangle from the left.
     pub x: u32,

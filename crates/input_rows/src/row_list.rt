@@ -11,7 +11,7 @@ use vcp_base::{Memory, Row};
 
 /// Rows of one width, one behind another, seen as a list of rows. Rows of no values are a number, and
 /// take no memory.
-#[derive(Debug, Drop)]
+#[derive(Drop)]
 pub struct RowList {
     width: u32,
     count: u32,

@@ -3,7 +3,7 @@
 use vcp_base::{Kind, Spot, Ty};
 
 /// One operation.
-#[derive(Clone, Copy, Debug, PartialEq, Eq)]
+#[derive(Clone, Copy, PartialEq, Eq)]
 pub struct Op {
     /// What the operation does, and so how many operands it has.
     pub kind: Kind,
@@ -62,7 +62,7 @@ pub struct Cell {
 }
 
 /// A cell without its STORE: what its LOAD makes.
-#[derive(Clone, Copy, Debug, PartialEq, Eq)]
+#[derive(Clone, Copy, PartialEq, Eq)]
 pub struct Loaded {
     /// The number of its name.
     pub name: u32,

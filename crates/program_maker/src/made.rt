@@ -10,7 +10,7 @@ use std::alloc::Global;
 use vcp_base::{Memory, Text};
 
 /// A made program.
-#[derive(Debug, Drop)]
+#[derive(Drop)]
 pub struct Made {
     /// Its source text.
     pub source: Text,

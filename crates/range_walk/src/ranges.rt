@@ -7,7 +7,7 @@ use std::marker::Model;
 
 /// The range of the values of each operation of a graph, and why it may stop. What is told is read as two
 /// lists, in the order of the operations.
-#[derive(Debug, Drop)]
+#[derive(Drop)]
 pub struct Ranges {
     known: Vec<Range>,
     stops: Vec<Stops>,

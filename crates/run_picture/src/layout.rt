@@ -10,7 +10,7 @@ use crate::run::Run;
 use itoa::Buffer;
 
 /// Where cycles stand in a picture, in pixels.
-#[derive(Clone, Copy, Debug)]
+#[derive(Clone, Copy)]
 pub struct Layout {
     /// The distance of the first cycle's begin from the left.
     pub left: u16,

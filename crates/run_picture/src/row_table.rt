@@ -7,7 +7,7 @@ use std::marker::Model;
 use vcp_base::{Memory, Row};
 
 /// Rows of values, seen as a list.
-#[derive(Debug, Drop)]
+#[derive(Drop)]
 pub(crate) struct RowTable {
     rows: Vec<Row>,
 }

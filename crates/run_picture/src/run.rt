@@ -18,7 +18,7 @@ use vcp_base::{Text, Words};
 
 /// A run: the names of its outputs, at most 1,024; the values of each cycle, at most 1,000,000, in the
 /// order of the names; and how it ended.
-#[derive(Debug, Drop)]
+#[derive(Drop)]
 pub struct Run {
     names: Words,
     rows: RowTable,

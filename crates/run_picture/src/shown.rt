@@ -13,7 +13,7 @@ use svg_text::{Name, Piece, Tag, then_element};
 use vcp_outside::{Line, Sink};
 
 /// What is drawn of a value.
-#[derive(Clone, Copy, Debug)]
+#[derive(Clone, Copy)]
 pub(crate) struct Shown {
     /// The column, counted from 0.
     pub(crate) column: u32,

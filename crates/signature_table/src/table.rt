@@ -14,7 +14,7 @@ use std::marker::Model;
 use vcp_base::{Memory, Profile, Residue};
 
 /// The numbers of a graph's code: a seed, a step, and a correction for each operation.
-#[derive(Debug, Drop)]
+#[derive(Drop)]
 pub struct Table {
     profile: Profile,
     seed: u32,

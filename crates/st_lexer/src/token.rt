@@ -112,7 +112,7 @@ pub enum Tok {
 }
 
 /// A token: its bytes stand in the text from `from` up to `to`, and `spot` is the place of the first.
-#[derive(Clone, Copy, Debug, PartialEq, Eq)]
+#[derive(Clone, Copy, PartialEq, Eq)]
 pub struct Token {
     pub tok: Tok,
     pub from: u32,

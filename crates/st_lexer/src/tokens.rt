@@ -8,7 +8,7 @@ use std::marker::Model;
 use vcp_base::{Memory, Spot};
 
 /// The tokens of a text in order, and the spot of the byte after the last one of the text.
-#[derive(Debug, Drop)]
+#[derive(Drop)]
 pub struct Tokens {
     list: Vec<Token>,
     after: Spot,

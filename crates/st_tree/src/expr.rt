@@ -10,7 +10,7 @@ use std::boxed::Box;
 use vcp_base::{Memory, Spot, Text, Ty};
 
 /// An operator of one operand.
-#[derive(Clone, Copy, Debug, PartialEq, Eq, Drop)]
+#[derive(Clone, Copy, PartialEq, Eq, Drop)]
 pub enum UnOp {
     /// `-`
     Neg,
@@ -19,7 +19,7 @@ pub enum UnOp {
 }
 
 /// An operator of two operands.
-#[derive(Clone, Copy, Debug, PartialEq, Eq, Drop)]
+#[derive(Clone, Copy, PartialEq, Eq, Drop)]
 pub enum BinOp {
     /// `*`
     Mul,

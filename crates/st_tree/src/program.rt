@@ -9,7 +9,7 @@ use std::alloc::Global;
 use vcp_base::{Memory, Spot, Text, Ty};
 
 /// What a block declares.
-#[derive(Clone, Copy, Debug, PartialEq, Eq, Drop)]
+#[derive(Clone, Copy, PartialEq, Eq, Drop)]
 pub enum Section {
     /// VAR_INPUT
     Input,

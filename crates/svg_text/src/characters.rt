@@ -10,7 +10,7 @@ use itoa::Buffer;
 use vcp_outside::{Line, Sink};
 
 /// A piece of a text.
-#[derive(Clone, Copy, Debug)]
+#[derive(Clone, Copy)]
 pub enum Piece<'a> {
     /// These bytes.
     Bytes(&'a [u8]),
@@ -21,7 +21,7 @@ pub enum Piece<'a> {
 }
 
 /// How characters are written.
-#[derive(Clone, Copy, Debug)]
+#[derive(Clone, Copy)]
 pub enum Escaping {
     /// In a picture in SVG, with references in the place of those that have a meaning there.
     Markup,

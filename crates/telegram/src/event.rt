@@ -3,7 +3,7 @@
 use vcp_base::Row;
 
 /// What happens on a wire, as a line of a script says.
-#[derive(Debug, Drop)]
+#[derive(Drop)]
 pub enum Event {
     /// A cycle begins, in which each sender sends its value.
     Cycle {

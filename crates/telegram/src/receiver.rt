@@ -14,7 +14,7 @@ use vcp_base::{Profile, Ty, fits};
 /// What hears one sender: it counts the cycles, and keeps the number that it delivered last.
 ///
 /// None of its calls takes memory.
-#[derive(Debug, Drop)]
+#[derive(Drop)]
 pub struct Receiver {
     listen: u32,
     age: u32,

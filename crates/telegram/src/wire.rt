@@ -1,7 +1,7 @@
 //! Wires.
 
 /// The senders of a wire, and what hears one of them.
-#[derive(Clone, Copy, Debug, PartialEq, Eq)]
+#[derive(Clone, Copy, PartialEq, Eq)]
 pub struct Wire {
     /// How many senders there are, 1 to 16. They are numbered from 0.
     pub senders: u32,

@@ -9,7 +9,7 @@ use std::alloc::Global;
 use std::marker::Model;
 
 /// One input or output: its name as declared, and its type.
-#[derive(Debug, Drop)]
+#[derive(Drop)]
 pub struct Column {
     /// The name as it was declared; `same_name` compares names.
     pub name: Text,
@@ -18,7 +18,7 @@ pub struct Column {
 }
 
 /// Inputs or outputs in order, seen as a list.
-#[derive(Debug, Drop)]
+#[derive(Drop)]
 pub struct Columns {
     columns: Vec<Column>,
 }

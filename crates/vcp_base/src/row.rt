@@ -7,7 +7,7 @@ use std::alloc::Global;
 use std::marker::Model;
 
 /// One value per input or output, seen as a list of integers.
-#[derive(Debug, Drop)]
+#[derive(Drop)]
 pub struct Row {
     values: Vec<i64>,
 }

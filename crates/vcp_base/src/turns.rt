@@ -16,7 +16,7 @@ pub struct Turn {
 }
 
 /// The turns round a place, outermost first, seen as a list.
-#[derive(Debug, Drop)]
+#[derive(Drop)]
 pub struct Turns {
     turns: Vec<Turn>,
 }

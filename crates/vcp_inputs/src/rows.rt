@@ -23,7 +23,7 @@ use vcp_outside::Files;
 use vcp_words::RowsWord;
 
 /// The rows of a run before they are read.
-#[derive(Debug, Drop)]
+#[derive(Drop)]
 pub enum RowsSource {
     /// The bytes of a file, at most 67,108,864.
     File(Text),

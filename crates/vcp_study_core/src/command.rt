@@ -18,7 +18,7 @@ use vcp_words::{CommandWords, RowsWord};
 use verdict_tables::MOST_PARTS;
 
 /// A command, with its own words. A name of a file isn't empty and doesn't begin with `-`.
-#[derive(Clone, Copy, Debug)]
+#[derive(Clone, Copy)]
 pub enum StudyCommand<'a> {
     /// `graph M HORIZON`: the picture of an image's graph.
     Graph {
@@ -510,7 +510,7 @@ fn sites_words<'a>(words: &mut CommandWords<'a>) -> Option<StudyCommand<'a>>
 }
 
 /// What stands next behind M of `sum`.
-#[derive(Clone, Copy, Debug)]
+#[derive(Clone, Copy)]
 pub(crate) enum NextWord<'a> {
     /// No more words.
     NoMore,
@@ -521,7 +521,7 @@ pub(crate) enum NextWord<'a> {
 }
 
 /// All that stands behind M of `sum`.
-#[derive(Clone, Copy, Debug)]
+#[derive(Clone, Copy)]
 pub(crate) struct BehindWords<'a> {
     /// How many parts.
     pub parts: u32,

@@ -45,7 +45,7 @@ pub enum Fault {
 }
 
 /// Why there is nothing of a part of a campaign.
-#[derive(Debug, Drop)]
+#[derive(Drop)]
 pub enum PartFault {
     /// There is nothing of its script.
     Script(NoInput),

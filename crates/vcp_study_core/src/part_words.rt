@@ -7,7 +7,7 @@ ghost use Rattle.vcp_study_core.specs.Forms.{as_names, names_of};
 use vcp_base::{Text, Words};
 
 /// The names of the two files of a part.
-#[derive(Clone, Copy, Debug)]
+#[derive(Clone, Copy)]
 pub struct Named<'a> {
     /// The name of its script.
     pub script: &'a Text,
@@ -16,7 +16,7 @@ pub struct Named<'a> {
 }
 
 /// The names of the files of parts: words one behind another, in turn that of a script and that of what was printed on it.
-#[derive(Clone, Copy, Debug)]
+#[derive(Clone, Copy)]
 pub struct PartWords<'a> {
     /// The words, with others before these and behind them.
     pub words: &'a Words,

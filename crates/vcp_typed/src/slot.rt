@@ -7,7 +7,7 @@ use std::alloc::Global;
 use vcp_base::{Memory, Spot, Text, Ty};
 
 /// A variable: its declared name with the spot, its section, its type and its initial value.
-#[derive(Debug, Drop)]
+#[derive(Drop)]
 pub struct Slot {
     pub name: Text,
     pub spot: Spot,
@@ -17,7 +17,7 @@ pub struct Slot {
 }
 
 /// The variables of a program, in order of declaration.
-#[derive(Debug, Drop)]
+#[derive(Drop)]
 pub struct Slots {
     pub items: Vec<Slot>,
 }

@@ -3,7 +3,7 @@
 use vcp_base::Text;
 
 /// Where the rows of a run come from.
-#[derive(Clone, Copy, Debug)]
+#[derive(Clone, Copy)]
 pub enum RowsWord<'a> {
     /// The file under this name.
     File(&'a Text),
@@ -12,7 +12,7 @@ pub enum RowsWord<'a> {
 }
 
 /// The code of a run: what the signatures of its operations and the stamps of its cycles are made of.
-#[derive(Clone, Copy, Debug, PartialEq, Eq)]
+#[derive(Clone, Copy, PartialEq, Eq)]
 pub struct Code {
     /// The seed of the signatures: `--seed N`, below 2^30.
     pub seed: u32,
@@ -27,7 +27,7 @@ pub const DEFAULT_CODE: Code = Code {
 };
 
 /// A command, with its own words. A name of a file isn't empty and doesn't begin with `-`.
-#[derive(Clone, Copy, Debug)]
+#[derive(Clone, Copy)]
 pub enum Command<'a> {
     /// `check P`: whether the file is a program, and its Size.
     Check {

@@ -23,7 +23,7 @@ use std::marker::Model;
 use vcp_base::Memory;
 
 /// For each group of a script, in order, how its run ends where its verdict is `same`, and none where it is another. Seen as a list.
-#[derive(Debug, Drop)]
+#[derive(Drop)]
 pub struct Endings {
     endings: Vec<Option<SameEnding>>,
 }
@@ -73,7 +73,7 @@ impl Endings {
 }
 
 /// The same for each part of a campaign, in order. Seen as a list.
-#[derive(Debug, Drop)]
+#[derive(Drop)]
 pub struct EndingsOfParts {
     endings: Vec<Endings>,
 }

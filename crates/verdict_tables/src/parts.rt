@@ -15,7 +15,7 @@ use vcp_outside::{Line, Sink};
 pub const MOST_PARTS: u32 = 10_000;
 
 /// A part of a campaign: a script, and the verdicts of its groups.
-#[derive(Debug, Drop)]
+#[derive(Drop)]
 pub struct Part {
     /// The script.
     pub script: Script,
@@ -24,7 +24,7 @@ pub struct Part {
 }
 
 /// The parts of a campaign, seen as a list.
-#[derive(Debug, Drop)]
+#[derive(Drop)]
 pub struct Parts {
     parts: Vec<Part>,
 }

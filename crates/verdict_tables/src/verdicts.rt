@@ -8,7 +8,7 @@ use std::marker::Model;
 use vcp_base::Memory;
 
 /// The verdicts of the groups of a script, in their order, seen as a list.
-#[derive(Debug, Drop)]
+#[derive(Drop)]
 pub struct Verdicts {
     verdicts: Vec<Verdict>,
 }

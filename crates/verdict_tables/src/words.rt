@@ -13,7 +13,7 @@ use script_text::WordsLeft;
 use vcp_base::{StopKind, Ty, number_in, numeral, stop_name};
 
 /// Two numbers.
-#[derive(Clone, Copy, Debug)]
+#[derive(Clone, Copy)]
 pub(crate) struct Numbers {
     /// The first.
     pub first: i64,
@@ -22,7 +22,7 @@ pub(crate) struct Numbers {
 }
 
 /// What shows at an output.
-#[derive(Clone, Copy, Debug)]
+#[derive(Clone, Copy)]
 pub(crate) struct Shown {
     /// In which cycle.
     pub cycle: u32,

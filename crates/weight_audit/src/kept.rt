@@ -19,7 +19,7 @@ pub enum AuditFault {
 
 /// For one output and one number of cycle borders: the weight of each operation, and whether a path
 /// leads from it.
-#[derive(Debug, Drop)]
+#[derive(Drop)]
 pub(crate) struct Distance {
     weights: Vec<Residue>,
     reached: Vec<bool>,
@@ -73,7 +73,7 @@ impl Distance {
 }
 
 /// The distances of one output, from no border on.
-#[derive(Debug, Drop)]
+#[derive(Drop)]
 pub(crate) struct Distances {
     by_borders: Vec<Distance>,
 }
@@ -116,7 +116,7 @@ impl Distances {
 
 /// The weights of a graph's operations at its outputs, after each number of cycle borders up to a
 /// horizon.
-#[derive(Debug, Drop)]
+#[derive(Drop)]
 pub struct Weights {
     operations: u32,
     horizon: u32,

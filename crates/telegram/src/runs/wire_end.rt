@@ -7,7 +7,7 @@ use vcp_base::Memory;
 use vcp_outside::Failed;
 
 /// How a run over a wire ended.
-#[derive(Clone, Copy, Debug, PartialEq, Eq)]
+#[derive(Clone, Copy, PartialEq, Eq)]
 pub enum WireEnd {
     /// With the script.
     Complete,

@@ -8,7 +8,7 @@ use std::marker::Model;
 use vcp_base::Memory;
 
 /// What happens on a wire, in order, seen as a list.
-#[derive(Debug, Drop)]
+#[derive(Drop)]
 pub struct Events {
     events: Vec<Event>,
 }

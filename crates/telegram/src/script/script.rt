@@ -4,7 +4,7 @@ use crate::Wire;
 use crate::script::events::Events;
 
 /// A wire, and what happens on it.
-#[derive(Debug, Drop)]
+#[derive(Drop)]
 pub struct WireScript {
     /// The wire.
     pub wire: Wire,
