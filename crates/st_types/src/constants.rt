@@ -17,6 +17,7 @@ use crate::literal::{Untyped, negated};
 use crate::names::{Entry, Names};
 use crate::note::note;
 use crate::operator::type_of;
+use crate::refusals::discard_some;
 use crate::variable::is_constant;
 use st_tree::Expr;
 use vcp_base::{Memory, Spot, Ty, fits, is_bool};
@@ -195,7 +196,7 @@ impl Environment<'_> {
     {
         let x = self.type_expression(e, first)?;
         let found = type_of(&x);
-        drop(x);
+        discard_some(x);
         let form = form_of(self.names, e)?;
         Ok(Number {
             form: form_number(ty, form),

@@ -19,6 +19,7 @@ use crate::literal::{Untyped, literal_type, minus, negated};
 use crate::names::Entry;
 use crate::note::note;
 use crate::operator::{common, signed, widened};
+use crate::refusals::{discard, discard_all, discard_some};
 use st_tree::{BinOp, Expr, Section, UnOp, trees_of_nodes};
 use std::alloc::Global;
 use vcp_base::{Memory, Spot, Ty};
@@ -79,7 +80,7 @@ fn sign(
     };
     match signed(op, ty_of(&arg)) {
         None => {
-            drop(arg);
+            discard(arg);
             note(first, Rule::Mismatch, spot);
             Ok(None)
         }
@@ -99,23 +100,35 @@ fn operate(
     ensures { IfOk result (λ r. Operates op spot (option_map texpr_tree left) (option_map texpr_tree right) first.old first.new (option_map texpr_tree r)) }
 {
     let Some(left) = left else {
-        drop(right);
+        discard_some(right);
         return Ok(None);
     };
     let Some(right) = right else {
-        drop(left);
+        discard(left);
         return Ok(None);
     };
     match common(op, ty_of(&left), ty_of(&right)) {
         None => {
-            drop(left);
-            drop(right);
+            discard(left);
+            discard(right);
             note(first, Rule::Mismatch, spot);
             Ok(None)
         }
         Some(ty) => {
-            let left = widened(alloc, ty, left)?;
-            let right = widened(alloc, ty, right)?;
+            let left = match widened(alloc, ty, left) {
+                Ok(left) => left,
+                Err(Memory) => {
+                    discard(right);
+                    return Err(Memory);
+                }
+            };
+            let right = match widened(alloc, ty, right) {
+                Ok(right) => right,
+                Err(Memory) => {
+                    discard(left);
+                    return Err(Memory);
+                }
+            };
             Ok(Some(TExpr::binary(alloc, op, ty, left, right, spot)?))
         }
     }
@@ -128,14 +141,20 @@ fn push(list: Option<Vec<TExpr>>, e: Option<TExpr>) -> Result<Option<Vec<TExpr>>
         ≡ both (λ xs x. Some (xs ++ x ∷ [])) (option_map (λ v. map texpr_tree v.items) list) (option_map texpr_tree e)) }
 {
     let Some(mut list) = list else {
-        drop(e);
+        discard_some(e);
         return Ok(None);
     };
     let Some(e) = e else {
+        discard_all(list);
         return Ok(None);
     };
-    list.push(e)?;
-    Ok(Some(list))
+    match list.push(e) {
+        Ok(()) => Ok(Some(list)),
+        Err(_) => {
+            discard_all(list);
+            Err(Memory)
+        }
+    }
 }
 
 // Each argument where one of the type beside it is wanted.
@@ -147,7 +166,7 @@ fn widened_all(alloc: Global, wanted: &[Ty], list: Vec<TExpr>) -> Result<TExprs,
     'each: for e in list {
         match wanted.get(i) {
             None => {
-                drop(e);
+                discard(e);
                 return Ok(out);
             }
             Some(ty) => out.push(widened(alloc, *ty, e)?)?,
@@ -172,11 +191,15 @@ fn apply(
     };
     match function_type(fun, &list) {
         None => {
+            discard_all(list);
             note(first, Rule::Mismatch, spot);
             Ok(None)
         }
         Some(ty) => match arguments(alloc, fun, ty)? {
-            None => Ok(None),
+            None => {
+                discard_all(list);
+                Ok(None)
+            }
             Some(wanted) => {
                 let args = widened_all(alloc, &wanted, list)?;
                 Ok(Some(TExpr::call(fun, ty, args, spot)))

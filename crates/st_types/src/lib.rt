@@ -16,6 +16,7 @@ mod names;
 mod note;
 mod operator;
 mod place;
+mod refusals;
 mod statement;
 mod typing;
 mod variable;

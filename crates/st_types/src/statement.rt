@@ -22,6 +22,10 @@ use crate::fault::{Fault, Rule};
 use crate::names::Entry;
 use crate::note::note;
 use crate::operator::{type_of, widened};
+use crate::refusals::{
+    discard, discard_arms, discard_body, discard_branches, discard_some, discard_stmt,
+    discard_stmts,
+};
 use crate::variable::{bool_fault, entry_type, held_in, is_free, name_fault};
 use st_tree::{Arm, Branch, Expr, Stmt, Stmts, trees_of_nodes};
 use std::alloc::Global;
@@ -48,19 +52,19 @@ fn assign_of(
         (option_map tstmt_tree r)) }
 {
     let Some(x) = x else {
-        drop(e);
+        discard_some(e);
         return Ok(None);
     };
     let Some(e) = e else {
         return Ok(None);
     };
     if !within(ty_of(&e), x.ty) {
-        drop(e);
+        discard(e);
         note(first, Rule::Mismatch, spot);
         return Ok(None);
     }
     if !is_free(held, x) {
-        drop(e);
+        discard(e);
         return Ok(None);
     }
     let value = widened(alloc, x.ty, e)?;
@@ -74,7 +78,7 @@ fn tested(e: Option<TExpr>, spot: Spot, first: &mut Option<Fault>) -> Option<TEx
 {
     let e = e?;
     if !is_bool(ty_of(&e)) {
-        drop(e);
+        discard(e);
         note(first, Rule::Mismatch, spot);
         return None;
     }
@@ -88,7 +92,7 @@ fn selector(e: Option<TExpr>, spot: Spot, first: &mut Option<Fault>) -> Option<T
 {
     let e = e?;
     if is_bool(ty_of(&e)) {
-        drop(e);
+        discard(e);
         note(first, Rule::Mismatch, spot);
         return None;
     }
@@ -149,7 +153,10 @@ fn if_of(arms: Option<TArms>, other: Option<Option<TStmts>>) -> Option<TStmt>
         ≡ both if_of (option_map (λ a. tarm_trees (tarm_items a)) arms) (option_map tother_tree other) }
 {
     let arms = arms?;
-    let other = other?;
+    let Some(other) = other else {
+        discard_arms(arms);
+        return None;
+    };
     Some(TStmt::if_(arms, other))
 }
 
@@ -165,11 +172,12 @@ fn case_of(
 {
     let on = on?;
     let Some(branches) = branches else {
-        drop(on);
+        discard(on);
         return None;
     };
     let Some(other) = other else {
-        drop(on);
+        discard(on);
+        discard_branches(branches);
         return None;
     };
     Some(TStmt::case(on, branches, other, spot))
@@ -184,14 +192,20 @@ fn with_stmt(list: Option<TStmts>, s: Option<TStmt>) -> Result<Option<TStmts>, M
         ≡ both stmt_after (option_map (λ b. tstmt_trees b.items.items) list) (option_map tstmt_tree s)) }
 {
     let Some(mut list) = list else {
-        drop(s);
+        discard_stmt(s);
         return Ok(None);
     };
     let Some(s) = s else {
+        discard_stmts(list);
         return Ok(None);
     };
-    list.push(s)?;
-    Ok(Some(list))
+    match list.push(s) {
+        Ok(()) => Ok(Some(list)),
+        Err(Memory) => {
+            discard_stmts(list);
+            Err(Memory)
+        }
+    }
 }
 
 // The conditions and bodies with one more; none where a part of one has a fault.
@@ -206,18 +220,27 @@ fn with_arm(
         ≡ arm_after spot (option_map (λ a. tarm_trees (tarm_items a)) list) (option_map texpr_tree cond) (option_map (λ b. tstmt_trees b.items.items) body)) }
 {
     let Some(mut list) = list else {
-        drop(cond);
+        discard_some(cond);
+        discard_body(body);
         return Ok(None);
     };
     let Some(cond) = cond else {
+        discard_arms(list);
+        discard_body(body);
         return Ok(None);
     };
     let Some(body) = body else {
-        drop(cond);
+        discard(cond);
+        discard_arms(list);
         return Ok(None);
     };
-    list.push(TArm { cond, body, spot })?;
-    Ok(Some(list))
+    match list.push(TArm { cond, body, spot }) {
+        Ok(()) => Ok(Some(list)),
+        Err(Memory) => {
+            discard_arms(list);
+            Err(Memory)
+        }
+    }
 }
 
 // The branches with one more; none where a part of one has a fault.
@@ -234,16 +257,25 @@ fn with_branch(
         (option_map (λ b. tstmt_trees b.items.items) body)) }
 {
     let Some(mut list) = list else {
+        discard_body(body);
         return Ok(None);
     };
     let Some(labels) = labels else {
+        discard_branches(list);
+        discard_body(body);
         return Ok(None);
     };
     let Some(body) = body else {
+        discard_branches(list);
         return Ok(None);
     };
-    list.push(TBranch { labels, body })?;
-    Ok(Some(list))
+    match list.push(TBranch { labels, body }) {
+        Ok(()) => Ok(Some(list)),
+        Err(Memory) => {
+            discard_branches(list);
+            Err(Memory)
+        }
+    }
 }
 
 // ---- statements
