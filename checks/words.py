@@ -4,8 +4,8 @@
     checks/words.py            prints each phrase that comes more often than it may, with its places, and then how often `stands` comes
     checks/words.py --all      looks at docs/CLAUSES.md, too, which is made from the comments of the sources
 
-Documents are README.md, CHANGELOG.md, and the pages and manual pages of docs/, docs/dev/, examples/ and bench/. What is shown as code, and what programs print, in
-indented blocks or between backquotes, doesn't count. Its status is 1 where a phrase comes too often.
+Documents are README.md, CHANGELOG.md, and the pages and manual pages of docs/, docs/dev/, examples/ and bench/. What is shown as code, and what programs print,
+in indented blocks or between backquotes, doesn't count. Its status is 1 where a phrase comes too often.
 """
 import re
 import sys
