@@ -144,7 +144,7 @@ class Campaigns(InFolder):
         printed = self.tool("campaign", "n.img", "skip", "--cycles", "3", "--quiet", "--out", "here", status=None)
         self.assertRegex(printed, r"\nfaults \d+ same \d+ wrong \d+ ran-on 0 refused \d+ stopped \d+\n\Z")
         self.assertTrue((self.folder / "here/verdicts").is_file())
-        self.assertIn("another campaign stands", self.tool("campaign", "n.img", "skip", "--cycles", "4", "--quiet", "--out", "here", status=2))
+        self.assertIn("another campaign is", self.tool("campaign", "n.img", "skip", "--cycles", "4", "--quiet", "--out", "here", status=2))
 
     @needs_programs
     def test_several_runs_a_store_and_drawn_faults(self) -> None:
@@ -171,7 +171,7 @@ class Campaigns(InFolder):
         self.write("d.img", self.program("compile", "d.st"))
         self.write("d.csv", "x\n1\n2\n3\n4\n5\n6\n")
         printed = self.tool("campaign", "d.img", "d.csv", "skip", "--then", "skip", "--draw", "9", "--quiet", status=None)
-        number = re.search(r"^dormant: (\d+) of the \d+ faults stand in a cell when the rows end$", printed, re.M)
+        number = re.search(r"^dormant: (\d+) of the \d+ faults are left in a cell when the rows end$", printed, re.M)
         counted = re.search(r"^ +(\d+) .*  stands in a cell$", printed.partition("dormant:")[0], re.M)
         assert number is not None and counted is not None, printed
         self.assertEqual(number[1], counted[1])

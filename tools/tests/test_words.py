@@ -150,7 +150,7 @@ class Files(InFolder):
                       ("table", "a.st", "a.csv", "--cycle-time", ""), ("table", "a.st", "a.csv", "--changes-of", ""), ("lint", ""), ("diff", "", "a.st"),
                       ("explain", "--source", "", "inject", "a", "b", "c"), ("rows", "make", "a.stim", ""), ("rows", "--cycle-time", "", "make", "a.stim"),
                       *(("campaign", "m", "r", "skip", option, "") for option in ("--source", "--store", "--out", "--rows", "--hosts"))):
-            self.assertRegex(self.tool(*words, status=2), "^vcp_tools: [a-z]+: an empty word stands [^\n]*\n$", words)
+            self.assertRegex(self.tool(*words, status=2), "^vcp_tools: [a-z]+: an empty word [^\n]*\n$", words)
 
     def test_a_tool_that_is_interrupted(self) -> None:
         with mock.patch("vcp_tools.rows.command.run", side_effect=KeyboardInterrupt):

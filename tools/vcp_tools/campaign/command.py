@@ -80,7 +80,7 @@ def _pairs(words: Words, first: "Done") -> "Done":
     copies = {name: str(folder.at / name) for name in ("image", "rows", "pairs")}
     vcp, study = Program(folder.at / "vcp"), Program(folder.at / "study", "vcp_study")
     dormant = dormant_of(first.script, str(folder.at / "faults"), first.standing)
-    print(f"dormant: {len(dormant)} of the {first.totals[0]} faults stand in a cell when the rows end")
+    print(f"dormant: {len(dormant)} of the {first.totals[0]} faults are left in a cell when the rows end")
     cycles = cycles_of(vcp, copies["image"], [copies["rows"]])
     behind = faults_of(words.then, (vcp, study), folder.at / "image", [copies["rows"]], cycles, words.bits)
     script, number = pairs_of(dormant, behind, words.draw or 0, words.seed, digest(first.image))
@@ -161,7 +161,7 @@ class Campaign:
         """The manifest of the folder, which is filled where it isn't yet, or where a copy was changed."""
         found = folder.manifest()
         if found is not None and found.asked != asked:
-            raise Refusal(f"{folder.at}: another campaign stands in this folder")
+            raise Refusal(f"{folder.at}: another campaign is in this folder")
         changed = folder.changed_copies(found) if found is not None else []
         if changed:
             print(f"campaign: {folder.at}: changed since, and so the campaign is made again: {', '.join(changed)}", file=sys.stderr)

@@ -27,7 +27,7 @@ HORIZON = 2
 def add_words(parser: argparse.ArgumentParser) -> None:
     """The words of `report`."""
     add_run_words(parser, "the rows file")
-    parser.add_argument("--faults", metavar="F", help="a script of faults over the image, compiled without --seed and --step: the verdicts are told")
+    parser.add_argument("--faults", metavar="F", help="a script of faults over the image, compiled without --seed and --step: the verdicts are shown")
     parser.add_argument("--horizon", type=int, default=HORIZON, metavar="N", help=f"the cycle borders of the audit, {HORIZON} where it isn't given")
     parser.add_argument("-o", dest="output", metavar="FILE", help="the file to write, else standard output")
     parser.add_argument("--check", metavar="FILE", help="make the report again and compare it with this one")

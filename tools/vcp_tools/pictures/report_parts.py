@@ -85,7 +85,7 @@ def _found(case: Case) -> list[tuple[str, str]]:
         unseen = sum(it.verdict in ("wrong", "ran-on") for it in verdicts)
         case.found_something = case.found_something or unseen > 0
         told.append(("verdicts on the faults", element("span", text(totals), class_="bad" if unseen else "good")))
-    told.append(("likely mistakes", _counted(case, len(case.findings), "none is told")))
+    told.append(("likely mistakes", _counted(case, len(case.findings), "none is named")))
     ranges = case.ranges
     if ranges is None:
         told.append(("may stop with any rows", text("not looked at: vcp_study isn't built")))
@@ -275,7 +275,7 @@ def _may_stop(case: Case) -> str:
         return ""
     rows = [(*_operation_cells(case, case.image.operations[it.operation]), code(it.cause), code(it.reads)) for it in case.ranges.may_stop]
     searched = "" if case.ranges.searched else " The image has too many operations to be searched closer."
-    note = element("p", f"As far as the ranges of all values tell: that an operation is named doesn't say that it can stop.{searched}", class_="dim")
+    note = element("p", f"As far as the ranges of all values show: that an operation is named doesn't say that it can stop.{searched}", class_="dim")
     return section("ranges", "What may stop, whatever the rows", note + table(("no.", "kind", "name", "place", "line", "stop", "reads"), rows, (0,)))
 
 
@@ -294,11 +294,11 @@ def _remark(script: list[str], line: int) -> str:
 def _lint(case: Case) -> str:
     without = find_module("lark") is None
     found = case.findings
-    note = element("p", "`lark` isn't installed: only what the operations tell was looked for.", class_="dim") if without else ""
+    note = element("p", "`lark` isn't installed: only what the operations show was looked for.", class_="dim") if without else ""
     if not found:
-        return section("lint", "Likely mistakes", note + element("p", "None is told.", class_="good"))
+        return section("lint", "Likely mistakes", note + element("p", "None is named.", class_="good"))
     rows = [(element("a", case.source.told(it.at), href=f"#L{case.source.place(it.at)[0]}", class_="m"), code(it.kind), text(it.message)) for it in found]
-    return section("lint", "Likely mistakes", note + table(("place", "kind", "what is told"), rows))
+    return section("lint", "Likely mistakes", note + table(("place", "kind", "what is named"), rows))
 
 
 def _source(case: Case) -> str:
