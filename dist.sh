@@ -57,7 +57,7 @@ is written here. First:
 To have the commands everywhere, put this folder's bin/ on the PATH, or copy bin/ and share/ into /usr/local or ~/.local.
 share/vcp/README.md says what vcp is and what it isn't, and share/vcp/docs/ has all documents.
 
-check.sh compares each file with share/vcp/files.txt, whose digest is told where this file is offered: compare it, too.
+check.sh compares each file with share/vcp/files.txt, whose digest is published where this file is offered: compare it, too.
 share/vcp/evidence/ says from which sources and by which toolchain the programs were proved, and what the gate found:
 
     commit     $commit

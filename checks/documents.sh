@@ -1,5 +1,5 @@
 #!/bin/sh
-# Whether the documents say what stands: `.ci/run` calls it after `rt ci`.
+# Whether the documents say what is there: `.ci/run` calls it after `rt ci`.
 #
 # Names: all that docs/PROMISES.md and docs/dev/ARCHITECTURE.md name is there (promised_names.py); docs/CLAUSES.md is what the sources say (clauses.py); and
 # docs/GLOSSARY.md says of names that two crates have what they are (double_names.py).
