@@ -223,6 +223,7 @@ class Readers(unittest.TestCase):
         self.assertEqual(total.totals, [4, 2, 2, 0, 0, 0])
         self.assertEqual([line for line, _, _ in total.unseen], [2, 12])
         self.assertIn("       4       2       2       0       0       0  skip\n", sum_text(total, ["y"]))
+        self.assertIn(" 12345678 12345678       0       0       0       0  skip\n", sum_text(Sum({"t": {"skip": [12345678, 12345678, 0, 0, 0, 0]}}), []))
         for harm in (text[:-30], text[:200], text.replace("output y", "output y\n" + end + "output z"), text.replace("2 wrong 1 y got 1 want 0\n", ""), ""):
             with self.assertRaises(Refusal):
                 read_sum(harm)

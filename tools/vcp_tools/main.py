@@ -40,7 +40,7 @@ MODULES = {
 }
 """The module of each tool."""
 VALUED = frozenset(("--changes-of", "--cycles", "--cycle-time", "--faults", "--horizon", "--check", "-o", "--allow", "--from", "--assume", "--inputs",
-                    "--seconds", "--gate"))
+                    "--seconds", "--gate", "--seed", "--step"))
 """The options that a word follows."""
 INTERRUPTED = 128 + 2
 """The status of a tool that a Ctrl-C has ended, as shells tell it."""

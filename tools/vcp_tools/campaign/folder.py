@@ -163,7 +163,7 @@ class Folder:
 
     def forget_answer(self) -> None:
         """Removes the answer of the whole, which doesn't stand while a part is missing."""
-        for name in ("verdicts", "tables", "unshown"):
+        for name in ("verdicts", "tables", "summed", "unshown"):
             (self.at / name).unlink(missing_ok=True)
 
     def read(self, name: str) -> bytes:

@@ -23,6 +23,7 @@ judges each fault of a class, or of a script of any length, over the image M and
   --hosts FILE    judge on the machines that FILE names for GNU parallel, too
   --out FOLDER    what is kept of the campaign is there, else in campaign.DIGEST
   --store FILE    keep each fault with its verdict in a database of SQLite
+  --sum           have `vcp_study sum` count all parts together, too, which is proved, and compare: by one processor, and at most 10,000 parts
   --source P      the source of M, by which operations are named with the variables of their statements
   --quiet         say nothing of progress
   other options, and what follows them, go to GNU parallel
@@ -46,6 +47,7 @@ class Words:
     out: str = ""
     store: str = ""
     source: str = ""
+    sum: bool = False
     quiet: bool = False
     parallel: list[str] = field(default_factory=list)
 
@@ -62,8 +64,8 @@ def read_words(words: Sequence[str]) -> Words:
                 raise Refusal(f"campaign: a word is missing behind `{word}`")
             _take(found, word, value)
             at += 2
-        elif word == "--quiet":
-            found.quiet = True
+        elif word in ("--quiet", "--sum"):
+            setattr(found, word[2:], True)
             at += 1
         elif word.startswith("-"):
             found.parallel += words[at:]

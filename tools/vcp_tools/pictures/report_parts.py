@@ -12,6 +12,7 @@ from vcp_tools.cycle_time import CycleTime
 from vcp_tools.pictures.markup import code, element, section, table, text
 from vcp_tools.files import read_bytes
 from vcp_tools.needs import find_module
+from vcp_tools.pictures.cover_part import cover_section, cover_told
 from vcp_tools.program import present_toolchain, promised_toolchain
 from vcp_tools.proved import digest, told_of
 from vcp_tools.read.verdict_lines import Verdict, faults_of_group, never_reached
@@ -54,7 +55,7 @@ def _verdict_on(case: Case) -> str:
     rows = [
         ("Size", text(size.removeprefix("ok "))),
         ("operations", text(len(case.image.operations))),
-        ("code", "narrow" if case.image.version == 1 else "wide"),
+        ("code", text(f"{'narrow' if case.image.version == 1 else 'wide'}, seed {case.image.seed}, step {case.image.step}")),
         ("cycles", text(case.run.cycles)),
         *_times(case.period, case.run.cycles),
         ("end of the run", element("span", text(case.run.ending), class_="good" if case.run.is_whole else "bad")),
@@ -77,9 +78,9 @@ def program_told(file: Path) -> str:
 
 
 def _found(case: Case) -> list[tuple[str, str]]:
-    """What the parts below found: verdicts, blind places, likely mistakes, and what may stop."""
+    """What the parts below found: faults in every run, verdicts, blind places, likely mistakes, and what may stop."""
     blind = sorted({operation for it in case.audit for operation in it.blind})
-    told = [("blind operations", _counted(case, len(blind), "none"))]
+    told = [("faults in every run", cover_told(case)), ("blind operations", _counted(case, len(blind), "none"))]
     if case.faults:
         verdicts, totals = case.verdicts
         unseen = sum(it.verdict in ("wrong", "ran-on") for it in verdicts)
@@ -318,6 +319,6 @@ def _commands(case: Case) -> str:
 
 
 SECTIONS: tuple[Callable[[Case], str], ...] = (
-    _verdict_on, _files, _tool, _picture, _audit, _may_stop, _campaign, _lint, _listing, _rows, _source, _commands,
+    _verdict_on, cover_section, _files, _tool, _picture, _audit, _may_stop, _campaign, _lint, _listing, _rows, _source, _commands,
 )
 """What makes the sections, in order; the commands stand last, since the others note theirs."""
