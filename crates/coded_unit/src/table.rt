@@ -253,7 +253,7 @@ fn wide_residue(
     wide_remainder(total(first, second, third, corr, share))
 }
 
-/// How often the stamp is added, so that it stands in the answer's residue once.
+/// How often the stamp is added, so that it is in the answer's residue once.
 #[inline(always)]
 fn stamp_share(kind: Kind) -> i32
     ensures value { result ≡ stamp_share_of kind }
