@@ -109,6 +109,17 @@ impl Word {
         }
     }
 
+    /// The word itself, to which nothing is added.
+    #[inline(always)]
+    pub(crate) fn plus_nothing(self, nothing: i128) -> Word
+        requires { nothing ≡ pos 0 }
+        ensures { result ≡ self }
+    {
+        Word {
+            code: self.code + nothing,
+        }
+    }
+
     /// The word `w + e`, or the nearest word to it where that is none.
     pub fn shift(self, e: i64) -> Word
         ensures { result ≡ nearest_word (self +ℤ e) }
