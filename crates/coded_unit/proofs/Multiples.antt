@@ -13,7 +13,8 @@ use Rattle.vcp_base.specs.declared.kind.StopKind.TheVariants as stop
 use Rattle.vcp_base.specs.declared.ty.Ty.{Ty}
 use Rattle.vcp_base.specs.Types.{fits}
 use Rattle.vcp_base.specs.Kinds.{same, value, operands_fit, divides_by_zero, outcome}
-use Rattle.coded_unit.specs.Words.{modulo, value_part, coded, multiple, IsMultiple, Wide}
+use Rattle.coded_unit.specs.Words.{modulo, value_part, coded}
+use Rattle.coded_unit.specs.Multiples.{multiple, IsMultiple, Wide}
 use Rattle.coded_unit.proofs.Modular.{modulus_positive, whole}
 use Rattle.coded_unit.proofs.Sizes.{at_most}
 

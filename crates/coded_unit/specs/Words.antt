@@ -1,5 +1,5 @@
 -- Words: a coded word is an integer w, which the constant A of a code splits into a value part and a residue.
-use Rattle.std.specs.Prelude.{◌≡◌, ℕ, ℤ, pos, negsuc, neg_ℤ, ◌+ℤ◌, ◌*ℤ◌, ◌≤ℤ◌, ◌-◌, ◌^◌, unsigned_abs}
+use Rattle.std.specs.Prelude.{ℕ, ℤ, pos, negsuc, neg_ℤ, ◌+ℤ◌, ◌*ℤ◌, ◌≤ℤ◌, ◌-◌, ◌^◌, unsigned_abs}
 use Rattle.std.specs.Int.{int_div_euclid, int_rem_euclid, int_min, int_max}
 use Rattle.vcp_base.specs.declared.code.Profile.{Profile}
 use Rattle.vcp_base.specs.Code.{modulus}
@@ -15,18 +15,6 @@ value_part p w = int_div_euclid w (pos (modulus p))
 -- the word of a value part and a residue, A*v + r
 unfoldable pub coded : Profile → ℤ → ℕ → ℤ
 coded p v r = pos (modulus p) *ℤ v +ℤ pos r
-
--- a value times the constant, which is the word of that value and the residue 0
-unfoldable pub multiple : Profile → ℤ → ℤ
-multiple p v = pos (modulus p) *ℤ v
-
--- z is far from the ends of 128 bits, so that two such integers are added without overflow
-abbrev pub Wide : ℤ → Type 0
-Wide z = (negsuc (2 ^ 124) ≤ℤ z) × (z ≤ℤ pos (2 ^ 124))
-
--- m is that of a value v, and far from the ends of 128 bits
-abbrev pub IsMultiple : Profile → ℤ → ℤ → Type 0
-IsMultiple p m v = (m ≡ multiple p v) × Wide m
 
 -- z where z is a word, that is, above -(2^126) and below 2^126; else the word that is nearest to it
 abbrev pub nearest_word : ℤ → ℤ

@@ -7,7 +7,8 @@
 ghost use Rattle.std.specs.Prelude.{◌≡◌, false, Ok, pos, negsuc, cond, int_div, int_rem, int_lt, neg_ℤ, ◌+ℤ◌, ◌-ℤ◌, ◌*ℤ◌, ◌≤ℤ◌, ◌^◌};
 ghost use Rattle.vcp_base.specs.Code.{modulus as modulus_of};
 ghost use Rattle.vcp_base.specs.Kinds.{same, truth as truth_of, value as value_of, divides_by_zero, outcome};
-ghost use Rattle.coded_unit.specs.Words.{modulo, value_part, coded, multiple, IsMultiple, Wide};
+ghost use Rattle.coded_unit.specs.Words.{modulo, value_part, coded};
+ghost use Rattle.coded_unit.specs.Multiples.{multiple, IsMultiple, Wide};
 
 use crate::call::Call;
 use crate::word::{ShortParts, Word};

@@ -4,7 +4,8 @@ ghost use Rattle.std.specs.Prelude.{◌≡◌, ◌<◌, ◌^◌, ℤ, pos, negsu
 ghost use Rattle.vcp_base.specs.Code.{modulus as modulus_of};
 ghost use Rattle.coded_unit.specs.Asked.{Asked};
 ghost use Rattle.vcp_base.specs.Kinds.{outcome as outcome_of};
-ghost use Rattle.coded_unit.specs.Words.{modulo, value_part, IsMultiple, Short, Small};
+ghost use Rattle.coded_unit.specs.Words.{modulo, value_part, Short, Small};
+ghost use Rattle.coded_unit.specs.Multiples.{IsMultiple};
 ghost use Rattle.coded_unit.specs.Right.{residue as residue_of, stamp_share as stamp_share_of, answer_of, LeavesRoom, Right};
 ghost use Rattle.coded_unit.specs.Step.{StepLaw};
 

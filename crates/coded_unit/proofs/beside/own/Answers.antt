@@ -2,7 +2,7 @@ use Rattle.std.proofs.Common.{◌∙◌, ap, sym, subst, pos, ◌*ℤ◌, ◌≡
 use mir.Syntax.{w128}
 use Rattle.std.proofs.lemmas.Int.{to_z-of_z}
 use Rattle.vcp_base.specs.Code.{modulus}
-use Rattle.coded_unit.specs.Words.{multiple, Wide}
+use Rattle.coded_unit.specs.Multiples.{multiple, Wide}
 use Rattle.coded_unit.proofs.Multiples.{read_back, is_wide}
 use Rattle.coded_unit.proofs.beside.own.Goals as goal
 

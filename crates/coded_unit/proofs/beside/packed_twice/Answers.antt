@@ -2,7 +2,8 @@ use Rattle.std.proofs.Common.{◌≡◌, ◌≤ℤ◌, ◌^◌, ap, sym, subst, 
 use mir.Syntax.{w128, w64}
 use Rattle.std.proofs.lemmas.Int.{to_z-of_z}
 use Rattle.vcp_base.specs.Kinds.{value}
-use Rattle.coded_unit.specs.Words.{coded, multiple}
+use Rattle.coded_unit.specs.Words.{coded}
+use Rattle.coded_unit.specs.Multiples.{multiple}
 use Rattle.coded_unit.proofs.Multiples.{ends, gives}
 use Rattle.coded_unit.proofs.beside.packed_twice.Goals as goal
 

@@ -1,7 +1,7 @@
 use Rattle.std.proofs.Common.{◌≡◌, ap, sym, subst, ◌∙◌, ◌*ℤ◌, to_z, of_z, arith, w64}
 use mir.Syntax.{w128}
 use Rattle.std.proofs.lemmas.Int.{to_z-of_z}
-use Rattle.coded_unit.specs.Words.{Wide}
+use Rattle.coded_unit.specs.Multiples.{Wide}
 use Rattle.coded_unit.proofs.Multiples.{product, of_operand, is_wide}
 use Rattle.coded_unit.proofs.beside.product.Goals as goal
 
