@@ -18,9 +18,12 @@ ghost use Rattle.st_parser.specs.ProgramMachine as machine;
 use crate::expressions::{Progress, read};
 use crate::fault::SyntaxFault;
 use crate::forms::{Form, Mode};
-use crate::levels::{nothing_read, refused};
+use crate::levels::nothing_read;
 use crate::marks::{Mark, is, mark_of};
 use crate::names::{Source, name_of};
+use crate::refusals::{
+    discard, discard_forms, give_up_block, give_up_names, refuse_names, refuse_program,
+};
 use crate::state::{At, Front, Opening, State};
 use crate::statements::stmt_step;
 use st_lexer::Token;
@@ -97,15 +100,16 @@ fn decl_at(source: Source, opening: Opening, mark: Mark, t: Token) -> Result<Sta
         (machine.decl_at (record { bytes = bytes_in source.entry.text.now; most = source.entry.most }) (view.opening opening) mark t) }
 {
     if is(mark, Mark::Name) {
-        let names = with_name(source, DeclaredNames::new(source.alloc), t)?;
-        return Ok(State::AtComma { opening, names });
+        return match with_name(source, DeclaredNames::new(source.alloc), t) {
+            Ok(names) => Ok(State::AtComma { opening, names }),
+            Err(Memory) => give_up_block(opening, SyntaxFault::Memory),
+        };
     }
     if is(mark, Mark::EndVar) {
         let front = with_block(opening)?;
         return Ok(State::AtBlock { front });
     }
-    drop(opening);
-    refused(t)
+    give_up_block(opening, SyntaxFault::Syntax { spot: t.spot })
 }
 
 // What reading a token of the body comes to.
@@ -139,7 +143,7 @@ fn program_at(t: Token) -> Result<State, SyntaxFault>
     if is(mark_of(t.tok), Mark::Program) {
         return Ok(State::AtName);
     }
-    refused(t)
+    refuse_program(t)
 }
 
 // The token behind PROGRAM.
@@ -155,7 +159,7 @@ fn name_at(source: Source, t: Token) -> Result<State, SyntaxFault>
         };
         return Ok(State::AtBlock { front });
     }
-    refused(t)
+    refuse_program(t)
 }
 
 // A token where a block may begin, or the body.
@@ -210,8 +214,7 @@ fn comma_at(opening: Opening, names: DeclaredNames, t: Token) -> Result<State, S
     if is(mark, Mark::Colon) {
         return Ok(State::AtType { opening, names });
     }
-    drop(opening);
-    refused(t)
+    refuse_names(opening, names, t)
 }
 
 // The token behind the comma of a declared name.
@@ -227,11 +230,12 @@ fn next_name_at(
         (machine.at_next_name (view.opening opening) (map declared_tree names.items.items)) t) }
 {
     if is(mark_of(t.tok), Mark::Name) {
-        let names = with_name(source, names, t)?;
-        return Ok(State::AtComma { opening, names });
+        return match with_name(source, names, t) {
+            Ok(names) => Ok(State::AtComma { opening, names }),
+            Err(Memory) => give_up_block(opening, SyntaxFault::Memory),
+        };
     }
-    drop(opening);
-    refused(t)
+    refuse_names(opening, names, t)
 }
 
 // The token behind the colon of a declaration.
@@ -256,8 +260,7 @@ fn type_at(opening: Opening, names: DeclaredNames, t: Token) -> Result<State, Sy
         let ty = Ty::Lint;
         return Ok(State::AtInit { opening, names, ty });
     }
-    drop(opening);
-    refused(t)
+    refuse_names(opening, names, t)
 }
 
 // An initial value is to be read.
@@ -292,8 +295,7 @@ fn init_begins(
     if is(mark, Mark::Assign) {
         return Ok(expects(alloc, opening, names, ty));
     }
-    drop(opening);
-    refused(t)
+    refuse_names(opening, names, t)
 }
 
 // The token behind an initial value.
@@ -313,8 +315,8 @@ fn init_ends(
         let opening = with_decl(opening, names, ty, Some(init))?;
         return Ok(State::AtDecl { opening });
     }
-    drop(init);
-    refused(t)
+    discard(init);
+    refuse_names(opening, names, t)
 }
 
 // A token of an initial value, or the one behind it.
@@ -341,18 +343,21 @@ fn init_at(
             forms,
             mode,
         }),
-        Ok(Progress::Ended(e)) => init_ends(opening, names, ty, e, t),
+        Ok(Progress::Ended(e)) => {
+            discard_forms(forms);
+            init_ends(opening, names, ty, e, t)
+        }
         Err(SyntaxFault::Syntax { spot }) => {
-            drop(opening);
-            Err(SyntaxFault::Syntax { spot })
+            discard_forms(forms);
+            give_up_names(opening, names, SyntaxFault::Syntax { spot })
         }
         Err(SyntaxFault::Depth { spot }) => {
-            drop(opening);
-            Err(SyntaxFault::Depth { spot })
+            discard_forms(forms);
+            give_up_names(opening, names, SyntaxFault::Depth { spot })
         }
         Err(SyntaxFault::Memory) => {
-            drop(opening);
-            Err(SyntaxFault::Memory)
+            discard_forms(forms);
+            give_up_names(opening, names, SyntaxFault::Memory)
         }
     }
 }

@@ -9,7 +9,8 @@ ghost use Rattle.st_parser.specs.StateViews as view;
 ghost use Rattle.st_parser.specs.StmtMachine as machine;
 
 use crate::fault::SyntaxFault;
-use crate::levels::{opened, reading, refused, whole};
+use crate::levels::{opened, reading, whole};
+use crate::refusals::{discard, give_up, refuse_end};
 use crate::state::{At, Body, Level, Purpose, Selection};
 use st_lexer::Token;
 use st_tree::{Arm, Arms, Branch, Expr, Labels, Stmt, Stmts};
@@ -21,13 +22,15 @@ pub fn with_branch(selection: Selection, labels: Labels, body: Stmts) -> Result<
     ensures { IfOk result (λ k. view.selection k ≡ machine.with_branch (view.selection selection) (label_trees labels.items.items)
         (stmt_trees body.items.items)) }
 {
-    let mut branches = selection.branches;
-    branches.push(Branch { labels, body })?;
-    Ok(Selection {
-        on: selection.on,
-        spot: selection.spot,
-        branches,
-    })
+    let Selection { on, spot, branches } = selection;
+    let mut branches = branches;
+    match branches.push(Branch { labels, body }) {
+        Ok(()) => Ok(Selection { on, spot, branches }),
+        Err(Memory) => {
+            discard(on);
+            Err(Memory)
+        }
+    }
 }
 
 // The arms of an IF with one more.
@@ -53,17 +56,18 @@ pub fn elsif_at(
 {
     match body {
         Body::OfArm { arms, cond, spot } => {
-            let arms = with_arm(arms, cond, stmts, spot)?;
-            let purpose = Purpose::ToTest { arms, spot: t.spot };
-            Ok(reading(alloc, outer, before, purpose))
+            match with_arm(arms, cond, stmts, spot) {
+                Ok(arms) => {
+                    let purpose = Purpose::ToTest { arms, spot: t.spot };
+                    Ok(reading(alloc, outer, before, purpose))
+                }
+                Err(Memory) => give_up(outer, before, SyntaxFault::Memory),
+            }
         }
         Body::OfIfElse { .. }
         | Body::OfBranch { .. }
         | Body::OfCaseElse { .. }
-        | Body::OfLoop { .. } => {
-            drop(body);
-            refused(t)
-        }
+        | Body::OfLoop { .. } => { refuse_end(body, outer, before, stmts, t) }
     }
 }
 
@@ -81,16 +85,19 @@ pub fn else_at(
 {
     match body {
         Body::OfArm { arms, cond, spot } => {
-            let arms = with_arm(arms, cond, stmts, spot)?;
-            opened(alloc, Body::OfIfElse { arms }, outer, before)
+            match with_arm(arms, cond, stmts, spot) {
+                Ok(arms) => opened(alloc, Body::OfIfElse { arms }, outer, before),
+                Err(Memory) => give_up(outer, before, SyntaxFault::Memory),
+            }
         }
         Body::OfBranch { selection, labels } => {
-            let selection = with_branch(selection, labels, stmts)?;
-            opened(alloc, Body::OfCaseElse { selection }, outer, before)
+            match with_branch(selection, labels, stmts) {
+                Ok(selection) => opened(alloc, Body::OfCaseElse { selection }, outer, before),
+                Err(Memory) => give_up(outer, before, SyntaxFault::Memory),
+            }
         }
         Body::OfIfElse { .. } | Body::OfCaseElse { .. } | Body::OfLoop { .. } => {
-            drop(body);
-            refused(t)
+            refuse_end(body, outer, before, stmts, t)
         }
     }
 }
@@ -108,13 +115,14 @@ pub fn end_if_at(
 {
     match body {
         Body::OfArm { arms, cond, spot } => {
-            let arms = with_arm(arms, cond, stmts, spot)?;
-            whole(outer, before, Stmt::if_(arms, None))
+            match with_arm(arms, cond, stmts, spot) {
+                Ok(arms) => whole(outer, before, Stmt::if_(arms, None)),
+                Err(Memory) => give_up(outer, before, SyntaxFault::Memory),
+            }
         }
         Body::OfIfElse { arms } => whole(outer, before, Stmt::if_(arms, Some(stmts))),
         Body::OfBranch { .. } | Body::OfCaseElse { .. } | Body::OfLoop { .. } => {
-            drop(body);
-            refused(t)
+            refuse_end(body, outer, before, stmts, t)
         }
     }
 }
@@ -132,9 +140,13 @@ pub fn end_case_at(
 {
     match body {
         Body::OfBranch { selection, labels } => {
-            let all = with_branch(selection, labels, stmts)?;
-            let stmt = Stmt::case(all.on, all.branches, None, all.spot);
-            whole(outer, before, stmt)
+            match with_branch(selection, labels, stmts) {
+                Ok(all) => {
+                    let stmt = Stmt::case(all.on, all.branches, None, all.spot);
+                    whole(outer, before, stmt)
+                }
+                Err(Memory) => give_up(outer, before, SyntaxFault::Memory),
+            }
         }
         Body::OfCaseElse { selection } => {
             let stmt = Stmt::case(
@@ -146,8 +158,7 @@ pub fn end_case_at(
             whole(outer, before, stmt)
         }
         Body::OfArm { .. } | Body::OfIfElse { .. } | Body::OfLoop { .. } => {
-            drop(body);
-            refused(t)
+            refuse_end(body, outer, before, stmts, t)
         }
     }
 }
@@ -176,9 +187,6 @@ pub fn end_for_at(
         Body::OfArm { .. }
         | Body::OfIfElse { .. }
         | Body::OfBranch { .. }
-        | Body::OfCaseElse { .. } => {
-            drop(body);
-            refused(t)
-        }
+        | Body::OfCaseElse { .. } => { refuse_end(body, outer, before, stmts, t) }
     }
 }

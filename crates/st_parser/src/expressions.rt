@@ -12,6 +12,7 @@ use crate::fault::SyntaxFault;
 use crate::forms::{Form, Mode, add, close, extend, is_within, take};
 use crate::marks::{Begins, Goes, begins_by, goes_by};
 use crate::names::{Source, name_of};
+use crate::refusals::refuse_form;
 use st_lexer::Token;
 use st_spelling::level_of;
 use st_tree::{Expr, Exprs};
@@ -157,11 +158,7 @@ fn close_at(forms: &mut Vec<Form>, e: Expr, t: Token) -> Result<Progress, Syntax
             let args = extend(args, e)?;
             Ok(Progress::On(Mode::Have(Expr::call(name, args, spot))))
         }
-        Some(Form::Sign(_, _)) | Some(Form::Left(_, _, _)) | None => {
-            drop(taken);
-            drop(e);
-            Err(SyntaxFault::Syntax { spot: t.spot })
-        }
+        Some(Form::Sign(_, _)) | Some(Form::Left(_, _, _)) | None => { refuse_form(taken, e, t) }
     }
 }
 
@@ -178,9 +175,7 @@ fn part_at(forms: &mut Vec<Form>, e: Expr, t: Token) -> Result<Progress, SyntaxF
             Ok(Progress::On(Mode::Want))
         }
         Some(Form::Bracket) | Some(Form::Sign(_, _)) | Some(Form::Left(_, _, _)) | None => {
-            drop(taken);
-            drop(e);
-            Err(SyntaxFault::Syntax { spot: t.spot })
+            refuse_form(taken, e, t)
         }
     }
 }
@@ -192,10 +187,6 @@ fn end_at(forms: &mut Vec<Form>, e: Expr, t: Token) -> Result<Progress, SyntaxFa
 {
     match take(forms) {
         None => Ok(Progress::Ended(e)),
-        Some(form) => {
-            drop(form);
-            drop(e);
-            Err(SyntaxFault::Syntax { spot: t.spot })
-        }
+        Some(form) => refuse_form(Some(form), e, t),
     }
 }

@@ -7,6 +7,7 @@ ghost use Rattle.st_spelling.specs.Operators.{chain};
 ghost use Rattle.st_parser.specs.ExprMachine as spec;
 ghost use Rattle.st_parser.specs.FormViews as view;
 
+use crate::refusals::discard;
 use st_spelling::level_of;
 use st_tree::{BinOp, Expr, Exprs, UnOp};
 use std::alloc::Global;
@@ -67,8 +68,13 @@ fn reopened(forms: &mut Vec<Form>, form: Form, have: Expr) -> Result<Expr, Memor
     ensures { IfOk result (λ e. view.closed forms.new.items e
         ≡ record { forms = view.form form ∷ view.forms forms.old.items; expr = expr_tree have }) }
 {
-    add(forms, form)?;
-    Ok(have)
+    match add(forms, form) {
+        Ok(()) => Ok(have),
+        Err(Memory) => {
+            discard(have);
+            Err(Memory)
+        }
+    }
 }
 
 /// Closes the signs, and the operators of the level and above, round an operand.

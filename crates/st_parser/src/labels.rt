@@ -14,14 +14,15 @@ ghost use Rattle.st_parser.specs.StateViews as view;
 ghost use Rattle.st_parser.specs.StmtMachine as machine;
 
 use crate::fault::SyntaxFault;
-use crate::levels::{depth_of_labels, opened, refused};
+use crate::levels::{depth_of_labels, opened};
 use crate::marks::{Begins, Mark, begins_by, is, mark_of};
 use crate::names::{Source, name_of};
+use crate::refusals::{discard, give_up_case, refuse_constant, refuse_number};
 use crate::state::{At, Body, LabelPhase, Level, Phase, Selection};
 use st_lexer::{Tok, Token};
 use st_tree::{Expr, Label, Labels, Stmts, UnOp};
 use std::alloc::Global;
-use vcp_base::Spot;
+use vcp_base::{Memory, Spot};
 
 /// What is read of a constant.
 #[derive(Drop)]
@@ -46,9 +47,7 @@ fn const_at(source: Source, t: Token) -> Result<Constant, SyntaxFault>
             Ok(Constant::Whole(Expr::name(name, t.spot)))
         }
         Begins::Sign(UnOp::Neg) => Ok(Constant::Negated(t.spot)),
-        Begins::Sign(UnOp::Not) => refused(t),
-        Begins::Opens => refused(t),
-        Begins::Nothing => refused(t),
+        Begins::Sign(UnOp::Not) | Begins::Opens | Begins::Nothing => refuse_constant(t),
     }
 }
 
@@ -62,9 +61,7 @@ fn number_at(alloc: Global, sign: Spot, t: Token) -> Result<Expr, SyntaxFault>
             let number = Expr::literal(ty, value, t.spot);
             Ok(Expr::unary(alloc, UnOp::Neg, number, sign)?)
         }
-        Tok::Name => refused(t),
-        Tok::Key(_) => refused(t),
-        Tok::Sym(_) => refused(t),
+        Tok::Name | Tok::Key(_) | Tok::Sym(_) => refuse_number(t),
     }
 }
 
@@ -92,7 +89,7 @@ fn number_within(source: Source, depth: usize, sign: Spot, t: Token) -> Result<E
 {
     let number = number_at(source.alloc, sign, t)?;
     if depth >= source.most {
-        drop(number);
+        discard(number);
         return Err(SyntaxFault::Depth { spot: t.spot });
     }
     Ok(number)
@@ -120,9 +117,13 @@ fn last_at(source: Source, depth: usize, first: Expr, t: Token) -> Result<LabelP
         (machine.const_at (record { bytes = bytes_in source.entry.text.now; most = source.entry.most }) (machine.last_read (expr_tree first))
         (machine.last_negated (expr_tree first)) (begins t.tok) t)) }
 {
-    match const_within(source, depth, t)? {
-        Constant::Whole(last) => Ok(LabelPhase::LastRead { first, last }),
-        Constant::Negated(sign) => Ok(LabelPhase::LastNegated { first, sign }),
+    match const_within(source, depth, t) {
+        Ok(Constant::Whole(last)) => Ok(LabelPhase::LastRead { first, last }),
+        Ok(Constant::Negated(sign)) => Ok(LabelPhase::LastNegated { first, sign }),
+        Err(fault) => {
+            discard(first);
+            Err(fault)
+        }
     }
 }
 
@@ -151,8 +152,13 @@ fn last_behind(
     ensures { view.Gives view.label_phase result
         (no_deeper source.entry.most (suc depth) t (machine.number_at (machine.last_read (expr_tree first)) sign t.tok t)) }
 {
-    let last = number_within(source, depth, sign, t)?;
-    Ok(LabelPhase::LastRead { first, last })
+    match number_within(source, depth, sign, t) {
+        Ok(last) => Ok(LabelPhase::LastRead { first, last }),
+        Err(fault) => {
+            discard(first);
+            Err(fault)
+        }
+    }
 }
 
 // A CASE whose label has come so far, or the fault of its token.
@@ -178,16 +184,19 @@ fn with_phase(
             },
         }),
         Err(SyntaxFault::Syntax { spot }) => {
-            drop(selection);
-            Err(SyntaxFault::Syntax { spot })
+            give_up_case(
+                selection,
+                labels,
+                outer,
+                stmts,
+                SyntaxFault::Syntax { spot },
+            )
         }
         Err(SyntaxFault::Depth { spot }) => {
-            drop(selection);
-            Err(SyntaxFault::Depth { spot })
+            give_up_case(selection, labels, outer, stmts, SyntaxFault::Depth { spot })
         }
         Err(SyntaxFault::Memory) => {
-            drop(selection);
-            Err(SyntaxFault::Memory)
+            give_up_case(selection, labels, outer, stmts, SyntaxFault::Memory)
         }
     }
 }
@@ -239,7 +248,9 @@ fn label_ends(
         (label_trees labels.items.items ++ label_tree label ∷ []) (mark t.tok) t) }
 {
     let mut labels = labels;
-    labels.push(label)?;
+    if let Err(Memory) = labels.push(label) {
+        return give_up_case(selection, labels, outer, stmts, SyntaxFault::Memory);
+    }
     let mark = mark_of(t.tok);
     if is(mark, Mark::Comma) {
         return Ok(At {
@@ -255,8 +266,13 @@ fn label_ends(
     if is(mark, Mark::Colon) {
         return opened(alloc, Body::OfBranch { selection, labels }, outer, stmts);
     }
-    drop(selection);
-    refused(t)
+    give_up_case(
+        selection,
+        labels,
+        outer,
+        stmts,
+        SyntaxFault::Syntax { spot: t.spot },
+    )
 }
 
 /// A token of a label.

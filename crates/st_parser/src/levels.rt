@@ -1,27 +1,19 @@
 //! The bodies that are open.
 
-ghost use Rattle.std.specs.Prelude.{◌≡◌, [], ◌∷◌, Err, IfOk, OnOk, length, suc};
+ghost use Rattle.std.specs.Prelude.{◌≡◌, [], ◌∷◌, OnOk, length, suc};
 ghost use Rattle.st_tree.specs.StmtTree.{no_stmts};
 ghost use Rattle.st_tree.specs.StmtViews.{stmt_tree, stmt_trees};
-ghost use Rattle.st_parser.specs.declared.fault.SyntaxFault.TheVariants.{Syntax};
 ghost use Rattle.st_parser.specs.ExprMachine.{want};
 ghost use Rattle.st_parser.specs.StateViews as view;
 ghost use Rattle.st_parser.specs.StmtMachine as machine;
 
 use crate::fault::SyntaxFault;
 use crate::forms::Mode;
+use crate::refusals::give_up;
 use crate::state::{At, Body, Level, Phase, Purpose};
-use st_lexer::Token;
 use st_tree::{Stmt, Stmts};
 use std::alloc::Global;
 use vcp_base::Memory;
-
-/// A token that goes on with nothing that could be read.
-pub fn refused<T>(t: Token) -> Result<T, SyntaxFault>
-    ensures { result ≡ Err (Syntax t.spot) }
-{
-    Err(SyntaxFault::Syntax { spot: t.spot })
-}
 
 /// Takes the innermost level off.
 pub fn leave(outer: &mut Vec<Level>) -> Option<Level>
@@ -75,12 +67,14 @@ pub fn whole(outer: Vec<Level>, before: Stmts, stmt: Stmt) -> Result<At, SyntaxF
     ensures { view.Gives view.state result (machine.whole (view.levels outer.items) (stmt_trees before.items.items) (stmt_tree stmt)) }
 {
     let mut stmts = before;
-    stmts.push(stmt)?;
-    Ok(At {
-        outer,
-        stmts,
-        phase: Phase::Closed,
-    })
+    match stmts.push(stmt) {
+        Ok(()) => Ok(At {
+            outer,
+            stmts,
+            phase: Phase::Closed,
+        }),
+        Err(Memory) => give_up(outer, stmts, SyntaxFault::Memory),
+    }
 }
 
 /// An expression is to be read.

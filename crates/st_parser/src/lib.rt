@@ -12,6 +12,7 @@ mod levels;
 mod marks;
 mod names;
 mod parsing;
+mod refusals;
 mod state;
 mod statements;
 

@@ -17,6 +17,7 @@ use crate::declarations::program_step;
 use crate::fault::SyntaxFault;
 use crate::levels::leave;
 use crate::names::Source;
+use crate::refusals::discard_phase;
 use crate::state::{At, Front, Level, Phase, State};
 use st_lexer::Tokens;
 use st_spelling::spelling_begins;
@@ -60,23 +61,14 @@ fn body_finish(end: Spot, front: Front, at: At) -> Result<Program, SyntaxFault>
     } = at;
     match phase {
         Phase::Finished => root_finish(end, front, outer, stmts),
-        Phase::Start => Err(SyntaxFault::Syntax { spot: end }),
-        Phase::Named { .. } => {
-            drop(phase);
-            Err(SyntaxFault::Syntax { spot: end })
-        }
-        Phase::Reading { .. } => {
-            drop(phase);
-            Err(SyntaxFault::Syntax { spot: end })
-        }
-        Phase::Closed => Err(SyntaxFault::Syntax { spot: end }),
-        Phase::LoopBegun { .. } => Err(SyntaxFault::Syntax { spot: end }),
-        Phase::LoopNamed { .. } => {
-            drop(phase);
-            Err(SyntaxFault::Syntax { spot: end })
-        }
-        Phase::Labelling { .. } => {
-            drop(phase);
+        Phase::Start
+        | Phase::Named { .. }
+        | Phase::Reading { .. }
+        | Phase::Closed
+        | Phase::LoopBegun { .. }
+        | Phase::LoopNamed { .. }
+        | Phase::Labelling { .. } => {
+            discard_phase(phase);
             Err(SyntaxFault::Syntax { spot: end })
         }
     }
@@ -88,37 +80,16 @@ fn finish(end: Spot, state: State) -> Result<Program, SyntaxFault>
 {
     match state {
         State::InBody { front, at } => body_finish(end, front, at),
-        State::AtProgram => Err(SyntaxFault::Syntax { spot: end }),
-        State::AtName => Err(SyntaxFault::Syntax { spot: end }),
-        State::AtBlock { .. } => {
-            drop(state);
-            Err(SyntaxFault::Syntax { spot: end })
-        }
-        State::AtVar { .. } => {
-            drop(state);
-            Err(SyntaxFault::Syntax { spot: end })
-        }
-        State::AtDecl { .. } => {
-            drop(state);
-            Err(SyntaxFault::Syntax { spot: end })
-        }
-        State::AtComma { .. } => {
-            drop(state);
-            Err(SyntaxFault::Syntax { spot: end })
-        }
-        State::AtNextName { .. } => {
-            drop(state);
-            Err(SyntaxFault::Syntax { spot: end })
-        }
-        State::AtType { .. } => {
-            drop(state);
-            Err(SyntaxFault::Syntax { spot: end })
-        }
-        State::AtInit { .. } => {
-            drop(state);
-            Err(SyntaxFault::Syntax { spot: end })
-        }
-        State::InInit { .. } => {
+        State::AtProgram
+        | State::AtName
+        | State::AtBlock { .. }
+        | State::AtVar { .. }
+        | State::AtDecl { .. }
+        | State::AtComma { .. }
+        | State::AtNextName { .. }
+        | State::AtType { .. }
+        | State::AtInit { .. }
+        | State::InInit { .. } => {
             drop(state);
             Err(SyntaxFault::Syntax { spot: end })
         }

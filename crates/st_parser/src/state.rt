@@ -1,7 +1,4 @@
 //! What is read so far of a program: what is whole, the bodies that are open, and what was read last.
-//!
-//! Who refuses a token gives what is read so far to `drop`: a value that is left to go out of scope is taken
-//! apart in place, variant by variant, in the proof of each function that holds it.
 
 use crate::forms::{Form, Mode};
 use st_tree::{Arms, Blocks, Branches, DeclaredNames, Decls, Expr, Labels, Section, Stmts};

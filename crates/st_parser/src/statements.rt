@@ -18,9 +18,13 @@ use crate::expressions::{Progress, read};
 use crate::fault::SyntaxFault;
 use crate::forms::{Form, Mode};
 use crate::labels::label_step;
-use crate::levels::{depth, expects, leave, opened, reading, refused};
+use crate::levels::{depth, expects, leave, opened, reading};
 use crate::marks::{Mark, is, mark_of};
 use crate::names::{Source, name_of};
+use crate::refusals::{
+    discard, discard_forms, discard_label, discard_phase, discard_purpose, give_up, refuse,
+    refuse_end,
+};
 use crate::state::{At, Body, LabelPhase, Level, Loop, Phase, Purpose, Selection};
 use st_lexer::Token;
 use st_tree::{Arms, Branches, Expr, Labels, Stmt, Stmts};
@@ -49,17 +53,16 @@ fn next_label_in(
                 label_step(source, outer, before, selection, labels, phase, t)
             }
             Err(Memory) => {
-                drop(phase);
-                Err(SyntaxFault::Memory)
+                discard_label(phase);
+                give_up(outer, before, SyntaxFault::Memory)
             }
         },
         Body::OfArm { .. }
         | Body::OfIfElse { .. }
         | Body::OfCaseElse { .. }
         | Body::OfLoop { .. } => {
-            drop(body);
-            drop(phase);
-            refused(t)
+            discard_label(phase);
+            refuse_end(body, outer, before, stmts, t)
         }
     }
 }
@@ -80,8 +83,8 @@ fn next_label(
     let mut outer = outer;
     match leave(&mut outer) {
         None => {
-            drop(phase);
-            refused(t)
+            discard_label(phase);
+            refuse(outer, stmts, t)
         }
         Some(level) => next_label_in(source, level.body, outer, level.before, stmts, phase, t),
     }
@@ -134,7 +137,7 @@ fn root_ends(outer: Vec<Level>, stmts: Stmts, mark: Mark, t: Token) -> Result<At
             phase: Phase::Finished,
         });
     }
-    refused(t)
+    refuse(outer, stmts, t)
 }
 
 // A token that ends the innermost body, or begins the next branch.
@@ -168,16 +171,15 @@ fn begun(
     ensures { view.Gives view.state result
         (no_deeper most (length (view.levels outer.items)) t (machine.to (view.levels outer.items) (stmt_trees stmts.items.items) (view.phase phase))) }
 {
-    let at = At {
+    if depth(&outer) > most {
+        discard_phase(phase);
+        return give_up(outer, stmts, SyntaxFault::Depth { spot: t.spot });
+    }
+    Ok(At {
         outer,
         stmts,
         phase,
-    };
-    if depth(&at.outer) > most {
-        drop(at);
-        return Err(SyntaxFault::Depth { spot: t.spot });
-    }
-    Ok(at)
+    })
 }
 
 // A token where a statement may begin.
@@ -197,9 +199,13 @@ fn start_at(
         return begun(source.most, outer, stmts, Phase::Start, t);
     }
     if is(mark, Mark::Name) {
-        let name = name_of(source.alloc, source.text, t)?;
-        let phase = Phase::Named { name, spot: t.spot };
-        return begun(source.most, outer, stmts, phase, t);
+        return match name_of(source.alloc, source.text, t) {
+            Ok(name) => {
+                let phase = Phase::Named { name, spot: t.spot };
+                begun(source.most, outer, stmts, phase, t)
+            }
+            Err(Memory) => give_up(outer, stmts, SyntaxFault::Memory),
+        };
     }
     if is(mark, Mark::If) {
         let arms = Arms::new(source.alloc);
@@ -253,15 +259,17 @@ fn assigned(
 {
     if is(mark_of(t.tok), Mark::Semi) {
         let mut stmts = stmts;
-        stmts.push(Stmt::assign(name, e, spot))?;
-        return Ok(At {
-            outer,
-            stmts,
-            phase: Phase::Start,
-        });
+        return match stmts.push(Stmt::assign(name, e, spot)) {
+            Ok(()) => Ok(At {
+                outer,
+                stmts,
+                phase: Phase::Start,
+            }),
+            Err(Memory) => give_up(outer, stmts, SyntaxFault::Memory),
+        };
     }
-    drop(e);
-    refused(t)
+    discard(e);
+    refuse(outer, stmts, t)
 }
 
 // The token behind the condition of an IF or ELSIF.
@@ -281,8 +289,9 @@ fn tested(
     if is(mark_of(t.tok), Mark::Then) {
         return opened(alloc, Body::OfArm { arms, cond, spot }, outer, stmts);
     }
-    drop(cond);
-    refused(t)
+    discard(cond);
+    discard_purpose(Purpose::ToTest { arms, spot });
+    refuse(outer, stmts, t)
 }
 
 // The token behind the value of a CASE.
@@ -309,8 +318,8 @@ fn selected(
             },
         });
     }
-    drop(on);
-    refused(t)
+    discard(on);
+    refuse(outer, stmts, t)
 }
 
 // The token behind the first value of a FOR.
@@ -329,8 +338,8 @@ fn loop_begins(
         let purpose = Purpose::ToEnd { head, first };
         return Ok(reading(alloc, outer, stmts, purpose));
     }
-    drop(first);
-    refused(t)
+    discard(first);
+    refuse(outer, stmts, t)
 }
 
 // The token behind the last value of a FOR.
@@ -361,9 +370,9 @@ fn loop_ends(
         };
         return opened(alloc, body, outer, stmts);
     }
-    drop(first);
-    drop(last);
-    refused(t)
+    discard(first);
+    discard(last);
+    refuse(outer, stmts, t)
 }
 
 // The token behind the step of a FOR.
@@ -390,10 +399,10 @@ fn loop_steps(
         };
         return opened(alloc, body, outer, stmts);
     }
-    drop(first);
-    drop(last);
-    drop(by);
-    refused(t)
+    discard(first);
+    discard(last);
+    discard(by);
+    refuse(outer, stmts, t)
 }
 
 // The token behind a whole expression.
@@ -446,18 +455,24 @@ fn read_at(
                 mode,
             },
         }),
-        Ok(Progress::Ended(e)) => take(source.alloc, outer, stmts, purpose, e, t),
+        Ok(Progress::Ended(e)) => {
+            discard_forms(forms);
+            take(source.alloc, outer, stmts, purpose, e, t)
+        }
         Err(SyntaxFault::Syntax { spot }) => {
-            drop(purpose);
-            Err(SyntaxFault::Syntax { spot })
+            discard_forms(forms);
+            discard_purpose(purpose);
+            give_up(outer, stmts, SyntaxFault::Syntax { spot })
         }
         Err(SyntaxFault::Depth { spot }) => {
-            drop(purpose);
-            Err(SyntaxFault::Depth { spot })
+            discard_forms(forms);
+            discard_purpose(purpose);
+            give_up(outer, stmts, SyntaxFault::Depth { spot })
         }
         Err(SyntaxFault::Memory) => {
-            drop(purpose);
-            Err(SyntaxFault::Memory)
+            discard_forms(forms);
+            discard_purpose(purpose);
+            give_up(outer, stmts, SyntaxFault::Memory)
         }
     }
 }
@@ -474,7 +489,7 @@ fn closed_at(outer: Vec<Level>, stmts: Stmts, t: Token) -> Result<At, SyntaxFaul
             phase: Phase::Start,
         });
     }
-    refused(t)
+    refuse(outer, stmts, t)
 }
 
 // The token behind FOR.
@@ -491,18 +506,23 @@ fn loop_begun_at(
         (stmt_trees stmts.items.items) (machine.loop_begun spot) t) }
 {
     if is(mark_of(t.tok), Mark::Name) {
-        let head = Loop {
-            name: name_of(source.alloc, source.text, t)?,
-            name_spot: t.spot,
-            spot,
+        return match name_of(source.alloc, source.text, t) {
+            Ok(name) => {
+                let head = Loop {
+                    name,
+                    name_spot: t.spot,
+                    spot,
+                };
+                Ok(At {
+                    outer,
+                    stmts,
+                    phase: Phase::LoopNamed { head },
+                })
+            }
+            Err(Memory) => give_up(outer, stmts, SyntaxFault::Memory),
         };
-        return Ok(At {
-            outer,
-            stmts,
-            phase: Phase::LoopNamed { head },
-        });
     }
-    refused(t)
+    refuse(outer, stmts, t)
 }
 
 // The token behind the name of a FOR's control variable.
@@ -520,7 +540,7 @@ fn loop_named_at(
         let purpose = Purpose::ToBegin { head };
         return Ok(reading(alloc, outer, stmts, purpose));
     }
-    refused(t)
+    refuse(outer, stmts, t)
 }
 
 /// A token of the body of a program, through END_PROGRAM.
@@ -551,6 +571,6 @@ pub fn stmt_step(source: Source, at: At, t: Token) -> Result<At, SyntaxFault>
             labels,
             phase,
         } => label_step(source, outer, stmts, selection, labels, phase, t),
-        Phase::Finished => refused(t),
+        Phase::Finished => refuse(outer, stmts, t),
     }
 }

@@ -1,5 +1,5 @@
 -- Worked numerals.
-use Rattle.std.specs.Prelude.{◌≡◌, refl, [], ◌∷◌, ◌++◌, Some, None, pos, negsuc, codes}
+use Rattle.std.specs.Prelude.{◌≡◌, refl, [], ◌∷◌, Some, None, pos, negsuc, codes}
 use Rattle.vcp_base.specs.Blanks.{unindented}
 use Rattle.vcp_base.specs.Numerals.{numeral_of, integer_of}
 

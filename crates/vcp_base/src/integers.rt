@@ -1,6 +1,6 @@
 //! Integers with an optional sign.
 
-ghost use Rattle.std.specs.Prelude.{◌≡◌, ◌≤◌, ◌^◌, min, IfSome, option_map, option_and_then};
+ghost use Rattle.std.specs.Prelude.{◌≡◌, ◌≤◌, ◌^◌, min, pos, neg_ℤ, IfSome, option_map, option_and_then};
 ghost use Rattle.vcp_base.specs.Numerals.{natural_of, integer_of, in_type};
 
 use crate::{Ty, fits};
@@ -33,10 +33,33 @@ fn integer(text: &[u8]) -> Option<i128>
     ensures { (t : Ty) → option_and_then (in_type t) result ≡ option_and_then (in_type t) (integer_of text.now) }
 {
     match text {
-        [b'+', digits @ ..] => Some(natural(digits)? as i128),
-        [b'-', digits @ ..] => Some(-(natural(digits)? as i128)),
-        _ => Some(natural(text)? as i128),
+        [] => None,
+        [first, digits @ ..] => {
+            if *first == b'+' {
+                plus(natural(digits))
+            } else if *first == b'-' {
+                minus(natural(digits))
+            } else {
+                plus(natural(text))
+            }
+        }
     }
+}
+
+// The number, as an integer.
+fn plus(number: Option<u128>) -> Option<i128>
+    requires { IfSome number (λ n. n ≤ 2 ^ 64) }
+    ensures { result ≡ option_map pos number }
+{
+    Some(number? as i128)
+}
+
+// The number with a minus sign.
+fn minus(number: Option<u128>) -> Option<i128>
+    requires { IfSome number (λ n. n ≤ 2 ^ 64) }
+    ensures { result ≡ option_map (λ n. neg_ℤ (pos n)) number }
+{
+    Some(-(number? as i128))
 }
 
 /// The value that an optional sign and decimal digits spell, if it is one of the type.

@@ -1,9 +1,9 @@
 //! What an operation gives over the values of its operands.
 
-ghost use Rattle.std.specs.Prelude.{◌≡◌, ◌^◌, true, false, cond, ◌&&◌, ◌||◌, not, Err, IfOk, FitsSigned};
+ghost use Rattle.std.specs.Prelude.{◌≡◌, ◌^◌, true, false, cond, ◌&&◌, ◌||◌, not, nat_lt, Err, IfOk, IfErr, FitsSigned};
 ghost use Rattle.std.specs.Prelude.{pos, negsuc, ◌≤ℤ◌, int_div, int_rem, int_lt, neg_ℤ, ◌+ℤ◌, ◌-ℤ◌, ◌*ℤ◌};
 ghost use Rattle.std.specs.Int.{w64};
-ghost use Rattle.vcp_base.specs.Kinds.{takes as takes_of, operands_fit as operands_fit_of, divides_by_zero as divides_by_zero_of, value as value_of};
+ghost use Rattle.vcp_base.specs.Kinds.{takes as takes_of, operands as operands_of};
 ghost use Rattle.vcp_base.specs.Kinds.{same, truth as truth_of, outcome as outcome_of, outcome_at};
 ghost use Rattle.vcp_base.specs.Types.{fits as fits_of};
 ghost use Rattle.vcp_base.specs.declared.kind.StopKind.TheVariants.{DivZero, Operand};
@@ -31,76 +31,28 @@ pub fn outcome(
     ensures low { IfOk result (λ v. negsuc (2 ^ 63) ≤ℤ v) }
     ensures high { IfOk result (λ v. v ≤ℤ pos (2 ^ 63)) }
 {
-    if !operands_fit(kind, from, a, b, c) {
-        return Err(StopKind::Operand);
-    }
-    if divides_by_zero(kind, b) {
-        return Err(StopKind::DivZero);
-    }
-    let v = value(kind, from, imm, a, b, c);
-    if !fits(ty, v) {
-        return Err(StopKind::Range);
-    }
-    Ok(v)
+    let a = taken(kind, 0, from, a)?;
+    let b = taken(kind, 1, from, b)?;
+    let c = taken(kind, 2, from, c)?;
+    let v = short_outcome(kind, from, ty, imm, a, b, c)?;
+    Ok(v as i128)
 }
 
-/// Whether each operand has a value of its type.
+/// `v`, where it may be the value of operand `j`, else `Operand`. Where the kind has no operand `j`,
+/// anything may, and 0 stands for it.
 #[inline(always)]
-fn operands_fit(kind: Kind, from: Ty, a: i128, b: i128, c: i128) -> bool
-    ensures value { result ≡ operands_fit_of kind from a b c }
-    ensures first { result ≡ true → takes_of kind 0 from a ≡ true }
-    ensures second { result ≡ true → takes_of kind 1 from b ≡ true }
+fn taken(kind: Kind, j: u32, from: Ty, v: i128) -> Result<i64, StopKind>
+    ensures ok { IfOk result (λ w. (takes_of kind j from v ≡ true) × (nat_lt j (operands_of kind) ≡ true → w ≡ v)) }
+    ensures width { IfOk result (λ w. FitsSigned w64 w) }
+    ensures err { IfErr result (λ e. (e ≡ Operand) × (takes_of kind j from v ≡ false)) }
 {
-    takes(kind, 0, from, a) && takes(kind, 1, from, b) && takes(kind, 2, from, c)
-}
-
-/// Whether `v` may be the value of operand `j`; anything may where the kind has no operand `j`.
-#[inline(always)]
-fn takes(kind: Kind, j: u32, from: Ty, v: i128) -> bool
-    ensures { result ≡ takes_of kind j from v }
-{
-    if j < operands(kind) {
-        fits(operand_type(kind, j, from), v)
+    if j >= operands(kind) {
+        return Ok(0);
+    }
+    if fits(operand_type(kind, j, from), v) {
+        Ok(v as i64)
     } else {
-        true
-    }
-}
-
-/// Whether the kind divides, and the divisor `b` is 0.
-#[inline(always)]
-fn divides_by_zero(kind: Kind, b: i128) -> bool
-    ensures { result ≡ divides_by_zero_of kind b }
-{
-    match kind {
-        Kind::Div | Kind::Mod => b == 0,
-        _ => false,
-    }
-}
-
-/// The value of a kind, from the operation's own number and the values of the operands.
-#[inline(always)]
-fn value(kind: Kind, from: Ty, imm: i64, a: i128, b: i128, c: i128) -> i128
-    requires a_fits { takes_of kind 0 from a ≡ true }
-    requires b_fits { takes_of kind 1 from b ≡ true }
-    requires divisor { divides_by_zero_of kind b ≡ false }
-    ensures { result ≡ value_of kind imm a b c }
-{
-    match kind {
-        Kind::Input | Kind::Const => imm as i128,
-        Kind::Load | Kind::Store | Kind::Out | Kind::Conv => a,
-        Kind::Neg => -a,
-        Kind::Not => 1 - a,
-        Kind::Add => a + b,
-        Kind::Sub => a - b,
-        Kind::Mul => a * b,
-        Kind::Div => a / b,
-        Kind::Mod => a % b,
-        Kind::Eq => truth(a == b),
-        Kind::Lt => truth(a < b),
-        Kind::And => truth(a == 1 && b == 1),
-        Kind::Or => truth(a == 1 || b == 1),
-        Kind::Xor => truth(a != b),
-        Kind::Sel => if a == 0 { b } else { c },
+        Err(StopKind::Operand)
     }
 }
 

@@ -1,0 +1,143 @@
+//! What is given up where a token is refused, or where memory ends.
+//!
+//! Who refuses a token moves what is read so far into a function of this module: a value that is dropped
+//! where it stands is taken apart there, in the proof of each function that holds it.
+
+ghost use Rattle.std.specs.Prelude.{◌≡◌, Err};
+ghost use Rattle.st_parser.specs.declared.fault.SyntaxFault.TheVariants.{Syntax};
+
+use crate::expressions::Progress;
+use crate::fault::SyntaxFault;
+use crate::forms::Form;
+use crate::labels::Constant;
+use crate::state::{At, Body, LabelPhase, Level, Opening, Phase, Purpose, Selection, State};
+use st_lexer::Token;
+use st_tree::{DeclaredNames, Expr, Labels, Stmts};
+
+/// An expression is given up.
+pub fn discard(e: Expr) {
+    drop(e);
+}
+
+/// What was read last is given up.
+pub fn discard_phase(phase: Phase) {
+    drop(phase);
+}
+
+/// What was read last of a label is given up.
+pub fn discard_label(phase: LabelPhase) {
+    drop(phase);
+}
+
+/// What an expression was read for is given up.
+pub fn discard_purpose(purpose: Purpose) {
+    drop(purpose);
+}
+
+/// The open forms of an expression are given up.
+pub fn discard_forms(forms: Vec<Form>) {
+    drop(forms);
+}
+
+/// What is read of the bodies is given up.
+pub fn give_up(outer: Vec<Level>, stmts: Stmts, fault: SyntaxFault) -> Result<At, SyntaxFault>
+    ensures { result ≡ Err fault }
+{
+    drop(outer);
+    drop(stmts);
+    Err(fault)
+}
+
+/// A token that goes on with nothing that is read of the bodies.
+pub fn refuse(outer: Vec<Level>, stmts: Stmts, t: Token) -> Result<At, SyntaxFault>
+    ensures { result ≡ Err (Syntax t.spot) }
+{
+    give_up(outer, stmts, SyntaxFault::Syntax { spot: t.spot })
+}
+
+/// A token that does not end the body.
+pub fn refuse_end(
+    body: Body,
+    outer: Vec<Level>,
+    before: Stmts,
+    stmts: Stmts,
+    t: Token,
+) -> Result<At, SyntaxFault>
+    ensures { result ≡ Err (Syntax t.spot) }
+{
+    drop(body);
+    drop(before);
+    refuse(outer, stmts, t)
+}
+
+/// A CASE is given up, with what is read of the bodies round it.
+pub fn give_up_case(
+    selection: Selection,
+    labels: Labels,
+    outer: Vec<Level>,
+    stmts: Stmts,
+    fault: SyntaxFault,
+) -> Result<At, SyntaxFault>
+    ensures { result ≡ Err fault }
+{
+    drop(selection);
+    drop(labels);
+    give_up(outer, stmts, fault)
+}
+
+/// A token that goes on with no form of an expression.
+pub fn refuse_form(taken: Option<Form>, e: Expr, t: Token) -> Result<Progress, SyntaxFault>
+    ensures { result ≡ Err (Syntax t.spot) }
+{
+    drop(taken);
+    drop(e);
+    Err(SyntaxFault::Syntax { spot: t.spot })
+}
+
+/// A token that begins no program.
+pub fn refuse_program(t: Token) -> Result<State, SyntaxFault>
+    ensures { result ≡ Err (Syntax t.spot) }
+{
+    Err(SyntaxFault::Syntax { spot: t.spot })
+}
+
+/// A token that begins no constant.
+pub fn refuse_constant(t: Token) -> Result<Constant, SyntaxFault>
+    ensures { result ≡ Err (Syntax t.spot) }
+{
+    Err(SyntaxFault::Syntax { spot: t.spot })
+}
+
+/// A token that is no number.
+pub fn refuse_number(t: Token) -> Result<Expr, SyntaxFault>
+    ensures { result ≡ Err (Syntax t.spot) }
+{
+    Err(SyntaxFault::Syntax { spot: t.spot })
+}
+
+/// A declaration is given up, with what is read before it.
+pub fn give_up_names(
+    opening: Opening,
+    names: DeclaredNames,
+    fault: SyntaxFault,
+) -> Result<State, SyntaxFault>
+    ensures { result ≡ Err fault }
+{
+    drop(names);
+    give_up_block(opening, fault)
+}
+
+/// A token that goes on with no declaration.
+pub fn refuse_names(opening: Opening, names: DeclaredNames, t: Token) -> Result<State, SyntaxFault>
+    ensures { result ≡ Err (Syntax t.spot) }
+{
+    give_up_names(opening, names, SyntaxFault::Syntax { spot: t.spot })
+}
+
+/// A block is given up, with what is read before it.
+pub fn give_up_block(opening: Opening, fault: SyntaxFault) -> Result<State, SyntaxFault>
+    ensures { result ≡ Err fault }
+{
+    drop(opening);
+    Err(fault)
+}
