@@ -123,6 +123,21 @@ class Calls(InFolder):
         self.assertEqual([line for line, _ in places], ["5", "6", "6", "7", "8"])
         self.assertIn("p.st: 5 to mend", printed)
 
+    @needs_program
+    def test_faults_that_do_not_follow_are_told(self) -> None:
+        """Beside a fault that is told, in its statement or with a variable of its type: those that come whatever type that variable is given."""
+        for body, told, left in (("q := SHL(w, 2) > 0;\n", ["WORD", "no function SHL"], 0), ("r := MAX(w, i, 5);\n", ["WORD", "MAX takes 2 arguments"], 0),
+                                 ("i := i ** 2;\nr := w;\n", ["WORD", "power", "`i` is an input"], 0), ("IF w THEN q := a; END_IF;\n", ["WORD"], 1),
+                                 ("IF a THEN d := w; END_IF;\n", ["WORD", "`d` is an input"], 0), ("q := w;\n", ["WORD"], 1),
+                                 ("q := ABS(w, 1) > 2 AND a;\n", ["WORD", "ABS takes 1 argument"], 0)):
+            self.write("p.st", (FRAME % body).replace("x : BOOL;", "w : WORD;"))
+            printed = self.tool("explain", "--all", "check", "p.st", status=1)
+            messages = re.findall(r"^p\.st:\d+:\d+: (.*)", printed, re.M)
+            self.assertEqual(len(messages), len(told), printed)
+            for message, part in zip(messages, told):
+                self.assertIn(part, message)
+            self.assertEqual(printed.split("\n")[-2], f"p.st: {len(told)} to mend" + f"; {left} more may follow from these" * (left > 0))
+
     def test_folders_absence_and_permission_are_told_apart(self) -> None:
         file = self.write("p.st", ONE)
         self.assertIn("this is a folder", reading_hint(str(self.folder)))

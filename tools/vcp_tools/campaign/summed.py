@@ -20,7 +20,7 @@ def summed(folder: Folder, manifest: Manifest, tables: str) -> str:
     words = ["sum", "image", *(folder.name(number, end) for number in range(count) for end in ("faults", "verdicts"))]
     words += ["rows"] if "rows" in manifest.copies else []
     study = Program(folder.at / "study", "vcp_study")
-    outcome = study.taken(study.call(*words, folder=folder.at), words, (FINE, FOUND), shown=("sum", "M", "..")[: len(words)])
+    outcome = study.taken(study.call(*words, folder=folder.at), words, (FINE, FOUND))
     folder.write("summed", outcome.output)
     if whole(outcome.text, manifest) != tables:
         raise Refusal(f"{folder.at}/summed: what `vcp_study sum` says of all parts isn't what is added up of each, which `tables` has")
