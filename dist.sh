@@ -42,8 +42,8 @@ library=$(grep -a -o -h 'GLIBC_[0-9.]*' "$work/$name/bin/vcp" "$work/$name/bin/v
     cat <<END
 vcp $version: a vital coded processor for cyclic control programs
 
-    bin/vcp         runs a control program on recorded inputs in coded words, and tells which disturbances would be detected
-    bin/vcp_study   pictures, ranges, scripts of faults and sums of their verdicts
+    bin/vcp         runs a control program on recorded inputs in coded words, and reports which disturbances would be detected
+    bin/vcp_study   pictures, ranges, covers, scripts of faults and sums of their verdicts
     bin/vcp_tools   the tools around both (Python 3.10 or later; some want: apt-get install python3-lark python3-z3 parallel)
 
 It runs on Linux with an x86-64-v2 processor and the GNU C library${library:+ $library or later}, from any folder; nothing has to be installed, and nothing
@@ -57,7 +57,7 @@ is written here. First:
 To have the commands everywhere, put this folder's bin/ on the PATH, or copy bin/ and share/ into /usr/local or ~/.local.
 share/vcp/README.md says what vcp is and what it isn't, and share/vcp/docs/ has all documents.
 
-check.sh compares each file with share/vcp/files.txt, whose digest is told where this file is offered: compare it, too.
+check.sh compares each file with share/vcp/files.txt, whose digest is published where this file is offered: compare it, too.
 share/vcp/evidence/ says from which sources and by which toolchain the programs were proved, and what the gate found:
 
     commit     $commit

@@ -59,7 +59,7 @@ each_class() {
     over=$(($(wc -l <rows) - 1))
     for class in bits flips stale skip from operator; do
         case $class in flips) behind=rows ;; *) behind=$over ;; esac
-        campaign image rows $class || differs "$class isn't told: $(cat log)"
+        campaign image rows $class || differs "$class isn't judged: $(cat log)"
         in_slices $class $behind >wanted
         grep -v '^faults ' "$(folder)verdicts" | cmp -s - wanted || differs "$class has other verdicts in slices of $slice"
         counted "$(folder)verdicts" || differs "the totals of $class don't count its verdicts"
@@ -68,24 +68,24 @@ each_class() {
 
 # A campaign on other machines ends as one here.
 on_hosts() {
-    campaign image rows bits || differs "bits isn't told: $(cat log)"
+    campaign image rows bits || differs "bits isn't judged: $(cat log)"
     here_told=$(folder)
     cp "$here_told/verdicts" verdicts.here && rm -r "$here_told"
-    campaign image rows bits --sshloginfile "$HOSTS" || differs "bits isn't told on other machines: $(cat log)"
+    campaign image rows bits --sshloginfile "$HOSTS" || differs "bits isn't judged on other machines: $(cat log)"
     cmp -s "$here_told/verdicts" verdicts.here || differs "a campaign on other machines gives other bytes"
 }
 
 # A campaign that is ended in its midst, and one that lost parts, end as the whole one.
 broken_off() {
-    campaign image rows bits || differs "bits isn't told: $(cat log)"
+    campaign image rows bits || differs "bits isn't judged: $(cat log)"
     whole=$(folder)
     cp "$whole/verdicts" verdicts.whole && cp "$whole/tables" tables.whole
     rm -r "$whole"
     timeout 0.3 "$top/campaign.sh" image rows bits >told 2>log
-    campaign image rows bits || differs "bits isn't told: $(cat log)"
+    campaign image rows bits || differs "bits isn't judged: $(cat log)"
     cmp -s "$whole/verdicts" verdicts.whole && cmp -s "$whole/tables" tables.whole || differs "a campaign that was ended gives other bytes"
     rm -f "$whole"/parts/000000.verdicts
-    campaign image rows bits || differs "bits isn't told: $(cat log)"
+    campaign image rows bits || differs "bits isn't judged: $(cat log)"
     cmp -s "$whole/verdicts" verdicts.whole && cmp -s "$whole/tables" tables.whole || differs "a campaign that lost a part gives other bytes"
 }
 

@@ -24,7 +24,7 @@ sys.dont_write_bytecode = True
 from sources import TOP, read_crates  # noqa: E402
 
 DOCUMENT = TOP / "docs" / "dev" / "ARCHITECTURE.md"
-HEAD = "Modules of `specs/` that public contracts cite, and behind *views* those that views and invariants alone cite:"
+HEAD = "Modules of `specs/` that public contracts cite, and after *views* those that views and invariants alone cite:"
 WIDTH = 150
 
 # A dot with a space behind it ends the variables of a λ, and is no part of a name.

@@ -33,7 +33,7 @@ Of each public function, method, trait and type: what its comment says, then
   all that they name. If you accept them, you need not read code or proofs.
 - *broken by*: wrong lines of code that the proofs refuse: files of the crate's `must-fail/`, or, where marked *by hand*, of `checks/edits/`. The gate
   tries the first, TRIED of them, and not the others, BY_HAND of them, which `checks/edits.sh` tries (`docs/PROMISES.md`, 'What the gate shows').
-- *shown by*: texts of worked rows that a program plays, as `session NAME` or `rows NAME` (`docs/SESSIONS.md`).
+- *shown by*: texts of worked rows that a program plays, as `session NAME` or `rows NAME` (`docs/dev/SESSIONS.md`).
 
 A dash says that there is none: the proof alone shows that promise. A method of a trait that says nothing of its own has the words of the trait. At the end of a
 crate are the modules of definitions that public contracts cite, with what is said of them.

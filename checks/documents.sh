@@ -1,11 +1,11 @@
 #!/bin/sh
-# Whether the documents say what stands: `.ci/run` calls it after `rt ci`.
+# Whether the documents say what is there: `.ci/run` calls it after `rt ci`.
 #
 # Names: all that docs/PROMISES.md and docs/dev/ARCHITECTURE.md name is there (promised_names.py); docs/CLAUSES.md is what the sources say (clauses.py); and
 # docs/GLOSSARY.md says of names that two crates have what they are (double_names.py).
 # Proofs: none takes anything from the proofs of another crate, beyond what is listed (foreign_proofs.py).
 # Sections: those that a document refers to are there (sections.py).
-# Lines: none of a document is longer than 160 columns (long_lines.py).
+# Lines: none of a document is longer than 160 columns (long_lines.py). Words: no phrase that isn't one of engineers comes too often (words.py).
 # Commands: what documents show is what the program prints (transcripts.sh); the runs of examples/ are those shown there, and the examples of the manual pages
 # end well (examples.sh).
 # Refusals: the examples of docs/ERRORS.md are refused as it says (refusals.py).
@@ -31,6 +31,7 @@ if command -v python3 >/dev/null 2>&1; then
     python3 "$here/foreign_proofs.py" || status=1
     python3 "$here/sections.py" || status=1
     python3 "$here/long_lines.py" --documents || status=1
+    python3 "$here/words.py" || status=1
     python3 "$here/commands.py" || status=1
 else
     echo "documents: names are not looked at, since python3 isn't there"

@@ -80,7 +80,7 @@ for folder in checks/edits/*/; do
     fi
     for edit in "$folder"*.edit; do
         copy=crates/$crate/must-fail/$(basename "$edit")
-        [ -e "$copy" ] && { echo "edits.sh: $copy stands in both folders" >&2; exit 1; }
+        [ -e "$copy" ] && { echo "edits.sh: $copy is in both folders" >&2; exit 1; }
         mkdir -p "crates/$crate/must-fail"
         stand_by="$stand_by $copy"
         cp "$edit" "$copy"

@@ -16,7 +16,8 @@ Of docs/PROMISES.md, 'The order of reading' and 'What the gate shows': each fami
 order names modules that are there, and has as many lines as the top call rests on in its crates; each crate that the top call rests on has a step, or is named
 after them; and there are as many edits as it says.
 
-Of README.md: the times that it says, in minutes and hours, are in docs/MEASURES.md.
+Of README.md and docs/START.md: the times that they say, in minutes and hours, are in docs/MEASURES.md.
+Of CHANGELOG.md: its first release is that of the tools, and releases and their days go down.
 Of docs/SAFETY.md: the assumptions and the claims that it cites by their numbers are there, and each assumption is one that a hazard or another part cites.
 
 What docs/CLAUSES.md names is there, since checks/clauses.py makes it. It ends with status 1 where there is something. It reads the sources and proves nothing.
@@ -24,6 +25,7 @@ What docs/CLAUSES.md names is there, since checks/clauses.py makes it. It ends w
 import re
 import subprocess
 import sys
+from datetime import datetime
 
 sys.dont_write_bytecode = True
 from cited_modules import lines_read  # noqa: E402
@@ -143,11 +145,24 @@ def faults_of_axioms():
 
 
 def faults_of_times():
-    """The times of README that docs/MEASURES.md doesn't have."""
-    measured = (TOP / "docs" / "MEASURES.md").read_text()
-    for time in sorted(set(re.findall(r"\b(?:\d+ to )?\d+ (?:minutes|min|hours)\b", (TOP / "README.md").read_text()))):
-        if time not in " ".join(measured.split()):
-            yield f"docs/MEASURES.md has no time `{time}`"
+    """The times of README and of docs/START.md that docs/MEASURES.md doesn't have."""
+    measured = " ".join((TOP / "docs" / "MEASURES.md").read_text().split())
+    for page in ("README.md", "docs/START.md"):
+        for time in sorted(set(re.findall(r"\b(?:\d+ to )?\d+ (?:minutes|min|hours)\b", (TOP / page).read_text()))):
+            if time not in measured:
+                yield f"{page}: docs/MEASURES.md has no time `{time}`"
+
+
+def faults_of_releases():
+    """What is wrong with the releases of CHANGELOG.md."""
+    found = re.findall(r"^## (\d+)\.(\d+), (\d+ \w+ \d+)$", (TOP / "CHANGELOG.md").read_text(), re.M)
+    version = re.search(r'^VERSION = "(.*)"$', (TOP / "tools" / "vcp_tools" / "__init__.py").read_text(), re.M)[1]
+    if not found or ".".join(found[0][:2]) != version:
+        yield f"the first release isn't that of the tools, {version}"
+    numbers = [(int(major), int(minor)) for major, minor, _ in found]
+    days = [datetime.strptime(day, "%d %B %Y") for *_, day in found]
+    if len(set(numbers)) < len(numbers) or numbers != sorted(numbers, reverse=True) or days != sorted(days, reverse=True):
+        yield "releases or their days don't go down"
 
 
 def faults_of_safety():
@@ -346,7 +361,8 @@ def main():
         write_lines_of_order(crates)
     names = defined() | in_code(crates)
     faults = [f"PROMISES: {fault}" for fault in [*faults_of_claims(crates), *faults_of_cited_names(crates), *faults_of_axioms()]]
-    faults += [f"README: {fault}" for fault in faults_of_times()]
+    faults += faults_of_times()
+    faults += [f"CHANGELOG: {fault}" for fault in faults_of_releases()]
     faults += [f"SAFETY: {fault}" for fault in faults_of_safety()]
     faults += [f"ARCHITECTURE: {fault}" for fault in faults_of_architecture(listed, names)]
     faults += [f"GLOSSARY: {fault}" for fault in faults_of_glossary(listed, names)]

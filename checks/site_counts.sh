@@ -104,7 +104,7 @@ while [ "$from" -lt "$total" ]; do
 done
 cmp "$work/whole" "$work/parts" || status=1
 [ "$(sort "$work/whole" | uniq -d)" = '' ] || {
-    echo "site_counts: a fault stands twice"
+    echo "site_counts: a fault comes twice"
     status=1
 }
 digest=$(sha256sum <"$image" 2>/dev/null | cut -d ' ' -f 1)

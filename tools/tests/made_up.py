@@ -1,7 +1,7 @@
 """A program made up for tests of what calls `vcp` and `vcp_study`: it prints the lines of docs/FORMATS.md, and its verdicts mean nothing.
 
     made_up.py vcp (exec M ROWS | inject M ROWS F), with `--cycles N` for ROWS, too
-    made_up.py vcp_study (ranges M | sites M CYCLES CLASS [FROM COUNT | --count] | sum M SCRIPT VERDICTS [ROWS])
+    made_up.py vcp_study (ranges M | sites M CYCLES CLASS [FROM COUNT | --count] | sum M SCRIPT VERDICTS [SCRIPT VERDICTS].. [ROWS])
 
 FOUND=1 before it is the status where something is found, as before there was one of its own; else that is 9.
 """
@@ -93,9 +93,22 @@ def verdict_over(faults: Sequence[Sequence[str]], cycles: int) -> str:
     return verdict(faults) if int(faults[0][1]) < cycles else "same"
 
 
-def sums(script: str, told: Sequence[str], cycles: int | None) -> Iterator[str]:
+def summed(files: Sequence[str]) -> list[str]:
+    """What is printed of scripts with their verdicts, and of ROWS where they stand behind these. MISCOUNT=1 before it is another sum of several scripts."""
+    cycles = rows_of(files[-1]) if len(files) % 2 else None
+    found: list[tuple[int, list[list[str]]]] = []
+    told: list[str] = []
+    pairs = list(zip(files[::2], files[1::2]))
+    for number, (script, verdicts) in enumerate(pairs, 1):
+        found += groups(Path(script).read_text(encoding="utf-8"))
+        told += [f"{number}:" * (len(pairs) > 1) + line for line in Path(verdicts).read_text(encoding="utf-8").splitlines()[:-1]]
+    if len(pairs) > 1 and os.environ.get("MISCOUNT"):
+        found, told = found[1:], told[1:]
+    return [*sums(found, told, cycles), totals_of([line.split()[1] for line in told])]
+
+
+def sums(found: Sequence[tuple[int, list[list[str]]]], told: Sequence[str], cycles: int | None) -> Iterator[str]:
     """The tables of verdicts, and the faults that aren't seen."""
-    found = list(groups(script))
     tables: dict[str, dict[str, list[str]]] = {"by what the fault does": {}, "by where it stands": {}, "by where it shows": {},
                                                "by how many cycles later it shows": {}}
     if cycles is not None:
@@ -151,10 +164,9 @@ def main(words: Sequence[str]) -> int:
         start, count = (int(words[5]), int(words[6])) if len(words) > 6 else (0, len(lines))
         sys.stdout.write("\n".join([f"# sites {words[4]} of {hashlib.sha256(image).hexdigest()}", *lines[start : start + count], ""]))
     elif command == "sum":
-        told_lines = Path(words[4]).read_text(encoding="utf-8").splitlines()
-        cycles_judged = rows_of(words[5]) if len(words) > 5 else None
-        sys.stdout.write("".join(line + "\n" for line in [*sums(Path(words[3]).read_text(encoding="utf-8"), told_lines[:-1], cycles_judged), told_lines[-1]]))
-        return 0 if " wrong 0 ran-on 0 " in told_lines[-1] else found
+        printed = summed(words[3:])
+        sys.stdout.write("".join(line + "\n" for line in printed))
+        return 0 if " wrong 0 ran-on 0 " in printed[-1] else found
     return 0
 
 

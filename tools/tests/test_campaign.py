@@ -144,7 +144,7 @@ class Campaigns(InFolder):
         printed = self.tool("campaign", "n.img", "skip", "--cycles", "3", "--quiet", "--out", "here", status=None)
         self.assertRegex(printed, r"\nfaults \d+ same \d+ wrong \d+ ran-on 0 refused \d+ stopped \d+\n\Z")
         self.assertTrue((self.folder / "here/verdicts").is_file())
-        self.assertIn("another campaign stands", self.tool("campaign", "n.img", "skip", "--cycles", "4", "--quiet", "--out", "here", status=2))
+        self.assertIn("another campaign is", self.tool("campaign", "n.img", "skip", "--cycles", "4", "--quiet", "--out", "here", status=2))
 
     @needs_programs
     def test_several_runs_a_store_and_drawn_faults(self) -> None:
@@ -171,7 +171,7 @@ class Campaigns(InFolder):
         self.write("d.img", self.program("compile", "d.st"))
         self.write("d.csv", "x\n1\n2\n3\n4\n5\n6\n")
         printed = self.tool("campaign", "d.img", "d.csv", "skip", "--then", "skip", "--draw", "9", "--quiet", status=None)
-        number = re.search(r"^dormant: (\d+) of the \d+ faults stand in a cell when the rows end$", printed, re.M)
+        number = re.search(r"^dormant: (\d+) of the \d+ faults are left in a cell when the rows end$", printed, re.M)
         counted = re.search(r"^ +(\d+) .*  stands in a cell$", printed.partition("dormant:")[0], re.M)
         assert number is not None and counted is not None, printed
         self.assertEqual(number[1], counted[1])
@@ -223,6 +223,7 @@ class Readers(unittest.TestCase):
         self.assertEqual(total.totals, [4, 2, 2, 0, 0, 0])
         self.assertEqual([line for line, _, _ in total.unseen], [2, 12])
         self.assertIn("       4       2       2       0       0       0  skip\n", sum_text(total, ["y"]))
+        self.assertIn(" 12345678 12345678       0       0       0       0  skip\n", sum_text(Sum({"t": {"skip": [12345678, 12345678, 0, 0, 0, 0]}}), []))
         for harm in (text[:-30], text[:200], text.replace("output y", "output y\n" + end + "output z"), text.replace("2 wrong 1 y got 1 want 0\n", ""), ""):
             with self.assertRaises(Refusal):
                 read_sum(harm)

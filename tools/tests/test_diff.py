@@ -97,7 +97,7 @@ class Differences(InFolder):
                                ("a + b", "a - b", "output y: in A operation 2, ADD at 5:8 for y; in B operation 2, SUB at 5:8 for y"),
                                ("kept + 1", "kept + 2", "kept value kept: in A"),
                                ("kept : INT;", "kept : INT := 5;", "kept begins with 0 as an INT in A, and with 5"),
-                               ("a, b : INT", "b, a : INT", "the inputs stand in another order"),
+                               ("a, b : INT", "b, a : INT", "the inputs are in another order"),
                                ("z : BOOL", "zz, z : BOOL", "only B has the output zz : BOOL"),
                                ("y := a + b", "IF a <> 0 THEN y := a + b; END_IF", "only B keeps y : INT")):
             self.assertIn(said, self.compare(old, new, 9))

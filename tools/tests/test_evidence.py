@@ -81,7 +81,7 @@ class Filed(InFolder):
     def test_files_that_come_and_go(self) -> None:
         self.file()
         for name, said in (("crates/base/proofs/More.antt", "sources.txt: crates/base/proofs/More.antt: filed `none`"), ("../e/more", "DAMAGED more: "),
-                           ("docs/more.md", "summary.txt: clean: filed `yes`, now `NO: 1 files differ from the commit or stand beside it, as docs/more.md`")):
+                           ("docs/more.md", "summary.txt: clean: filed `yes`, now `NO: 1 files differ from the commit or are beside it, as docs/more.md`")):
             (self.made.top / name).parent.mkdir(exist_ok=True)
             (self.made.top / name).touch()
             self.assertIn(said, self.check())
@@ -112,7 +112,7 @@ class Filed(InFolder):
         for changed, said in ((log.replace("4 passed, 0", "3 passed, 1"), "the gate didn't pass: 3 passed, 1 failed; gate: status 0"),
                               (log.replace("status 0", "status 1"), "the gate didn't pass: 4 passed, 0 failed; gate: status 1"),
                               (log.replace("sources vcp ", "sources vcp 0"), "the gate's log is of other sources: OTHERS"),
-                              (log.replace("sources ", "from "), "the gate's log is of other sources: not told")):
+                              (log.replace("sources ", "from "), "the gate's log is of other sources: not known")):
             self.write("other.log", changed)
             self.assertIn(said, self.file("--gate", str(self.folder / "other.log"), status=9))
         (self.made.top / "out/gate.log").unlink()
@@ -120,7 +120,7 @@ class Filed(InFolder):
         self.assertIn("made again as it is filed", self.check())
         self.made.change("crates/vcp/src/main.rt")
         said = self.file(status=9)
-        self.assertIn("no clean commit: NO: 1 files differ from the commit or stand beside it, as crates/vcp/src/main.rt", said)
+        self.assertIn("no clean commit: NO: 1 files differ from the commit or are beside it, as crates/vcp/src/main.rt", said)
         self.assertIn("vcp: proved from other sources than those that are here", said)
         (self.made.top / "docs/PROMISES.md").write_text("    rattle-kit-2 logic b\n", encoding="utf-8")
         self.assertIn("rt version says `rattle-kit-1 logic a`, and docs/PROMISES.md names `rattle-kit-2 logic b`", self.file(status=9))

@@ -123,6 +123,21 @@ class Calls(InFolder):
         self.assertEqual([line for line, _ in places], ["5", "6", "6", "7", "8"])
         self.assertIn("p.st: 5 to mend", printed)
 
+    @needs_program
+    def test_faults_that_do_not_follow_are_told(self) -> None:
+        """Beside a fault that is told, in its statement or with a variable of its type: those that come whatever type that variable is given."""
+        for body, told, left in (("q := SHL(w, 2) > 0;\n", ["WORD", "no function SHL"], 0), ("r := MAX(w, i, 5);\n", ["WORD", "MAX takes 2 arguments"], 0),
+                                 ("i := i ** 2;\nr := w;\n", ["WORD", "power", "`i` is an input"], 0), ("IF w THEN q := a; END_IF;\n", ["WORD"], 1),
+                                 ("IF a THEN d := w; END_IF;\n", ["WORD", "`d` is an input"], 0), ("q := w;\n", ["WORD"], 1),
+                                 ("q := ABS(w, 1) > 2 AND a;\n", ["WORD", "ABS takes 1 argument"], 0)):
+            self.write("p.st", (FRAME % body).replace("x : BOOL;", "w : WORD;"))
+            printed = self.tool("explain", "--all", "check", "p.st", status=1)
+            messages = re.findall(r"^p\.st:\d+:\d+: (.*)", printed, re.M)
+            self.assertEqual(len(messages), len(told), printed)
+            for message, part in zip(messages, told):
+                self.assertIn(part, message)
+            self.assertEqual(printed.split("\n")[-2], f"p.st: {len(told)} to mend" + f"; {left} more may follow from these" * (left > 0))
+
     def test_folders_absence_and_permission_are_told_apart(self) -> None:
         file = self.write("p.st", ONE)
         self.assertIn("this is a folder", reading_hint(str(self.folder)))
@@ -181,7 +196,7 @@ class Readers(unittest.TestCase):
         script = "begin\nskip 1 2\nresult 1 2 add 1\nbegin\nend\nend\nbegin\nend".split("\n")
         for number, code, said in ((3, "F6", "line 2 of this group changes operation 2 in cycle 1"), (4, "F5", "the group of line 1 has no `end` yet"),
                                    (5, "F5", "has no fault"),
-                                   (6, "F5", "no `begin` stands before"), (7, "F5", "no `end` follows"), (90, "F5", "changed since")):
+                                   (6, "F5", "no `begin` comes before"), (7, "F5", "no `end` follows"), (90, "F5", "changed since")):
             self.assertIn(said, group_hint(script, number, code).message)
 
     def test_lines_of_a_wire(self) -> None:
@@ -197,8 +212,8 @@ class Readers(unittest.TestCase):
                                  ("LD (x)", "Q1", "there are no brackets"), ("next: LD x", "Q1", "there are no labels"),
                                  ("JMP next", "Q1", "there are no jumps"),
                                  ("NOT q", "Q1", "NOT has no operand"), ("y := x;", "Q1", "this is Structured Text"), ("LD - x", "Q1", "without a type"),
-                                 ("x", "Q1", "`x` is a variable"), ("LD x END_PROGRAM", "Q1", "END_PROGRAM stands alone"),
-                                 ("END_PROGRAM LD", "Q1", "behind END_PROGRAM"), ("", "Q1", "END_PROGRAM is missing"),
+                                 ("x", "Q1", "`x` is a variable"), ("LD x END_PROGRAM", "Q1", "END_PROGRAM is alone"),
+                                 ("END_PROGRAM LD", "Q1", "follows END_PROGRAM"), ("", "Q1", "END_PROGRAM is missing"),
                                  ("ADD 1", "Q4", "no result yet for ADD")):
             source = Source((head + line).encode())
             self.assertIn(said, il_hint(source, code, source.offset(5, 1)).message, line)
@@ -235,9 +250,9 @@ class Readers(unittest.TestCase):
         self.assertEqual(getattr(stop, "turns", None), "i=2 j=3")
 
     def test_which_word_is_not_in_its_place(self) -> None:
-        for words, said in (("check", "a word is missing"), ("run p in --seed 0 --seed 1", "stands twice"),
-                            ("trace m in x", "`x` stands in the place of CYCLE"),
-                            ("run p --cycles 1000001", "`1000001` stands behind `--cycles`"), ("check p q", "`q` is left over"),
+        for words, said in (("check", "a word is missing"), ("run p in --seed 0 --seed 1", "occurs twice"),
+                            ("trace m in x", "`x` is in the place of CYCLE"),
+                            ("run p --cycles 1000001", "`1000001` is behind `--cycles`"), ("check p q", "`q` is left over"),
                             ("compile p --sed 0", "did you mean `--seed`?"), ("run p", "a rows file")):
             self.assertIn(said, words_hint(words.split()), words)
 

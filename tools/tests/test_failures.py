@@ -151,6 +151,19 @@ class Statuses(MadeUp):
             self.assertIn("GNU parallel isn't installed: the parts run in a pool of 3", self.run_to(9, "--jobs", "3"))
             self.whole()
 
+    def test_all_parts_are_counted_together_and_compared(self) -> None:
+        said = "summed: `vcp_study sum` over all 10 parts together, which is proved, says the same\n"
+        self.assertTrue(self.run_to(9, "--sum").endswith(said))
+        self.whole()
+        folder = next(self.folder.glob("campaign.*"))
+        self.assertRegex((folder / "summed").read_text(encoding="utf-8"), r"(?m)^9:\d+ wrong ")
+        with mock.patch.dict(os.environ, {"MISCOUNT": "1"}):
+            self.assertIn("isn't what is added up of each", self.run_to(2, "--sum"))
+        self.assertNotIn("summed", self.run_to(9))
+        self.wrap("vcp_study", '[ "$1" != sum ] || [ $# -lt 8 ] || { echo "no memory" >&2; exit 7; }\nexec REAL "$@"\n')
+        self.clear()
+        self.assertIn("vcp_study sum: no memory", self.run_to(2, "--sum"))
+
     def test_statuses_that_say_another_thing(self) -> None:
         for script, said in (('[ "$1" != sum ] || { REAL "$@"; exit 0; }', "isn't judged"), ('[ "$1" != sum ] || { REAL "$@"; exit 4; }', "isn't judged"),
                              ('[ "$1" != sum ] || { echo "f:1 V1 Verdict" >&2; exit 1; }', "isn't judged")):

@@ -141,7 +141,7 @@ def refused_at(data: bytes, is_list: bool) -> tuple[int, int] | None:
 
 
 def texts_of_sessions() -> list[bytes]:
-    """Each file of the sessions, whatever it is, but for a few of more than MOST_BYTES bytes: docs/SESSIONS.md has their form."""
+    """Each file of the sessions, whatever it is, but for a few of more than MOST_BYTES bytes: docs/dev/SESSIONS.md has their form."""
     spelled = {b"n": b"\n", b"r": b"\r", b"t": b"\t", b"\\": b"\\"}
     found: dict[bytes, None] = {}
     for file in sorted((TOP / "crates/play_sessions/data").glob("*.session")):

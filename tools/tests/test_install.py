@@ -51,7 +51,7 @@ class Installed(InFolder):
         self.assertRegex(self.ran(moved / "bin/vcp", "check", "p", top=self.folder), r"\Avcp of [0-9a-f]{8} check p\n\Z")
         self.assertRegex(self.ran(self.folder / "vcp_tools", "version", top=self.folder),
                          r"\nvcp [0-9a-f]{64}, proved, as the evidence of this installation says\nvcp_study [0-9a-f]{64}, proved, ")
-        self.assertIn(f"they stand in {moved}/share/vcp\n", self.ran(moved / "bin/vcp_tools", "help", top=self.folder))
+        self.assertIn(f"they are in {moved}/share/vcp\n", self.ran(moved / "bin/vcp_tools", "help", top=self.folder))
         self.assertIn("its files and the programs are as filed", self.ran(moved / "bin/vcp_tools", "evidence", "--check", "share/vcp/evidence", top=moved))
         self.assertRegex(self.ran(moved / "share/vcp/check.sh", top=self.folder), r"\Aall \d+ files are as the list says, whose digest is ")
         self.assertIn("Python 3.10 or later isn't here", self.ran(moved / "bin/vcp_tools", "help", status=2, top=self.folder, path=self._path_without_python()))

@@ -27,7 +27,7 @@ class WithoutLark(InFolder):
         self.tool("table", "crossing.st", "crossing.csv")
         self.tool("vcd", "crossing.st", "crossing.csv")
         self.tool("rows", "check", "crossing.csv", "crossing.st")
-        self.tool("report", "crossing.st", "crossing.csv", "-o", "r.html")
+        self.tool("report", "crossing.st", "crossing.csv", "--step", "10", "-o", "r.html")
         self.assertIn("isn't installed", (self.folder / "r.html").read_text(encoding="utf-8"))
 
     @needs_program

@@ -65,7 +65,7 @@ class Properties(unittest.TestCase):
         def summed(script: str) -> str:
             found = list(groups(script))
             told = [verdict_line(line, faults) for line, faults in found]
-            return "".join(line + "\n" for line in [*sums(script, told, 20), totals_of([verdict(faults) for _, faults in found])])
+            return "".join(line + "\n" for line in [*sums(found, told, 20), totals_of([verdict(faults) for _, faults in found])])
 
         def check(script: str, most: int) -> None:
             whole = summed(script)

@@ -113,7 +113,7 @@ class Pairs(MadeUp):
         self.assertGreater(len(dormant), 2)
         for folders, seed in ((2, "1"), (3, "2")):
             told = self.run_to(9, "--then", "skip", "--draw", "60", "--seed", seed)
-            self.assertIn(f"dormant: {len(dormant)} of the {len(every)} faults stand in a cell when the rows end\n", told)
+            self.assertIn(f"dormant: {len(dormant)} of the {len(every)} faults are left in a cell when the rows end\n", told)
             # The faults are judged once, whatever is drawn of the pairs.
             self.assertEqual(len(list(self.folder.glob("campaign.*"))), folders)
             script = next(self.folder.glob("campaign.*/pairs")).read_text(encoding="ascii")

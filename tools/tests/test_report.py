@@ -72,7 +72,8 @@ class Reports(InFolder):
         self.assertEqual(parser.outside, [])
         self.assertLessEqual(parser.links - {""}, parser.ids)
         self.assertNotIn("<script", document)
-        wanted = "summary files tool run audit campaign lint listing values source commands"
+        covered = "cover " if find_program("vcp_study") else ""
+        wanted = f"summary {covered}files tool run audit campaign lint listing values source commands"
         self.assertEqual(" ".join(sections_of(document)), wanted)
 
     @needs_program
@@ -112,7 +113,7 @@ class Reports(InFolder):
         self.assertIn(f"{digest_of(file)}, {html.escape(told_of(file))}", summary)
         for told in ("blind operations", "likely mistakes", "may stop with any rows", "end of the run"):
             self.assertIn(f"<td>{told}</td>", summary)
-        self.tool("report", "crossing.st", "crossing.csv", "-o", "r.html")
+        self.tool("report", "crossing.st", "crossing.csv", "--step", "10", "-o", "r.html")
         self.write("n.st", "PROGRAM n VAR_OUTPUT y : INT; END_VAR\ny := y + 1;\nEND_PROGRAM\n")
         self.tool("report", "n.st", "--cycles", "3", "-o", "r.html", status=9)
         self.assertIn("counter-only-grows", (self.folder / "r.html").read_text(encoding="utf-8"))

@@ -28,9 +28,9 @@ class Stimuli(InFolder):
         for text, said in (("1 spead=4\n", "in.stim:1: `spead` is no input: did you mean `speed`?"),
                            ("1 go=2\n", "in.stim:1: `2` isn't a value of `go` : BOOL"),
                            ("1 speed=40000\n", "-32768 to 32767"), ("go\n1 go=1\n", "missing: speed"),
-                           ("go=1\n", "stands where the number of cycles is wanted"),
-                           ("1 go = 1\n", "`go` isn't `NAME=VALUE`"), ("2 go=1 GO=0\n", "in.stim:1: `GO` stands twice"),
-                           ("1 go=1\n2 speed=3 go=0 speed=3\n", "in.stim:2: `speed` stands twice"), ("go speed\n1 go=1 go=1\n", "in.stim:2: `go` stands twice"),
+                           ("go=1\n", "is where the number of cycles is wanted"),
+                           ("1 go = 1\n", "`go` isn't `NAME=VALUE`"), ("2 go=1 GO=0\n", "in.stim:1: `GO` occurs twice"),
+                           ("1 go=1\n2 speed=3 go=0 speed=3\n", "in.stim:2: `speed` occurs twice"), ("go speed\n1 go=1 go=1\n", "in.stim:2: `go` occurs twice"),
                            ("0 go=1\n", "1 to 1000000"), ("# nothing\n", "no line has a number of cycles")):
             self.write("in.stim", text)
             self.assertIn(said, self.tool("rows", "make", "in.stim", "p.st", status=2), text)

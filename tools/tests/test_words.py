@@ -40,8 +40,14 @@ EXPLAINED = (
     ("exec", "a.img", "@"), ("inject", "@", "a.csv", "f.txt"), ("inject", "a.img", "@", "f.txt"), ("inject", "a.img", "a.csv", "@"), ("wire", "@"),
 )
 """Words of vcp with `@` in the place of a file, which `explain` runs."""
-PRINTING = (("rows", "make", "a.stim"), ("rows", "stimuli", "a.csv"), ("rows", "check", "a.csv"), ("help",), ("--version",), ("rows", "--help"), ("--help",))
-"""Calls that print something, and need no program."""
+PRINTING = (
+    ("rows", "make", "a.stim"), ("rows", "stimuli", "a.csv"), ("rows", "check", "a.csv"), ("table", "a.st", "a.csv"), ("vcd", "a.st", "a.csv"),
+    ("expect", "a.st", "a.csv", "a.csv"), ("diff", "a.st", "a.st"), ("lint", "a.st"), ("report", "a.st", "a.csv"), ("help",), ("explain", "check", "a.st"),
+    ("explain", "--all", "check", "a.stim"), ("campaign", "a.img", "a.csv", "f.txt", "--quiet"), ("lower", "a.st", "--cycle-time", "100ms"),
+    ("simulate", "a.st", "a.csv", "--cycle-time", "100ms"), ("never", "a.st", "y = 1"), ("witness", "a.st"), ("version",),
+    ("evidence", "-o", "made", "--no-toolchain"),
+)
+"""A call of each tool that prints something."""
 UNREADABLE = ("nowhere", "folder", "nowhere/x", "a.st/x", os.fsdecode(b"no\xff"), "new\nline", "")
 UNWRITABLE = ("nodir/x.html", "folder", "a.st/x.html", "/dev/full", "/proc/x.html", "/sys/x.html")
 GARBAGE = (
@@ -138,19 +144,27 @@ class Files(InFolder):
                 self.assertEqual((done.returncode, lines), (2, [f"vcp_tools: {said}", ""]))
 
     def test_output_that_cannot_be_written(self) -> None:
-        for words in PRINTING:
+        for words in (*PRINTING[:3], ("help",), ("--version",), ("rows", "--help"), ("--help",)):
             self.unwritten(words)
         self.assertEqual(self.call(("rows", "check", "nowhere"), ">/dev/full").stderr, "vcp_tools: nowhere: there is no such file\n")
         done = self.call(("explain",), "<&-")
         self.assertEqual((done.returncode, done.stderr.count("\n")), (2, 1), done.stderr)
         self.assertEqual(self.call(("rows", "stimuli", "a.csv"), "| true").stderr, "")
 
+    @needs_programs
+    def test_output_of_each_tool_that_cannot_be_written(self) -> None:
+        self.write("a.img", self.program("compile", "a.st"))
+        self.write("f.txt", "result 0 2 add 1\n")
+        self.assertEqual({words[0] for words in PRINTING}, set(TOOLS))
+        for words in PRINTING[3:]:
+            self.unwritten(words)
+
     def test_empty_words(self) -> None:
         for words in (("report", "a.st", "a.csv", "--faults", ""), ("report", "a.st", "a.csv", "--check", ""), ("report", "a.st", "a.csv", "-o", ""),
                       ("table", "a.st", "a.csv", "--cycle-time", ""), ("table", "a.st", "a.csv", "--changes-of", ""), ("lint", ""), ("diff", "", "a.st"),
                       ("explain", "--source", "", "inject", "a", "b", "c"), ("rows", "make", "a.stim", ""), ("rows", "--cycle-time", "", "make", "a.stim"),
                       *(("campaign", "m", "r", "skip", option, "") for option in ("--source", "--store", "--out", "--rows", "--hosts"))):
-            self.assertRegex(self.tool(*words, status=2), "^vcp_tools: [a-z]+: an empty word stands [^\n]*\n$", words)
+            self.assertRegex(self.tool(*words, status=2), "^vcp_tools: [a-z]+: an empty word [^\n]*\n$", words)
 
     def test_a_tool_that_is_interrupted(self) -> None:
         with mock.patch("vcp_tools.rows.command.run", side_effect=KeyboardInterrupt):

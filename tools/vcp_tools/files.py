@@ -9,7 +9,7 @@ from vcp_tools.refusal import Refusal
 
 _REASONS = {
     errno.ENOENT: "there is no such file", errno.EISDIR: "this is a folder, and a file is wanted", errno.ENOSPC: "the disk is full",
-    errno.ENOTDIR: "a file stands where a folder is wanted",
+    errno.ENOTDIR: "a file is where a folder is wanted",
 }
 
 

@@ -28,5 +28,5 @@ def run(given: argparse.Namespace) -> int:
     """Prints which document says what."""
     for page, about in PAGES:
         print(f"{page}: {about}")
-    print(f"they stand in {TOP}" if in_repository() or in_installation() else "they stand in the repository from which the tools were installed")
+    print(f"they are in {TOP}" if in_repository() or in_installation() else "they are in the repository from which the tools were installed")
     return FINE

@@ -23,11 +23,11 @@ TOOLS: dict[str, str] = {
     "witness": "for each operation that may stop, rows by which it does",
     "diff": "whether two programs or images have the same operations, and where they part",
     "lint": "what is lawful and likely a mistake",
-    "report": "one HTML file that tells a program and its run, to be filed",
+    "report": "one HTML file on a program and its run, to be filed",
     "lower": "a program of the profile that does what a text as controllers have it does: timers, edges, counters, blocks, arrays, TIME",
-    "simulate": "the run of such a text as it stands, in a plain interpreter: the second reading of what `lower` writes",
+    "simulate": "the run of such a text itself, in a plain interpreter: the second reading of what `lower` writes",
     "campaign": "every fault of a class or a script, tried on an image, and what became of each",
-    "evidence": "what stands behind the proved programs: sources, toolchain, gate and claims with their digests, to be filed and compared",
+    "evidence": "from what the programs were proved: sources, toolchain, gate and claims with their digests, to be filed and compared",
     "version": "which tools, commit, programs and toolchain are here",
     "help": "where to read on",
 }
@@ -40,7 +40,7 @@ MODULES = {
 }
 """The module of each tool."""
 VALUED = frozenset(("--changes-of", "--cycles", "--cycle-time", "--faults", "--horizon", "--check", "-o", "--allow", "--from", "--assume", "--inputs",
-                    "--seconds", "--gate"))
+                    "--seconds", "--gate", "--seed", "--step"))
 """The options that a word follows."""
 INTERRUPTED = 128 + 2
 """The status of a tool that a Ctrl-C has ended, as shells tell it."""
@@ -96,7 +96,7 @@ def _run(words: list[str]) -> int:
         raise
     empty = [name for name, value in vars(given).items() if value == ""]
     if empty:
-        raise Refusal(f"{given.tool}: an empty word stands in the place of {empty[0].upper().replace('_', '-')}")
+        raise Refusal(f"{given.tool}: an empty word is in the place of {empty[0].upper().replace('_', '-')}")
     status: int = _module(given.tool).run(given)
     sys.stdout.flush()
     return status

@@ -104,10 +104,10 @@ class Program:
             )
         return Program(file, name)
 
-    def call(self, *words: str | Path) -> Outcome:
-        """Runs the program with these words, and gives what came, whatever its status."""
+    def call(self, *words: str | Path, folder: Path | None = None) -> Outcome:
+        """Runs the program with these words, in a folder where one is given, and gives what came, whatever its status."""
         try:
-            done = subprocess.run([str(self.file), *map(str, words)], capture_output=True, stdin=subprocess.DEVNULL, check=False)
+            done = subprocess.run([str(self.file.absolute()), *map(str, words)], cwd=folder, capture_output=True, stdin=subprocess.DEVNULL, check=False)
         except OSError as error:
             raise Refusal(f"{self.file}: the program can't be run: {error.strerror}") from None
         return Outcome(done.returncode, done.stdout, done.stderr.decode("utf-8", "replace"))

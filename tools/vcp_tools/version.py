@@ -26,8 +26,8 @@ def _commit() -> str:
     """The commit of the sources."""
     if in_repository():
         differing = changes(TOP)
-        return f"commit {commit(TOP)}" + (f", and {len(differing)} files that differ from it or stand beside it" if differing else "")
-    return f"commit {installed_summary().get('commit', 'not known here: the tools stand outside the repository, and were not installed by install.sh')}"
+        return f"commit {commit(TOP)}" + (f", and {len(differing)} files that differ from it or are beside it" if differing else "")
+    return f"commit {installed_summary().get('commit', 'not known here: the tools are outside the repository, and were not installed by install.sh')}"
 
 
 def _programs() -> Iterator[str]:

@@ -10,7 +10,7 @@ use op_graph::{
 use signature_table::expected_residues_are_residues;
 
 /// Where all answers to the calls of a cycle are right and the cells hold honest words, the answers
-/// stand for the graph's cycle on plain integers; and before the first cycle the cells hold honest
+/// represent the graph's cycle on plain integers; and before the first cycle the cells hold honest
 /// words. It does nothing: it states a law.
 pub fn right_answers_stand_for_values()
     ensures cycle { HonestCycles }

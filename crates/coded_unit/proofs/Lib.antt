@@ -1,4 +1,5 @@
 pub mod Modular
+mod Multiples
 pub mod Replacements
 pub mod Shifts
 pub mod Sizes

@@ -23,7 +23,7 @@ is_true : (b : Bool) → b ≡ true → T b
 is_true true h = tt
 is_true false h = absurd cc
 
-at_most : (x y : ℤ) → int_le x y ≡ true → x ≤ℤ y
+pub at_most : (x y : ℤ) → int_le x y ≡ true → x ≤ℤ y
 at_most x y h = record { le = is_true (int_le x y) h }
 
 -- the values of each type have 64 bits

@@ -1,4 +1,4 @@
--- Faulty: a unit that answers some of its calls with answers that are told beforehand.
+-- Faulty: a unit that answers some of its calls with answers that are given beforehand.
 use Rattle.std.specs.Prelude.{ℕ, nat_eq, List, [], Option, unwrap_or}
 use Rattle.std.specs.Map.{lookup}
 use Rattle.coded_unit.specs.declared.call.Call.{Call}

@@ -1,6 +1,7 @@
 pub mod Asked
 pub mod Faulty
 pub mod Log
+pub mod Multiples
 pub mod Right
 pub mod Seen
 pub mod Step

@@ -1,4 +1,4 @@
-//! A unit that gives some answers as it is told to.
+//! A unit that gives some answers that were chosen.
 
 ghost use Rattle.std.specs.Prelude.{◌≡◌, ◌≢◌, ℕ, ◌<◌, ◌≤◌, ◌-◌, ◌^◌, ◌↔◌, ◌∷◌, [], Some, IfOk, OnOk, OnErr, IsNone, length, slice_get, unwrap_or};
 ghost use Rattle.coded_unit.specs.Asked.{Asked};
@@ -15,7 +15,7 @@ use std::collections::BTreeMap;
 use std::marker::Model;
 use vcp_base::Memory;
 
-/// A unit that gives the answers that it was told to give, each at the call of its number, and the
+/// A unit that gives chosen answers, each at the call of its number, and the
 /// right answers at all other calls.
 ///
 /// It keeps its first calls, and tells its log until it does a call for which there is no room.
@@ -119,7 +119,7 @@ fn set(replacements: &mut BTreeMap<u64, Answer>, number: u64, answer: Answer) ->
     Ok(())
 }
 
-/// The answer that stands in place of the right one at the call of a number, else the right one.
+/// The chosen answer at the call of a number, where there is one, else the right one.
 fn replaced(replacements: &BTreeMap<u64, Answer>, number: u64, right: &Answer) -> Answer
     ensures { result ≡ unwrap_or (replacement replacements.now.entries number) right.now }
 {
@@ -129,7 +129,7 @@ fn replaced(replacements: &BTreeMap<u64, Answer>, number: u64, right: &Answer) -
     }
 }
 
-/// The next count; a count stands still at its last value.
+/// The next count; a count stays at its last value.
 fn next(count: u64) -> u64
     ensures { result ≡ one_more count }
 {

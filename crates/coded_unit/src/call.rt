@@ -3,7 +3,7 @@
 use crate::word::Word;
 use vcp_base::{Kind, Profile, Residue, Ty};
 
-/// One elementary operation, with all that a unit is told of it.
+/// One elementary operation, with all that a unit gets of it.
 ///
 /// An operand that the kind does not have is `Word::ZERO` by custom; no answer depends on it.
 #[derive(Clone, Copy, PartialEq, Eq)]

@@ -6,6 +6,7 @@
 #![tactic(auto)]
 
 mod bad_unit;
+mod beside;
 mod call;
 mod call_log;
 mod cpu_unit;

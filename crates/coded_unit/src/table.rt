@@ -3,10 +3,13 @@
 ghost use Rattle.std.specs.Prelude.{◌≡◌, ◌<◌, ◌^◌, ℤ, pos, negsuc, ◌*ℤ◌, ◌+ℤ◌, ◌≤ℤ◌};
 ghost use Rattle.vcp_base.specs.Code.{modulus as modulus_of};
 ghost use Rattle.coded_unit.specs.Asked.{Asked};
+ghost use Rattle.vcp_base.specs.Kinds.{outcome as outcome_of};
 ghost use Rattle.coded_unit.specs.Words.{modulo, value_part, Short, Small};
+ghost use Rattle.coded_unit.specs.Multiples.{IsMultiple};
 ghost use Rattle.coded_unit.specs.Right.{residue as residue_of, stamp_share as stamp_share_of, answer_of, LeavesRoom, Right};
 ghost use Rattle.coded_unit.specs.Step.{StepLaw};
 
+use crate::beside::{Twofold, found_twice, packed_twice};
 use crate::call::{Answer, Call};
 use crate::word::{ShortParts, Word, narrow_remainder, wide_remainder};
 use vcp_base::{Kind, Profile, Residue, StopKind, multiplier, outcome, short_outcome};
@@ -114,26 +117,41 @@ fn answer_from(
     );
     told(
         profile,
-        short_outcome(
-            call.kind,
-            call.from,
-            call.ty,
-            call.imm,
-            first.value,
-            second.value,
-            third.value,
-        ),
+        call,
         carried,
+        found_twice(profile, call.a, first),
+        found_twice(profile, call.b, second),
+        found_twice(profile, call.c, third),
     )
 }
 
-/// The answer that tells an outcome.
+/// The answer that tells what the kind gives, with this residue.
 #[inline(always)]
-fn told(profile: Profile, outcome: Result<i64, StopKind>, residue: Residue) -> Answer
-    ensures { result ≡ answer_of profile outcome residue }
+fn told(
+    profile: Profile,
+    call: &Call,
+    residue: Residue,
+    first: Twofold,
+    second: Twofold,
+    third: Twofold,
+) -> Answer
+    requires first { IsMultiple profile first.multiple first.value }
+    requires second { IsMultiple profile second.multiple second.value }
+    requires third { IsMultiple profile third.multiple third.value }
+    ensures { result ≡ answer_of profile (outcome_of call.now.kind call.now.from call.now.ty call.now.imm first.value second.value third.value) residue }
 {
-    match outcome {
-        Ok(v) => Answer::Word(Word::packed(profile, v as i128, residue)),
+    match short_outcome(
+        call.kind,
+        call.from,
+        call.ty,
+        call.imm,
+        first.value,
+        second.value,
+        third.value,
+    ) {
+        Ok(value) => Answer::Word(packed_twice(
+            profile, call, value, residue, first, second, third,
+        )),
         Err(StopKind::Range) => Answer::Range,
         Err(StopKind::DivZero) => Answer::DivZero,
         Err(StopKind::Operand) => Answer::Operand,
@@ -253,7 +271,7 @@ fn wide_residue(
     wide_remainder(total(first, second, third, corr, share))
 }
 
-/// How often the stamp is added, so that it stands in the answer's residue once.
+/// How often the stamp is added, so that it is in the answer's residue once.
 #[inline(always)]
 fn stamp_share(kind: Kind) -> i32
     ensures value { result ≡ stamp_share_of kind }

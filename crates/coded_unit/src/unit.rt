@@ -8,16 +8,16 @@ ghost use Rattle.coded_unit.specs.Seen.{UnitSeen};
 
 use crate::call::{Answer, Call};
 
-/// What does calls: a processor, or something that stands for one and may fail.
+/// What does calls: a processor, or something that takes its place and may fail.
 ///
-/// A log that is not told is never told later; a told one may be told no more.
+/// A log that is not known is never known later; a known one may be known no more.
 pub trait Unit {
-    /// What is seen of it: its calls with their answers, where they are told, and the count of answers that are not the right ones.
+    /// What is seen of it: its calls with their answers, where they are known, and the count of answers that are not the right ones.
     ghost seen: { Self → UnitSeen };
 
     /// Does one call that may be asked: its correction is below the constant of its code, its stamp at most
     /// 1,000,000,000, and it has no LINT in the narrow code. It is the next entry of the log, where that is
-    /// told. The answer may be wrong, and is then counted. The count rises exactly at answers that aren't
+    /// known. The answer may be wrong, and is then counted. The count rises exactly at answers that aren't
     /// right.
     fn perform(&mut self, call: &Call) -> Answer
         requires { Asked call.now }

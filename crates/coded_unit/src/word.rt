@@ -109,6 +109,17 @@ impl Word {
         }
     }
 
+    /// The word itself, to which nothing is added.
+    #[inline(always)]
+    pub(crate) fn plus_nothing(self, nothing: i128) -> Word
+        requires { nothing ≡ pos 0 }
+        ensures { result ≡ self }
+    {
+        Word {
+            code: self.code + nothing,
+        }
+    }
+
     /// The word `w + e`, or the nearest word to it where that is none.
     pub fn shift(self, e: i64) -> Word
         ensures { result ≡ nearest_word (self +ℤ e) }
@@ -337,7 +348,7 @@ fn step_to(value: i128, rest: i128) -> (i128, Residue)
 
 /// The value part and the residue of an integer.
 ///
-/// Zero is what stands for an operand that a kind does not have, so it is split at once.
+/// Zero takes the place of an operand that a kind does not have, so it is split at once.
 #[tactic(auto, using(crate::proofs::Modular::value_part_zero, crate::proofs::Modular::modulo_zero))]
 fn parts(profile: Profile, code: i128) -> (i128, Residue)
     ensures value { result.0 ≡ value_part profile code }
@@ -363,7 +374,7 @@ pub fn remainder(profile: Profile, code: i128) -> Residue
 
 /// The parts of an integer, where they are found in 64 bits.
 ///
-/// Zero is what stands for an operand that a kind does not have, so it is split at once.
+/// Zero takes the place of an operand that a kind does not have, so it is split at once.
 #[inline(always)]
 #[tactic(auto, using(crate::proofs::Modular::value_part_zero, crate::proofs::Modular::modulo_zero, crate::proofs::Modular::modulus_positive))]
 fn short_parts(profile: Profile, code: i128) -> Option<ShortParts>

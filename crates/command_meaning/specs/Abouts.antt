@@ -1,4 +1,4 @@
--- Abouts: what each command is about, a line a command. What each comes to stands in the crate of the top call; nothing else is said of a
+-- Abouts: what each command is about, a line a command. The task of each is in the crate of the top call; nothing else is said of a
 -- command by its name.
 -- The table has for each command which files it reads and how long they may be, whether it calls the unit,
 -- whether it takes memory late, and with which statuses it may end.

@@ -1,4 +1,4 @@
--- CampaignKind: groups of faults that are judged, by runs of one channel or of two: what stands after all of them, and what stands where they
+-- CampaignKind: groups of faults that are judged, by runs of one channel or of two: what holds after all of them, and what holds where they
 -- were cut off.
 -- With an honest unit the verdicts are the defined ones, group by group, and their lines and the totals come
 -- whole and nothing else, with status 0, unless the status is 5, 6 or 7, and where nothing failed unless it
@@ -9,7 +9,7 @@
 -- cycles on plain integers. A kept log grew by exactly the calls of the groups' runs, one after another, with
 -- the group's changes.
 -- Where no answer was wrong, each verdict of `pairs` is the defined one of its group, as a pair tells it; of
--- groups that were cut off, a part of what is printed of these stands.
+-- groups that were cut off, a part of what is printed of these is there.
 use Rattle.std.specs.Prelude.{◌≡◌, ◌≤◌, ◌+◌, ℕ, List, ◌++◌, length, All}
 use Rattle.fault_injector.specs.declared.verdict.Verdict.{Verdict}
 use Rattle.fault_injector.specs.Names.{Names}

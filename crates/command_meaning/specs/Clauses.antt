@@ -19,11 +19,11 @@
 -- task is that a name is lacking, which the line then names. In memory: where a name is lacking, 5 comes,
 -- unless the status is 6 or 7.
 -- Status 6 comes only where a sink's count of faults rose: that of the output, and then `write fault` was
--- told, or that of the errors.
+-- reported, or that of the errors.
 -- And a call that fails gives 5 or 6 each time: the files' count of faults is what it was unless the status is
 -- 5 or 6, and those of both sinks are unless it is 6. So none is passed over, or tried again until it doesn't
 -- fail.
--- What stands on the errors after each status: nothing after 0, 2 and 3; after 1 a refusal of a file that the
+-- What is on the errors after each status: nothing after 0, 2 and 3; after 1 a refusal of a file that the
 -- words name, of `--cycles` or, for `demo`, of what was made, and never `no memory`; after 5 the line of a
 -- file that the words name; after 6 `write fault`, and only where the count of the output rose; after 7 `no
 -- memory`, which names no file. Or, with 6, a part of the line of the status that would else have come, in

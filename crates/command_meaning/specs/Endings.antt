@@ -1,4 +1,4 @@
--- Endings: how a command ends, for the task that it comes to, and the cause of each status.
+-- Endings: how a command ends, for its task, and the cause of each status.
 -- A command may be given up before its task is known: the files broke (5), memory was lacking (7), or the
 -- errors' sink failed in the line of one of these (6). Nothing else was written then, and the unit wasn't
 -- called.

@@ -1,4 +1,4 @@
--- FileTasks: what files come to, each taken through its refusals: one shape for all.
+-- FileTasks: the tasks of files, each of which is accepted or rejected: one shape for all.
 use Rattle.std.specs.Prelude.{ℕ, ◌≡◌, ◌≤◌, List, length, Option, Some, None}
 use Rattle.vcp_base.specs.Limits.{most_image_bytes, most_source_bytes}
 use Rattle.vcp_base.specs.declared.columns.Column.{Column}

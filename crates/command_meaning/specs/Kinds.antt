@@ -1,7 +1,7 @@
--- Kinds: what words and files come to, and what each kind of task leaves behind, a line a kind. A kind that calls the unit has a record for
+-- Kinds: the tasks of words and files, and what each kind of task leaves behind, a line a kind. A kind that calls the unit has a record for
 -- a whole course and one for a course that was cut off; the two kinds of groups of faults share theirs.
--- Definitions: the task that a command and files come to, with what each file may be and how long; what is
--- meant by a task, what stands when it was done and when it was cut off, for runs, for faults that are
+-- Definitions: the task of a command and its files, with what each file may be and how long; what is
+-- meant by a task, what holds when it was done and when it was cut off, for runs, for faults that are
 -- judged, for runs of two channels, also with faults in one, and for wires; what all deliver that a wire's
 -- script hands; what is printed of a run; how a command ends, the causes of the statuses, and what every
 -- command keeps.

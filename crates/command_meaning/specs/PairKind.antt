@@ -1,4 +1,4 @@
--- PairKind: a run of two channels that are compared, and what stands after a whole one; what stands where it was cut off, `pair_channel` says.
+-- PairKind: a run of two channels that are compared, and what holds after a whole one; what holds where it was cut off, `pair_channel` says.
 -- Whatever the unit answers in `pair`: the rows that are written are the first of the graph's run on plain
 -- integers, all of them where the status is 0 or 2, and a stop is that run's stop; status 3 comes only where
 -- the unit's count of wrong answers rose.
@@ -6,8 +6,8 @@
 -- channel's end is the one that they give, the second's and its row are those of the graph's cycle on plain
 -- integers, and the pair's end is the defined one of the two. A kept log grew by exactly the calls of the
 -- first channel's cycles with these answers, one cycle for each row up to the first that isn't released.
--- Where no answer was wrong, `pair` comes to the run of the image's graph on plain integers; of a run that
--- was cut off, a part of what is printed of that stands.
+-- Where no answer was wrong, `pair` gives the run of the image's graph on plain integers; of a run that
+-- was cut off, a part of what is printed of that is there.
 use Rattle.std.specs.Prelude.{ℕ, ◌≡◌, List, [], Option, Some, None}
 use Rattle.vcp_outside.specs.Counts.{Rose}
 use Rattle.input_rows.specs.declared.fault.RowFault.{RowFault}

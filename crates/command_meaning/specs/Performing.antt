@@ -1,4 +1,4 @@
--- Performing: how far a command comes before the line of its fault, if there is one, is told: by that line and the status that it has.
+-- Performing: how far a command comes before the line of its fault, if there is one: by that line and the status that it has.
 use Rattle.std.specs.Prelude.{ℕ, ◌≡◌, ◌≢◌, ◌⊎◌, false, true, List, [], ◌∷◌, ◌++◌, IfSome}
 use Rattle.std.specs.Io.KnownBytes.{Appends, IsAtEnd}
 use Rattle.vcp_outside.specs.Counts.{Rose}

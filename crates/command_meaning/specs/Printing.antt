@@ -1,4 +1,4 @@
--- Printing: a run as it is told, and what is printed of it.
+-- Printing: a run as it is reported, and what is printed of it.
 use Rattle.std.specs.Prelude.{ℕ, ℤ, List, [], ◌++◌, length, slice_index_or, Option, Some, None, codes}
 use Rattle.input_rows.specs.declared.fault.RowFault.{RowFault}
 use Rattle.input_rows.specs.RowsOf.{RowsLeft}

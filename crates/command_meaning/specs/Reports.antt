@@ -1,4 +1,4 @@
--- Reports: a run as it is told, and the lines that print it.
+-- Reports: a run as it is reported, and the lines that print it.
 use Rattle.std.specs.Prelude.{ℕ, List, [], map, slice_get, Option, Some, None, ℤ}
 use Rattle.vcp_base.specs.Stops.{ToldStop}
 use Rattle.input_rows.specs.declared.fault.RowFault.{RowFault}

@@ -1,4 +1,4 @@
--- RunKind: runs on a unit: what stands after a whole one, and what stands where it was cut off.
+-- RunKind: runs on a unit: what holds after a whole one, and what holds where it was cut off.
 -- The graph that is run, or whose image is written, means the program, and so has the code that its types
 -- want, and has at most as many operations as its Size, and no pass leaves less of it: nothing is left to
 -- fold, to join or to leave out. In `exec`, `trace`, `inject`, `pair` and `pairs` it is that of the image.

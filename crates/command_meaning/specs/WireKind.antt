@@ -1,4 +1,4 @@
--- WireKind: the script of a wire that is run: what stands after it, what stands where it was cut off, and what holds of all that is
+-- WireKind: the script of a wire that is run: what holds after it, what holds where it was cut off, and what holds of all that is
 -- delivered.
 -- What `wire` writes and its status are read off the words that the unit answered, by the rules of the
 -- receiver: a line for each telegram that is handed, and the totals, with status 0; or, up to the first
@@ -6,7 +6,7 @@
 -- log grew by exactly one call for each sender and cycle, in order, with these answers, up to the first that
 -- is no word. So unless the status is 5, 6 or 7.
 -- Where no answer was wrong, it is the text of the wire run, which speaks of values, signatures and numbers
--- and of no word, and the status 0; of a run that was cut off, a part of that text stands.
+-- and of no word, and the status 0; of a run that was cut off, a part of that text is there.
 use Rattle.std.specs.Prelude.{ℕ, ℤ, ◌≡◌, ◌+◌, List, [], ◌++◌, length, Option, Some, None}
 use Rattle.coded_unit.specs.Log.{GrowsBy}
 use Rattle.coded_unit.specs.Seen.{UnitSeen, StaysHonest}

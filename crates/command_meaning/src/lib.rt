@@ -1,4 +1,4 @@
-//! What commands answer: the answer and the task that words and files come to, how a command ends, the causes of its statuses and
+//! What commands answer: the answer and the task of words and files, how a command ends, the causes of its statuses and
 //! completeness, for any task. The functions are laws of these definitions.
 #![tactic(auto)]
 

@@ -1,5 +1,5 @@
 -- Verdicts: how the run with a group of faults differs from the run without it.
--- The verdict of a group of faults is told by the run with it beside the run without, cycle by cycle.
+-- The verdict of a group of faults is read off the run with it beside the run without, cycle by cycle.
 use Rattle.std.specs.Prelude.{ℕ, suc, ◌==◌, Bool, false, cond, ◌&&◌, List, [], ◌∷◌, Option, Some, None, ℤ}
 use Rattle.vcp_base.specs.Differences.{Difference, first_difference}
 use Rattle.vcp_base.specs.Kinds.{same_stop}

@@ -1,6 +1,6 @@
 //! The verdicts on faults: how a run with a group of faults differs from the run without them.
 //!
-//! A verdict is printed in a line, and behind those of a script stand their totals.
+//! A verdict is printed in a line, and behind those of a script are their totals.
 #![tactic(auto)]
 
 mod lines;

@@ -8,7 +8,7 @@ use fault_script::index_number;
 use memchr::memchr;
 use vcp_base::Spot;
 
-/// How many bytes stand before the first such byte, or in the whole word.
+/// How many bytes are before the first such byte, or in the whole word.
 #[tactic(auto, using(script_text::proofs::Firsts::first_place))]
 fn front_length(word: &[u8], byte: u8) -> usize
     ensures place { result ≡ position_or_len (λ b. b == byte) word.now }
@@ -17,7 +17,7 @@ fn front_length(word: &[u8], byte: u8) -> usize
     memchr(byte, word).unwrap_or(word.len())
 }
 
-/// What stands before and behind the first such byte of a word.
+/// What is before and behind the first such byte of a word.
 #[tactic(auto, using(crate::proofs::Cuts::cut_is, crate::proofs::Cuts::no_cut))]
 pub(crate) fn cut_at(word: &[u8], byte: u8) -> Option<(&[u8], &[u8])>
     ensures { option_map (λ r. (r.0.now, r.1.now)) result ≡ cut byte word.now }

@@ -1,4 +1,4 @@
-//! Whether acts may stand at an operation.
+//! Whether acts may be at an operation.
 
 ghost use Rattle.std.specs.Prelude.{◌≡◌};
 ghost use Rattle.fault_script.specs.Fits.{is_moderate as is_moderate_of};
@@ -24,7 +24,7 @@ fn is_moderate(act: &Act) -> bool
     }
 }
 
-/// Why an act may not stand at operation `k`, of this kind, from cycle `n` on.
+/// Why an act may not be at operation `k`, of this kind, from cycle `n` on.
 fn unfit(kind: Kind, k: u32, n: u32, act: &Act) -> Option<Why>
     ensures { result ≡ unfit_of kind k n act.now }
 {

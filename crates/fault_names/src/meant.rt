@@ -121,7 +121,7 @@ fn acts_said(doing: Doing, place: Option<u32>, ending: Ending) -> Option<Acts>
     }
 }
 
-/// The acts at an operation, where they may stand there.
+/// The acts at an operation, where they may be there.
 fn fitted(graph: &Graph, op: u32, span: Span, together: bool, acts: Acts) -> Result<Meant, Why>
     requires { op < length graph.now.operations }
     ensures { result ≡ fitted_of graph.now op span together acts }

@@ -41,7 +41,7 @@ fn is_variable(graph: &Graph, kind: Option<Kind>, name: &[u8], op: &Op) -> bool
         && is_same_name(name, variable_name(graph, op.kind, op.imm.unsigned_abs()))
 }
 
-/// Whether an operation stands for a place.
+/// Whether an operation comes from a place.
 fn is_at(place: Option<Spot>, other: Spot) -> bool
     ensures { result ≡ is_at_of place other }
 {

@@ -13,7 +13,7 @@ pub enum Why {
     Held,
     /// The kind of the operation hasn't the operand, or the operation that is read instead isn't an earlier one.
     Site,
-    /// The act takes a word of the cycle before, and stands in cycle 0.
+    /// The act takes a word of the cycle before, and is in cycle 0.
     Early,
     /// The other kind has another number of operands.
     Kind,

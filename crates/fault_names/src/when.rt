@@ -19,7 +19,7 @@ pub struct Span {
     pub last: u32,
 }
 
-/// What stands behind the cycles.
+/// What is behind the cycles.
 #[derive(Clone, Copy, Debug, PartialEq, Eq)]
 pub enum Ending {
     /// Nothing: each cycle has a group of its own.
@@ -84,7 +84,7 @@ fn bit(word: &[u8]) -> Option<Ending>
     Some(Ending::Bit { b })
 }
 
-/// What stands behind the cycles, to the end of the line.
+/// What is behind the cycles, to the end of the line.
 pub(crate) fn take_ending(words: &mut WordsLeft<'_>) -> Option<Ending>
     ensures value { result ≡ ending_of words.old }
 {

@@ -1,4 +1,4 @@
--- Standing: the faults of a group that stand in one cycle.
+-- Standing: the faults of a group that are in one cycle.
 use Rattle.std.specs.Prelude.{ℕ, ◌≡◌, ◌==◌, cond, List, [], ◌∷◌, ◌++◌}
 use Rattle.fault_script.specs.declared.act.Fault.{Fault}
 use Rattle.fault_reruns.specs.declared.standing.Standing.{Standing}

@@ -33,7 +33,7 @@ pub(crate) struct Begun<'c> {
     pub held: &'c [Word],
     /// The values of the inputs.
     pub row: &'c Row,
-    /// The number of the cycle, and the faults that stand in it.
+    /// The number of the cycle, and the faults that are in it.
     pub standing: Standing<'c>,
     /// The words that the cells had in the cycle before.
     pub past_held: &'c [Word],

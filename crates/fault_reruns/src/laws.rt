@@ -6,17 +6,17 @@ use coded_machine::right_answers_stand_for_values;
 use fault_runs::{ends_under_acts_are_read_off_the_answers, runs_under_acts_keep_the_run_law};
 use op_graph::operands_are_there;
 
-/// An operation is touched exactly where a fault stands there, where it reads an operation that is touched in
+/// An operation is touched exactly where it has a fault, where it reads an operation that is touched in
 /// its cycle or is the LOAD of a cell whose STORE is touched in the cycle before, or where it comes after a
 /// touched operation at which the run without the group stopped. It does nothing: it states a law. But for
-/// where that run stopped, no value and no word stands in it.
+/// where that run stopped, it has no value and no word.
 pub fn touched_operations_are_told_by_what_they_read()
     ensures { TouchedLaws }
 {
     operands_are_there();
 }
 
-/// A rerun asks the unit at the touched operations that it comes to, in order of cycle and operation, at no skip
+/// A rerun asks the unit at the touched operations that it reaches, in order of cycle and operation, at no skip
 /// and nowhere else, and every operation that isn't touched has the answer of the run without the group,
 /// whatever the unit answers. It does nothing: it states a law.
 pub fn reruns_ask_at_touched_operations()
@@ -32,7 +32,7 @@ pub fn right_references_stand_for_the_graphs_run()
     right_answers_stand_for_values();
 }
 
-/// In a cycle in which no fault stands and that begins with no cell touched, no call is made again, its
+/// In a cycle without a fault that begins with no cell touched, no call is made again, its
 /// answers are those of the run without the group, and no cell is touched after it; so from such a cycle on
 /// behind which no fault comes nothing differs. It does nothing: it states a law. There the verdict is
 /// `same`, where the run without the group isn't refused from there on, as where its answers are right.

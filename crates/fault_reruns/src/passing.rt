@@ -16,7 +16,7 @@ use coded_machine::{CycleEnd, store_words};
 use coded_unit::Answer;
 use fault_script::{Fault, Group};
 
-/// The earlier one of cycle `next` and of that of a fault, where the fault stands in cycle `n` or later.
+/// The earlier one of cycle `next` and of that of a fault, where the fault is in cycle `n` or later.
 fn earlier(fault: &Fault, n: u32, next: u32) -> u32
     requires { n ≤ next }
     ensures from { n ≤ result }
@@ -30,7 +30,7 @@ fn earlier(fault: &Fault, n: u32, next: u32) -> u32
     }
 }
 
-/// The first cycle from `n` on and before `last` in which a fault of the group stands, or `last`.
+/// The first cycle from `n` on and before `last` in which the group has a fault, or `last`.
 fn next_fault(group: &Group, n: u32, last: u32) -> u32
     requires { n ≤ last }
     ensures from { n ≤ result }
@@ -71,7 +71,7 @@ fn is_refused(end: &CycleEnd) -> bool
     }
 }
 
-/// The next cycle from `n` on in which something may be touched: cycle `n` where a cell is, or else the first one in which a fault stands;
+/// The next cycle from `n` on in which something may be touched: cycle `n` where a cell is, or else the first one that has a fault;
 /// the number of cycles where there is none.
 pub(crate) fn next_touched(reference: &Reference<'_>, group: &Group, n: u32, cells: &[bool]) -> u32
     requires { n < length reference.now.answers }

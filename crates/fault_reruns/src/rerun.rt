@@ -175,7 +175,7 @@ fn cross(graph: &Graph, work: &mut Work)
 }
 
 /// Reruns a group of faults from the first cycle on, and answers its verdict. It passes over cycles in which nothing is touched, up to the
-/// next one in which a fault stands: in them it would make no call, and come to what the run without the faults came to. Where no such cycle
+/// next one that has a fault: in them it would make no call, and give what the run without the faults gave. Where no such cycle
 /// is left nothing differs any more.
 fn rerun<U: Unit>(
     reference: &Reference<'_>,
@@ -222,7 +222,7 @@ impl<'a> Reference<'a> {
     /// For every unit a kept log grows by exactly the rerun's calls with the unit's answers: none at a skip,
     /// in order of cycle and operation, through the cycle that has a verdict, or through the last of the run
     /// without the group. The unit's count of wrong answers never falls; after `Memory` the unit is as it
-    /// was. Beside the verdict stand the laws that it rests on: the run law, the places of a group's faults,
+    /// was. Beside the verdict are the laws that it rests on: the run law, the places of a group's faults,
     /// one fault's values, and the ends and outputs of a cycle.
     pub fn verdict<U: Unit>(
         &self,

@@ -1,4 +1,4 @@
-//! The faults of a group that stand in one cycle.
+//! The faults of a group that are in one cycle.
 
 ghost use Rattle.std.specs.Prelude.{◌≡◌, ◌<◌, ◌≤◌, ◌==◌, ◌&&◌, ◌++◌, ◌∷◌, ◌+◌, [], Some, cond, length, slice_get, vec_capacity};
 ghost use Rattle.fault_script.specs.Changes.{acts_of};
@@ -6,14 +6,14 @@ ghost use Rattle.fault_reruns.specs.Standing.{IsStanding, faults_in};
 
 use fault_script::{Act, Fault, Group};
 
-/// The faults of a group that stand in one cycle, so that its operations needn't look at all others.
+/// The faults of a group that are in one cycle, so that its operations needn't look at all others.
 #[derive(Clone, Copy)]
 pub(crate) struct Standing<'c> {
     /// The group.
     pub group: &'c Group,
     /// The number of the cycle, from 0.
     pub cycle: u32,
-    /// The faults of the group that stand in it, in their order.
+    /// The faults of the group that are in it, in their order.
     pub faults: &'c [Fault],
 }
 
@@ -32,7 +32,7 @@ fn append_in(faults: &mut Vec<Fault>, fault: Fault, cycle: u32)
     }
 }
 
-/// Gathers the faults of a group that stand in a cycle where there is room for them.
+/// Gathers the faults of a group that are in a cycle where there is room for them.
 pub(crate) fn gather(group: &Group, cycle: u32, faults: &mut Vec<Fault>)
     requires room { length group.now ≤ vec_capacity faults.old }
     ensures faults { faults.new.items ≡ faults_in cycle group.now }
@@ -44,7 +44,7 @@ pub(crate) fn gather(group: &Group, cycle: u32, faults: &mut Vec<Fault>)
     }
 }
 
-/// Whether a fault stands at an operation in a cycle.
+/// Whether a fault is at an operation in a cycle.
 fn stands_at(fault: &Fault, cycle: u32, op: u32) -> bool
     ensures { result ≡ (fault.now.cycle == cycle && fault.now.op == op) }
 {

@@ -1,5 +1,5 @@
 -- FaultRun: the run of a graph under acts, on plain integers. Where an act adds a number to a word, the value goes by the residue that the word
--- has, with its difference; no word stands in it.
+-- has, with its difference; no word is in it.
 use Rattle.std.specs.Prelude.{◌≡◌, ℕ, zero, suc, cond, List, [], ◌∷◌, ◌++◌, length, Option, Some, None, option_map, slice_get, ℤ}
 use Rattle.vcp_base.specs.Kinds.{Outcome}
 use Rattle.vcp_base.specs.Types.{fits}

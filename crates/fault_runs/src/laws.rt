@@ -4,7 +4,7 @@ ghost use Rattle.fault_runs.specs.Stepping.{StepUnder, OutcomesAreNear};
 
 use coded_unit::{right_answers_keep_the_step_law, words_split_in_one_way};
 
-/// The right answer to a call under an act stands for the outcome of the replaced values, and a word of
+/// The right answer to a call under an act represents the outcome of the replaced values, and a word of
 /// it has the signature, the stamp and the act's difference. Its value is near enough to the values of
 /// the types that no number that an act adds brings its word to the edge of words. It does nothing: it
 /// states a law.

@@ -17,7 +17,7 @@ use signature_table::expected_residues_are_residues;
 
 /// Under one fault every operation but the fault's, in every cycle, gives what the graph gives on the
 /// values that are there; and where its act adds a number to a word, the value of the fault's operation
-/// goes by signatures and stamps alone, since no difference stands before it. It does nothing: it states
+/// goes by signatures and stamps alone, since there is no difference before it. It does nothing: it states
 /// a law.
 pub fn one_fault_runs_by_its_act()
     ensures { OneFaultRuns }
@@ -30,7 +30,7 @@ pub fn one_fault_runs_by_its_act()
 /// The run law: over an honest unit the answers to the calls with the changes have, up to the first stop,
 /// the values of the run under the acts and, as residues, the signature, the stamp and the difference of
 /// each operation; and so have the words of the cells at each cycle's start, with the stamp of the cycle
-/// before. Faults that fit a graph stand where the law wants them. It does nothing: it states a law.
+/// before. Faults that fit a graph are where the law wants them. It does nothing: it states a law.
 ///
 /// It holds for every graph, table, rows and acts that fit the graph.
 pub fn runs_under_acts_keep_the_run_law()
@@ -77,7 +77,7 @@ pub fn accepted_outputs_are_released()
 }
 
 /// The answers of a scripted unit around an honest one, over the calls of a run, are those that the run law
-/// speaks of: the unit has kept the word that an act takes when it comes to the operation of its fault. It
+/// speaks of: the unit has kept the word that an act takes when it reaches the operation of its fault. It
 /// does nothing: it states a law.
 pub fn scripted_runs_are_right_runs()
     ensures { ScriptedRunsAreRight }

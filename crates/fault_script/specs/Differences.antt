@@ -1,7 +1,7 @@
--- Differences: by how much the residues of a run under faults differ from the expected ones. No value of the program and no word stands in them.
+-- Differences: by how much the residues of a run under faults differ from the expected ones. They hold no value of the program and no word.
 -- Definitions, over the act at each operation in each cycle: what an act does to a call and to its answer,
--- and by how much residues then differ from the expected ones, as sums of multipliers times differences in
--- which no value of the program and no word stands.
+-- and by how much residues then differ from the expected ones, as sums of multipliers times differences
+-- that hold no value of the program and no word.
 use Rattle.std.specs.Prelude.{◌≡◌, ℕ, zero, suc, ◌+◌, ◌<◌, List, [], ◌∷◌, ◌++◌, map, Option, Some, None, ℤ, pos, neg_ℤ, ◌+ℤ◌, ◌-ℤ◌, ◌*ℤ◌, unsigned_abs}
 use Rattle.vcp_base.specs.declared.kind.Kind.{Kind}
 use Rattle.vcp_base.specs.declared.kind.Kind.TheVariants as kind

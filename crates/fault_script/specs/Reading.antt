@@ -1,4 +1,4 @@
--- Reading: what the lines that were read so far come to, whatever lines follow.
+-- Reading: what the lines that were read so far give, whatever lines follow.
 use Rattle.std.specs.Prelude.{◌≡◌, ℕ, ◌≤◌, ◌+◌, List, ◌∷◌, ◌++◌, length, All, Option, Some, None, Result, Ok, Err}
 use Rattle.op_graph.specs.Lists.{Lists}
 use Rattle.fault_script.specs.declared.act.Fault.{Fault}

@@ -43,9 +43,9 @@ pub enum Act {
 pub struct Fault {
     /// The number of its line, counted from 1.
     pub line: u32,
-    /// The cycle in which it stands, counted from 0.
+    /// The cycle in which it is, counted from 0.
     pub cycle: u32,
-    /// The operation at which it stands.
+    /// The operation at which it is.
     pub op: u32,
     /// What it does there.
     pub act: Act,

@@ -12,7 +12,7 @@ use op_graph::{Graph, Op};
 use vcp_base::{Kind, operands};
 
 /// Whether an operation of the kind has the operand that the act changes, and the register that it
-/// reads stands before operation `k`.
+/// reads is before operation `k`.
 pub fn is_sited(kind: Kind, k: u32, act: &Act) -> bool
     ensures { result ≡ is_sited_of kind k act.now }
 {

@@ -65,7 +65,7 @@ impl Group {
         self.faults[0].line
     }
 
-    /// Whether a fault of the group stands at the operation of this one in the same cycle.
+    /// Whether a fault of the group is at the operation of this one in the same cycle.
     pub fn is_taken(&self, fault: &Fault) -> bool
         ensures { result ≡ is_taken_of fault.now self.now }
     {

@@ -8,7 +8,7 @@ ghost use Rattle.fault_script.specs.Differences.{OneFault};
 ghost use Rattle.fault_script.specs.Sums.{DifferencesAddUp};
 ghost use Rattle.fault_script.specs.declared.act.Fault.{Fault as FaultValue};
 
-/// One fault alone: no difference stands before it, and at its operation the one that its act makes by
+/// One fault alone: there is no difference before it, and at its operation the one that its act makes by
 /// itself, of multipliers, signatures, the step and the script's number alone. It does nothing: it states
 /// a law.
 pub fn one_fault_makes_its_difference()

@@ -16,7 +16,7 @@ use std::alloc::Global;
 /// line. `Memory` where there is no room for it.
 ///
 /// A fault line is refused as `Faults` where it is the 10,001st; else as `Form`, `Site`, `Early`, `Kind` or
-/// `Twice`, in this order. `begin` and `end` are refused as `Group`. A `begin` without an `end` is told
+/// `Twice`, in this order. `begin` and `end` are refused as `Group`. A `begin` without an `end` is reported
 /// only where no line is refused.
 ///
 /// Each fault of a script fits the graph: cycle, operation, operand and register are in range, what is added

@@ -1,4 +1,4 @@
-//! What the lines of a script come to, line by line.
+//! What the lines of a script give, line by line.
 
 ghost use Rattle.std.specs.Prelude.{◌≡◌, ◌≢◌, ◌<◌, ◌≤◌, ◌++◌, ◌∷◌, [], List, true, false, IfOk, IfErr, OnOk, All};
 ghost use Rattle.op_graph.specs.Lists.{Lists};

@@ -18,7 +18,7 @@ pub enum ScriptFault {
         /// The number of the line.
         line: u32,
     },
-    /// The act takes a word of the cycle before, and stands in cycle 0.
+    /// The act takes a word of the cycle before, and is in cycle 0.
     Early {
         /// The number of the line.
         line: u32,
@@ -39,7 +39,7 @@ pub enum ScriptFault {
         /// The number of the line.
         line: u32,
     },
-    /// An earlier fault of the group stands at the same operation in the same cycle.
+    /// An earlier fault of the group is at the same operation in the same cycle.
     Twice {
         /// The number of the line.
         line: u32,

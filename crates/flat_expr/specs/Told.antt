@@ -1,4 +1,4 @@
--- Told: a run as it is told. The run of a program and the run of a graph each have one function into it.
+-- Told: a run as it is reported. The run of a program and the run of a graph each have one function into it.
 -- A graph means a program: it is in the wide code exactly where a slot or a node of the program has the type
 -- LINT, the names and types of inputs and outputs agree in order, and over every list of rows of the inputs'
 -- types both runs give the same: the rows of outputs, and the stop with its kind, its place, and the names

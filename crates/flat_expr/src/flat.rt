@@ -456,7 +456,7 @@ impl<'a> Flat<'a> {
     /// In every cycle in which the path condition is 1, or there is none, the added operations stop as the
     /// expression's meaning does, with kind, place and turns, or give its value; in every other cycle none of
     /// them stops. They are at most its Size, beside one LOAD for each slot first read and the two constants
-    /// of the masks, and stand after what is there: nothing before them changes, and no turn node, input,
+    /// of the masks, and are after what is there: nothing before them changes, and no turn node, input,
     /// output or STORE is added. `Full` comes only where there is no room for so many.
     #[cycle(expr)]
     pub fn expr(&mut self, e: &TExpr) -> Result<u32, Build>

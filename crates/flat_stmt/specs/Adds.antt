@@ -1,5 +1,5 @@
 -- Adds: what each part of a program adds to a flattening, from one state to another: the operations that mean the part, in the turns
--- that stand round it, and how many they are at most.
+-- that are round it, and how many they are at most.
 use Rattle.std.specs.Prelude.{◌≡◌, ℕ, ◌+◌, ℤ, Bool, List, ◌∷◌, [], ◌++◌, sum_by}
 use Rattle.std.specs.List.{list_any}
 use Rattle.vcp_base.specs.declared.turns.Turn.{Turn}

@@ -1,5 +1,5 @@
 -- Moves: what the operations of statements do to the values of the slots, and to the path condition.
--- What a statement adds stands after what is there: operations after the operations, cells after the cells,
+-- What a statement adds is after what is there: operations after the operations, cells after the cells,
 -- turn nodes after the turn nodes; nothing before them changes, and no input, output or STORE is added.
 use Rattle.std.specs.Prelude.{◌≡◌, ℕ, ◌+◌, ◌≤◌, ℤ, Bool, cond, List, length, slice_set, Result, Ok, Err}
 use Rattle.vcp_base.specs.declared.ty.Ty.TheVariants as ty

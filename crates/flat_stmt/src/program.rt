@@ -26,7 +26,7 @@ fn memory(why: Build) -> Memory
 /// is no room for it.
 ///
 /// Every branch becomes a path condition and every loop its turns. Over all rows of inputs that fit, the run
-/// of the graph and the run of the program are told the same: the rows of outputs, and the stop with its
+/// of the graph and the run of the program report the same: the rows of outputs, and the stop with its
 /// kind, its place and its turns. Want of memory is the only refusal.
 pub fn flatten(alloc: Global, program: &Typed) -> Result<Graph, Memory>
     ensures means { IfOk result (λ g. Means g program.now) }

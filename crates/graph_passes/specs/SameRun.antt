@@ -1,4 +1,4 @@
--- SameRun: two graphs whose runs are told the same.
+-- SameRun: two graphs whose runs report the same.
 use Rattle.std.specs.Prelude.{◌≡◌, ◌≤◌, ℤ, List, length, map, slice_get, Option, Some, None}
 use Rattle.op_graph.specs.declared.op.Op.{Op}
 use Rattle.op_graph.specs.Lists.{Lists, output_column}

@@ -11,7 +11,7 @@ use std::alloc::Global;
 use vcp_base::{Kind, Memory};
 
 /// The part of a graph by four tables, where that is a graph: which operations are kept, the new
-/// number of each operation or of what stands for it, which cells are kept, and their new numbers. What
+/// number of each operation or of what takes its place, which cells are kept, and their new numbers. What
 /// it changes is made anew, and all other lists are the graph's own.
 pub(crate) fn part(
     alloc: Global,

@@ -14,7 +14,7 @@ use std::alloc::Global;
 use std::marker::Model;
 use vcp_base::{Kind, Memory, kind_code, ty_code};
 
-/// What an operation does, wherever it stands, over operands that are numbered anew: the codes of its
+/// What an operation does, wherever it is, over operands that are numbered anew: the codes of its
 /// kind and types, its operands and its own number.
 #[derive(Clone, Copy, PartialEq, Eq, Hash)]
 struct Work {

@@ -1,4 +1,4 @@
--- Depths: how deep operations are in a graph, and in which columns their boxes stand.
+-- Depths: how deep operations are in a graph, and in which columns their boxes are.
 use Rattle.std.specs.Option.{is_some}
 use Rattle.std.specs.Prelude.{◌≡◌, ◌<◌, ℕ, ◌+◌, max, false, cond, List, [], ◌∷◌, ◌++◌, length, slice_get, slice_index_or, Option, Some, None}
 use Rattle.vcp_base.specs.declared.kind.Kind.{Kind}

@@ -53,7 +53,7 @@ fn colour_at(weights: &Weights, op: u32, output: u32, distances: u32, seen: Colo
     colour
 }
 
-/// The colour of an operation. It is told by what is kept of the weights.
+/// The colour of an operation, by what is kept of the weights.
 pub fn colour_of(weights: &Weights, op: u32, outputs: u32, distances: u32) -> Colour
     requires operation { op < weights.now.operations }
     requires outputs { outputs ≤ length weights.now.outputs }

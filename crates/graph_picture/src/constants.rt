@@ -16,7 +16,7 @@ use op_graph::{Graph, Op, reads_operation};
 use svg_text::{Name, Piece, Tag, then_element};
 use vcp_outside::{Line, Sink};
 
-/// Draws the small rectangle of constant `k` in a box that stands so, for operand `which`.
+/// Draws the small rectangle of constant `k` in a box at this place, for operand `which`.
 fn then_patch<O: Sink>(
     line: &mut Line,
     out: &mut O,
@@ -63,7 +63,7 @@ fn then_value<O: Sink>(line: &mut Line, out: &mut O, place: BoxPlace, which: u32
     );
 }
 
-/// Draws constant `k`, which is this operation, in a box that stands so, as operand `which`.
+/// Draws constant `k`, which is this operation, in a box at this place, as operand `which`.
 fn then_constant<O: Sink>(
     line: &mut Line,
     out: &mut O,

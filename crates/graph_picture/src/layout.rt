@@ -1,4 +1,4 @@
-//! Where the boxes of operations stand.
+//! Where the boxes of operations are.
 
 ghost use Rattle.std.specs.Prelude.{◌≡◌, ◌<◌, ◌≤◌, ◌^◌, IfOk};
 ghost use Rattle.graph_picture.specs.Arrangement.{left_of, top_of, place_at, IsArranged};
@@ -85,7 +85,7 @@ fn with_legend(width: u64) -> u64
 }
 
 /// The places of the boxes of a graph's operations: in columns by depth, what leaves the cycle in the last one; in the row of the
-/// first operand that is no constant, or below it where boxes of the column stand there. Each is inside the picture, but those of constants, which are drawn
+/// first operand that is no constant, or below it where boxes of the column are there. Each is inside the picture, but those of constants, which are drawn
 /// in others; and no two of a column overlap. The time is linear in the number of operations.
 pub fn layout_of(alloc: Global, graph: &Graph) -> Result<GraphLayout, Memory>
     ensures { IfOk result (IsArranged graph.now) }

@@ -18,7 +18,7 @@ pub struct Sample<'a> {
     pub class: &'a [u8],
     /// What it says.
     pub told: &'a [u8],
-    /// How often it comes, where that is told.
+    /// How often it comes, where that is counted.
     pub many: Option<u32>,
 }
 
@@ -48,7 +48,7 @@ fn then_swatch<O: Sink>(line: &mut Line, out: &mut O, x: u32, class: &[u8])
     );
 }
 
-/// Writes what a class says, beside its rectangle, and how often it comes where that is told.
+/// Writes what a class says, beside its rectangle, and how often it comes where that is counted.
 fn then_caption<O: Sink>(line: &mut Line, out: &mut O, x: u32, told: &[u8], many: Option<u32>)
     ensures { GathersTo (O.seen out.old) (O.seen out.new) line.old line.new (element_text (caption x told.now many)) }
 {

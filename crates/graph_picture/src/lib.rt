@@ -1,7 +1,7 @@
 //! The picture of a graph: a box for each operation, in columns by depth, and a line from each operand
 //! to its reader.
 //!
-//! How a box looks is told by a `Looks`. By weights, an operation from which no path leads to an output within
+//! A `Looks` says how a box looks. By weights, an operation from which no path leads to an output within
 //! the horizon is grey, and one whose differences cancel on their paths to an output is red, with that
 //! output and the number of cycle borders. The picture is written piece by piece; as a text for Graphviz, too (`dot`), and by the verdicts of a
 //! campaign (`verdicts`).

@@ -29,9 +29,9 @@ pub enum Worst {
 pub enum Look {
     /// As it shows at the outputs, by weights.
     Shown(Colour),
-    /// No fault stands there.
+    /// No fault is there.
     Untried,
-    /// By what came of the faults that stand there.
+    /// By what came of the faults that are there.
     Tried {
         /// The worst that came of one.
         worst: Worst,

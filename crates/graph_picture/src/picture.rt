@@ -20,7 +20,7 @@ use weight_audit::Weights;
 const AUDIT_STYLE: &[u8] =
     b"text{font:9px monospace}rect{stroke:#333;fill:#fff}line{stroke:#888}.unreached{fill:#ddd}.blind{fill:#f99}.cell{fill:#36c}";
 
-/// Writes the picture of a graph whose boxes look so and stand so, with a legend of these rules of style and these samples. It takes no memory. After
+/// Writes the picture of a graph whose boxes have these looks and places, with a legend of these rules of style and these samples. It takes no memory. After
 /// `Failed` a part of the picture is written.
 ///
 /// There is a line from each operand that is no constant to its reader, and a box for each operation that is
@@ -47,7 +47,7 @@ pub fn write_looks<O: Sink, L: Looks>(
 }
 
 /// Writes the picture of a graph, whose weights up to the horizon, of at most 1000 cycle borders, these are,
-/// where its boxes stand so. It takes no memory. After `Failed` a part of the picture is written. The looks
+/// where its boxes have these places. It takes no memory. After `Failed` a part of the picture is written. The looks
 /// are the colours by weights, with a legend of these: of a blind operation the output and the number of
 /// cycle borders are noted.
 pub fn write_picture<O: Sink>(

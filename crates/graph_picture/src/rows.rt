@@ -86,7 +86,7 @@ fn first_row(first: Option<u32>, second: Option<u32>, third: Option<u32>, most: 
     }
 }
 
-/// The row in which operation `i` would best stand: that of its first operand that is no constant, whose place is among
+/// The row that is best for operation `i`: that of its first operand that is no constant, whose place is among
 /// these, and the first one where it has none.
 fn wanted_row(graph: &Graph, places: &[BoxPlace], i: u32) -> u32
     requires there { i < length graph.now.operations }

@@ -1,5 +1,5 @@
 //! The picture of a graph by the verdicts of a campaign: each operation in the colour of the worst that came of the faults that
-//! stand there.
+//! are there.
 //!
 //! The verdicts of an operation are those of its row in the tables of `verdict_tables`, and the picture is one of
 //! `graph_picture`, with a legend that tells how many verdicts there are of each sort.

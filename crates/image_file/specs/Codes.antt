@@ -1,4 +1,4 @@
--- Codes: which version, type and kind the numbers of a format stand for.
+-- Codes: which version, type and kind the numbers of a format mean.
 use Rattle.std.specs.Prelude.{ℕ, zero, suc, cond, Option, Some, None, slice_get}
 use Rattle.std.specs.Int.{Width, w32, w64}
 use Rattle.vcp_base.specs.declared.code.Profile.{Profile}

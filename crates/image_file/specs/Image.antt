@@ -1,5 +1,5 @@
 -- The image: its fields, as the table of the format is read.
--- An image is one list of bytes, defined field by field: each field with what may stand there, given the
+-- An image is one list of bytes, defined field by field: each field with what may be there, given the
 -- fields before it, how it is spelled, and its fault. A graph, a seed below 2^30 and a step of 1 to 1000 have
 -- one image, in version 1 for the narrow code and 2 for the wide one.
 use Rattle.std.specs.Prelude.{ℕ, ◌+◌, ◌*◌, ℤ, true, ◌&&◌, nat_lt, nat_le, unsigned_abs, List, length, map}

@@ -1,5 +1,5 @@
--- Pieces of a format: what may stand there, how it is spelled, and which fault stands in bytes that begin with no such piece.
--- A piece of the format is defined once with four sides: which values may stand there, how each is spelled,
+-- Pieces of a format: what may be there, how it is spelled, and which fault bytes have that begin with no such piece.
+-- A piece of the format is defined once with four sides: which values may be there, how each is spelled,
 -- which fault bytes have that begin with no such piece, and what is read at the front of bytes. Fields,
 -- names, inputs, outputs, cells and turn nodes are such pieces, each given those before it.
 use Rattle.std.specs.Prelude.{◌≡◌, ℕ, zero, suc, ◌*◌, ◌^◌, ◌<◌, ◌==◌, ◌≢◌, nat_lt, Bool, true, false, cond, List, [], ◌∷◌, ◌++◌, length, take, drop, Option, Some, None, Result, Ok, Err, ◌⊎◌}

@@ -1,4 +1,4 @@
--- Written: what an entry adds to bytes, whatever the head says and stands before it in its list; and what a list adds.
+-- Written: what an entry adds to bytes, whatever the head says and comes before it in its list; and what a list adds.
 use Rattle.std.specs.Prelude.{◌≡◌, ℕ, List, [], ◌++◌}
 use Rattle.vcp_base.specs.declared.code.Profile.{Profile}
 use Rattle.op_graph.specs.declared.op.Op.{Op}

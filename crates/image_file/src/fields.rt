@@ -1,4 +1,4 @@
-//! The fields of an image file and its entries but operations: what may stand there, how it is spelled,
+//! The fields of an image file and its entries but operations: what may be there, how it is spelled,
 //! and which fault other bytes have; read at the front of bytes, and written at their end.
 
 mod entries;

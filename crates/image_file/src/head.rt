@@ -52,7 +52,7 @@ fn profile_named(n: u16) -> Option<Profile>
     }
 }
 
-/// The version at the front, as the code that it stands for.
+/// The version at the front, as the code that it means.
 fn version_here(bytes: &[u8]) -> Result<(Profile, &[u8]), FieldFault>
     ensures { GivesExactly (λ x. (x.0, x.1.now)) result (version_field.read bytes.now) }
 {

@@ -159,7 +159,7 @@ fn expected(s: &Scope<'_>, earlier: &[Op], op: &Op) -> Residue
     )
 }
 
-/// The operation, where its correction stands at the front.
+/// The operation, where its correction is at the front.
 #[tactic(auto, unfolding(crate::specs::Image::corrected))]
 fn corrected_here<'a>(
     s: &Scope<'_>,

@@ -1,4 +1,4 @@
-//! What stands before the operations.
+//! What is before the operations.
 
 use op_graph::{Cell, Loaded, Outlet, Var};
 use vcp_base::Profile;

@@ -8,7 +8,7 @@ ghost use Rattle.image_file.specs.Views.{scope_of, Rising, IsAt};
 use crate::scope::Scope;
 use op_graph::{Entry, Loaded, Outlet, Place, Var, entries_are_found_by_one_walk};
 
-/// Where the walk stands: how many outputs, LOADs and STOREs are of earlier operations.
+/// Where the walk is: how many outputs, LOADs and STOREs are of earlier operations.
 #[derive(Clone, Copy)]
 pub(crate) struct Walk {
     out: usize,

@@ -1,4 +1,4 @@
-//! What records have told so far.
+//! What records have said so far.
 
 ghost use Rattle.std.specs.Prelude.{◌≡◌, ◌<◌, length, slice_get, slice_set, IfOk, IfSome, false};
 ghost use Rattle.csv.specs.Records.{fields_of};
@@ -95,7 +95,7 @@ impl SoFar {
         self.ranges
     }
 
-    /// What is told with a range of the input at place `i`, which is named then.
+    /// What is known with a range of the input at place `i`, which is named then.
     fn with_range(self, i: usize, range: Range) -> SoFar
         requires ranges { i < length self.ranges }
         requires free { i < length self.free }
@@ -108,7 +108,7 @@ impl SoFar {
         SoFar { ranges, free }
     }
 
-    /// What is told with the range of the input at a place, where there is one.
+    /// What is known with the range of the input at a place, where there is one.
     fn with_place(
         self,
         columns: &Columns,
@@ -134,7 +134,7 @@ impl SoFar {
         }
     }
 
-    /// What is told with the record of this number.
+    /// What is known with the record of this number.
     pub(crate) fn with_record(
         self,
         columns: &Columns,

@@ -1,4 +1,4 @@
--- RowLists: rows of one width that stand one behind another.
+-- RowLists: rows of one width, one behind another.
 use Rattle.std.specs.Prelude.{ℕ, zero, suc, List, [], ◌∷◌, take, drop, ℤ}
 
 -- so many rows of this width, from the front of the values

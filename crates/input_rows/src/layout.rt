@@ -1,4 +1,4 @@
-//! How a record's cells stand in a row.
+//! Which place of a row each of a record's cells has.
 
 ghost use Rattle.std.specs.Prelude.{◌≡◌, ◌<◌, ◌≤◌, ◌^◌, ◌+◌, length, map, Ok, Err, Some, None, IfOk, IfErr, ◌≢◌};
 ghost use Rattle.csv.specs.Records.{fields_of};

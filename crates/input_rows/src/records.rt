@@ -11,7 +11,7 @@ use std::marker::Model;
 use vcp_base::Memory;
 
 /// The records that are left of a text, which are not known after want of memory, and whether their
-/// end was told.
+/// end was given.
 #[derive(Drop)]
 pub struct Records<'a> {
     reader: Reader<&'a [u8]>,

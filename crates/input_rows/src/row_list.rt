@@ -40,7 +40,7 @@ fn append(values: &mut Vec<i64>, row: &Row) -> Result<(), Memory>
 }
 
 /// All rows that are left, or the refusal behind them; there are at most 1,000,000. `Memory` where there
-/// is no room for them: a value takes 8 bytes, and while the room grows the values stand there twice.
+/// is no room for them: a value takes 8 bytes, and while the room grows the values are there twice.
 pub fn collect_rows(alloc: Global, mut rows: Rows<'_>) -> Result<RowList, RowFault>
     requires { length rows.rows ≤ most_cycles }
     ensures rows { IfOk result (λ list. list ≡ rows.entry.rows) }

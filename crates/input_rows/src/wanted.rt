@@ -11,7 +11,7 @@ use crate::fault::RowFault;
 pub(crate) enum Wanted {
     /// All.
     All,
-    /// So many, and the refusal that is to stand behind them, or none.
+    /// So many, and the refusal that is to come behind them, or none.
     First { rows: u64, behind: Option<RowFault> },
     /// None: the end was given, which is this refusal, where there is one.
     Ended(Option<RowFault>),

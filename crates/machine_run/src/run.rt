@@ -64,7 +64,7 @@ fn run_cycle<U: Unit, O: Sink, R: ReleasedRows>(
 /// handed on before the next row is taken. It answers how the last cycle ended; where the rows ended,
 /// `Released`.
 ///
-/// Where a row is refused, or memory is wanted for it, the cycles of the rows before it stand. After
+/// Where a row is refused, or memory is wanted for it, the cycles of the rows before it remain. After
 /// `Write` a part of the last cycle's text is written.
 ///
 /// For every unit a kept log grew by exactly the calls of these cycles with the unit's answers, and the end

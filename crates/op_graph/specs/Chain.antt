@@ -1,5 +1,5 @@
 -- Chain: the turn nodes from one of them outwards, step by step.
--- What is kept while turns are told, and no promise: what is told is `turns_of` in Lists.
+-- What is kept while turns are given, and no promise: what is given is `turns_of` in Lists.
 use Rattle.std.specs.Prelude.{◌≡◌, ℕ, zero, suc, ◌+◌, ◌*◌, ◌<◌, ◌≤◌, List, [], ◌∷◌, ◌++◌, length, slice_get, Option, Some, None}
 use Rattle.vcp_base.specs.declared.turns.Turn.{Turn}
 use Rattle.op_graph.specs.declared.op.TurnNode.{TurnNode}

@@ -1,4 +1,4 @@
--- GraphRun: the run of a graph on plain integers. No word, no signature and no stamp stands in it.
+-- GraphRun: the run of a graph on plain integers. It has no word, no signature and no stamp.
 use Rattle.std.specs.Prelude.{◌≡◌, ℕ, ◌<◌, true, ℤ, pos, unsigned_abs, cond, nat_lt, List, [], ◌∷◌, ◌++◌, length, map, slice_get, Option, Some, None, Ok, Err}
 use Rattle.vcp_base.specs.declared.kind.Kind.{Kind}
 use Rattle.vcp_base.specs.declared.kind.Kind.TheVariants as kind

@@ -35,7 +35,7 @@ pub fn numbers_have_64_bits()
     ensures init { (g : Lists) (k : ℕ) (l : LoadedValue) → IsPart g → slice_get g.loads k ≡ Some l → FitsSigned w64 l.init }
 {}
 
-/// Which of an operation's own fields is wrong: its kind, whatever that is, where it stands in two
+/// Which of an operation's own fields is wrong: its kind, whatever that is, where it is in two
 /// lists; the type of its operands only where no type of the result would go with it.
 pub fn fields_are_wrong_in_order()
     ensures kind { (p : Place) (k : KindOf) → 2 ≤ lists_of p → kind_fits p k ≡ false }

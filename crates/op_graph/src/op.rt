@@ -20,7 +20,7 @@ pub struct Op {
     /// The number of the input, cell or output of INPUT, LOAD, STORE and OUT, the value of CONST,
     /// and else 0.
     pub imm: i64,
-    /// The place in the source that the operation stands for.
+    /// The place in the source that the operation comes from.
     pub spot: Spot,
     /// The turn node of the innermost turn round the place, counted from 1; 0 for none.
     pub turn: u32,

@@ -1,4 +1,4 @@
-//! The rules of operations, as tests. Each says of one field what may stand there, given the fields before it.
+//! The rules of operations, as tests. Each says of one field what may be there, given the fields before it.
 
 ghost use Rattle.std.specs.Prelude.{◌≡◌, ◌==◌, ◌<◌, ℕ, pos};
 ghost use Rattle.std.specs.Option.{is_some};

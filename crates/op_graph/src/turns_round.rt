@@ -1,4 +1,4 @@
-//! The turns round an operation, told without memory.
+//! The turns round an operation, given without memory.
 
 ghost use Rattle.std.specs.Prelude.{◌≡◌, ◌≤◌, ◌<◌, ◌+◌, ◌*◌, ℕ, Some, None, IfSome, drop, length, reverse, slice_get};
 ghost use Rattle.vcp_base.specs.Limits.{most_turn_nodes};
@@ -13,10 +13,10 @@ use vcp_base::Turn;
 const STRETCH: usize = 256;
 
 /// The turns round an operation, from the outermost inwards, seen as the list of those that are
-/// still to be told. It takes no memory.
+/// still to be given. It takes no memory.
 ///
 /// A chain of turn nodes is read outwards, and may have 65,536 of them. So every 256th node is kept,
-/// and each stretch between two of these is read again when its turns are told. That takes two steps
+/// and each stretch between two of these is read again when its turns are given. That takes two steps
 /// a node.
 #[derive(Drop)]
 pub struct TurnsRound<'a> {
@@ -75,8 +75,8 @@ fn fill(nodes: &[TurnNode], n: u32, stretch: &mut [u32; STRETCH]) -> (u32, u32)
     (STRETCH as u32, node)
 }
 
-/// Reads the next stretch again where the present one has been told. Gives how many stretches come
-/// after the present one, and how many nodes of it are left; `None` where all have been told.
+/// Reads the next stretch again where the present one has been given. Gives how many stretches come
+/// after the present one, and how many nodes of it are left; `None` where all have been given.
 fn refilled(
     nodes: &[TurnNode],
     marks: &[u32; STRETCH],
@@ -102,7 +102,7 @@ fn refilled(
     Some((stretches - 1, left))
 }
 
-/// The turn that a node stands for.
+/// The turn of a node.
 fn turn(node: &TurnNode) -> Turn
     ensures { result ≡ turn_of node.now }
 {

@@ -1,4 +1,4 @@
--- Beside: a pair's run in which the graph's run on plain integers stands for the second channel.
+-- Beside: a pair's run in which the graph's run on plain integers takes the place of the second channel.
 use Rattle.std.specs.Prelude.{ℕ, suc, ◌≡◌, List, [], ◌∷◌, ℤ}
 use Rattle.coded_unit.specs.declared.call.Answer.{Answer}
 use Rattle.op_graph.specs.Lists.{Lists}

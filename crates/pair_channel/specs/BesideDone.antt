@@ -1,4 +1,4 @@
--- BesideDone: a pair's run whose second channel is on the processor itself: what stands after it, and where it was cut off, read off the first
+-- BesideDone: a pair's run whose second channel is on the processor itself: what holds after it, and where it was cut off, read off the first
 -- channel's answers alone.
 use Rattle.std.specs.Prelude.{ℕ, ◌≡◌, List, [], ◌++◌, Option, None, Some, Result, Ok, Err, ℤ}
 use Rattle.std.specs.Io.KnownBytes.{Appends}

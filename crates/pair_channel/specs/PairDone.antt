@@ -1,4 +1,4 @@
--- PairDone: what stands after a pair's run, and where it was cut off.
+-- PairDone: what holds after a pair's run, and where it was cut off.
 use Rattle.std.specs.Prelude.{ℕ, ◌≡◌, ◌<◌, ◌⊎◌, List, [], ◌++◌, length, Option, None, Some, Result, Ok, Err, ℤ}
 use Rattle.std.specs.Io.KnownBytes.{Appends}
 use Rattle.vcp_outside.specs.Counts.{Rose}

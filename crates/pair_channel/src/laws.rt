@@ -24,7 +24,7 @@ pub fn pairs_follow_their_answers()
 
 /// A pair's run over rows in which all answers of one channel are right, whichever it is: the released rows
 /// are the first of the graph's run on plain integers, and a stop is its stop. It does nothing: it states a
-/// law. They are all of them where the rows end. Where it is the second, the graph's run may stand in its
+/// law. They are all of them where the rows end. Where it is the second, the graph's run may take its
 /// place; where both are, the outcome is the graph's run.
 pub fn one_honest_channel_holds_the_pair()
     ensures { OneChannelHonest }
@@ -32,7 +32,7 @@ pub fn one_honest_channel_holds_the_pair()
     right_answers_stand_for_values();
 }
 
-/// A pair's run over rows by the counts of wrong answers: where one of the two stood still, the released rows are the first of the
+/// A pair's run over rows by the counts of wrong answers: where one of the two stayed the same, the released rows are the first of the
 /// graph's run and a stop is its stop; and the channels disagree only where one of the two rose. It does nothing: it states a law.
 pub fn counts_bound_a_pair()
     ensures { PairCounts }

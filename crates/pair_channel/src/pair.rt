@@ -121,7 +121,7 @@ impl<'a> Pair<'a> {
     }
 
     /// Ends the cycle in which the first channel has no next call: the second channel carries its cycle through its unit, on the same
-    /// row of inputs, and the end is told by both. A cycle that is carried by these three calls is one that `cycle` carries, as
+    /// row of inputs, and both give the end. A cycle that is carried by these three calls is one that `cycle` carries, as
     /// `pairs_by_hand_are_whole` says.
     ///
     /// After a release `out` has the row of outputs that both channels have, and one cycle more is counted. After any other end `out`

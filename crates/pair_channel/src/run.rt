@@ -122,12 +122,12 @@ fn print_end<O: Sink>(out: &mut O, graph: &Graph, cycles: u32, end: &PairEnd) ->
 /// unit and the second on another: the header, a line for each cycle that both release, as its row comes, and the last line. It answers how
 /// the run ended; where the rows ended, `Released`.
 ///
-/// A row that is refused ends the run, and what was printed before it stands. Where there is no memory, some front of all that may be
+/// A row that is refused ends the run, and what was printed before it stays. Where there is no memory, some front of all that may be
 /// printed was; it is taken before the first cycle, and for the rows of inputs.
 ///
 /// A kept log of either unit grew by exactly its channel's calls with its answers. What is written is read
 /// off the answers: a stop of both, or how the channels disagree. Where one of the two counts of wrong
-/// answers stood still below its last value, the rows are the first of the graph's run on plain integers, all
+/// answers stayed the same below its last value, the rows are the first of the graph's run on plain integers, all
 /// of them where the rows ended or the run stopped, and a stop is its stop; the channels disagree only where
 /// one of the counts rose. Where writing failed, which comes only where the sink's count rose, a proper part
 /// of all that may be printed was written, with the lines of all cycles before the last one; else that count

@@ -1,4 +1,4 @@
-//! What is told of all operations of a graph, in all runs.
+//! What is found of all operations of a graph, in all runs.
 
 ghost use Rattle.std.specs.Prelude.{◌≡◌, ◌<◌, Some, length, slice_get, IfOk};
 ghost use Rattle.range_audit.specs.Audit.{Holds, NamesStops, EndsNamed, named_below, NeverStops, HoldsWithin, NamesStopsWithin, EndsNamedWithin, IsAuditWithin, NeverStopsWithin};
@@ -14,7 +14,7 @@ use range_walk::{Range, Ranges, walk};
 use std::alloc::Global;
 use vcp_base::Memory;
 
-/// What is told of the operations of a graph where the cells are always in these ranges, on rows whose inputs are in these.
+/// What is found of the operations of a graph where the cells are always in these ranges, on rows whose inputs are in these.
 fn ranges_in_one_box(
     alloc: Global,
     graph: &Graph,
@@ -33,7 +33,7 @@ fn ranges_in_one_box(
     Ok(told)
 }
 
-/// What is told of the operations of a graph, an answer for any number of cycles, where ranges of inputs are assumed: of the first ones, as
+/// What is found of the operations of a graph, an answer for any number of cycles, where ranges of inputs are assumed: of the first ones, as
 /// many as there are. It is what `ranges_of` tells, but of rows whose inputs are in these ranges alone. Of other rows nothing is said. Where
 /// `closely`, it is searched for closer ranges also where no operation is named.
 pub fn ranges_within(

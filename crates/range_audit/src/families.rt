@@ -153,7 +153,7 @@ fn value_in(missed: &[Range], first: usize, place: usize) -> i64 {
     }
 }
 
-/// Where cell `j` stands in the box of a value, where the first of so many boxes is that of the value `base`. One box is that of all values.
+/// Where cell `j` is in the box of a value, where the first of so many boxes is that of the value `base`. One box is that of all values.
 fn place_in_box(value: i64, base: i64, count: u32, many: usize, j: usize) -> usize {
     if count == 1 {
         return j;

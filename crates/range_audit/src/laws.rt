@@ -1,4 +1,4 @@
-//! Laws of what is told of operations. The functions do nothing: each states a law.
+//! Laws of what is found of operations. The functions do nothing: each states a law.
 
 ghost use Rattle.std.specs.Prelude.{◌≡◌, ℤ, List, [], length};
 ghost use Rattle.op_graph.specs.Lists.{Lists};

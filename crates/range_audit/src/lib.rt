@@ -1,7 +1,7 @@
 //! Which operations of a graph can stop, and between which bounds their values lie, whatever the rows.
 //!
 //! Rounds of walks (`range_walk`) widen the ranges of the cells, until a cycle that begins in them ends in them. Where an operation is
-//! named, the values of one cell are told apart, with ranges of all cells for each of them, and whole cycles are gone through by cases.
+//! named, the values of one cell are distinguished, with ranges of all cells for each of them, and whole cycles are gone through by cases.
 //! `write_ranges` writes what was found (`report`).
 #![tactic(auto)]
 

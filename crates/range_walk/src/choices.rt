@@ -69,7 +69,7 @@ fn is_comparison(kind: Kind) -> bool
     }
 }
 
-/// The range of operation `n` where the comparison `c` is `truth`; of what is no comparison nothing is told.
+/// The range of operation `n` where the comparison `c` is `truth`; of what is no comparison nothing is said.
 fn by_comparison(graph: &Graph, known: &[Range], c: u32, truth: bool, n: u32) -> Range
     requires graph { IsGraph graph.now }
     requires condition { c < length known.now }

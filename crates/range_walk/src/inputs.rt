@@ -1,4 +1,4 @@
-//! What is told of an operation, where its input's range is assumed.
+//! What is found of an operation, where its input's range is assumed.
 
 ghost use Rattle.std.specs.Prelude.{◌≡◌, ◌<◌, ℤ, List, Some, length, slice_get};
 ghost use Rattle.vcp_base.specs.Values.{at};
@@ -23,7 +23,7 @@ fn within_input(inputs: &[Range], place: usize, range: Range) -> Range
     range.met(bounds)
 }
 
-/// What is told of operation `i`, on a row whose inputs are in these ranges.
+/// What is found of operation `i`, on a row whose inputs are in these ranges.
 pub(crate) fn told_by_input(graph: &Graph, inputs: &[Range], i: u32, told: Told) -> Told
     requires { i < length graph.now.operations }
     ensures { (held row vs : List ℤ) (op : Operation) → slice_get graph.now.operations i ≡ Some op → RowIn inputs.now row

@@ -1,11 +1,11 @@
-//! What is told of all operations of a graph.
+//! What is found of all operations of a graph.
 
 ghost use Rattle.std.specs.Prelude.{◌≡◌};
 
 use crate::range::{Range, Stops};
 use std::marker::Model;
 
-/// The range of the values of each operation of a graph, and why it may stop. What is told is read as two
+/// The range of the values of each operation of a graph, and why it may stop. It is read as two
 /// lists, in the order of the operations.
 #[derive(Drop)]
 pub struct Ranges {

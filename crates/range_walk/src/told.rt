@@ -1,4 +1,4 @@
-//! What is told of one operation, where its operands are in ranges.
+//! What is found of one operation, where its operands are in ranges.
 
 ghost use Rattle.std.specs.Prelude.{◌≡◌, ℕ, ℤ, List, Some, true, false, length, slice_get, ◌<◌, ◌≤◌, nat_lt, unsigned_abs};
 ghost use Rattle.vcp_base.specs.Kinds.{operands as operands_of, divides_by_zero, value as value_of};
@@ -14,7 +14,7 @@ use crate::values::{chosen, twice_bounds, value_bounds};
 use op_graph::{Graph, Op, entries_keep_their_rules, operands_are_there};
 use vcp_base::{Kind, operands};
 
-/// What is told of an operation: the range of its values, and why it may stop.
+/// What is found of an operation: the range of its values, and why it may stop.
 #[derive(Clone, Copy)]
 pub struct Told {
     /// The range of its values.
@@ -70,7 +70,7 @@ fn bounds_of(op: &Op, a: Range, b: Range, c: Range) -> Bounds
     value_bounds(op, a, b, c)
 }
 
-/// What is told of an operation that computes its value, within these bounds, and whose divisor is in `b`.
+/// What is found of an operation that computes its value, within these bounds, and whose divisor is in `b`.
 fn told_by(op: &Op, bounds: Bounds, b: Range) -> Told
     requires { is_input op.now.kind ≡ false }
     ensures { (held row vs : List ℤ) → IsIn b (operand held vs op.now 1 op.now.b)
@@ -91,7 +91,7 @@ fn told_by(op: &Op, bounds: Bounds, b: Range) -> Told
     }
 }
 
-/// What is told of an operation that computes its value.
+/// What is found of an operation that computes its value.
 fn computed(op: &Op, a: Range, b: Range, c: Range) -> Told
     requires { is_input op.now.kind ≡ false }
     ensures { (held row vs : List ℤ) → IsIn a (operand held vs op.now 0 op.now.a) → IsIn b (operand held vs op.now 1 op.now.b)
@@ -101,7 +101,7 @@ fn computed(op: &Op, a: Range, b: Range, c: Range) -> Told
     told_by(op, bounds, b)
 }
 
-/// What is told of an operation, over operands in these ranges.
+/// What is found of an operation, over operands in these ranges.
 fn told_of(op: &Op, a: Range, b: Range, c: Range) -> Told
     ensures { (held row vs : List ℤ) → IsIn a (operand held vs op.now 0 op.now.a) → IsIn b (operand held vs op.now 1 op.now.b)
         → IsIn c (operand held vs op.now 2 op.now.c) → Tells held row vs op.now result }
@@ -151,7 +151,7 @@ pub(crate) fn operand_range(cells: &[Range], known: &[Range], op: &Op, j: u32, n
     Range::only(0)
 }
 
-/// What is told of a SEL, by what its condition tells of what it takes.
+/// What is found of a SEL, by what its condition says of what it takes.
 fn choice(graph: &Graph, known: &[Range], op: &Op) -> Told
     requires graph { IsGraph graph.now }
     requires many { length known.now ≤ length graph.now.operations }
@@ -170,7 +170,7 @@ fn choice(graph: &Graph, known: &[Range], op: &Op) -> Told
     told_by(op, bounds, b)
 }
 
-/// What is told of operation `i` by the ranges of its operands.
+/// What is found of operation `i` by the ranges of its operands.
 fn by_operands(graph: &Graph, cells: &[Range], known: &[Range], i: u32) -> Told
     requires graph { IsGraph graph.now }
     requires there { i < length graph.now.operations }
@@ -190,7 +190,7 @@ fn by_operands(graph: &Graph, cells: &[Range], known: &[Range], i: u32) -> Told
     told_of(&op, a, b, c)
 }
 
-/// What is told of operation `i`, where the cells are in these ranges, and so are the operations before it.
+/// What is found of operation `i`, where the cells are in these ranges, and so are the operations before it.
 pub fn tell(graph: &Graph, cells: &[Range], known: &[Range], i: u32) -> Told
     requires graph { IsGraph graph.now }
     requires there { i < length graph.now.operations }

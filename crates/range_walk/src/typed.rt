@@ -1,4 +1,4 @@
-//! What is told of an operation, as far as its kind and types allow it.
+//! What is found of an operation, as far as its kind and types allow it.
 
 ghost use Rattle.std.specs.Prelude.{◌≡◌, ◌<◌, ℤ, true, List, Some, length, slice_get};
 ghost use Rattle.vcp_base.specs.declared.kind.StopKind.{StopKind};
@@ -34,7 +34,7 @@ fn can_leave(op: &Op) -> bool
     }
 }
 
-/// What is told of operation `i`, without values outside its type, and without reasons to stop that its kind and types rule out.
+/// What is found of operation `i`, without values outside its type, and without reasons to stop that its kind and types rule out.
 pub(crate) fn told_by_type(graph: &Graph, i: u32, told: Told) -> Told
     requires graph { IsGraph graph.now }
     requires there { i < length graph.now.operations }

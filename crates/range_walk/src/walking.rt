@@ -12,7 +12,7 @@ use op_graph::Graph;
 use std::alloc::Global;
 use vcp_base::Memory;
 
-/// What is told of the operations of a cycle at whose beginning the cells are in these ranges, on a row whose inputs are in these. Of an input
+/// What is found of the operations of a cycle at whose beginning the cells are in these ranges, on a row whose inputs are in these. Of an input
 /// behind the last range nothing is assumed.
 pub fn walk(
     alloc: Global,

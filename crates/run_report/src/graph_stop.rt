@@ -1,4 +1,4 @@
-//! The line of a stop in a graph's run. It is told from the graph, and takes no memory.
+//! The line of a stop in a graph's run. It is made from the graph, and takes no memory.
 
 ghost use Rattle.std.specs.Prelude.{◌<◌, IfSome, map, flat_map, length, slice_get};
 ghost use Rattle.vcp_base.specs.Stops.{told_stop, told_turn};

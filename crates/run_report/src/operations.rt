@@ -1,4 +1,4 @@
-//! The lines on a graph's operations: a listing, and a trace of a cycle. They are told from the graph
+//! The lines on a graph's operations: a listing, and a trace of a cycle. They are made from the graph
 //! and its table, and take no memory.
 
 ghost use Rattle.std.specs.Prelude.{◌≡◌, ◌<◌, ◌≤◌, ◌++◌, IfSome, length, slice_get, take, flat_map};

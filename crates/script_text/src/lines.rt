@@ -56,7 +56,7 @@ pub fn is_skipped(line: &[u8]) -> bool
 }
 
 /// The first line of a text that isn't skipped, with its number and the text behind it, where so many lines
-/// stand before the text.
+/// are before the text.
 #[tactic(auto, using(crate::proofs::LinesRead::skipped, crate::proofs::LinesRead::read, crate::proofs::LinesRead::none_left, crate::proofs::LinesRead::some_byte))]
 pub fn first_read(text: &[u8], before: u32) -> Option<(u32, &[u8], &[u8])>
     requires { before + length text.now ≤ most_source_bytes }

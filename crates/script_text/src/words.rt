@@ -10,7 +10,7 @@ use memchr::memchr2;
 use std::marker::Model;
 use vcp_base::without_first_blanks;
 
-/// The words that are left of a line, from the front, seen as a list. A word is what stands between spaces
+/// The words that are left of a line, from the front, seen as a list. A word is what is between spaces
 /// and tabs.
 #[derive(Drop)]
 pub struct WordsLeft<'a> {

@@ -18,7 +18,7 @@ pub fn signatures_are_distinct()
 {}
 
 /// Where operation `j` in a cycle and operation `i` in the next one have the same expected residue, `j` is
-/// `i + 5 * step`, whatever the seed: so a word of the cycle before can stand for a word of this one at no
+/// `i + 5 * step`, whatever the seed: so a word of the cycle before can represent a word of this one at no
 /// other operation. It does nothing: it states a law.
 pub fn a_cycle_later_residues_are_five_steps_apart()
     ensures { (p : Profile) (seed step i j n : ℕ) → step ≤ most_step → i < most_operations → j < most_operations →

@@ -23,7 +23,7 @@ digit b =
     else (if is_ascii_lowercase b then b - 87
     else 36))
 
--- s has digits of the base, with a single `_` between two of them; `behind` says that a digit stands just before s
+-- s has digits of the base, with a single `_` between two of them; `behind` says that a digit is just before s
 unfoldable pub are_digits : ℕ → Bool → List ℕ → Bool
 are_digits base behind [] = behind
 are_digits base behind (b ∷ s) =
@@ -48,7 +48,7 @@ based run =
     else (if begins (codes "16#") run then digits 16 (drop 3 run)
     else digits 10 run))
 
--- what stands before a literal of a type; nothing stands before one without
+-- the prefix of a literal of a type; one without has none
 abbrev pub prefix : Option Ty → List ℕ
 prefix None = []
 prefix (Some t) = ty_name t ++ codes "#"

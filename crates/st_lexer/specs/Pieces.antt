@@ -45,12 +45,12 @@ opening p s =
     else (if slice_index s 0 == 38 then opens.Ampersand
     else symbol_opening (symbol_among all_symbols s))))))))
 
--- what is found at the front of s stands there, where this begins there, or is why nothing does
+-- what is found at the front of s is there, where this begins there, or is why nothing is
 abbrev pub Finds : Opening → List ℕ → Found → Type 0
 Finds o s (found.Piece t n) = Stands o s n t
 Finds o s (found.Refused r) = Refuses o s r
 
--- what is found at place p of a text stands there, where s is the text from there on, or is why nothing does
+-- what is found at place p of a text is there, where s is the text from there on, or is why nothing is
 abbrev pub FindsAt : ℕ → List ℕ → Found → Type 0
 FindsAt p s (found.Piece t n) = StandsAt p s n t
 FindsAt p s (found.Refused r) = RefusedAt p s r

@@ -57,7 +57,7 @@ Begins p s (opens.Symbol y) = (begins_gap p s ≡ false) × (symbol_among all_sy
 Begins p s opens.Nothing =
     (begins_gap p s ≡ false) × (begins_token (slice_index s 0) ≡ false) × (symbol_among all_symbols s ≡ None)
 
--- the mark that closes a comment, `*` (42) and one more byte, stands at k
+-- the mark that closes a comment, `*` (42) and one more byte, is at k
 abbrev pub Closes : ℕ → List ℕ → ℕ → Type 0
 Closes last s k = (k + 1 < length s) × (slice_index s k ≡ 42) × (slice_index s (k + 1) ≡ last)
 
@@ -80,7 +80,7 @@ Stands opens.Ampersand s n t = (n ≡ 1) × (t ≡ Some (tok.Key key.And))
 Stands (opens.Symbol y) s n t = (n ≡ length (spelling y)) × (t ≡ Some (tok.Sym y))
 Stands opens.Nothing s n t = ⊥
 
--- no piece stands at the front of s, where this begins there, for this reason
+-- no piece is at the front of s, where this begins there, for this reason
 abbrev pub Refuses : Opening → List ℕ → Reason → Type 0
 Refuses opens.Nothing s r = r ≡ reason.Byte
 Refuses (opens.Comment last) s r = (r ≡ reason.Comment) × ((k : ℕ) → 2 ≤ k → Closes last s k → ⊥)
@@ -91,7 +91,7 @@ Refuses _ s r = ⊥
 abbrev pub StandsAt : ℕ → List ℕ → ℕ → Option Tok → Type 0
 StandsAt p s n t = (o : Opening) × Begins p s o × Stands o s n t
 
--- no piece stands there, for this reason
+-- no piece is there, for this reason
 abbrev pub RefusedAt : ℕ → List ℕ → Reason → Type 0
 RefusedAt p s r = (o : Opening) × Begins p s o × Refuses o s r
 
@@ -101,7 +101,7 @@ pub record Piece : Type 0 where
   pub to : ℕ
   pub is : Option Tok
 
--- a piece of the text: some bytes, within it, that stand at their place
+-- a piece of the text: some bytes, within it, that are at their place
 abbrev pub IsPiece : List ℕ → Piece → Type 0
 IsPiece text p =
     (n : ℕ) × (0 < n) × (p.to ≡ p.from + n) × (p.to ≤ length text)
@@ -125,26 +125,26 @@ tokens_of text (p ∷ ps) = token_of text p p.is ++ tokens_of text ps
 abbrev pub Reads : List ℕ → List Token → Type 0
 Reads text ts = (ps : List Piece) × Cover text ps 0 (length text) × (ts ≡ tokens_of text ps)
 
--- the token has some bytes, and they stand in the text
+-- the token has some bytes, and they are in the text
 abbrev pub IsInside : List ℕ → Token → Type 0
 IsInside text t = (t.from < t.to) × (t.to ≤ length text)
 
--- pieces cover the text up to byte p, and none stands there, for this reason
+-- pieces cover the text up to byte p, and none is there, for this reason
 abbrev pub LexAt : List ℕ → ℕ → Reason → Type 0
 LexAt text p r =
     (ps : List Piece) × Cover text ps 0 p × (p < length text) × RefusedAt p (drop p text) r
 
--- a fault at this spot is told for this reason: the reading goes no further than the spot's byte
+-- a fault at this spot is reported for this reason: the reading goes no further than the spot's byte
 abbrev pub StopsAt : List ℕ → Spot → Reason → Type 0
 StopsAt text spot r = (p : ℕ) × LexAt text p r × (spot ≡ spot_at text p)
 
--- the fault that tells a reason and a spot
+-- the fault that has a reason and a spot
 abbrev pub fault_of : Reason → Spot → LexFault
 fault_of reason.Byte spot = fault.Byte spot
 fault_of reason.Comment spot = fault.Comment spot
 fault_of reason.Number spot = fault.Number spot
 
--- which fault is told, unless memory ran out
+-- which fault is reported, unless memory ran out
 abbrev pub Faults : List ℕ → LexFault → Type 0
 Faults text (fault.Byte spot) = StopsAt text spot reason.Byte
 Faults text (fault.Comment spot) = StopsAt text spot reason.Comment

@@ -5,7 +5,7 @@ ghost use Rattle.st_lexer.specs.Reading.{fault_of};
 
 use vcp_base::{Memory, Spot};
 
-/// Why no piece stands at a place.
+/// Why no piece is at a place.
 #[derive(Clone, Copy)]
 pub enum Reason {
     /// No gap, comment, token or literal begins there.

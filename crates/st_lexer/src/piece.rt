@@ -1,4 +1,4 @@
-//! What stands at a place of a text.
+//! What is at a place of a text.
 
 ghost use Rattle.std.specs.Prelude.{◌≡◌, ◌==◌, ◌&&◌, ◌∷◌, ◌+◌, ◌<◌, ◌≤◌, ℕ, length, take, IfSome, IfNone, Some, None};
 ghost use Rattle.std.specs.List.{prefix_len};
@@ -39,7 +39,7 @@ pub enum Opening {
     Nothing,
 }
 
-/// What stands at a place, or why nothing does.
+/// What is at a place, or why nothing is.
 #[derive(Clone, Copy)]
 pub enum Found {
     /// A piece of so many bytes: a token, or a gap.
@@ -215,7 +215,7 @@ fn found_at(at: usize, rest: &[u8]) -> Found
     }
 }
 
-/// What stands at place `at` of a text; `rest` is the text from there on.
+/// What is at place `at` of a text; `rest` is the text from there on.
 pub fn piece_at(at: usize, rest: &[u8]) -> Found
     requires { 0 < length rest.now }
     ensures finds { pieces.FindsAt at rest.now result }

@@ -55,7 +55,7 @@ fn add(
 /// Where tokens are answered, they are those of a reading: pieces that adjoin and cover the text, each a gap
 /// or, where no gap begins, the longest token at its place. A token's spot is that of its first byte, the
 /// end's that of the byte after the last. Where a fault is answered, pieces cover the text up to that byte
-/// and none stands there, for that reason; the spot is its line and column.
+/// and none is there, for that reason; the spot is its line and column.
 pub fn lex(alloc: Global, text: &[u8]) -> Result<Tokens, LexFault>
     requires { length text.now ≤ most_source_bytes }
     ensures ok { IfOk result (λ t. spec.Reads text.now t.tokens) }
@@ -83,7 +83,7 @@ pub fn lex(alloc: Global, text: &[u8]) -> Result<Tokens, LexFault>
 
 /// The laws of a reading. Every text has one, or a place at which no reading goes on, and not both;
 /// the reading is one, with its gaps, and so are the place and its reason. At each place one thing
-/// begins. Each token stands inside the text, and only where no gap begins; its bytes are a spelling of
+/// begins. Each token is inside the text, and only where no gap begins; its bytes are a spelling of
 /// it, and no token has a longer spelling at its place. Of the symbols with which a text begins the longest is taken, and none only where it
 /// begins with none. Each reserved word is found by its spelling.
 ///

@@ -26,7 +26,7 @@ fn next(spot: Spot, byte: u8) -> Spot
     }
 }
 
-/// The spot behind some bytes, the first of which stands at `spot`.
+/// The spot behind some bytes, the first of which is at `spot`.
 pub fn spot_behind(spot: Spot, bytes: &[u8]) -> Spot
     requires line { spot.line + length bytes.now < 2 ^ 32 }
     requires col { spot.col + length bytes.now < 2 ^ 32 }

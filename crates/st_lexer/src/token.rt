@@ -111,7 +111,7 @@ pub enum Tok {
     Sym(Sym),
 }
 
-/// A token: its bytes stand in the text from `from` up to `to`, and `spot` is the place of the first.
+/// A token: its bytes are those of the text from `from` up to `to`, and `spot` is the place of the first.
 #[derive(Clone, Copy, PartialEq, Eq)]
 pub struct Token {
     pub tok: Tok,

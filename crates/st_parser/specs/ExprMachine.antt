@@ -1,4 +1,4 @@
--- ExprMachine: an expression read token by token. What is open stands in forms, the innermost first.
+-- ExprMachine: an expression read token by token. What is open is kept in forms, the innermost first.
 -- How the parser reads, and no promise: what it promises is in Answers.
 use Rattle.std.specs.Prelude.{ℕ, suc, ◌+◌, nat_le, List, [], ◌∷◌, Option, Some, None, Result, Ok, Err, cond}
 use Rattle.vcp_base.specs.declared.spot.Spot.{Spot}
@@ -38,7 +38,7 @@ pub record Reading : Type 0 where
   pub forms : List Form
   pub mode : Mode
 
--- how deep a token stands inside these forms
+-- the depth of a token inside these forms
 abbrev pub depth_in : List Form → ℕ
 depth_in [] = 0
 depth_in (sign_of op s ∷ fs) = suc (depth_in fs)
@@ -46,7 +46,7 @@ depth_in (left_of op a s ∷ fs) = depth_in fs + suc (chain (level op) a)
 depth_in (bracket ∷ fs) = suc (depth_in fs)
 depth_in (arguments f s es ∷ fs) = suc (depth_in fs)
 
--- what an expression comes to where the forms that bind at least so strongly are closed
+-- the expression that results where the forms that bind at least so strongly are closed
 pub record Closed : Type 0 where
   pub forms : List Form
   pub expr : ExprTree
@@ -59,7 +59,7 @@ close l (left_of op a s ∷ fs) e = cond (nat_le l (level op)) (close l fs (bina
 close l (bracket ∷ fs) e = record { forms = bracket ∷ fs; expr = e }
 close l (arguments f s es ∷ fs) e = record { forms = arguments f s es ∷ fs; expr = e }
 
--- a token that is not refused for its kind is refused where it stands deeper than the limit
+-- a token that is not refused for its kind is refused where it is deeper than the limit
 abbrev pub no_deeper : {A : Type 0} → ℕ → ℕ → Token → Result A SyntaxFault → Result A SyntaxFault
 no_deeper most depth t (Ok a) = cond (nat_le depth most) (Ok a) (Err (fault.Depth t.spot))
 no_deeper most depth t (Err f) = Err f
@@ -95,7 +95,7 @@ abbrev pub go_on_name : Begins → List Form → List ℕ → Spot → Token →
 go_on_name begins.Opens fs f s t = Ok (record { forms = arguments f s no_exprs ∷ fs; mode = want })
 go_on_name _ fs f s t = go_on (goes_by t.tok) fs (name f s) t
 
--- a token of an expression that stands at depth d
+-- a token of an expression at depth d
 abbrev pub step : Context → ℕ → List Form → Mode → Token → Result Reading SyntaxFault
 step c d fs want t = no_deeper c.most (d + depth_in fs) t (operand c fs (begins_by t.tok) t)
 step c d fs (after_name f s) t = go_on_name (begins_by t.tok) fs f s t

@@ -1,4 +1,4 @@
--- StmtMachine: statements read token by token. What is open stands in levels, the innermost first.
+-- StmtMachine: statements read token by token. What is open is kept in levels, the innermost first.
 -- How the parser reads, and no promise: what it promises is in Answers.
 use Rattle.std.specs.Prelude.{ℕ, suc, List, [], ◌∷◌, ◌++◌, length, Option, Some, None, Result, Ok, Err, cond}
 use Rattle.vcp_base.specs.declared.spot.Spot.{Spot}
@@ -122,7 +122,7 @@ label_ends outer ss k ls m t =
     (cond (is m mark.Colon) (opened (of_branch k ls) outer ss)
     (refused t))
 
--- a token of a label; labels stand one deeper than their CASE
+-- a token of a label; labels are one deeper than their CASE
 abbrev pub label_step : Context → List Level → StmtTrees → Selection → List LabelTree → LabelPhase → Token → Result At SyntaxFault
 label_step c outer ss k ls first_wanted t =
     with_phase outer ss k ls (no_deeper c.most (suc (length outer)) t (const_at c first_read first_negated (begins_by t.tok) t))

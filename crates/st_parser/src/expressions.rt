@@ -21,7 +21,7 @@ use std::alloc::Global;
 // The level of any expression.
 const ANY_LEVEL: u8 = 1;
 
-/// What reading one token comes to.
+/// The outcome of reading one token.
 #[derive(Drop)]
 pub enum Progress {
     /// The token is part of the expression, which is not whole yet.

@@ -37,7 +37,7 @@ pub fn depth(outer: &[Level]) -> usize
     outer.len()
 }
 
-/// How deep the labels stand of a CASE that is read last.
+/// The depth of the labels of the CASE that is read last.
 pub fn depth_of_labels(outer: &[Level]) -> usize
     ensures { result ≡ suc (length (view.levels outer.now)) }
 {

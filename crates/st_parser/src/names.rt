@@ -13,7 +13,7 @@ use vcp_base::{Memory, Text};
 pub struct Source<'a> {
     /// Where the nodes of the tree are allocated.
     pub alloc: Global,
-    /// The text in which the tokens stand.
+    /// The text that has the tokens.
     pub text: &'a [u8],
     /// The greatest depth of a token.
     pub most: usize,

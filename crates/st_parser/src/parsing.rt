@@ -118,7 +118,7 @@ fn read_program(
 /// The one program that the tokens of a text spell, no token deeper than 64; or the place of the
 /// fault, or want of memory.
 ///
-/// Each token stands inside the text, as those of its reading do. Each is looked at once, and what is open round it is
+/// Each token is inside the text, as those of its reading are. Each is looked at once, and what is open round it is
 /// at most 64 deep, so that time is linear in the tokens; nothing is kept on the machine's stack.
 ///
 /// The program that is answered is the only one that the tokens spell, however deep. Its names are the bytes

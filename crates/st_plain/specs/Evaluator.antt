@@ -20,7 +20,7 @@ abbrev pub or_again : Option Stop → Result (List ℤ) Stop → Result (List �
 or_again None r = r
 or_again (Some s) r = Err s
 
--- what the next cycle comes to on a row of inputs: the values that it leaves, or a stop
+-- the outcome of the next cycle on a row of inputs: the values that it leaves, or a stop
 abbrev pub comes_to : Evaluator → List ℤ → Result (List ℤ) Stop
 comes_to e row = or_again e.stop (cycle e.program e.values row)
 

@@ -1,4 +1,4 @@
-//! What all cycles of an evaluator come to.
+//! The outcome of all cycles of an evaluator.
 
 ghost use Rattle.std.specs.Prelude.{◌≡◌, ℤ, Some, Err, List};
 ghost use Rattle.vcp_typed.specs.Meaning.{Stop};

@@ -140,7 +140,7 @@ fn do_arms(arms: &[TArm], state: &mut Working) -> Result<bool, Stop>
     Ok(false)
 }
 
-/// Does the body where the condition is TRUE, and tells whether it is.
+/// Does the body where the condition is TRUE, and answers whether it is.
 #[cycle(statements)]
 fn do_arm(arm: &TArm, state: &mut Working) -> Result<bool, Stop>
     requires sound { SoundArms (and_tarm (texpr_tree arm.now.cond) (tstmt_trees arm.now.body.items.items) arm.now.spot no_tarms) state.old.values }
@@ -180,7 +180,7 @@ fn do_branches(branches: &[TBranch], v: i64, state: &mut Working) -> Result<bool
     Ok(false)
 }
 
-/// Does the body where the branch has a label for the value, and tells whether it has.
+/// Does the body where the branch has a label for the value, and answers whether it has.
 #[cycle(statements)]
 fn do_branch(branch: &TBranch, v: i64, state: &mut Working) -> Result<bool, Stop>
     requires sound { SoundBranches (and_tbranch branch.now.labels.items.items (tstmt_trees branch.now.body.items.items) no_tbranches) state.old.values }

@@ -13,7 +13,7 @@ use Rattle.st_tree.specs.StmtTree.{LabelTree}
 use Rattle.st_spelling.specs.Placed.{Placed, at}
 use Rattle.st_spelling.specs.Expressions.{Value, literal_of}
 
--- a constant of a label at depth d; the number behind a sign stands in its operand
+-- a constant of a label at depth d; the number behind a sign is in its operand
 pub data SpellsConst (bytes : Token → List ℕ) : ℕ → ExprTree → List Placed → Type 0 where
   spells_value : {d : ℕ} (v : Value) (t : Token) →
       literal_of t.tok ≡ Some v →

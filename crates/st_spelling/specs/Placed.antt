@@ -1,8 +1,8 @@
 -- Placed: a token with its depth, which is the sum of
--- the IF, CASE and FOR statements in whose bodies it stands (labels stand in the body of their CASE);
+-- the IF, CASE and FOR statements in whose bodies it is (labels are in the body of their CASE);
 -- the round brackets and argument lists that are open round it;
 -- the signs to whose operand it belongs;
--- and for each chain of operators of one level that it belongs to, the operators of that chain that stand before it.
+-- and for each chain of operators of one level that it belongs to, the operators of that chain that come before it.
 use Rattle.std.specs.Prelude.{ℕ, ◌≤◌, List, [], ◌∷◌, map}
 use Rattle.st_lexer.specs.declared.token.Token.{Token}
 

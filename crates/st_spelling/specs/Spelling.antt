@@ -1,4 +1,4 @@
--- Spelling: which programs the tokens of a text spell, which tokens begin a program, and how deep a token stands.
+-- Spelling: which programs the tokens of a text spell, which tokens begin a program, and the depth of a token.
 use Rattle.std.specs.Prelude.{◌≡◌, ℕ, ◌-◌, List, [], ◌∷◌, ◌++◌, take, drop}
 use Rattle.st_lexer.specs.declared.token.Token.{Token}
 use Rattle.st_tree.specs.ProgramTree.{ProgramTree}

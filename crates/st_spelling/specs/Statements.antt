@@ -7,7 +7,7 @@
 --         | FOR name ":=" expr TO expr [BY expr] DO stmts END_FOR
 --   branch = label {"," label} ":" stmts
 --
--- A body and the labels of a CASE stand one deeper than their statement; its keywords and its `;` stand at its depth.
+-- A body and the labels of a CASE are one deeper than their statement; its keywords and its `;` have its depth.
 use Rattle.std.specs.Prelude.{◌≡◌, ℕ, suc, List, [], ◌∷◌, ◌++◌, Option, Some, None}
 use Rattle.st_lexer.specs.declared.token.Key.{Key}
 use Rattle.st_lexer.specs.declared.token.Key.TheVariants as key
@@ -84,7 +84,7 @@ mutual
         SpellsMoreArms bytes d arms o vs →
         SpellsArms bytes d k (and_arm e body i.spot arms) o (at d i ∷ (ts ++ at d t ∷ (us ++ vs)))
 
-  -- what stands behind the body of an arm: another arm, ELSE with its body, or END_IF
+  -- what comes behind the body of an arm: another arm, ELSE with its body, or END_IF
   pub data SpellsMoreArms (bytes : Token → List ℕ) : ℕ → ArmTrees → OtherTree → List Placed → Type 0 where
     spells_elsif : {d : ℕ} (arms : ArmTrees) (o : OtherTree) (ts : List Placed) →
         SpellsArms bytes d key.Elsif arms o ts →
@@ -106,7 +106,7 @@ mutual
         SpellsMoreBranches bytes d branches o vs →
         SpellsBranches bytes d (and_branch ls body branches) o (ts ++ (us ++ vs))
 
-  -- what stands behind the body of a branch: another branch, ELSE with its body, or END_CASE
+  -- what comes behind the body of a branch: another branch, ELSE with its body, or END_CASE
   pub data SpellsMoreBranches (bytes : Token → List ℕ) : ℕ → BranchTrees → OtherTree → List Placed → Type 0 where
     spells_next_branch : {d : ℕ} (branches : BranchTrees) (o : OtherTree) (ts : List Placed) →
         SpellsBranches bytes d branches o ts →

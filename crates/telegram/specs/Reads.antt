@@ -1,4 +1,4 @@
--- Reads: what the lines so far come to, whatever lines follow.
+-- Reads: what the lines so far give, whatever lines follow.
 use Rattle.std.specs.Prelude.{ℕ, ◌<◌, List, ◌++◌, Option, option_map, ℤ, Result, Ok, Err}
 use Rattle.telegram.specs.declared.event.Event.{Event}
 use Rattle.telegram.specs.declared.event.Event.TheVariants as event

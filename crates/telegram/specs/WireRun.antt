@@ -1,4 +1,4 @@
--- WireRun: what is delivered over a wire, by values, the equation of signatures, and delivered numbers. No word stands in it.
+-- WireRun: what is delivered over a wire, by values, the equation of signatures, and delivered numbers. It has no word.
 use Rattle.std.specs.Prelude.{◌≡◌, ℕ, ◌+◌, ◌-◌, ◌<◌, ◌≤◌, ◌==◌, nat_lt, max, Bool, true, cond, List, [], ◌∷◌, length, slice_index_or, ℤ, pos, ◌+ℤ◌, ◌-ℤ◌}
 use Rattle.std.specs.List.{list_all}
 use Rattle.vcp_base.specs.declared.code.Profile.TheVariants as profile

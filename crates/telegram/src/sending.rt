@@ -22,7 +22,7 @@ use vcp_base::{Kind, Profile, Ty};
 /// number below 1,000,000, and the value a DINT. It takes no memory.
 ///
 /// It is a call of CONST: the operation is the sender, the cycle the number, the correction the sender's
-/// signature, the stamp the cycle's, and each operand the zero word. Where the unit's log is told, it grows
+/// signature, the stamp the cycle's, and each operand the zero word. Where the unit's log is known, it grows
 /// by that call with its answer. Where the count of wrong answers stays, below its last value, the answer is
 /// the word of the value with the residue of the sender and the cycle; it is no word only where the count
 /// rose.

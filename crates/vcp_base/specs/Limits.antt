@@ -25,7 +25,7 @@ most_names = 1024
 abbrev pub most_cells : ℕ
 most_cells = 1024
 
--- how deep a token may stand
+-- the greatest depth of a token
 abbrev pub most_depth : ℕ
 most_depth = 64
 

@@ -1,4 +1,4 @@
--- Stops: a stop as it is told: why, where, and in which turns of FORs, by the names of their control variables.
+-- Stops: a stop as it is reported: why, where, and in which turns of FORs, by the names of their control variables.
 use Rattle.std.specs.Prelude.{ℕ, ℤ, List, [], map, slice_index_or}
 use Rattle.vcp_base.specs.declared.kind.StopKind.{StopKind}
 use Rattle.vcp_base.specs.declared.spot.Spot.{Spot}

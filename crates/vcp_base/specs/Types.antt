@@ -28,8 +28,8 @@ AreIn [] (v ∷ vs) = ⊥
 AreIn (t ∷ ts) [] = ⊥
 AreIn (t ∷ ts) (v ∷ vs) = (fits t v ≡ true) × AreIn ts vs
 
--- Values of the first type are taken where the second is wanted: the types are equal, or both are among INT, DINT, LINT
--- and the first stands before the second in this order.
+-- Values of the first type are accepted where the second is wanted: the types are equal, or both are among INT, DINT, LINT
+-- and the first comes before the second in this order.
 abbrev pub within : Ty → Ty → Bool
 within ty.Bool ty.Bool = true
 within ty.Bool ty.Int = false

@@ -5,7 +5,7 @@ ghost use Rattle.vcp_base.specs.Kinds.{operands as operands_of, operand_type as 
 
 use crate::ty::Ty;
 
-/// What an elementary operation does. The variants stand in the order of their codes, from 0.
+/// What an elementary operation does. The variants are in the order of their codes, from 0.
 #[derive(Clone, Copy, Debug, PartialEq, Eq)]
 pub enum Kind {
     /// The value of an input in this cycle.

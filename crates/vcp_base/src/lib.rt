@@ -1,4 +1,4 @@
-//! The ground that every crate stands on: types, kinds of operations, texts, lists, and numbers in decimal digits.
+//! What every crate uses: types, kinds of operations, texts, lists, and numbers in decimal digits.
 //!
 //! A list type is seen by contracts as a list. `len` and `at` read it, `push` appends one item, and
 //! after `Memory` the list is unchanged.

@@ -18,7 +18,7 @@ pub const MOST_NAMES: u32 = 1024;
 /// The most cells of a graph.
 pub const MOST_CELLS: u32 = 1024;
 
-/// How deep a token may stand.
+/// The greatest depth of a token.
 pub const MOST_DEPTH: u32 = 64;
 
 /// The greatest Size of a program.

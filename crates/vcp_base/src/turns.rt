@@ -63,7 +63,7 @@ impl Turns {
         Ok(())
     }
 
-    /// How many turns there are: how deep the place stands in FORs.
+    /// How many turns there are: in how many FORs the place is.
     pub fn len(&self) -> usize
         ensures { result ≡ length self.now }
     {

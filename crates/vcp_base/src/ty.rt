@@ -50,8 +50,8 @@ pub fn fits(ty: Ty, v: i128) -> bool
     least(ty) as i128 <= v && v <= greatest(ty) as i128
 }
 
-/// Whether each value of the first type is taken where the second is wanted, without conversion: the
-/// types are equal, or both are among INT, DINT and LINT and the first stands before the second.
+/// Whether each value of the first type is accepted where the second is wanted, without conversion: the
+/// types are equal, or both are among INT, DINT and LINT and the first comes before the second.
 pub fn within(small: Ty, wide: Ty) -> bool
     ensures { result ≡ within_of small wide }
 {

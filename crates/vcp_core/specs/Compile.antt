@@ -1,4 +1,4 @@
--- Compile: the words `compile P CODE`. P is taken through all its refusals, and then the image of a graph that may stand for the program
+-- Compile: the words `compile P CODE`. P is read and checked, and then the image of a graph that may represent the program
 -- is written, with the numbers of the code.
 use Rattle.std.specs.Prelude.{◌≡◌, ℕ, List}
 use Rattle.op_graph.specs.Lists.{Lists}

@@ -1,4 +1,4 @@
--- EachTask: each command comes to a task.
+-- EachTask: each command has a task.
 use Rattle.std.specs.Prelude.{ℕ, ◌≡◌, ◌<◌, List, All, Some}
 use Rattle.vcp_outside.specs.Held.{Held}
 use Rattle.vcp_words.specs.Forms.{Form}

@@ -1,4 +1,4 @@
--- Faults: what is told of faults that weren't all judged, and of a wire's script that wasn't run to its end.
+-- Faults: what is said of faults that weren't all judged, and of a wire's script that wasn't run to its end.
 use Rattle.fault_campaign.specs.declared.fault.CampaignFault.{CampaignFault}
 use Rattle.fault_campaign.specs.declared.fault.CampaignFault.TheVariants as campaign
 use Rattle.telegram.specs.declared.runs.wire_end.WireRunFault.{WireRunFault}

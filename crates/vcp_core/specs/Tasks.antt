@@ -1,4 +1,4 @@
--- Tasks: what each command comes to, where the files hold this, by one shape of a file that is taken or refused; a line a command.
+-- Tasks: the task of each command, where the files hold this, by one shape of a file that is accepted or rejected; a line a command.
 use Rattle.std.specs.Prelude.{ℕ, ℤ, suc, ◌≡◌, ◌≢◌, ◌<◌, ◌≤◌, ◌*◌, List, [], ◌∷◌, ◌++◌, length, Option, Some, None, codes, decimal}
 use Rattle.input_rows.specs.declared.fault.RowFault.{RowFault}
 use Rattle.input_rows.specs.RowsOf.{RowsLeft, through}

@@ -39,8 +39,8 @@ fn weights_of(alloc: Global, image: &Image, horizon: u32) -> Result<Weights, NoI
     }
 }
 
-/// Does what the words `audit M HORIZON` say, and writes to `out` alone: M is read whole and taken
-/// through its refusals, and then the audit of its graph is written.
+/// Does what the words `audit M HORIZON` say, and writes to `out` alone: M is read whole and
+/// checked, and then the audit of its graph is written.
 pub fn audit_command<'a, F: Files, O: Sink>(
     alloc: Global,
     image: &'a Text,

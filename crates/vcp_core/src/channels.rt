@@ -41,7 +41,7 @@ fn ending_of(last: &PairEnd) -> Ending
 /// Runs the operations of an image's graph on the rows that are left, on a pair of channels: the first
 /// on the unit with the image's table, the second on the processor itself with a table of this other
 /// seed. The header is printed, a line for each cycle that both release, as its row comes, and the last
-/// line. A row that is refused ends the run, and what was printed before it stands.
+/// line. A row that is refused ends the run, and what was printed before it stays.
 pub fn run_channels<U: Unit, O: Sink>(
     alloc: Global,
     image: &Image,

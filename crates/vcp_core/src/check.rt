@@ -27,8 +27,8 @@ fn ok_line<O: Sink>(out: &mut O, size: u32) -> Result<(), Failed>
     line.end(out)
 }
 
-/// Does what the words `check P` say, and writes to `out` alone: P is read whole and taken through
-/// its refusals, and then the Size of its program is written.
+/// Does what the words `check P` say, and writes to `out` alone: P is read whole and
+/// checked, and then the Size of its program is written.
 pub fn check_command<'a, F: Files, O: Sink>(
     alloc: Global,
     source: &'a Text,

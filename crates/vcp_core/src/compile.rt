@@ -22,7 +22,7 @@ use vcp_outside::{Files, Sink, write_all};
 use vcp_typed::Typed;
 use vcp_words::Code;
 
-/// The image of a graph that may stand for a program, with the seed and the step of a code.
+/// The image of a graph that may represent a program, with the seed and the step of a code.
 fn image_for(alloc: Global, program: &Typed, code: Code) -> Result<Text, Memory>
     requires code { IsCode (as_code code) }
     ensures { IfOk result (IsImageFor program.now (as_code code)) }
@@ -32,8 +32,8 @@ fn image_for(alloc: Global, program: &Typed, code: Code) -> Result<Text, Memory>
     write_image(alloc, &graph, &table)
 }
 
-/// Does what the words `compile P CODE` say, and writes to `out` alone: P is read whole and taken
-/// through its refusals, and then the image of its operations is written, with the numbers of the
+/// Does what the words `compile P CODE` say, and writes to `out` alone: P is read whole and
+/// checked, and then the image of its operations is written, with the numbers of the
 /// code.
 pub fn compile_command<'a, F: Files, O: Sink>(
     alloc: Global,

@@ -119,7 +119,7 @@ pub fn demo_command<'a, U: Unit, O: Sink>(
     }
 }
 
-/// Runs the made program of a number, which was taken through its refusals, on the made rows.
+/// Runs the made program of a number, which was checked, on the made rows.
 fn run_made<'a, U: Unit, O: Sink>(
     alloc: Global,
     number: u32,

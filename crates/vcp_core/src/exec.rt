@@ -19,8 +19,8 @@ use vcp_inputs::{graph_columns, load_image, load_rows};
 use vcp_outside::{Files, Sink};
 use vcp_words::RowsWord;
 
-/// Does what the words `exec M ROWS` say, and writes to `out` alone: M is read whole and taken through
-/// its refusals, then ROWS, and then the operations of its graph are run on the rows, on the unit, as
+/// Does what the words `exec M ROWS` say, and writes to `out` alone: M is read whole and
+/// checked, then ROWS, and then the operations of its graph are run on the rows, on the unit, as
 /// words of its code.
 pub fn exec_command<'a, F: Files, U: Unit, O: Sink>(
     alloc: Global,

@@ -17,8 +17,8 @@ use vcp_base::Text;
 use vcp_inputs::load_program;
 use vcp_outside::{Files, Sink, write_all};
 
-/// Does what the words `format P` say, and writes to `out` alone: P is read whole and taken through
-/// its refusals, those of typing left out, and then its canonical text is written.
+/// Does what the words `format P` say, and writes to `out` alone: P is read whole and
+/// checked, but for its types, and then its canonical text is written.
 pub fn format_command<'a, F: Files, O: Sink>(
     alloc: Global,
     source: &'a Text,

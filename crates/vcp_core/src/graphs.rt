@@ -1,4 +1,4 @@
-//! The graph that stands for a program.
+//! The graph that represents a program.
 
 ghost use Rattle.std.specs.Prelude.{IfOk};
 ghost use Rattle.command_meaning.specs.GraphsOf.{StandsFor};

@@ -55,8 +55,8 @@ fn all_rows(
     Ok(list)
 }
 
-/// Does what the words `inject M ROWS F` say, and writes to `out` alone: M is read whole and taken
-/// through its refusals, then ROWS with all rows, and then F; and then the run without faults is carried on
+/// Does what the words `inject M ROWS F` say, and writes to `out` alone: M is read whole and
+/// checked, then ROWS with all rows, and then F; and then the run without faults is carried on
 /// the unit, each group of the script is judged by a rerun, and its verdict written, and the totals.
 pub fn inject_command<'a, F: Files, U: Unit, O: Sink>(
     alloc: Global,

@@ -1,4 +1,4 @@
-//! Laws of what commands come to.
+//! Laws of the tasks of commands.
 
 ghost use Rattle.std.specs.Prelude.{◌≡◌, ◌≤◌, Some, List, ℕ, ℤ, length};
 ghost use Rattle.vcp_base.specs.Limits.{most_image_bytes};
@@ -35,8 +35,8 @@ use telegram::{
 };
 use weight_audit::{an_audit_has_one_text, differences_come_as_weights};
 
-/// A command comes to a task, whatever bytes are held, and only to one, with a status of its own, and not to a name that is lacking where
-/// all its files are held; and where `run` comes to a task that means an answer, it is the one that `plain` comes to, where it comes to one.
+/// A command has a task, whatever bytes are held, and only one, with a status of its own, and it isn't that a name is lacking where
+/// all its files are held; and where the task of `run` means an answer, it is the one that the task of `plain` means, where that means one.
 pub fn one_task()
     ensures some { EachHasTask }
     ensures one { (f : Form) (held : Held) (a b : Task) → TaskOf f held a → TaskOf f held b → a ≡ b }

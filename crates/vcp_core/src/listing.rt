@@ -31,8 +31,8 @@ fn list_operations<O: Sink>(out: &mut O, graph: &Graph, table: &Table) -> Result
     Ok(())
 }
 
-/// Does what the words `list M` say, and writes to `out` alone: M is read whole and taken through its
-/// refusals, and then a line is written for each operation of its graph.
+/// Does what the words `list M` say, and writes to `out` alone: M is read whole and
+/// checked, and then a line is written for each operation of its graph.
 pub fn list_command<'a, F: Files, O: Sink>(
     alloc: Global,
     image: &'a Text,

@@ -20,8 +20,8 @@ use vcp_inputs::{NoInput, Refusal, graph_columns, load_image, load_rows};
 use vcp_outside::{Files, Sink};
 use vcp_words::RowsWord;
 
-/// Does what the words `pair M ROWS SEED` say, and writes to `out` alone: M is read whole and taken
-/// through its refusals, and is refused where SEED is its own; then ROWS, and then the operations of its
+/// Does what the words `pair M ROWS SEED` say, and writes to `out` alone: M is read whole and
+/// checked, and is refused where SEED is its own; then ROWS, and then the operations of its
 /// graph are run on the rows on two channels, of which the second has SEED.
 pub fn pair_command<'a, F: Files, U: Unit, O: Sink>(
     alloc: Global,

@@ -21,8 +21,8 @@ use vcp_inputs::{NoInput, Refusal, graph_columns, load_image, load_rows, load_sc
 use vcp_outside::{Files, Sink};
 use vcp_words::RowsWord;
 
-/// Does what the words `pairs M ROWS SEED F` say, and writes to `out` alone: M is read whole and taken
-/// through its refusals, and is refused where SEED is its own; then ROWS with all rows, and then F; and
+/// Does what the words `pairs M ROWS SEED F` say, and writes to `out` alone: M is read whole and
+/// checked, and is refused where SEED is its own; then ROWS with all rows, and then F; and
 /// then each group of the script is run on two channels, of which the second has SEED, and its verdict
 /// written, and the totals.
 pub fn pairs_command<'a, F: Files, U: Unit, O: Sink>(

@@ -117,7 +117,7 @@ fn print_cycles<O: Sink>(
 
 /// Prints a program's own run on the rows that are left: the header, a line for each cycle as its row
 /// comes, and the stop or the end. A row that is refused ends the run, and what was printed before it
-/// stands. Where there is no memory, some front of all that may be printed was.
+/// stays. Where there is no memory, some front of all that may be printed was.
 pub fn print_run<O: Sink>(
     alloc: Global,
     program: &Typed,

@@ -109,7 +109,7 @@ pub fn print_end<O: Sink>(
 
 /// Runs the operations of a graph, whose table this is, on the rows that are left, on the unit, and
 /// prints of it what `printed` and `released` say. A row that is refused ends the run, and what was printed before it
-/// stands. Where there is no memory, some front of all that may be printed was.
+/// stays. Where there is no memory, some front of all that may be printed was.
 pub fn run_printed<U: Unit, O: Sink, R: ReleasedRows, P: Printed<R>>(
     alloc: Global,
     graph: &Graph,

@@ -19,8 +19,8 @@ use vcp_inputs::{load_rows, load_typed};
 use vcp_outside::{Files, Sink};
 use vcp_words::{Code, RowsWord};
 
-/// Does what the words `run P ROWS CODE` say, and writes to `out` alone: P is read whole and taken
-/// through its refusals, then ROWS, and then the program's operations are run on the rows, on the unit.
+/// Does what the words `run P ROWS CODE` say, and writes to `out` alone: P is read whole and
+/// checked, then ROWS, and then the program's operations are run on the rows, on the unit.
 pub fn run_command<'a, F: Files, U: Unit, O: Sink>(
     alloc: Global,
     source: &'a Text,

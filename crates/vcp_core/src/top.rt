@@ -54,7 +54,7 @@ use vcp_words::{Command, command_of};
 /// - `usage`: Words that are none of the forms get the usage line with status 4, and nothing else that contracts see changes; or its sink failed
 ///   in it, with status 6.
 /// - `performed`: Words that are a command's have it performed: as far as it came, for the one task to which they lead with what is held; and the
-///   line of its fault told, if it ended by one. How far that is and what each command keeps: `Performs`, in `command_meaning`; to which task each
+///   line of its fault printed, if it ended by one. How far that is and what each command keeps: `Performs`, in `command_meaning`; to which task each
 ///   command leads: `TaskOf`.
 ///
 /// What follows from these is said by laws: `a_performed_command` of how a command serves and completes, what it keeps and which statuses it has;
@@ -73,7 +73,7 @@ pub fn vcp<F: Files, U: Unit, O: Sink, E: Sink>(
         (outside (F.seen files.old) (U.seen unit.old) (O.seen out.old) (E.seen err.old))
         (outside (F.seen files.new) (U.seen unit.new) (O.seen out.new) (E.seen err.new)) result }
 
-    // A command is performed, for the task to which its words lead with what is held, and the line of its fault is told.
+    // A command is performed, for the task to which its words lead with what is held, and the line of its fault is printed.
     ensures performed { IfSome (form_of words.now) (λ f. Performed f
         (outside (F.seen files.old) (U.seen unit.old) (O.seen out.old) (E.seen err.old))
         (outside (F.seen files.new) (U.seen unit.new) (O.seen out.new) (E.seen err.new)) result) }

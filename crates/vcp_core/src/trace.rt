@@ -20,8 +20,8 @@ use vcp_inputs::{graph_columns, load_image, load_rows};
 use vcp_outside::{Files, Sink};
 use vcp_words::RowsWord;
 
-/// Does what the words `trace M ROWS CYCLE` say, and writes to `out` alone: M is read whole and taken
-/// through its refusals, then ROWS, and then the operations of its graph are run on the rows through
+/// Does what the words `trace M ROWS CYCLE` say, and writes to `out` alone: M is read whole and
+/// checked, then ROWS, and then the operations of its graph are run on the rows through
 /// the cycle, on the unit, as words of its code; the words of that cycle are written.
 pub fn trace_command<'a, F: Files, U: Unit, O: Sink>(
     alloc: Global,

@@ -17,8 +17,8 @@ use vcp_base::Text;
 use vcp_inputs::load_wire;
 use vcp_outside::{Files, Sink};
 
-/// Does what the words `wire F` say, and writes to `out` alone: F is read whole and taken through its
-/// refusals; and then its values are sent on the unit, its telegrams taken, and the lines of these written.
+/// Does what the words `wire F` say, and writes to `out` alone: F is read whole and
+/// checked; and then its values are sent on the unit, its telegrams taken, and the lines of these written.
 pub fn wire_command<'a, F: Files, U: Unit, O: Sink>(
     alloc: Global,
     script: &'a Text,

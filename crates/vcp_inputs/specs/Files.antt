@@ -1,4 +1,4 @@
--- Files: what reading a whole file gives, and what taking it through its refusals gives.
+-- Files: what reading a whole file gives, and why one is rejected.
 use Rattle.std.specs.Prelude.{ℕ, ◌≡◌, ◌⊎◌, ◌+◌, ◌<◌, ◌≤◌, List, length, drop, Option, Some, None, Result, Ok, Err}
 use Rattle.vcp_outside.specs.Counts.{Rose}
 use Rattle.vcp_outside.specs.Held.{Held}

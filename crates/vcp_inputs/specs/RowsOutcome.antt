@@ -1,4 +1,4 @@
--- RowsOutcome: what the words ROWS come to, where the files hold this.
+-- RowsOutcome: what the words ROWS give, where the files hold this.
 use Rattle.std.specs.Prelude.{ℕ, ◌≡◌, ◌⊎◌, ◌≤◌, Bool, true, false, cond, nat_lt, List, [], ◌∷◌, length, Option, Some, None, Result, Ok, Err}
 use Rattle.vcp_base.specs.Limits.{most_rows_bytes, most_cycles}
 use Rattle.vcp_base.specs.declared.columns.Column.{Column}

@@ -1,4 +1,4 @@
-//! The files that commands read, each taken through its refusals, and the lines of these.
+//! The files that commands read, each of which is accepted or rejected, and the lines of these faults.
 #![tactic(auto)]
 
 mod images;

@@ -20,7 +20,7 @@ use vcp_base::Text;
 use vcp_outside::Files;
 use vcp_typed::Typed;
 
-/// The typed program of a text of instructions, taken through all its refusals.
+/// The typed program of a text of instructions, or why there is none.
 fn listed_program(alloc: Global, text: &[u8]) -> Result<Typed, NoInput>
     requires short { length text.now ≤ most_il_bytes }
     ensures ok { IfOk result (IsTypedIl text.now) }
@@ -30,8 +30,8 @@ fn listed_program(alloc: Global, text: &[u8]) -> Result<Typed, NoInput>
     Ok(read_il(alloc, text)?)
 }
 
-/// The typed program of the instruction list under a name, which is read whole and taken through all its
-/// refusals. Its text and tokens are not kept. It is refused by its length, and then by its first fault as
+/// The typed program of the instruction list under a name, which is read whole, or why
+/// there is none. Its text and tokens are not kept. It is refused by its length, and then by its first fault as
 /// `read_il` has it.
 pub fn load_il<F: Files>(alloc: Global, files: &mut F, name: &Text) -> Result<Typed, NoInput>
     // What is answered: the typed program of the file's instruction list, or why there is none.

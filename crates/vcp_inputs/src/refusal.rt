@@ -27,7 +27,7 @@ pub enum Refusal {
     Parsing(SyntaxFault),
     /// The source's program breaks a rule of types, or is too large.
     Typing(TypeFault),
-    /// The text is no instruction list. A fault of its tokens, its head or its limits stands in it as in a source's refusal.
+    /// The text is no instruction list. A fault of its tokens, its head or its limits is in it as in a source's refusal.
     Listing(IlFault),
     /// The file is no table of rows for the program, or has too many or too few.
     Rows(RowFault),

@@ -36,7 +36,7 @@ fn program_of(alloc: Global, source: &[u8]) -> Result<Program, NoInput>
     Ok(program)
 }
 
-/// The typed program of a source, taken through all its refusals.
+/// The typed program of a source, or why there is none.
 fn typed_program(alloc: Global, source: &[u8]) -> Result<Typed, NoInput>
     requires short { length source.now ≤ most_source_bytes }
     ensures ok { IfOk result (TypedOf source.now) }
@@ -62,7 +62,7 @@ pub fn typed_of(alloc: Global, source: &Text) -> Result<Typed, NoInput>
     typed_program(alloc, source.bytes())
 }
 
-/// The program of the file under a name, which is read whole and taken through the refusals of the lexer and
+/// The program of the file under a name, which is read whole and checked for the faults of the lexer and
 /// the parser. The program is the one that the tokens spell; or the first fault is answered: its length, then
 /// the lexer's, the parser's.
 pub fn load_program<F: Files>(alloc: Global, files: &mut F, name: &Text) -> Result<Program, NoInput>
@@ -85,7 +85,7 @@ pub fn load_program<F: Files>(alloc: Global, files: &mut F, name: &Text) -> Resu
     program_of(alloc, source.bytes())
 }
 
-/// The typed program of the file under a name, which is read whole and taken through all its refusals. Its
+/// The typed program of the file under a name, which is read whole, or why there is none. Its
 /// text and tokens are not kept. It is the checked program of the one program that the tokens spell; or the
 /// first fault is answered: its length, then the lexer's, the parser's, typing's.
 pub fn load_typed<F: Files>(alloc: Global, files: &mut F, name: &Text) -> Result<Typed, NoInput>

@@ -1,4 +1,4 @@
--- Counts of faults. A count never falls, and stands still at its last value.
+-- Counts of faults. A count never falls, and stays at its last value.
 use Rattle.std.specs.Prelude.{◌≡◌, ℕ, ◌+◌, ◌-◌, ◌^◌, ◌≤◌, min, Result, Ok, Err, OnOk, OnErr}
 
 -- the last value of a count

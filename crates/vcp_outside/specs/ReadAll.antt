@@ -1,4 +1,4 @@
--- What reading a whole file answers and takes, where it is told what is held.
+-- What reading a whole file answers and takes, where it is known what is held.
 use Rattle.std.specs.Prelude.{◌≡◌, ◌⊎◌, ◌<◌, ◌≤◌, ◌+◌, ℕ, List, ◌++◌, length, Option, Some, None, Result, Ok, Err}
 use Rattle.std.specs.Io.KnownBytes.{IsAtEnd}
 use Rattle.vcp_outside.specs.declared.reading.ReadAll.{ReadAll}

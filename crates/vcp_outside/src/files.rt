@@ -13,7 +13,7 @@ use crate::failed::Failed;
 /// rose in it; of files in memory only for a lacking name or where `broken` rose. A call that answers `Ok`
 /// leaves the count as it was. Counts never fall, and stop at 2^64 - 1. No call changes what is held.
 pub trait Files {
-    /// What is seen of them: the bytes under each name and the unread ones, where they are told, and the counts of failures.
+    /// What is seen of them: the bytes under each name and the unread ones, where they are known, and the counts of failures.
     ghost seen: { Self → FilesSeen };
 
     /// Goes to the front of a file. It fails for a name that is lacking, and then nothing is unread. After

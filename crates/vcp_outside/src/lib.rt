@@ -1,8 +1,8 @@
 //! What lies outside a program: files that it reads, sinks that it writes to, and the words that it is given.
 //!
-//! `Files` and `Sink` say in ghost members what is held, read and written, where that is told, and
-//! count their faults. `MemFiles` and `MemSink` stand in memory, tell all, and fail at the calls that
-//! are made to fail. `HostFiles` and `HostSink` stand on the host and tell no bytes. A call answers
+//! `Files` and `Sink` say in ghost members what is held, read and written, where that is known, and
+//! count their faults. `MemFiles` and `MemSink` are in memory, show all, and fail at the calls that
+//! are made to fail. `HostFiles` and `HostSink` are on the host and show no bytes. A call answers
 //! `Failed` only where a count rose.
 //!
 //! `Line` gathers the pieces of a line on its way to a sink, so that a line of at most `ROOM` bytes is

@@ -141,7 +141,7 @@ fn read_all_with<F: Files, L: Ledger>(
 /// Reads a whole file of at most `limit` bytes, in at most `limit + 1` reads. The limit is below 2^32.
 ///
 /// `Failed` where the name is lacking or a call of the files failed, `TooLong` where the file has more
-/// bytes than the limit, and `Memory` where an allocation failed. After `Ok` the file stands at its
+/// bytes than the limit, and `Memory` where an allocation failed. After `Ok` the file is at its
 /// end. After a refusal what was taken stays taken: at most `limit` bytes after `Failed`, `limit + 1`
 /// after `TooLong`, and 1 to `limit + 1` after `Memory`.
 ///

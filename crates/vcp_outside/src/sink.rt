@@ -11,7 +11,7 @@ use crate::failed::Failed;
 /// What takes bytes, in the order in which they are written. A call fails only where the count of faults rose
 /// in it, and one that answers `Ok` leaves the count as it was. The count never falls, and stops at 2^64 - 1.
 pub trait Sink {
-    /// What is seen of it: the bytes that were written, where they are told, and the count of failed writes.
+    /// What is seen of it: the bytes that were written, where they are known, and the count of failed writes.
     ghost seen: { Self → SinkSeen };
 
     /// Takes a front of the piece: at least one byte, and none only of an empty piece, which never

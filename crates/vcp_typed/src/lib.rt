@@ -1,6 +1,6 @@
 //! Checked programs: every name is a slot or a value, every node has its type, and every FOR its turns.
 //!
-//! What a program means stands here too, as definitions over the tree: the values of expressions, what
+//! It has the meaning of programs, too, as definitions over the tree: the values of expressions, what
 //! statements do, the run over rows of inputs, and the room that flattening may take.
 #![tactic(auto)]
 

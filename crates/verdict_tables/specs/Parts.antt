@@ -1,4 +1,4 @@
--- Parts: a campaign in parts, each a script with the verdicts of its groups; and what is told of all groups of all parts, in their order.
+-- Parts: a campaign in parts, each a script with the verdicts of its groups; and what is said of all groups of all parts, in their order.
 use Rattle.std.specs.Prelude.{ℕ, ◌≡◌, ◌≤◌, ◌+◌, ◌==◌, cond, List, [], ◌++◌, length, flat_map, decimal, codes, All, Option, Some, None}
 use Rattle.op_graph.specs.Lists.{Lists}
 use Rattle.fault_script.specs.Groups.{GroupFits}

@@ -1,4 +1,4 @@
--- SameEndings: of the groups with the verdict `same`, how many are never reached, how many died out, and how many still stand in a cell at the end, and
+-- SameEndings: of the groups with the verdict `same`, how many are never reached, how many died out, and how many are still in a cell at the end, and
 -- which these are.
 use Rattle.std.specs.Prelude.{ℕ, zero, suc, ◌≡◌, ◌+◌, ◌==◌, Bool, true, false, cond, List, [], ◌∷◌, ◌++◌, length, slice_get, decimal, codes, map, flat_map, Option, Some, None, ℤ}
 use Rattle.op_graph.specs.Lists.{Lists}

@@ -1,4 +1,4 @@
--- Tables: verdicts counted by what the faults of their groups do, where these stand, at which output they show, and how late.
+-- Tables: verdicts counted by what the faults of their groups do, where these are, at which output they show, and how late.
 use Rattle.std.specs.Prelude.{ℕ, ◌+◌, ◌-◌, ◌==◌, min, Bool, false, cond, nat_lt, nat_le, List, [], ◌∷◌, length, Option, Some, None}
 use Rattle.std.specs.List.{list_any}
 use Rattle.vcp_base.specs.Limits.{most_cycles}

@@ -1,4 +1,4 @@
-//! The table in which the groups are told apart of which no output tells.
+//! The table that distinguishes the groups of which no output shows anything.
 
 ghost use Rattle.std.specs.Prelude.{◌≡◌, ◌<◌, ◌≤◌, ◌+◌, ◌++◌, codes, length, All};
 ghost use Rattle.vcp_outside.specs.Gathering.{GathersTo};

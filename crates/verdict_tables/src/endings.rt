@@ -165,7 +165,7 @@ fn ending_if(
 }
 
 /// How each group of a script ends whose verdict over these rows is `same`: it is never reached, its
-/// difference has died out, or it still stands in a cell at the end. The graph is run over the rows once
+/// difference has died out, or it is still in a cell at the end. The graph is run over the rows once
 /// without faults, and then once for each such group. `Memory` where there is no room for a run or for the
 /// list. How many there are of the three is together how many verdicts are `same`.
 pub fn endings_of(

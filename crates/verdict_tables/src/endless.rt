@@ -1,4 +1,4 @@
-//! What becomes of a group of faults of which no output tells: it is never reached, its difference dies out, or it still stands in a cell when the run
+//! What becomes of a group of faults of which no output shows anything: it is never reached, its difference dies out, or it is in a cell when the run
 //! ends.
 //!
 //! The specs have the answers of a whole run under acts over an honest unit, as a function of the rows, and the words that the cells hold at its end.

@@ -8,7 +8,7 @@ use vcp_base::Memory;
 /// Why a text doesn't tell the verdicts of a script's groups, with the number of its first refused line, counted from 1.
 #[derive(Clone, Copy, Debug, PartialEq, Eq)]
 pub enum VerdictsFault {
-    /// The line doesn't begin with the number of the line of the group whose verdict is to stand there.
+    /// The line doesn't begin with the number of the line of the group whose verdict is to be there.
     Group {
         /// The number of the line.
         line: u32,
@@ -28,7 +28,7 @@ pub enum VerdictsFault {
         /// The number of the line.
         line: u32,
     },
-    /// The line stands behind the totals.
+    /// The line is behind the totals.
     Rest {
         /// The number of the line.
         line: u32,

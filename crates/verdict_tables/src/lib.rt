@@ -1,9 +1,9 @@
-//! Tables of verdicts: which faults of a campaign are seen, counted by what they do, where they stand, at which output they show, and how
+//! Tables of verdicts: which faults of a campaign are seen, counted by what they do, where they are, at which output they show, and how
 //! late.
 //!
 //! `read_verdicts` reads what a campaign printed for the groups of a script, or tells the first line that doesn't belong to it, and
 //! `write_sum` writes the tables of a campaign, which may be in parts. `endings_of` tells the groups apart of which no output tells, and
-//! `write_sum_apart` writes a table of that, too, and names those whose difference still stands in a cell.
+//! `write_sum_apart` writes a table of that, too, and names those whose difference is still in a cell.
 #![tactic(auto)]
 
 mod counts;

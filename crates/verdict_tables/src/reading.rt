@@ -158,7 +158,7 @@ fn next_verdict<'a>(
     }
 }
 
-/// Whether nothing stands behind the totals, where a line would have this number.
+/// Whether nothing is behind the totals, where a line would have this number.
 fn behind(number: u32, rest: &[u8]) -> Result<(), VerdictsFault>
     ensures ok { OnOk result (behind_totals number (lines rest.now) ≡ Ok []) }
     ensures refusal { IfErr result (λ f. behind_totals number (lines rest.now) ≡ Err f) }
@@ -195,7 +195,7 @@ fn end(alloc: Global, totals: &Totals, number: u32, rest: &[u8]) -> Result<(), V
 ///
 /// The text has a line for each group, in order, and then the totals of all; a line that begins with another
 /// number than its group's, that no verdict over the graph is printed as, that is lacking, whose totals are
-/// others, or that stands behind the totals is refused. The lines that are taken, each with its LF, are byte
+/// others, or that is behind the totals is refused. The lines that are taken, each with its LF, are byte
 /// for byte those that a campaign prints of these verdicts.
 pub fn read_verdicts(
     alloc: Global,

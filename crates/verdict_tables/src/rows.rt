@@ -39,7 +39,7 @@ fn act_name(n: u32) -> &'static [u8]
     b"skip"
 }
 
-/// What stands behind the number of cycles of row `n`.
+/// What is behind the number of cycles of row `n`.
 fn or_more(n: u32) -> &'static [u8]
     ensures { result.now ≡ more_text n }
 {
@@ -76,7 +76,7 @@ fn then_row_name<O: Sink>(line: &mut Line, out: &mut O, graph: &Graph, table: Ta
     }
 }
 
-/// What stands before a number at the right end of a column of eight, or, of more than seven digits, before it at all.
+/// What is before a number at the right end of a column of eight, or, of more than seven digits, before it at all.
 fn blanks_before(n: u64) -> &'static [u8]
     ensures { result.now ≡ blanks_before_of n }
 {

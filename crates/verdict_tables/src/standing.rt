@@ -1,4 +1,4 @@
-//! The groups whose difference still stands in a cell at the end.
+//! The groups whose difference is still in a cell at the end.
 
 ghost use Rattle.std.specs.Prelude.{◌≡◌, ◌<◌, ◌++◌, Some, codes, decimal, flat_map, length, slice_get, All};
 ghost use Rattle.vcp_outside.specs.Gathering.{GathersTo};
@@ -16,14 +16,14 @@ use fault_script::Group;
 use op_graph::Graph;
 use vcp_outside::{Line, Sink};
 
-/// Whether a group is one of those that stand.
+/// Whether a group is one of these.
 fn stands(ending: Option<SameEnding>) -> bool
     ensures { result ≡ stands_of ending }
 {
     is_ended(2, ending)
 }
 
-/// Goes on with the line of a group that stands, and its faults.
+/// Goes on with the line of one of these groups, and its faults.
 fn then_named<O: Sink>(
     line: &mut Line,
     out: &mut O,
@@ -41,7 +41,7 @@ fn then_named<O: Sink>(
     then_faults(line, out, graph, group);
 }
 
-/// Goes on with a group, where it stands.
+/// Goes on with a group, where it is one of these.
 fn then_standing<O: Sink>(
     line: &mut Line,
     out: &mut O,
@@ -58,7 +58,7 @@ fn then_standing<O: Sink>(
     }
 }
 
-/// Goes on with the groups of a part that stand.
+/// Goes on with these groups of a part.
 fn then_standing_in<O: Sink>(
     line: &mut Line,
     out: &mut O,
@@ -77,7 +77,7 @@ fn then_standing_in<O: Sink>(
     }
 }
 
-/// Goes on with the groups of all parts that stand.
+/// Goes on with these groups of all parts.
 pub(crate) fn then_all_standing<O: Sink>(
     line: &mut Line,
     out: &mut O,

@@ -14,7 +14,7 @@ use vcp_base::MOST_CYCLES;
 pub enum Table {
     /// By what a fault does.
     Acts,
-    /// By the operation at which a fault stands.
+    /// By the operation at which a fault is.
     Operations,
     /// By the output at which the verdict shows.
     Outputs,

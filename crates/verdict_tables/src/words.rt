@@ -28,7 +28,7 @@ pub(crate) struct Shown {
     pub cycle: u32,
     /// At which output.
     pub output: u32,
-    /// The two numbers that are told of it.
+    /// The two numbers that go with it.
     pub numbers: Numbers,
 }
 

@@ -31,7 +31,7 @@ fn then_tables<O: Sink>(line: &mut Line, out: &mut O, graph: &Graph, parts: &Par
     then_table(line, out, graph, Table::Delays, parts);
 }
 
-/// Writes how many verdicts there are of each sort, over all groups of all parts: by what the faults do, by the operation at which they stand,
+/// Writes how many verdicts there are of each sort, over all groups of all parts: by what the faults do, by the operation at which they are,
 /// by the output at which the verdict shows, and by how many cycles it comes behind the first fault; then each verdict that is `wrong` or
 /// `ran-on`, part by part and in order, with the faults of its group; and the totals. Where there are several parts, the line of a verdict
 /// begins with the number of its part, counted from 1. A row in which nothing is counted is left out. It takes no memory. After `Failed` a
@@ -51,8 +51,8 @@ pub fn write_sum<O: Sink>(out: &mut O, graph: &Graph, parts: &Parts) -> Result<(
     line.end(out)
 }
 
-/// Writes the same, and behind the tables one more, in which the groups with the verdict `same` are told apart: how many are never reached, how
-/// many died out, and how many still stand in a cell at the end. These are named behind the verdicts, each with the faults of its group.
+/// Writes the same, and behind the tables one more, in which the groups with the verdict `same` are distinguished: how many are never reached, how
+/// many died out, and how many are still in a cell at the end. These are named behind the verdicts, each with the faults of its group.
 pub fn write_sum_apart<O: Sink>(
     out: &mut O,
     graph: &Graph,

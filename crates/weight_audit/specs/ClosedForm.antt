@@ -1,4 +1,4 @@
--- ClosedForm: what the difference that one fault makes comes to, some cycle borders later.
+-- ClosedForm: what becomes of the difference that one fault makes, some cycle borders later.
 use Rattle.std.specs.Prelude.{◌≡◌, ◌↔◌, ℕ, ◌+◌, ◌<◌, ℤ, pos, ◌*ℤ◌, [], ◌∷◌, length, slice_get, Some}
 use Rattle.vcp_base.specs.Kinds.{multiplier}
 use Rattle.vcp_base.specs.Values.{at}

@@ -1,4 +1,4 @@
--- Sweeping: what the numbers of a list stand for, while it is swept from the last operation to the first.
+-- Sweeping: what the numbers of a list mean, while it is swept from the last operation to the first.
 use Rattle.std.specs.Option.{is_some}
 use Rattle.std.specs.Prelude.{◌≡◌, ℕ, suc, ◌<◌, ◌==◌, cond, Bool, true, false, ℤ, pos, ◌+ℤ◌, List, length, slice_get, slice_index_or, Some, ◌+◌}
 use Rattle.vcp_base.specs.declared.code.Profile.{Profile}

@@ -12,8 +12,8 @@ use coded_unit::words_split_in_one_way;
 use fault_script::one_fault_makes_its_difference;
 use op_graph::{entries_keep_their_rules, operands_are_there};
 
-/// The difference that a fault makes at its operation in its cycle comes to every other operation,
-/// each number of cycle borders later, as the weight times that difference, and comes to none before.
+/// The difference that a fault makes at its operation in its cycle arrives at every other operation,
+/// each number of cycle borders later, as the weight times that difference, and at none before.
 /// A stale operand comes as no difference exactly where the step times its multiplier times the weight
 /// is 0. Both are said modulo the constant of the graph's code, for any seed and step.
 pub fn differences_come_as_weights()
@@ -27,8 +27,8 @@ pub fn differences_come_as_weights()
     one_fault_makes_its_difference();
 }
 
-/// Whatever acts stand at whatever operations, the difference of an operation is the sum, over all operations and numbers of
-/// cycle borders, of what an act adds there so many cycles before, times the weight. Where no act stands nothing is added, and
+/// Whatever acts are at whatever operations, the difference of an operation is the sum, over all operations and numbers of
+/// cycle borders, of what an act adds there so many cycles before, times the weight. Where there is no act nothing is added, and
 /// from an operation that isn't reached nothing comes. The sum is one of integers, and modulo the constant of the graph's code one
 /// by weights.
 pub fn differences_are_superposed()

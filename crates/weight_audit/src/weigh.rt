@@ -28,7 +28,7 @@ const MOST_WEIGHTS: u64 = 16777216;
 /// horizon, which is at most 1000. The table is the graph's.
 ///
 /// `TooLarge` where operations times outputs times one more than the horizon is above 16,777,216,
-/// before any memory is taken. The difference that a fault of a script makes at its operation comes to
+/// before any memory is taken. The difference that a fault of a script makes at its operation arrives at
 /// each OUT, so many cycle borders later, as the weight times that difference, as `closed` says; of a
 /// stale operand `stale` says where that is none. The differences of several faults that add numbers to words
 /// add up, as `sums` says; and of whatever acts at whatever operations, `superposition` says what comes of them
@@ -37,7 +37,7 @@ const MOST_WEIGHTS: u64 = 16777216;
 ///
 /// `TooLarge` comes exactly there, with that number; else want of memory is the only refusal. Of a fault
 /// alone the difference at an OUT is 0 before the fault's cycle; it comes as an integer over the unreduced
-/// sums, and modulo `A` by the weight. Sums are of faults of one run of which no two stand at one operation
+/// sums, and modulo `A` by the weight. Sums are of faults of one run of which no two are at one operation
 /// in one cycle.
 pub fn weights(
     alloc: Global,

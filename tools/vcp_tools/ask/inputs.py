@@ -30,7 +30,7 @@ def read_inputs(file: str, inputs: Sequence[Slot]) -> dict[int, Interval]:
             near = nearest(name, [slot.name for slot in inputs])
             raise Refusal(f"{where}: `{name}` is no input" + (f": did you mean `{near}`?" if near else f": there are {listed(it.name for it in inputs)}"))
         if at in found:
-            raise Refusal(f"{where}: `{name}` stands twice")
+            raise Refusal(f"{where}: `{name}` occurs twice")
         found[at] = _interval(ends, inputs[at], where)
     return found
 

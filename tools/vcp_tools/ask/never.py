@@ -130,7 +130,7 @@ def _told(given: argparse.Namespace, question: Question, compiled: Compiled, ans
     print(f"none found within {answer.cycles} cycles{under} ({took})")
     if answer.begins:
         state = listed((f"{name}={value}" for name, value in answer.begins.items() if not name.startswith("_")), 40)
-        print(f"open: behind {state} it comes after {answer.depth} cycles without it, and induction doesn't tell that no run has these values")
+        print(f"open: behind {state} it comes after {answer.depth} cycles without it, and induction doesn't show that no run has these values")
         print("a lemma that excludes them may help: never 'NOT (LEMMA) OR EXPR' (docs/PROPERTIES.md)")
     else:
         print("open: there was no time for an induction")

@@ -74,5 +74,5 @@ def graph_with(operations: list[Operation], image: bytes, told: RangesOfAll) -> 
     ends = [(told.ranges.get(cell.load), cell.initial) for cell in head.cells]
     are_begun = all(it is None or it[0] <= first <= it[1] for it, first in ends)
     if head.operations != operations or set(told.ranges) != set(range(len(operations))) or not are_begun:
-        raise Refusal("`vcp list`, `vcp_study ranges` and the image don't tell the same operations: the programs are of different versions")
+        raise Refusal("`vcp list`, `vcp_study ranges` and the image don't have the same operations: the programs are of different versions")
     return Graph(operations, head.inputs, head.outputs, head.cells, told.ranges, told.may_stop)

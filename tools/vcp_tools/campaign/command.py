@@ -20,6 +20,7 @@ from vcp_tools.campaign.parts import Judged, judged
 from vcp_tools.campaign.shown import Shown
 from vcp_tools.campaign.sites import CLASSES, Faults, cycles_of
 from vcp_tools.campaign.store import Store
+from vcp_tools.campaign.summed import summed
 from vcp_tools.campaign.traced import BITS, TOLD_BY_WORDS, faults_of
 from vcp_tools.campaign.words import USAGE, Words, check_words, read_words
 from vcp_tools.files import read_bytes, write_bytes
@@ -58,6 +59,8 @@ def run(given: argparse.Namespace) -> int:
         done = Campaign(words, programs, rows, cycles).run()
         unseen += done.unseen
         sys.stdout.write(done.tables)
+        if done.summed:
+            print(done.summed)
         if len(runs) > 1:
             print(shown.add(str(rows), done.verdicts))
         if words.then:
@@ -80,7 +83,7 @@ def _pairs(words: Words, first: "Done") -> "Done":
     copies = {name: str(folder.at / name) for name in ("image", "rows", "pairs")}
     vcp, study = Program(folder.at / "vcp"), Program(folder.at / "study", "vcp_study")
     dormant = dormant_of(first.script, str(folder.at / "faults"), first.standing)
-    print(f"dormant: {len(dormant)} of the {first.totals[0]} faults stand in a cell when the rows end")
+    print(f"dormant: {len(dormant)} of the {first.totals[0]} faults are left in a cell when the rows end")
     cycles = cycles_of(vcp, copies["image"], [copies["rows"]])
     behind = faults_of(words.then, (vcp, study), folder.at / "image", [copies["rows"]], cycles, words.bits)
     script, number = pairs_of(dormant, behind, words.draw or 0, words.seed, digest(first.image))
@@ -88,6 +91,8 @@ def _pairs(words: Words, first: "Done") -> "Done":
     asked = replace(words, image=copies["image"], faults=copies["pairs"], draw=None, then="", out=str(folder.at / "then") if words.out else "")
     paired = Campaign(asked, (vcp, study), copies["rows"], 0).run()
     sys.stdout.write(paired.tables)
+    if paired.summed:
+        print(paired.summed)
     print(share(paired.totals, f"{number} pairs of a dormant fault of `{words.faults}` and a later one of `{words.then}`", "pairs", words.seed))
     return paired
 
@@ -116,6 +121,7 @@ class Done:
     script: bytes
     image: bytes
     of: int
+    summed: str
 
     @property
     def unseen(self) -> int:
@@ -161,7 +167,7 @@ class Campaign:
         """The manifest of the folder, which is filled where it isn't yet, or where a copy was changed."""
         found = folder.manifest()
         if found is not None and found.asked != asked:
-            raise Refusal(f"{folder.at}: another campaign stands in this folder")
+            raise Refusal(f"{folder.at}: another campaign is in this folder")
         changed = folder.changed_copies(found) if found is not None else []
         if changed:
             print(f"campaign: {folder.at}: changed since, and so the campaign is made again: {', '.join(changed)}", file=sys.stderr)
@@ -268,11 +274,12 @@ class Campaign:
         image = folder.read("image")
         outputs = [slot.name for slot in read_image(image, self.words.image).outputs]
         tables = sum_text(total, outputs)
+        said_by_all = summed(folder, manifest, tables) if self.words.sum else ""
         assigned = assigned_of(self.words, self.programs[0])
         tables = assigned.named(tables) if assigned else tables
         folder.write("verdicts", verdicts + totals_line(total.totals).encode("ascii") + b"\n")
         folder.write("tables", tables.encode("utf-8"))
-        return Done(folder, tables, verdicts, total.totals, [line for line, _ in total.standing], folder.read("faults"), image, self.of)
+        return Done(folder, tables, verdicts, total.totals, [line for line, _ in total.standing], folder.read("faults"), image, self.of, said_by_all)
 
 
 def _look(folder: Path, number: int, part: PartOf) -> Judged | str:

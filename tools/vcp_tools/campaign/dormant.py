@@ -16,7 +16,7 @@ def dormant_of(script: bytes, file: str, standing: Sequence[int]) -> list[Group]
     wanted = set(standing)
     found = [group for group in groups_of(script, file) if group.fault and group.fault in wanted]
     if len(found) != len(wanted):
-        raise Refusal(f"{file}: {len(wanted)} groups stand in a cell, and {len(found)} of them are in the script")
+        raise Refusal(f"{file}: {len(wanted)} groups are left in a cell, and {len(found)} of them are in the script")
     return found
 
 

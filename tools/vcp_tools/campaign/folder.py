@@ -26,7 +26,7 @@ FORM = 3
 PATIENCE = 20
 """For so many tenths of a second the end of what is left of a campaign is waited for."""
 JUDGE = """#!/bin/sh
-# Judges one part and counts its verdicts, from within the folder. What it writes stands whole or not at all, and .done, with the digests, comes last.
+# Judges one part and counts its verdicts, from within the folder. What it writes is whole or not at all, and .done, with the digests, comes last.
 part=${1%.faults}
 fail() {
     echo "judge: $part: $*" >&2
@@ -163,7 +163,7 @@ class Folder:
 
     def forget_answer(self) -> None:
         """Removes the answer of the whole, which doesn't stand while a part is missing."""
-        for name in ("verdicts", "tables", "unshown"):
+        for name in ("verdicts", "tables", "summed", "unshown"):
             (self.at / name).unlink(missing_ok=True)
 
     def read(self, name: str) -> bytes:

@@ -10,7 +10,7 @@ from vcp_tools.campaign.folder import digest
 from vcp_tools.campaign.sites import Class, Faults, cycles_of
 from vcp_tools.files import read_bytes
 from vcp_tools.program import Program
-from vcp_tools.read.image import Image, Operation, read_image
+from vcp_tools.read.image import Image, goes_into, read_image
 from vcp_tools.read.run_lines import read_trace
 from vcp_tools.refusal import Refusal
 
@@ -22,8 +22,6 @@ MOST_BIT = 62
 """The highest bit that a line of a script turns; a word of the narrow code has no higher one but its sign."""
 TOLD_BY_WORDS = ("flips", "late")
 """The classes that are told by the words of one run."""
-_RANKS = {"INT": 1, "DINT": 2, "LINT": 3}
-_OF_BOOL = ("NOT", "AND", "OR", "XOR")
 
 
 class Traced(Faults):
@@ -90,18 +88,8 @@ def late(image: Image, words: Sequence[Sequence[int]]) -> Iterator[bytes]:
             store = stores.get(operation.number)
             read = [before[store]] if store is not None else [now[it] for it in operation.operands]
             for place, word in enumerate(read):
-                wanted = _taken(operation, place)
+                wanted = operation.wanted(place)
                 for other in image.operations[operation.number :]:
                     added = before[other.number] - word
-                    if other.number != store and _goes(other.type, wanted) and 0 < abs(added) <= MOST_ADDED:
+                    if other.number != store and goes_into(other.type, wanted) and 0 < abs(added) <= MOST_ADDED:
                         yield b"operand %d %d %d add %d" % (cycle, operation.number, place, added)
-
-
-def _taken(operation: Operation, place: int) -> str:
-    """The type that is wanted of an operand."""
-    return "BOOL" if operation.kind in _OF_BOOL or (operation.kind == "SEL" and place == 0) else operation.operand_type
-
-
-def _goes(given: str, wanted: str) -> bool:
-    """Whether a value of a type is taken where another is wanted."""
-    return given == wanted if "BOOL" in (given, wanted) else _RANKS[given] <= _RANKS[wanted]

@@ -15,17 +15,18 @@ USAGE = """usage: vcp_tools campaign M (SCRIPT | CLASS) (--rows ROWS [--rows ROW
 judges each fault of a class, or of a script of any length, over the image M and the rows; docs/CAMPAIGNS.md shows it
   CLASS           bits, stale, skip, from, operator, all, flips or late; a script that has such a name is given as ./bits
   --bits 0..62    the bits that flips turns, else 0..31
-  --rows ROWS     the rows file; several of them tell which faults no run shows
+  --rows ROWS     the rows file; with several of them the faults that no run shows are named
   --cycles N      in the place of rows, for a program without inputs
   --draw N        N faults of the class, drawn without bias; --seed S draws others
   --then CLASS    pairs of a fault that stands in a cell when the rows end, and a later one of CLASS; --draw says how many
   --jobs N        so many parts side by side, else as many as there are processors
   --hosts FILE    judge on the machines that FILE names for GNU parallel, too
-  --out FOLDER    what is kept of the campaign stands there, else in campaign.DIGEST
+  --out FOLDER    what is kept of the campaign is there, else in campaign.DIGEST
   --store FILE    keep each fault with its verdict in a database of SQLite
-  --source P      the source of M, by which operations are told with the variables of their statements
+  --sum           have `vcp_study sum` count all parts together, too, which is proved, and compare: by one processor, and at most 10,000 parts
+  --source P      the source of M, by which operations are named with the variables of their statements
   --quiet         say nothing of progress
-  other options, and what stands behind them, go to GNU parallel
+  other options, and what follows them, go to GNU parallel
 statuses: 0 all faults were judged and each is seen, 9 one isn't (wrong or ran-on), 2 a part wasn't judged, or the words or a file can't be used"""
 _VALUED = ("--bits", "--rows", "--cycles", "--draw", "--seed", "--then", "--jobs", "-j", "--hosts", "--out", "--store", "--source")
 
@@ -46,6 +47,7 @@ class Words:
     out: str = ""
     store: str = ""
     source: str = ""
+    sum: bool = False
     quiet: bool = False
     parallel: list[str] = field(default_factory=list)
 
@@ -62,8 +64,8 @@ def read_words(words: Sequence[str]) -> Words:
                 raise Refusal(f"campaign: a word is missing behind `{word}`")
             _take(found, word, value)
             at += 2
-        elif word == "--quiet":
-            found.quiet = True
+        elif word in ("--quiet", "--sum"):
+            setattr(found, word[2:], True)
             at += 1
         elif word.startswith("-"):
             found.parallel += words[at:]
@@ -78,7 +80,7 @@ def read_words(words: Sequence[str]) -> Words:
     if not has_rows:
         found.rows = [plain[1]]
     if found.rows and found.cycles is not None:
-        raise Refusal("campaign: `--rows` and `--cycles` stand together: a program has inputs or it has none")
+        raise Refusal("campaign: `--rows` and `--cycles` are given together: a program has inputs or it has none")
     if len(found.rows) > 1 and found.out:
         raise Refusal("campaign: `--out` is the folder of one campaign, and several rows files make one each")
     return found
@@ -87,7 +89,7 @@ def read_words(words: Sequence[str]) -> Words:
 def check_words(found: Words) -> None:
     """Refuses what can't be asked for together."""
     if found.faults in TOLD_BY_WORDS and len(found.rows) > 1:
-        raise Refusal(f"campaign: the faults of `{found.faults}` are told by the words of one run: give one rows file, or a script")
+        raise Refusal(f"campaign: the faults of `{found.faults}` are made from the words of one run: give one rows file, or a script")
     if found.bits != BITS and "flips" not in (found.faults, found.then):
         raise Refusal("campaign: `--bits` are those that the class `flips` turns")
     if not found.then:
@@ -99,19 +101,19 @@ def check_words(found: Words) -> None:
     if found.draw is None:
         raise Refusal("campaign: `--then` wants `--draw N`: so many pairs are drawn")
     if len(found.rows) != 1 or found.store:
-        raise Refusal("campaign: `--then` wants one rows file, behind which a fault may stand in a cell, and no `--store`")
+        raise Refusal("campaign: `--then` wants one rows file, at whose end a fault may be left in a cell, and no `--store`")
 
 
 def _take(found: Words, word: str, value: str) -> None:
     """Takes an option with its value."""
     if not value:
-        raise Refusal(f"campaign: an empty word stands behind `{word}`")
+        raise Refusal(f"campaign: an empty word follows `{word}`")
     if word == "--rows":
         found.rows.append(value)
     elif word == "--bits":
         low, _, high = value.partition("..")
         if not (low.isdigit() and high.isdigit() and len(value) < 7 and int(low) <= int(high) <= MOST_BIT):
-            raise Refusal(f"campaign: `{value}` stands behind `--bits`, and two numbers of 0 to {MOST_BIT} are wanted, as 0..{MOST_BIT}")
+            raise Refusal(f"campaign: `{value}` follows `--bits`, and two numbers of 0 to {MOST_BIT} are wanted, as 0..{MOST_BIT}")
         found.bits = int(low), int(high)
     elif word == "--hosts":
         read_bytes(value)
@@ -121,5 +123,5 @@ def _take(found: Words, word: str, value: str) -> None:
     else:
         least = 0 if word == "--seed" else 1
         if not value.isdigit() or int(value) < least or len(value) > 10:
-            raise Refusal(f"campaign: `{value}` stands behind `{word}`, and a number from {least} on is wanted")
+            raise Refusal(f"campaign: `{value}` follows `{word}`, and a number from {least} on is wanted")
         setattr(found, {"-j": "jobs"}.get(word, word[2:]), int(value))

@@ -114,7 +114,7 @@ class Comparison:
         count = len(self.a.image.operations)
         if self.trees_a == self.trees_b:
             return f"the same {count} operations in the same order"
-        return f"the same {count} operations in another order: the same values, and the same stops, but where two stop in one cycle the other one may be told"
+        return f"the same {count} operations in another order: the same values, and the same stops, but where two stop in one cycle the other may be reported"
 
     def differences(self) -> Iterator[str]:
         """All differences, in words."""
@@ -257,7 +257,7 @@ def _slots(what: str, first: list[Slot], second: list[Slot]) -> Iterator[str]:
         if (slot.name.upper(), slot.type) not in one:
             yield f"only B has the {what} {slot.name} : {slot.type}"
     if sorted(one) == sorted(other) and one != other:
-        yield f"the {what}s stand in another order"
+        yield f"the {what}s are in another order"
 
 
 def _paired(first: list[Cell], second: list[Cell]) -> tuple[list[Pair], list[tuple[str, Cell]]]:

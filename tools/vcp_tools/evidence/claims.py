@@ -32,7 +32,7 @@ def claims(top: Path) -> tuple[str, int]:
 
 def axioms_told(top: Path, counts: dict[str, str]) -> str:
     """What is taken without a proof: how many axioms each program has by the logs, and what docs/PROMISES.md says that they are."""
-    counted = "".join(f"{name}: {count or 'not told by a log'}\n" for name, count in counts.items())
+    counted = "".join(f"{name}: {count or 'not said by a log'}\n" for name, count in counts.items())
     return f"{counted}\n{_section(_promises(top), 'Taken without a proof')}"
 
 

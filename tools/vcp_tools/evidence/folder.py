@@ -25,8 +25,8 @@ claims.txt      what is claimed, each with the clauses that carry it
 axioms.txt      what is taken without a proof
 outside.txt     what the gate doesn't show
 gate.log        what the gate printed
-*.proved        the record that stands beside each program; *.log what was printed when ./vcp or ./vcp_study proved it
-SHA256SUMS      the digest of each of these files; that of SHA256SUMS itself stands for the whole: keep it elsewhere
+*.proved        the record that is beside each program; *.log what was printed when ./vcp or ./vcp_study proved it
+SHA256SUMS      the digest of each of these files; that of SHA256SUMS itself covers the whole: keep it elsewhere
 
 `sha256sum -c SHA256SUMS` in this folder looks at these files alone. `vcp_tools evidence --check FOLDER` in the repository makes them again and names what
 differs.
@@ -89,7 +89,7 @@ def _log_of(top: Path, name: str, found: Standing) -> bytes | None:
 
 
 def _clean(differing: list[str]) -> str:
-    return "yes" if not differing else f"NO: {len(differing)} files differ from the commit or stand beside it, as {differing[0]}"
+    return "yes" if not differing else f"NO: {len(differing)} files differ from the commit or are beside it, as {differing[0]}"
 
 
 def _program(name: str, found: Standing, count: str, log: bytes | None) -> dict[str, str]:
@@ -98,7 +98,7 @@ def _program(name: str, found: Standing, count: str, log: bytes | None) -> dict[
     return {
         name: f"{found.digest or 'none'}, {TOLD[found.state]}", f"{name} sources": found.sources,
         **{f"{name} proved {key}": record.get(word, "not recorded") for key, word in (("from", "sources"), ("by", "by"), ("with", "toolchain"))},
-        f"{name} log": digest(log) if log is not None else "none", f"{name} axioms": count or "not told by a log",
+        f"{name} log": digest(log) if log is not None else "none", f"{name} axioms": count or "not said by a log",
     }
 
 
@@ -107,7 +107,7 @@ def _gate(gate: GateLog | None, log: bytes | None, present: dict[str, str]) -> d
     if gate is None or log is None:
         return {"gate": NONE}
     return {"gate": gate.ending, "gate log": digest(log), "gate sources": of_these(gate, present),
-            **{f"gate told {number}": line for number, line in enumerate(gate.told(), 1)}}
+            **{f"gate says {number}": line for number, line in enumerate(gate.told(), 1)}}
 
 
 def _lacking(summary: dict[str, str], found: dict[str, Standing], gate: GateLog | None) -> Iterator[str]:

@@ -26,8 +26,8 @@ class GateLog:
     @property
     def ending(self) -> str:
         """How it ended: the last line of `rt ci`, and the status of `.ci/run`, which also looks at documents and tools."""
-        proofs = next((line for line in reversed(self.lines) if re.match(r"[0-9]+ passed, [0-9]+ failed", line)), "no end of rt ci is told")
-        return f"{proofs}; {next((line for line in reversed(self.lines) if line.startswith('gate: status ')), 'gate: no status is told')}"
+        proofs = next((line for line in reversed(self.lines) if re.match(r"[0-9]+ passed, [0-9]+ failed", line)), "no end of rt ci is reported")
+        return f"{proofs}; {next((line for line in reversed(self.lines) if line.startswith('gate: status ')), 'gate: no status is reported')}"
 
     @property
     def has_passed(self) -> bool:
@@ -61,5 +61,5 @@ def axioms(log: bytes, crate: str) -> str:
 def of_these(log: GateLog, present: dict[str, str]) -> str:
     """Whether a log is of the sources that are here."""
     if not log.sources:
-        return "not told: the log has no line `sources ..`, which .ci/run prints"
+        return "not known: the log has no line `sources ..`, which .ci/run prints"
     return "the present ones" if all(log.sources.get(name) == present[name] for name in PROGRAMS) else "OTHERS than those that are here"

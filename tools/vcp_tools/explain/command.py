@@ -135,7 +135,7 @@ class Explainer:
         wants_image = FORMS[self.words[0]][0] == "M"
         what = "an image" if wants_image else "a program"
         is_it = second.startswith(MAGIC) if wants_image else _begins_program(second) and not _begins_program(first)
-        return f"the rows stand in the place of {what}, and {what} in theirs: write `vcp {self.words[0]} {self.words[2]} {self.words[1]} ..`" if is_it else ""
+        return f"the rows are in the place of {what}, and {what} in theirs: write `vcp {self.words[0]} {self.words[2]} {self.words[1]} ..`" if is_it else ""
 
     def _source(self, fault: FaultLine) -> Explanation:
         """S1 to S5, T1 to T8, L2 and L3, of a program or of the head of an instruction list; Q1 to Q6."""
@@ -174,7 +174,7 @@ class Explainer:
         if fault.code == "R1" or encoding_of(data):
             script = re.match(rb"(#.*\n)*(operand|result|operator|skip|begin)\b", data)
             if script and self.words[0] in ("inject", "pairs"):
-                return Explanation(fault.file, "a script of faults stands in the place of the rows: they stand before it, as in `vcp inject M ROWS F`")
+                return Explanation(fault.file, "a script of faults is in the place of the rows: they come before it, as in `vcp inject M ROWS F`")
             return _of_rows(fault.file, data, header_hint(data, inputs))
         header, record = record_of(data, 1), record_of(data, fault.first or 1)
         if header is None or record is None or fault.code == "R3" and (fault.second or 1) > len(record.fields):
@@ -229,7 +229,7 @@ class Explainer:
         number = fault.first or 1
         line = Source(data).line(number)
         if fault.code == "L5":
-            return Explanation(f"{fault.file}:{number}", "more than 10,000 faults stand in the script: split it")
+            return Explanation(f"{fault.file}:{number}", "the script has more than 10,000 faults: split it")
         operations = None
         if fault.code in ("F5", "F6"):
             hint = group_hint(data.decode("latin-1").split("\n"), number, fault.code)
@@ -395,7 +395,7 @@ def _print(lines: Sequence[str]) -> None:
 def add_words(parser: argparse.ArgumentParser) -> None:
     """The words of `explain`."""
     parser.add_argument("--all", action="store_true", help="go on behind each fault of a source that can be stepped over, but of none of an instruction list")
-    parser.add_argument("--source", metavar="P", help="the source of the image, by which faults that aren't seen are told with their variables")
+    parser.add_argument("--source", metavar="P", help="the source of the image, by which faults that are missed are named with their variables")
     parser.add_argument("--from", dest="original", metavar="ORIGINAL", help=WORDS)
     parser.add_argument("words", nargs=argparse.REMAINDER, help="words of vcp, as `check P`; without any, lines of error are read from standard input")
 

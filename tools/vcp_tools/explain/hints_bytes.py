@@ -25,9 +25,9 @@ _BYTES = {
     "?": "`?` is no operator here: write SEL(condition, value if FALSE, value if TRUE)",
     "\\": "`\\` is no operator here: a division is `/`",
     "~": "`~` is no operator here: write NOT",
-    "@": "`@` stands in no name: names are letters, digits and `_`",
-    "$": "`$` stands in no name: names are letters, digits and `_`",
-    "#": "`#` stands only in numbers with a base or a type, as 16#FF and INT#5",
+    "@": "`@` occurs in no name: names are letters, digits and `_`",
+    "$": "`$` occurs in no name: names are letters, digits and `_`",
+    "#": "`#` occurs only in numbers with a base or a type, as 16#FF and INT#5",
 }
 _SAME = {"!": ("NOT", "NOT"), "|": ("OR", "OR"), "~": ("NOT", "NOT")}
 
@@ -43,7 +43,7 @@ def byte_hint(source: Source, at: int) -> Hint:
     byte = source.text[at : at + 1]
     if byte == "!":
         return Hint("`!` is no operator here: write NOT", at, at + 1, repair=Repair(at, at + 1, " NOT "))
-    message = _BYTES.get(byte, f"the character {byte!r} stands in no word, number or symbol of the language")
+    message = _BYTES.get(byte, f"the character {byte!r} occurs in no word, number or symbol of the language")
     end = _bracketed(source, at) if byte in "[{" else at + 1
     return Hint(message, at, end, repair=Repair(at, end, _SAME.get(byte, ("", " "))[1]))
 
@@ -89,7 +89,7 @@ def _character(character: str, at: int, end: int) -> Hint:
     if character in _SPACES:
         return Hint(f"what looks like a space is none ({name}): put a plain space in its place", at, end, repair=Repair(at, end, " "))
     if character in _QUOTES:
-        return Hint(f"a typographic quote stands here ({name}): there are no strings, and names have no quotes", at, end, repair=Repair(at, end, " "))
+        return Hint(f"a typographic quote is here ({name}): there are no strings, and names have no quotes", at, end, repair=Repair(at, end, " "))
     if character in _DASHES:
         return Hint(f"what looks like a minus is none ({name}): put a plain `-` in its place", at, end, repair=Repair(at, end, "-"))
     message = f"`{character}` ({name}) is outside ASCII: names are letters A to Z, digits and `_`"
@@ -169,7 +169,7 @@ def number_hint(token: Token) -> Hint:
     if re.match(r"[0-9]+(ms|s|m|h|d)\Z", text, re.I):
         return say(lacking.NO_TIME)
     if "__" in text or text.endswith("_") or "#_" in text:
-        return say("a single `_` may stand between two digits, and nowhere else")
+        return say("a single `_` may be between two digits, and nowhere else")
     if re.match(r"[0-9_]+\Z", text):
         return say(f"the greatest number is {GREATEST_NUMBER}")
     if re.match(r"[0-9]+#", text) and not re.match(r"(2|8|16)#", text):

@@ -42,7 +42,7 @@ def words_hint(words: Sequence[str]) -> str:
     command = words[0]
     if command not in FORMS:
         if command.startswith("-"):
-            return f"`{command}` stands first: the command comes first, and options stand at the end"
+            return f"`{command}` is the first word: the command comes first, and options come at the end"
         near = nearest(command, FORMS)
         capitals = ", in small letters" if near and near.upper() == command.upper() else ""
         return f"`{command}` is no command" + (f": did you mean `{near}`{capitals}?" if near else f": there are {listed(FORMS)}")
@@ -76,9 +76,9 @@ def _word_in_place(rest: list[str], place: str) -> str | None:
         return f"`{word}` has a `=`: write `{name} {value}`, two words"
     if place in ("P", "M", "F", "ROWS"):
         if word == "":
-            return f"an empty word stands in the place of {place}"
+            return f"an empty word is in the place of {place}"
         if word.startswith("-"):
-            return f"`{word}` stands in the place of {place}: options stand behind the files, and no file's name begins with `-`"
+            return f"`{word}` is in the place of {place}: options follow the files, and no file's name begins with `-`"
         return None
     return _number_said(word, place)
 
@@ -89,7 +89,7 @@ def _number_said(word: str, place: str) -> str | None:
     if re.fullmatch(r"[0-9]{1,10}", word) and least <= int(word) <= greatest:
         return None
     where = f"behind `{place}`" if place.startswith("--") else f"in the place of {place}"
-    return f"`{word}` stands {where}: a number from {least} to {greatest} is wanted, in one to ten digits"
+    return f"`{word}` is {where}: a number from {least} to {greatest} is wanted, in one to ten digits"
 
 
 def _options_hint(rest: list[str], has_code: bool, form: str) -> str:
@@ -104,7 +104,7 @@ def _options_hint(rest: list[str], has_code: bool, form: str) -> str:
             near = nearest(word, ("--seed", "--step")) if has_code and word.startswith("-") else None
             return f"`{word}` is left over" + (f": did you mean `{near}`?" if near else "") + f"; {form}"
         if word in seen:
-            return f"`{word}` stands twice; {form}"
+            return f"`{word}` occurs twice; {form}"
         if len(rest) < 2:
             return f"a number is missing behind `{word}`; {form}"
         said = _number_said(rest[1], word)
@@ -158,7 +158,7 @@ def script_hint(line: str, code: str, operations: list[str] | None) -> ScriptHin
 
 def group_hint(lines: Sequence[str], number: int, code: str) -> ScriptHint:
     """What is said of a `begin` or an `end` that stands wrongly (F5), and of a second fault at a place in a group (F6): by the lines before it."""
-    changed = ScriptHint("the file has changed since: no fault of a group stands in this line", 0, 1)
+    changed = ScriptHint("the file has changed since: no fault of a group is in this line", 0, 1)
     if number > len(lines):
         return changed
     begun = 0
@@ -177,12 +177,12 @@ def group_hint(lines: Sequence[str], number: int, code: str) -> ScriptHint:
             return changed
         cycle, operation = words[1], words[2]
         before = places.get((cycle, operation), begun)
-        return ScriptHint(f"line {before} of this group changes operation {operation} in cycle {cycle}, too: only one fault of a group stands at an "
+        return ScriptHint(f"line {before} of this group changes operation {operation} in cycle {cycle}, too: only one fault of a group is at an "
                           "operation in a cycle", 0, end)
     if _words(line) == ["begin"]:
         said = f"the group of line {begun} has no `end` yet, and a group has none inside it" if begun else "no `end` follows this `begin`"
         return ScriptHint(said, 0, end)
-    said = f"the group of line {begun} has no fault" if begun else "no `begin` stands before this `end`"
+    said = f"the group of line {begun} has no fault" if begun else "no `begin` comes before this `end`"
     return ScriptHint(said, 0, end)
 
 
@@ -193,17 +193,17 @@ def _words(line: str) -> list[str]:
 def _form_hint(words: list[tuple[str, int, int]], line: str) -> ScriptHint:
     """F1: which word of a fault isn't of its form."""
     whole = ScriptHint("a fault is `operand n k j add e`, `operand n k j from r`, `operand n k j stale`, `result n k add e`, `operator n k KIND` "
-                       "or `skip n k`, with the cycle n and the operation k; `begin` and `end` round a group stand alone", 0, max(1, len(line)))
+                       "or `skip n k`, with the cycle n and the operation k; `begin` and `end` round a group are alone in their line", 0, max(1, len(line)))
     if not words:
         return ScriptHint("a line of blanks alone is no fault: leave it empty, or begin it with `#`", 0, max(1, len(line)))
     for word, start, _ in words:
         if word.startswith(("#", "//", "(*")):
-            stands = "a remark has a line of its own, which begins with `#`" if start else "the `#` of a remark stands first in its line"
+            stands = "a remark has a line of its own, which begins with `#`" if start else "the `#` of a remark comes first in its line"
             return ScriptHint(f"`{word}` begins a remark behind a fault or blanks: {stands}", start, len(line))
     act, start, end = words[0]
     if act not in ACTS:
         if act in GROUP_WORDS:
-            return ScriptHint(f"`{act}` stands alone in its line", start, words[-1][2])
+            return ScriptHint(f"`{act}` is alone in its line", start, words[-1][2])
         near = nearest(act, (*ACTS, *GROUP_WORDS))
         return ScriptHint(f"`{act}` is no fault: " + (f"did you mean `{near}`?" if near else "there are operand, result, operator and skip"), start, end)
     return _fields_hint(words, act) or whole
@@ -219,7 +219,7 @@ def _fields_hint(words: list[tuple[str, int, int]], act: str) -> ScriptHint | No
         word, start, end = words[index]
         most = 999999 if name == "n" else 4294967295
         if not re.fullmatch(r"[0-9]{1,10}", word) or int(word) > most:
-            return ScriptHint(f"`{word}` stands where the number of {what[name]} is wanted: {_number_reason(word, most)}", start, end)
+            return ScriptHint(f"`{word}` is where the number of {what[name]} is wanted: {_number_reason(word, most)}", start, end)
     rest = words[len(names) + 1 :]
     if act == "skip":
         return ScriptHint(f"`{rest[0][0]}` is left over behind `skip n k`", rest[0][1], rest[-1][2]) if rest else None
@@ -253,7 +253,7 @@ def _change_hint(rest: list[tuple[str, int, int]], act: str, last: tuple[str, in
         return ScriptHint(f"{forms} is missing", last[1], last[2])
     change, start, end = rest[0]
     if change not in (("add", "from", "stale") if act == "operand" else ("add",)):
-        return ScriptHint(f"`{change}` stands where {forms} is wanted", start, end)
+        return ScriptHint(f"`{change}` is where {forms} is wanted", start, end)
     wanted = 0 if change == "stale" else 1
     if len(rest) - 1 < wanted:
         return ScriptHint(f"a number is missing behind `{change}`", start, end)
@@ -261,7 +261,7 @@ def _change_hint(rest: list[tuple[str, int, int]], act: str, last: tuple[str, in
         return ScriptHint(f"`{rest[wanted + 1][0]}` is left over behind `{change}`", rest[wanted + 1][1], rest[-1][2])
     if wanted:
         number, number_start, number_end = rest[1]
-        return ScriptHint(f"`{number}` stands behind `{change}`: a decimal number is wanted, at most 2^62 in size", number_start, number_end)
+        return ScriptHint(f"`{number}` follows `{change}`: a decimal number is wanted, at most 2^62 in size", number_start, number_end)
     return None
 
 
@@ -330,6 +330,6 @@ def wire_hint(line: str, code: str) -> str:
             return "what is added to the word is from -4611686018427387904 to 4611686018427387904"
         return "SENDERS is 1 to 16, LISTEN below it, AGE 0 to 999999, SEED 0 to 1073741823 and STEP 1 to 1000"
     if words and words[0] in WIRE_LINES:
-        return f"the form is `{WIRE_LINES[words[0]]}`, with numbers; the line `wire ..` stands first, and once"
+        return f"the form is `{WIRE_LINES[words[0]]}`, with numbers; the line `wire ..` comes first, and once"
     near = nearest(words[0], WIRE_LINES) if words else None
     return "the lines are " + listed([f"`{it}`" for it in WIRE_LINES.values()]) + (f": did you mean `{near}`?" if near else "")

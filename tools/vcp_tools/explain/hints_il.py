@@ -54,9 +54,9 @@ def _instruction(source: Source, token: Token, line: list[Token], declared: dict
         return Hint("END_PROGRAM is missing: it is the last line, alone", token.start, token.end)
     if token.is_word("END_PROGRAM"):
         behind = next((it for it in source.tokens if it.start >= token.end), token)
-        return _on(token, f"something stands behind END_PROGRAM, at {source.told(behind.start)}: it is the last line, alone")
+        return _on(token, f"something follows END_PROGRAM, at {source.told(behind.start)}: it is the last line, alone")
     if last.is_word("END_PROGRAM"):
-        return _on(last, "END_PROGRAM stands alone in its line")
+        return _on(last, "END_PROGRAM is alone in its line")
     if token.is_word("VAR", "VAR_INPUT", "VAR_OUTPUT"):
         return _on(token, "END_VAR is missing behind these declarations")
     if len(line) > 1 and line[1].is_symbol(":", ":="):
@@ -64,7 +64,7 @@ def _instruction(source: Source, token: Token, line: list[Token], declared: dict
             return _on(token, "there are no labels, since there are no jumps")
         return _on(token, "this is Structured Text: an instruction is an operator and its operand, as `ST y`")
     if any(it.is_symbol("(", ")") for it in line):
-        return _on(next(it for it in line if it.is_symbol("(", ")")), "there are no brackets: keep what stands in them in a variable, by ST, and take that")
+        return _on(next(it for it in line if it.is_symbol("(", ")")), "there are no brackets: keep what is in them in a variable, by ST, and take that")
     if token.upper in _LEFT_OUT:
         return _on(token, _LEFT_OUT[token.upper])
     if token.upper not in OPERATORS:
@@ -74,12 +74,12 @@ def _instruction(source: Source, token: Token, line: list[Token], declared: dict
     if token.upper == "NOT" and len(line) > 1:
         return _on(line[1], "NOT has no operand: it negates the result")
     if len(line) == 1:
-        return _on(token, f"the operand of {token.upper} is missing: it stands in the same line")
+        return _on(token, f"the operand of {token.upper} is missing: it is in the same line")
     if last.is_symbol(";"):
         return _on(last, "a line of instructions has no `;` at its end")
     if line[1].is_symbol("-"):
-        return _on(line[1], "`-` stands before a literal without a type alone: take SUB, or the sign behind the `#`")
-    return _on(line[min(2, len(line) - 1)], f"{token.upper} has one operand, and nothing stands behind it in its line")
+        return _on(line[1], "`-` comes before a literal without a type alone: take SUB, or the sign behind the `#`")
+    return _on(line[min(2, len(line) - 1)], f"{token.upper} has one operand, and nothing follows it in its line")
 
 
 def _operand(token: Token, declared: dict[str, Declaration]) -> str:

@@ -51,7 +51,7 @@ def header_hint(data: bytes, inputs: list[Declaration]) -> RowsHint:
         return RowsHint(f"the file begins with a remark, and rows have none: {first}", shown)
     for mark, word in _SEPARATORS.items():
         if len(header.cells) == 1 and mark in header.fields[0]:
-            return RowsHint(f"the fields stand between {word}, and commas are wanted: {first}", shown)
+            return RowsHint(f"the fields are between {word}, and commas are wanted: {first}", shown)
     return _names_hint(header, names) if names else RowsHint(f"the header isn't each input once: {first}", shown)
 
 
@@ -83,12 +83,12 @@ def _names_hint(header: Record, names: list[str]) -> RowsHint:
 
 def width_hint(header: Record, record: Record) -> RowsHint:
     """R2: a record with too few or too many fields, with the line in which it stands."""
-    here = f"record {record.number} stands in line {record.line} and has {len(record.fields)} fields, and the header {len(header.fields)}"
+    here = f"record {record.number} is in line {record.line} and has {len(record.fields)} fields, and the header {len(header.fields)}"
     if record.cells[-1] == "" and len(record.cells) == len(header.fields) + 1:
         return RowsHint(f"a comma too many at the line's end: {here}", record.line)
     for mark, word in _SEPARATORS.items():
         if len(record.fields) == 1 and mark in record.fields[0]:
-            return RowsHint(f"the fields stand between {word}, and commas are wanted: {here}", record.line)
+            return RowsHint(f"the fields are between {word}, and commas are wanted: {here}", record.line)
     digits = sum(cell.isdigit() for cell in record.cells)
     if len(record.fields) > len(header.fields) and digits > 1:
         return RowsHint(f"a decimal comma, or a field too many: {here}; numbers are whole", record.line)
@@ -182,9 +182,9 @@ class Looked:
         alone = self.header is not None and len(self.header.fields) == 1 and where == "in the midst"
         for line in self._empty:
             if alone:
-                yield RowsHint("the line is empty: a blank cell of the one column is skipped in silence, and all later rows move up a cycle", line)
+                yield RowsHint("the line is empty: a blank cell of the one column is skipped without a message, and all later rows move up a cycle", line)
             else:
-                yield RowsHint(f"an empty line {where} is skipped in silence: records are no lines behind it", line)
+                yield RowsHint(f"an empty line {where} is skipped without a message: records are no lines behind it", line)
         self._empty.clear()
 
     def _head(self, header: Record) -> Iterator[RowsHint]:

@@ -50,7 +50,7 @@ def syntax_hint(source: Source, at: int) -> Hint:
 def depth_hint(source: Source, at: int) -> Hint:
     """What is said of the first token that is too deep."""
     token = source.tokens[source.index_at(at)]
-    message = "this stands in more than 64 statements, brackets, signs and operators of a chain: split the expression by a variable of its own"
+    message = "this is in more than 64 statements, brackets, signs and operators of a chain: split the expression by a variable of its own"
     return Hint(message, token.start, token.end)
 
 
@@ -85,7 +85,7 @@ def _not_first(stuck: Stuck) -> Hint | None:
 
 def _behind_the_end(stuck: Stuck) -> Hint | None:
     if stuck.before.is_word("END_PROGRAM"):
-        message = "nothing stands behind END_PROGRAM: a file is one PROGRAM"
+        message = "nothing follows END_PROGRAM: a file is one PROGRAM"
         return Hint(message, stuck.here.start, stuck.here.end, repair=Repair(stuck.here.start, len(stuck.source.text), ""))
     return None
 
@@ -157,7 +157,7 @@ def _assignment_in_condition(stuck: Stuck) -> Hint | None:
     if word in ("IF", "ELSIF", "CASE"):
         return _on(stuck.here, f"`:=` sets a variable: in the condition of {word} a comparison is `=`", "=")
     if any(opener.token.is_symbol("(") for opener in stuck.openers):
-        return _on(stuck.here, "`:=` can't stand in brackets: arguments have no names here, and a comparison is `=`", "=")
+        return _on(stuck.here, "`:=` can't be in brackets: arguments have no names here, and a comparison is `=`", "=")
     return _on(stuck.here, "`:=` sets one variable a statement: a comparison is `=`, and a second value to be set is a statement of its own", "=")
 
 
@@ -213,7 +213,7 @@ def _reserved_name(stuck: Stuck) -> Hint | None:
         return None
     begins = stuck.in_declaration and (stuck.before.is_symbol(";", ",") or stuck.before.is_word("CONSTANT", "RETAIN", "VAR", "VAR_INPUT", "VAR_OUTPUT"))
     if here.is_word("CONSTANT", "RETAIN") and stuck.in_declaration:
-        return _on(here, f"{here.upper} stands directly behind VAR: begin a block `VAR {here.upper} .. END_VAR` of its own", "")
+        return _on(here, f"{here.upper} follows VAR: begin a block `VAR {here.upper} .. END_VAR` of its own", "")
     named = begins and stuck.behind.is_symbol(":", ",")
     if named or (here.upper in UNUSED_WORDS and stuck.behind.is_symbol(":=", "=", "+", "-", "*", "/", "<", ">", "<=", ">=", "<>", ")")):
         kept = "" if here.upper in GRAMMAR_WORDS else ", though no form uses it"
@@ -221,7 +221,7 @@ def _reserved_name(stuck: Stuck) -> Hint | None:
     if here.upper in _STATEMENT_WAYS:
         return Hint(_STATEMENT_WAYS[here.upper], here.start, here.end, repair=_leave_out(stuck))
     if here.upper in UNUSED_WORDS:
-        return _on(here, f"`{here.text}` is a reserved word which no form uses: {TYPE_WAYS.get(here.upper, 'it stands nowhere')}", here.text + "_")
+        return _on(here, f"`{here.text}` is a reserved word which no form uses: {TYPE_WAYS.get(here.upper, 'it occurs nowhere')}", here.text + "_")
     return None
 
 
@@ -239,13 +239,13 @@ def _late_declarations(stuck: Stuck) -> Hint | None:
     if not stuck.here.is_word("VAR", "VAR_INPUT", "VAR_OUTPUT"):
         return None
     if stuck.before.is_symbol(";") and (stuck.two_before.is_word("END_VAR") or stuck.two_before.kind == "name" and stuck.index < 4):
-        return _on(stuck.before, "this `;` is a statement, and declarations can't follow one: no `;` stands behind END_VAR or the program's name", " ")
+        return _on(stuck.before, "this `;` is a statement, and declarations can't follow one: no `;` follows END_VAR or the program's name", " ")
     if stuck.in_declaration:
         opened = stuck.source.told(stuck.openers[-1].token.start)
-        message = f"{stuck.here.upper} stands in a block that isn't closed: END_VAR is missing, for the block from {opened}"
+        message = f"{stuck.here.upper} is in a block that isn't closed: END_VAR is missing, for the block from {opened}"
         return Hint(message, stuck.here.start, stuck.here.end, repair=Repair(stuck.here.start, stuck.here.start, "END_VAR "))
     closing = next((token for token in stuck.tokens[stuck.index :] if token.is_word("END_VAR")), None)
-    message = "declarations stand before the first statement: move this block up"
+    message = "declarations come before the first statement: move this block up"
     return Hint(message, stuck.here.start, stuck.here.end, repair=Repair(stuck.here.start, closing.end, "") if closing else None)
 
 
@@ -272,7 +272,7 @@ def _second_else(stuck: Stuck) -> Hint | None:
         return None
     opener = stuck.openers[-1].token
     place = stuck.source.told(opener.start)
-    return _on(stuck.here, f"{stuck.here.upper} behind an ELSE: the {opener.upper} from {place} has its ELSE already, which stands last", ";")
+    return _on(stuck.here, f"{stuck.here.upper} behind an ELSE: the {opener.upper} from {place} has its ELSE already, which comes last", ";")
 
 
 def _wrong_end(stuck: Stuck) -> Hint | None:
@@ -289,7 +289,7 @@ def _wrong_end(stuck: Stuck) -> Hint | None:
     if here.kind != "end" and not stuck.before.is_symbol(";") and word != "(" and ends_operand(stuck.before):
         return None
     place = stuck.source.told(opener.token.start)
-    what = "the text ends" if here.kind == "end" else here.upper + " stands here"
+    what = "the text ends" if here.kind == "end" else here.upper + " is here"
     more: tuple[str, ...] = ()
     message = f"{wanted} is missing: {what}, and the {word} from {place} isn't closed"
     if word in ("IF", "CASE", "FOR"):
@@ -302,7 +302,7 @@ def _wrong_end(stuck: Stuck) -> Hint | None:
         inner, closing = early
         anchor = inner
         message = (f"END_{inner.upper} is missing for this {inner.upper}: the {closing.upper} at {stuck.source.told(closing.start)} closes it, "
-                   f"and stands below the {word} from {place}")
+                   f"and comes below the {word} from {place}")
         more = (f"So {what}, and the {word} from {place} isn't closed.",)
     return Hint(message, anchor.start, anchor.end, more, Repair(here.start, here.start, text))
 
@@ -353,7 +353,7 @@ def _operator_word(stuck: Stuck) -> Hint | None:
         return None
     near = nearest(here.text, ("AND", "OR", "XOR", "MOD", "THEN", "TO", "BY", "DO", "OF"))
     guess = f"did you mean {near}?" if near else "operators are + - * / MOD = <> < > <= >= AND OR XOR NOT"
-    return _on(here, f"`{here.text}` stands where an operator is wanted: {guess}", near or ";")
+    return _on(here, f"`{here.text}` is where an operator is wanted: {guess}", near or ";")
 
 
 def _statement_word(stuck: Stuck) -> Hint | None:
@@ -364,7 +364,7 @@ def _statement_word(stuck: Stuck) -> Hint | None:
     if near and near != "AT":
         return _on(stuck.before, f"`{stuck.before.text}` is no reserved word: did you mean {near}?", near)
     return Hint(
-        f"a statement is `name := value;`, IF, CASE or FOR: behind `{stuck.before.text}` stands `{stuck.here.text}` and no `:=`",
+        f"a statement is `name := value;`, IF, CASE or FOR: after `{stuck.before.text}` comes `{stuck.here.text}` and no `:=`",
         stuck.before.start, stuck.here.end, repair=Repair(stuck.before.start, _declaration_end(stuck), ""),
     )
 

@@ -298,7 +298,7 @@ def _label(typed: Typed, at: int) -> Hint:
     elif any(typed.types.of(part) == "BOOL" for part in pair):
         message = f"the label `{typed.text(pair[0])}` is a BOOL: labels are numbers; for a BOOL write IF"
     elif values[0] is not None and values[1] is not None and values[0] > values[1]:
-        message = f"the range {values[0]}..{values[1]} is empty: the lesser value stands first"
+        message = f"the range {values[0]}..{values[1]} is empty: the lesser value comes first"
     else:
         message = "the label is outside the selector's type" + (f", {_range(selector)}" if selector in TYPES else "")
     return Hint(message, pair[0].start, end, repair=Repair(pair[0].start, end, "30000"))

@@ -13,7 +13,7 @@ _WANT_VALUE_WORDS = ("AND", "OR", "XOR", "NOT", "MOD", "IF", "ELSIF", "CASE", "T
 def wanted_hint(stuck: Stuck) -> Hint:
     """What stands there, what is wanted in its place, and what is open round it."""
     here = stuck.here
-    what = "the text ends" if here.kind == "end" else f"`{here.text}` can't stand here"
+    what = "the text ends" if here.kind == "end" else f"`{here.text}` can't come here"
     within = [f"{opener.token.upper} from {stuck.source.told(opener.token.start)}" for opener in stuck.openers[-3:]]
     more = (f"Open here: {listed(within)}.",) if within else ()
     anchor = stuck.before if here.kind == "end" else here

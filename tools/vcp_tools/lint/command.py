@@ -6,6 +6,7 @@ from typing import Iterator
 
 from vcp_tools.wording import listed
 from vcp_tools.read.image import Image, Operation
+from vcp_tools.lint.step import step_told
 from vcp_tools.lint.tree_findings import Finding, tree_findings
 from vcp_tools.program import Program
 from vcp_tools.read.given import Given, load
@@ -30,15 +31,16 @@ def add_words(parser: argparse.ArgumentParser) -> None:
     """The words of `lint`."""
     parser.add_argument("program", metavar="P", help="the source")
     parser.add_argument("--from", dest="original", metavar="ORIGINAL", help=WORDS)
+    parser.add_argument("--seed", type=int, metavar="N", help="the seed with which the least step is looked for, as `vcp compile` has it")
     parser.add_argument("--allow", action="append", default=[], metavar="KIND", help=f"leave findings of this kind out; the kinds are {', '.join(KINDS)}")
 
 
 def run(given: argparse.Namespace) -> int:
-    """Prints each finding with its place; the status is 9 where there is one."""
+    """Prints each finding with its place, and the least step; the status is 9 where there is a finding."""
     unknown = [kind for kind in given.allow if kind not in KINDS]
     if unknown:
         raise Refusal(f"--allow: `{unknown[0]}` is no kind: there are {listed(KINDS)}")
-    loaded = load(Program.found(), given.program)
+    loaded = load(Program.found(), given.program, () if given.seed is None else ("--seed", str(given.seed)))
     if loaded.source is None:
         raise Refusal(f"{given.program}: this is an image, and the source is wanted")
     found = [finding for finding in findings(loaded, loaded.source) if finding.kind not in given.allow]
@@ -50,6 +52,7 @@ def run(given: argparse.Namespace) -> int:
             print(line)
     if not found:
         print(f"{given.program}: nothing that is likely a mistake")
+    print(f"{given.program}: {step_told(loaded.image)}")
     return FOUND if found else FINE
 
 

@@ -136,7 +136,7 @@ def _labels(source: Source, types: Types, choice: Choice) -> Iterator[Finding]:
         ranges = [(types.value(first), types.value(last), first.start) for first, last in branch.labels]
         known = [(low, high, at) for low, high, at in ranges if low is not None and high is not None]
         if known and all(_covered(low, high, taken) for low, high, _ in known):
-            yield Finding("branch-never-taken", branch.at, "each label of this branch stands before, and the first such branch is taken: this one never is")
+            yield Finding("branch-never-taken", branch.at, "each label of this branch comes before, and the first such branch is taken: this one never is")
         else:
             for index, (low, high, at) in enumerate(known):
                 yield from _overlap(source, low, high, at, taken + known[:index])

@@ -157,7 +157,7 @@ class Calls(Expressions):
             before, self.frame = self.frame, frame
             blocks = [it for it in unit.declared if it.section == "VAR_GLOBAL"]
             if blocks:
-                raise NotTaken(blocks[0].at, "VAR_GLOBAL stands outside a function")
+                raise NotTaken(blocks[0].at, "VAR_GLOBAL is outside a function")
             self.enter(unit.declared, frame, f"{unit.name}_", False)
             for it in frame.values():
                 if _has_instance(it):

@@ -263,7 +263,7 @@ class Expressions(Declaring):
         if term.form == "NOT":
             return self._negation(code, term.at)
         if code.family == "BOOL":
-            raise NotTaken(term.at, "a sign stands before a number")
+            raise NotTaken(term.at, "a sign comes before a number")
         return code if term.form == "plus" else codes.minus(code)
 
     def _negation(self, code: Code, at: int) -> Code:
@@ -355,7 +355,7 @@ class Expressions(Declaring):
         if leaf.name in self.inputs:
             raise NotTaken(at, f"`{leaf.name}` is an input: it gets its value from the rows")
         if leaf.name in self.controls:
-            raise NotTaken(at, f"`{leaf.name}` is the control variable of a FOR that stands round this: it isn't set there")
+            raise NotTaken(at, f"`{leaf.name}` is the control variable of a FOR that is round this: it isn't set there")
         family = kind.base if kind.base in ("BOOL", "TIME") else "number"
         if value.family != family:
             raise NotTaken(at, f"{codes.told_type(value)} isn't assigned to {kind.base}")

@@ -61,7 +61,7 @@ class Statements(Calls):
     def _leave(self, act: Leave) -> None:
         flag = {"EXIT": self.loop[0], "CONTINUE": self.loop[1], "RETURN": self.returned}[act.word]
         if not flag:
-            raise NotTaken(act.at, f"{act.word} stands in a loop alone")
+            raise NotTaken(act.at, f"{act.word} is in a loop alone")
         self.emit(f"{flag} := TRUE;")
 
     def _assign(self, act: Assign) -> None:
@@ -221,7 +221,7 @@ class Statements(Calls):
         if not isinstance(control, Leaf) or control.type.base in ("BOOL", "TIME") or control.constant is not None or control.name in self.inputs:
             raise NotTaken(act.at, "the control variable of a FOR is a number's variable")
         if control.name in self.controls:
-            raise NotTaken(act.at, f"`{control.name}` is the control variable of a FOR that stands round this")
+            raise NotTaken(act.at, f"`{control.name}` is the control variable of a FOR that is round this")
         ends = [self.expression(it) for it in act.bounds]
         step = ends[2].number if len(ends) > 2 else 1
         if step is None or step == 0:

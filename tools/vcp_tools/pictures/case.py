@@ -17,12 +17,22 @@ from vcp_tools.pictures.observe import Observation
 from vcp_tools.program import Outcome, Program, find_program
 from vcp_tools.read.assigned import Assigned
 from vcp_tools.read.audit_lines import Audited, read_audit
+from vcp_tools.read.cover_lines import CLASSES, Cover, cover_of
 from vcp_tools.read.given import Given
 from vcp_tools.read.image import Image
 from vcp_tools.read.range_lines import Ranges, ranges_of
 from vcp_tools.read.source import Source
 from vcp_tools.read.verdict_lines import Verdict, read_verdicts
 from vcp_tools.refusal import Refusal
+
+COVERED = 8
+"""The cycle borders of the cover, where no more are given."""
+MOST_AUDITED = 1 << 24
+"""Operations times outputs times (borders + 1), at most: `L6 Audit` of docs/ERRORS.md."""
+MOST_PAIRED = 10_000
+"""Of an image with more operations the classes whose faults are pairs of operations are left out: their number goes by the square."""
+PAIRED = ("from", "late")
+"""These classes."""
 
 
 @dataclass
@@ -40,6 +50,7 @@ class Case:
     run: Observation
     period: CycleTime | None = None
     original: str | None = None
+    code: list[str] = field(default_factory=list)
     found_something: bool = False
     commands: list[str] = field(default_factory=list)
 
@@ -63,7 +74,7 @@ class Case:
 
     def made(self, command: str, file: str, statuses: Sequence[int] = (0, 2, 3)) -> bytes:
         """What a command printed that was made beside the run, over the rows; the command is noted."""
-        words = (command, file, *self.rows)
+        words = (command, file, *self.rows, *(self.code if command == "run" else ()))
         self.note(*words)
         return self.program.taken(self.run.outcomes[command], words, statuses).output
 
@@ -76,6 +87,17 @@ class Case:
     def audit(self) -> list[Audited]:
         """The audit across at most `horizon` cycle borders."""
         return read_audit(self.call("audit", self.image_name, str(self.horizon)).text)
+
+    @cached_property
+    def cover(self) -> Cover | None:
+        """What becomes of each fault in every run; None where the program that tells it isn't built."""
+        if find_program("vcp_study") is None:
+            return None
+        most = MOST_AUDITED // max(1, len(self.image.operations) * len(self.image.outputs)) - 1
+        borders = min(max(COVERED, self.horizon), max(self.horizon, most))
+        names = ["all"] if len(self.image.operations) <= MOST_PAIRED else [name for name in CLASSES if name not in PAIRED]
+        self.commands += [f"vcp_study cover {shlex.quote(self.image_name)} {borders} {name}" for name in names]
+        return cover_of(self.image_bytes, borders, names)
 
     @cached_property
     def verdicts(self) -> tuple[list[Verdict], str]:

@@ -65,14 +65,16 @@ class Observation:
     outcomes: dict[str, Outcome] = field(default_factory=dict)
 
 
-def observe(program: Program, file: str, rows: Sequence[str], traced: bool = False, also: Mapping[str, Sequence[str]] | None = None) -> Observation:
+def observe(
+    program: Program, file: str, rows: Sequence[str], traced: bool = False, also: Mapping[str, Sequence[str]] | None = None, code: Sequence[str] = ()
+) -> Observation:
     """The run of a source on rows, which are a file or `--cycles` and a number; all inputs, outputs and variables, as declared. `also` has more calls that
-    are made beside it, each with a name."""
+    are made beside it, each with a name; `code` the words of seed and step."""
     source = Source(read_bytes(file))
     with tempfile.TemporaryDirectory() as folder:
         at = Path(folder) / "opened.st"
         write_bytes(at, opened(source))
-        calls: dict[str, Sequence[str]] = {"run": ("run", file, *rows), "run with variables": ("run", str(at), *rows), **(also or {})}
+        calls: dict[str, Sequence[str]] = {"run": ("run", file, *rows, *code), "run with variables": ("run", str(at), *rows), **(also or {})}
         outcomes = side_by_side(program, calls, rows)
         run = read_run(program.taken(outcomes["run"], calls["run"], (0, 2, 3)).text)
         seen = outcomes.pop("run with variables")
@@ -89,7 +91,7 @@ def observe(program: Program, file: str, rows: Sequence[str], traced: bool = Fal
             columns.append(Column(declaration, shown.columns[shown.names.index(declaration.name)]))
     found = Observation(name, columns, run.cycles, run.ending, run.is_whole, outcomes)
     if traced:
-        _compare_with_trace(program, file, rows, found)
+        _compare_with_trace(program, file, rows, found, code)
     return found
 
 
@@ -144,13 +146,13 @@ def _inputs(declarations: Sequence[Declaration], rows: Sequence[str], cycles: in
     return {name: values for name, (values, _, _) in zip(names, columns)}
 
 
-def _compare_with_trace(program: Program, file: str, rows: Sequence[str], found: Observation) -> None:
+def _compare_with_trace(program: Program, file: str, rows: Sequence[str], found: Observation, code: Sequence[str]) -> None:
     """Refuses where a value that the image has an operation for is another one in `trace`, or a residue isn't the expected one."""
     if found.cycles > MOST_TRACED:
         raise Refusal(f"--trace: {found.cycles} cycles are more than {MOST_TRACED}: take fewer rows")
     with tempfile.TemporaryDirectory() as folder:
         at = Path(folder) / "image"
-        compiled = program.must("compile", file).output
+        compiled = program.must("compile", file, *code).output
         write_bytes(at, compiled)
         seen = _seen(read_image(compiled, str(at)))
         columns = {column.name: column for column in found.columns}

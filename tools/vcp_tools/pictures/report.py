@@ -6,6 +6,7 @@ import re
 import sys
 import tempfile
 from pathlib import Path
+from typing import Sequence
 
 from vcp_tools.pictures.case import Case
 from vcp_tools.cycle_time import CycleTime
@@ -27,19 +28,22 @@ HORIZON = 2
 def add_words(parser: argparse.ArgumentParser) -> None:
     """The words of `report`."""
     add_run_words(parser, "the rows file")
-    parser.add_argument("--faults", metavar="F", help="a script of faults over the image, compiled without --seed and --step: the verdicts are told")
+    parser.add_argument("--seed", type=int, metavar="N", help="the seed of the image, as `vcp compile` has it")
+    parser.add_argument("--step", type=int, metavar="N", help="its step; `vcp_tools lint` names the least with which no stale or foreign word goes unseen")
+    parser.add_argument("--faults", metavar="F", help="a script of faults over the image, made with the same seed and step: the verdicts are shown")
     parser.add_argument("--horizon", type=int, default=HORIZON, metavar="N", help=f"the cycle borders of the audit, {HORIZON} where it isn't given")
     parser.add_argument("-o", dest="output", metavar="FILE", help="the file to write, else standard output")
     parser.add_argument("--check", metavar="FILE", help="make the report again and compare it with this one")
 
 
 def run(given: argparse.Namespace) -> int:
-    """Writes the report, or compares it. A report finds something where it tells an early end, runs that differ, an unseen fault, a blind operation, a
-    likely mistake, or what may stop."""
+    """Writes the report, or compares it. A report finds something where it tells an early end, runs that differ, a fault that isn't certain in every run or
+    that is missed, a blind operation, a likely mistake, or what may stop."""
     rows, rest = rows_words(given.rest, given.cycles)
     if rest:
         raise Refusal(f"`{rest[0]}` is left over behind ROWS")
-    made, found_something = make(given.program, rows, given.horizon, given.faults, given.trace, period_of(given), given.original)
+    code = [word for name in ("seed", "step") if getattr(given, name) is not None for word in (f"--{name}", str(getattr(given, name)))]
+    made, found_something = make(given.program, rows, given.horizon, given.faults, given.trace, period_of(given), given.original, code)
     if given.check:
         return check(given.check, read_bytes(given.check).decode("utf-8", "replace"), made)
     if given.output:
@@ -51,20 +55,21 @@ def run(given: argparse.Namespace) -> int:
 
 
 def make(
-    file: str, rows: list[str], horizon: int, faults: str | None, traced: bool = False, period: CycleTime | None = None, original: str | None = None
+    file: str, rows: list[str], horizon: int, faults: str | None, traced: bool = False, period: CycleTime | None = None, original: str | None = None,
+    code: Sequence[str] = ()
 ) -> tuple[str, bool]:
-    """The report, as one document, and whether it found something."""
+    """The report, as one document, and whether it found something. `code` has the words of seed and step."""
     program = Program.found()
     source = Source(read_bytes(file))
-    image_bytes = program.must("compile", file).output
+    image_bytes = program.must("compile", file, *code).output
     with tempfile.TemporaryDirectory() as folder:
         image = Path(folder) / "image"
         write_bytes(image, image_bytes)
-        found = observe(program, file, rows, traced, {"plain": ("plain", file, *rows), "exec": ("exec", str(image), *rows)})
+        found = observe(program, file, rows, traced, {"plain": ("plain", file, *rows), "exec": ("exec", str(image), *rows)}, code)
     found = of_origin(found, file, original)
-    case = Case(program, file, rows, horizon, faults, source, image_bytes, read_image(image_bytes, file), found, period, original)
+    case = Case(program, file, rows, horizon, faults, source, image_bytes, read_image(image_bytes, file), found, period, original, list(code))
     case.note("check", file)
-    case.note("compile", file, into=case.image_name)
+    case.note("compile", file, *code, into=case.image_name)
     parts = [part(case) for part in SECTIONS]
     return page(f"{found.name}: program, run and audit", [part for part in parts if part], STYLE), case.found_something
 

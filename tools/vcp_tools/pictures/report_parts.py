@@ -12,6 +12,7 @@ from vcp_tools.cycle_time import CycleTime
 from vcp_tools.pictures.markup import code, element, section, table, text
 from vcp_tools.files import read_bytes
 from vcp_tools.needs import find_module
+from vcp_tools.pictures.cover_part import cover_section, cover_told
 from vcp_tools.program import present_toolchain, promised_toolchain
 from vcp_tools.proved import digest, told_of
 from vcp_tools.read.verdict_lines import Verdict, faults_of_group, never_reached
@@ -54,7 +55,7 @@ def _verdict_on(case: Case) -> str:
     rows = [
         ("Size", text(size.removeprefix("ok "))),
         ("operations", text(len(case.image.operations))),
-        ("code", "narrow" if case.image.version == 1 else "wide"),
+        ("code", text(f"{'narrow' if case.image.version == 1 else 'wide'}, seed {case.image.seed}, step {case.image.step}")),
         ("cycles", text(case.run.cycles)),
         *_times(case.period, case.run.cycles),
         ("end of the run", element("span", text(case.run.ending), class_="good" if case.run.is_whole else "bad")),
@@ -77,15 +78,15 @@ def program_told(file: Path) -> str:
 
 
 def _found(case: Case) -> list[tuple[str, str]]:
-    """What the parts below found: verdicts, blind places, likely mistakes, and what may stop."""
+    """What the parts below found: faults in every run, verdicts, blind places, likely mistakes, and what may stop."""
     blind = sorted({operation for it in case.audit for operation in it.blind})
-    told = [("blind operations", _counted(case, len(blind), "none"))]
+    told = [("faults in every run", cover_told(case)), ("blind operations", _counted(case, len(blind), "none"))]
     if case.faults:
         verdicts, totals = case.verdicts
         unseen = sum(it.verdict in ("wrong", "ran-on") for it in verdicts)
         case.found_something = case.found_something or unseen > 0
         told.append(("verdicts on the faults", element("span", text(totals), class_="bad" if unseen else "good")))
-    told.append(("likely mistakes", _counted(case, len(case.findings), "none is told")))
+    told.append(("likely mistakes", _counted(case, len(case.findings), "none is named")))
     ranges = case.ranges
     if ranges is None:
         told.append(("may stop with any rows", text("not looked at: vcp_study isn't built")))
@@ -275,7 +276,7 @@ def _may_stop(case: Case) -> str:
         return ""
     rows = [(*_operation_cells(case, case.image.operations[it.operation]), code(it.cause), code(it.reads)) for it in case.ranges.may_stop]
     searched = "" if case.ranges.searched else " The image has too many operations to be searched closer."
-    note = element("p", f"As far as the ranges of all values tell: that an operation is named doesn't say that it can stop.{searched}", class_="dim")
+    note = element("p", f"As far as the ranges of all values show: that an operation is named doesn't say that it can stop.{searched}", class_="dim")
     return section("ranges", "What may stop, whatever the rows", note + table(("no.", "kind", "name", "place", "line", "stop", "reads"), rows, (0,)))
 
 
@@ -294,11 +295,11 @@ def _remark(script: list[str], line: int) -> str:
 def _lint(case: Case) -> str:
     without = find_module("lark") is None
     found = case.findings
-    note = element("p", "`lark` isn't installed: only what the operations tell was looked for.", class_="dim") if without else ""
+    note = element("p", "`lark` isn't installed: only what the operations show was looked for.", class_="dim") if without else ""
     if not found:
-        return section("lint", "Likely mistakes", note + element("p", "None is told.", class_="good"))
+        return section("lint", "Likely mistakes", note + element("p", "None is named.", class_="good"))
     rows = [(element("a", case.source.told(it.at), href=f"#L{case.source.place(it.at)[0]}", class_="m"), code(it.kind), text(it.message)) for it in found]
-    return section("lint", "Likely mistakes", note + table(("place", "kind", "what is told"), rows))
+    return section("lint", "Likely mistakes", note + table(("place", "kind", "what is named"), rows))
 
 
 def _source(case: Case) -> str:
@@ -318,6 +319,6 @@ def _commands(case: Case) -> str:
 
 
 SECTIONS: tuple[Callable[[Case], str], ...] = (
-    _verdict_on, _files, _tool, _picture, _audit, _may_stop, _campaign, _lint, _listing, _rows, _source, _commands,
+    _verdict_on, cover_section, _files, _tool, _picture, _audit, _may_stop, _campaign, _lint, _listing, _rows, _source, _commands,
 )
 """What makes the sections, in order; the commands stand last, since the others note theirs."""

@@ -18,7 +18,7 @@ def add_run_words(parser: argparse.ArgumentParser, rest: str) -> None:
     parser.add_argument("rest", metavar="ROWS", nargs="*", help=rest)
     parser.add_argument("--cycles", type=int, metavar="N", help="so many cycles, in the place of ROWS, for a program without inputs")
     parser.add_argument("--trace", action="store_true", help="compare each value that the image has an operation for with `trace`, cycle by cycle")
-    parser.add_argument("--cycle-time", metavar="TIME", help="how long a cycle takes, as 500ms or 20us: times are told in s or ms, too")
+    parser.add_argument("--cycle-time", metavar="TIME", help="how long a cycle takes, as 500ms or 20us: times are shown in s or ms, too")
     parser.add_argument("--from", dest="original", metavar="ORIGINAL", help=WORDS)
 
 

@@ -3,6 +3,7 @@ from __future__ import annotations
 
 from dataclasses import dataclass, replace
 from functools import cached_property
+from typing import Sequence
 
 from vcp_tools.read.assigned import Assigned
 from vcp_tools.read.image import MAGIC, Image, Operation, read_image
@@ -59,11 +60,11 @@ def source_of(program: Program, file: str, image: Image) -> Source:
     return Source(read_bytes(file))
 
 
-def load(program: Program, file: str) -> Given:
-    """The graph of an image, or of a source, which is compiled; a refusal where the file is neither."""
+def load(program: Program, file: str, code: Sequence[str] = ()) -> Given:
+    """The graph of an image, or of a source, which is compiled, with the words of seed and step; a refusal where the file is neither."""
     data = read_bytes(file)
     if data.startswith(MAGIC):
         program.must("list", file)
         return Given(file, read_image(data, file), data, None)
-    compiled = program.must("compile", file).output
+    compiled = program.must("compile", file, *code).output
     return Given(file, read_image(compiled, file), compiled, Source(data))

@@ -12,6 +12,9 @@ KIND_NAMES = ("INPUT", "CONST", "LOAD", "STORE", "OUT", "CONV", "NEG", "NOT", "A
 OPERANDS = {"INPUT": 0, "CONST": 0, "LOAD": 0, "STORE": 1, "OUT": 1, "CONV": 1, "NEG": 1, "NOT": 1, "SEL": 3}
 """The operations that a kind reads in its own cycle, where they aren't two. A LOAD reads the STORE of the cycle before."""
 
+_OF_BOOL = ("NOT", "AND", "OR", "XOR")
+_NUMBERS = ("INT", "DINT", "LINT")
+
 
 @dataclass(frozen=True)
 class Slot:
@@ -49,6 +52,10 @@ class Operation:
     turns: tuple[tuple[str, int], ...]
     correction: int
 
+    def wanted(self, place: int) -> str:
+        """The type that is wanted of an operand."""
+        return "BOOL" if self.kind in _OF_BOOL or (self.kind == "SEL" and place == 0) else self.operand_type
+
     @property
     def place(self) -> str:
         """The place in the source; 0:0 is none."""
@@ -76,6 +83,11 @@ class Image:
         if operation.kind in ("LOAD", "STORE"):
             return self.cells[operation.own].name
         return str(operation.own) if operation.kind == "CONST" else ""
+
+
+def goes_into(given: str, wanted: str) -> bool:
+    """Whether a value of a type is taken where another is wanted."""
+    return given == wanted if "BOOL" in (given, wanted) else _NUMBERS.index(given) <= _NUMBERS.index(wanted)
 
 
 class _Reader:

@@ -110,7 +110,7 @@ def sum_text(found: Sum, outputs: list[str]) -> str:
     for title, rows in found.tables.items():
         lines.append(f"  faults    same   wrong  ran-on refused stopped  {title}")
         ordered = sorted(rows.items(), key=lambda it: places.get(it[0], -1) if it[0] in places else _number(it[0]))
-        lines += ["".join(f"{number:8d}" for number in numbers) + f"  {name}" for name, numbers in ordered]
+        lines += ["".join(f" {number:7d}" for number in numbers) + f"  {name}" for name, numbers in ordered]
     for line, rest, more in found.unseen:
         lines += [f"{line} {rest}", *more]
     for line, more in found.standing:

@@ -15,12 +15,12 @@ _FORMS = (
     (r"(ULINT|LWORD)#", "ULINT and LWORD aren't taken: the largest type is LINT"),
     (r"['\"]|STRING\b|WSTRING\b", "there are no strings"),
     (r"\^|REF_TO\b|POINTER\b|REFERENCE\b", "there are no pointers and references"),
-    (r"%", "an address stands behind AT in a declaration alone: declare a variable at it"),
+    (r"%", "an address follows AT in a declaration alone: declare a variable at it"),
     (r"METHOD\b|PROPERTY\b|CLASS\b|INTERFACE\b|EXTENDS\b|IMPLEMENTS\b|THIS\b|SUPER\b", "there are no methods and no classes"),
     (r"CONFIGURATION\b|RESOURCE\b|TASK\b", "a file has no configuration: the program alone is taken, with its types, blocks and functions"),
     (r"JMP\b|GOTO\b", "there are no jumps"),
     (r"\*\*", "there is no `**`"),
-    (r"\(\*@", "a bound of turns stands behind DO or REPEAT"),
+    (r"\(\*@", "a bound of turns follows DO or REPEAT"),
     (r"\(\*|/\*|\{", "this isn't closed"),
     (r"!=", "`<>` is written for unequal"),
     (r"!", "NOT is written"),
@@ -46,4 +46,4 @@ def told_word(source: Source, fault: SyntaxFault) -> str:
         return "`=` compares: to set a variable write `:=`"
     if fault.text == ":=":
         return "`:=` assigns: to compare write `=`"
-    return f"`{fault.text}` can't stand here"
+    return f"`{fault.text}` can't come here"

@@ -35,7 +35,7 @@ def add_words(parser: argparse.ArgumentParser) -> None:
     check = below.add_parser("check", help="what is wrong in a rows file, or accepted without warning")
     check.add_argument("rows", help="a rows file")
     check.add_argument("program", nargs="?", help="the source whose inputs these are: names and cells are looked at, too")
-    check.add_argument("--inputs", metavar="FILE", help="a table `input,least,greatest`, as `vcp_study ranges` takes it: the rows that break it are told")
+    check.add_argument("--inputs", metavar="FILE", help="a table `input,least,greatest`, as `vcp_study ranges` takes it: the rows that break it are named")
     reach = below.add_parser("reach", help="rows by which each branch and label is taken, and each BOOL output turns; and what no row reaches")
     add_reach_words(reach)
 

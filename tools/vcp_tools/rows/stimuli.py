@@ -64,7 +64,7 @@ def _step(words: Sequence[str], number: int, file: str, period: CycleTime | None
         if not equals or not _NAME.match(name) or value == "":
             raise Refusal(f"{where}: `{word}` isn't `NAME=VALUE`, without blanks round the `=`")
         if any(name.upper() == before.upper() for before, _ in changes):
-            raise Refusal(f"{where}: `{name}` stands twice in the line: which value is meant?")
+            raise Refusal(f"{where}: `{name}` occurs twice in the line: which value is meant?")
         changes.append((name, value))
     return Step(number, cycles, tuple(changes))
 
@@ -80,7 +80,7 @@ def _cycles(word: str, where: str, period: CycleTime | None) -> int:
     else:
         cycles = int(word) if re.fullmatch(r"[0-9]{1,7}", word) else 0
     if not 1 <= cycles <= MOST_CYCLES:
-        raise Refusal(f"{where}: `{word}` stands where the number of cycles is wanted, 1 to {MOST_CYCLES}: a line is `6 approach=1`")
+        raise Refusal(f"{where}: `{word}` is where the number of cycles is wanted, 1 to {MOST_CYCLES}: a line is `6 approach=1`")
     return cycles
 
 

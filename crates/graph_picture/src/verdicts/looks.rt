@@ -21,7 +21,7 @@ fn tried(worst: Worst, some: u32, totals: &Totals) -> Look
     }
 }
 
-/// The look of an operation where the faults that stand there have verdicts with these totals.
+/// The look of an operation where its faults have verdicts with these totals.
 fn worst(totals: &Totals) -> Look
     ensures { result ≡ worst_of totals.now }
 {

@@ -69,7 +69,7 @@ fn samples(totals: &Totals) -> [Sample<'static>; 7]
     ]
 }
 
-/// Writes the picture of a graph whose boxes stand so: each operation in the colour of the worst verdict of the groups that
+/// Writes the picture of a graph whose boxes have these places: each operation in the colour of the worst verdict of the groups that
 /// have a fault there, with how many of these groups have it. The worst is `wrong`, and then come `ran-on`; `same`, of which nothing
 /// was seen either; and `stopped` and `refused`, which are seen. The legend tells how many verdicts there are of each sort. It takes no
 /// memory. After `Failed` a part of the picture is written.

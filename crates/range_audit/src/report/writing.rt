@@ -1,4 +1,4 @@
-//! What is told of a graph's operations, written line by line.
+//! What is found of a graph's operations, written line by line.
 
 ghost use Rattle.std.specs.Prelude.{◌≡◌, ◌<◌, [], cond, length, slice_get};
 ghost use Rattle.vcp_outside.specs.Written.{WritesTo};
@@ -14,7 +14,7 @@ use range_walk::{Range, Ranges};
 use vcp_base::StopKind;
 use vcp_outside::{Failed, Line, Sink};
 
-/// Goes on with the line of the range of operation `i`, which is `op`, where all are told.
+/// Goes on with the line of the range of operation `i`, which is `op`, where all are wanted.
 fn then_known_if<O: Sink>(
     line: &mut Line,
     out: &mut O,
@@ -101,7 +101,7 @@ fn then_operations<O: Sink>(line: &mut Line, out: &mut O, graph: &Graph, ranges:
     }
 }
 
-/// Goes on with the lines of outputs and of variables that are kept, where all are told.
+/// Goes on with the lines of outputs and of variables that are kept, where all are wanted.
 fn then_variables_if<O: Sink>(
     line: &mut Line,
     out: &mut O,
@@ -125,7 +125,7 @@ fn then_search<O: Sink>(line: &mut Line, out: &mut O, graph: &Graph)
     }
 }
 
-/// Writes a line for each way in which an operation may stop, in order, and before these, where `all` are told, one with the range of
+/// Writes a line for each way in which an operation may stop, in order, and before these, where `all` are wanted, one with the range of
 /// each operation, and first of all one of each output and of each variable that is kept; at last how many may stop, of how many that can
 /// by their kinds and types, and before that a line where the graph has too many operations to be searched closer. It takes no memory. After
 /// `Failed` a part of the text is written.

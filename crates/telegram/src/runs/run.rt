@@ -86,7 +86,7 @@ fn delivered_by(receipt: &Receipt) -> u64
 /// comes only where the count of wrong answers rose, or up to where a write failed. A kept log grew by
 /// exactly these calls with their answers. What is written is read off the words that were answered, by the
 /// rules of the receiver; where no answer was wrong, it is the text of the wire run, to its end. No clause
-/// says, after a write that failed, which lines of the last cycle that was begun stand, nor how many of the
+/// says, after a write that failed, which lines of the last cycle that was begun are written, nor how many of the
 /// cycles in which no telegram is handed were sent.
 pub fn run_wire<U: Unit, O: Sink>(
     alloc: Global,

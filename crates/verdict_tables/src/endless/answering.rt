@@ -78,7 +78,7 @@ fn taken(b: &Begun<'_>, own: &[Answer], op: &Op, act: &Option<Act>) -> Word
     }
 }
 
-/// Whether a fault stands at an operation in a cycle.
+/// Whether a fault is at an operation in a cycle.
 fn stands_at(fault: &Fault, cycle: u32, op: u32) -> bool
     ensures { result ≡ (fault.now.cycle == cycle && fault.now.op == op) }
 {

@@ -19,7 +19,7 @@ use vcp_base::Memory;
 /// What becomes of a group of faults of which no output tells.
 #[derive(Clone, Copy, Debug, PartialEq, Eq)]
 pub enum SameEnding {
-    /// No cycle of the run comes to an operation of the group in its cycle.
+    /// No cycle of the run reaches an operation of the group in its cycle.
     NeverReached,
     /// The group is reached, and at the end each cell has the word that it has in the run without the group.
     DiedOut,
@@ -53,7 +53,7 @@ fn ending_by(reached: bool, differs: bool) -> SameEnding
 /// How the run over rows with a group of faults ends beside the run without, of which `without` are the words of the cells at its end, as `words_left`
 /// gives them. `Memory` where there is no room for the work of a run.
 ///
-/// It is never reached where no cycle comes to the operation of one of its faults; else it still stands where
+/// It is never reached where no cycle reaches the operation of one of its faults; else it is still there where
 /// a cell has another word at the end, in its value or its residue alone; and else its difference has died
 /// out.
 pub fn group_ending(

@@ -36,7 +36,7 @@ pub(crate) struct Work {
     pub past_held: Vec<Word>,
     /// The values of the inputs.
     pub inputs: Row,
-    /// Whether the run came to a fault so far.
+    /// Whether the run reached a fault so far.
     pub reached: bool,
 }
 
@@ -74,14 +74,14 @@ fn copy_words(from: &[Word], to: &mut Vec<Word>)
     }
 }
 
-/// Whether a fault stands in a cycle, of so many answers, at an operation that it came to.
+/// Whether a fault is in a cycle, of so many answers, at an operation that it reached.
 fn comes_to(fault: &Fault, cycle: u32, answers: &[Answer]) -> bool
     ensures { result ≡ comes_to_of cycle answers.now fault.now }
 {
     fault.cycle == cycle && (fault.op as usize) < answers.len()
 }
 
-/// Whether a cycle with these answers came to a fault of the group.
+/// Whether a cycle with these answers reached a fault of the group.
 fn comes_to_any(group: &Group, cycle: u32, answers: &[Answer]) -> bool
     ensures { result ≡ list_any (comes_to_of cycle answers.now) group.now }
 {
@@ -162,7 +162,7 @@ fn run(graph: &Graph, table: &Table, rows: &RowList, group: &Group, work: &mut W
     }
 }
 
-/// What the run with a group of faults comes to; `Memory` where there is no room for its work.
+/// The outcome of the run with a group of faults; `Memory` where there is no room for its work.
 pub(crate) fn run_group(
     alloc: Global,
     graph: &Graph,

@@ -8,7 +8,7 @@ ghost use Rattle.weight_audit.specs.AuditText.{AuditOf, TellsBlind};
 
 use crate::each_graph_has_an_audit;
 
-/// A graph has a text of an audit up to a horizon, and only one, and what is told to be blind is: paths
+/// A graph has a text of an audit up to a horizon, and only one, and what it calls blind is: paths
 /// lead from it to the output, and its weight is 0.
 pub fn an_audit_has_one_text()
     ensures some { (g : Lists) (horizon : ℕ) → IsGraph g → (told : List ℕ) × AuditOf g horizon told }

@@ -13,3 +13,6 @@ returns-in-Err-DivZero c = grind (arith, to_z-of_z)
 
 pub returns-in-Err-Operand : goal.returns-in-Err-Operand
 returns-in-Err-Operand c = grind (arith, to_z-of_z)
+
+pub packed_twice-requires-clause-value : goal.packed_twice-requires-clause-value
+packed_twice-requires-clause-value c = grind (arith, to_z-of_z)
