@@ -60,11 +60,11 @@ pub record IsIl (text : List ℕ) (i : Il) : Type 0 where
   pub few : IsFew i
   pub room : size (typed_il i) ≤ most_size
 
--- the place that is told where the variables of the accumulator are too many
+-- the place that is reported where the variables of the accumulator are too many
 abbrev pub first_place : Spot
 first_place = record { line = 1; col = 1 }
 
--- Why a text is no instruction list. What is told later is told only where nothing earlier is: the text's tokens, its head,
+-- Why a text is no instruction list. A later cause is reported only where no earlier one is: the text's tokens, its head,
 -- its names, its lines, its limits. Of want of memory nothing is said.
 pub data NotIl (text : List ℕ) : IlFault → Type 0 where
   unlexed : (f : LexFault) → f ≢ lexer.Memory → Faults text f → NotIl text (fault.Lex f)

@@ -237,7 +237,7 @@ abbrev pub formed_line : List Slot → Option Ty → Spot → Option Line → Ju
 formed_line slots before spot None = faulted (fault.Instruction spot)
 formed_line slots before spot (Some l) = meant_line before l (meant slots l.operand)
 
--- A line of tokens, behind a result of the type `before`, or as the first instruction. Of its faults the first is told, in
+-- A line of tokens, behind a result of the type `before`, or as the first instruction. Of its faults the first is reported, in
 -- this order: it is no instruction; its operand is none; its target may not be set; there is no result yet; types don't fit.
 abbrev pub judged : List ℕ → List Slot → Option Ty → Spot → List Token → Judged
 judged text slots before spot ts = formed_line slots before spot (line_of text ts)

@@ -53,7 +53,7 @@ right_of spot n = record { line = spot.line; col = spot.col + n }
 abbrev pub ended : List ℕ → List ℕ
 ended text = text ++ codes " END_PROGRAM"
 
--- END_PROGRAM as if it stood behind the head and a space
+-- END_PROGRAM as if it were behind the head and a space
 abbrev pub added_end : List ℕ → List Token → Token
 added_end text head = record {
   tok = tok.Key key.EndProgram;

@@ -1,4 +1,4 @@
--- Refusals: what is told of a fault that a crate below tells.
+-- Refusals: how a fault that a crate below reports is reported here.
 use Rattle.st_lexer.specs.declared.fault.LexFault.{LexFault}
 use Rattle.st_lexer.specs.declared.fault.LexFault.TheVariants as lexer
 use Rattle.st_parser.specs.declared.fault.SyntaxFault.{SyntaxFault}

@@ -1,4 +1,4 @@
--- TypedForm: the typed program that an instruction list stands for. A hidden variable of each type that the result takes
+-- TypedForm: the typed program that an instruction list means. A hidden variable of each type that the result takes
 -- keeps it; each instruction is one statement.
 use Rattle.std.specs.Prelude.{ℕ, ◌+◌, pos, Bool, false, cond, ◌||◌, List, [], ◌∷◌, ◌++◌, length, Option, Some, None, codes}
 use Rattle.std.specs.List.{list_any}
@@ -72,7 +72,7 @@ next_type t (action.Put to slot u) = t
 next_type t action.Complement = t
 next_type t (action.Combine op negated o) = combined_type op t (common op t (operand_type o))
 
--- a result of type u stands behind one of the instructions, where it was of type t before the first
+-- the result is of type u behind one of the instructions, where it was of type t before the first
 abbrev pub uses : List Instruction → Ty → Ty → Bool
 uses [] t u = false
 uses (i ∷ is) t u = same_type (next_type t i.action) u || uses is (next_type t i.action) u

@@ -23,7 +23,7 @@ AreWords (words.Two t u) l = l ≡ t ∷ u ∷ []
 AreWords (words.Three t u v) l = l ≡ t ∷ u ∷ v ∷ []
 AreWords words.More l = 3 < length l
 
--- those that are kept stand in the text
+-- those that are kept are in the text
 abbrev pub AreInside : List ℕ → Words → Type 0
 AreInside text (words.One t) = IsInside text t
 AreInside text (words.Two t u) = IsInside text t × IsInside text u
@@ -37,7 +37,7 @@ written_in text (writing.Name t) = name (bytes_in text t)
 written_in text (writing.Number ty v) = number ty v
 written_in text (writing.Negative v) = number None (neg_ℤ v)
 
--- its token stands in the text
+-- its token is in the text
 abbrev pub InsideWriting : List ℕ → Writing → Type 0
 InsideWriting text writing.Nothing = Unit {0}
 InsideWriting text (writing.Name t) = IsInside text t

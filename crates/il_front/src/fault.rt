@@ -20,7 +20,7 @@ pub enum IlFault {
     Syntax(SyntaxFault),
     /// The head has a fault of typing; or the program has too many names, or is too large.
     Types(TypeFault),
-    /// The line whose first token stands here is no instruction, or isn't the last where it is END_PROGRAM; or the spot is
+    /// The line whose first token is here is no instruction, or isn't the last where it is END_PROGRAM; or the spot is
     /// that of the end, and END_PROGRAM is missing.
     Instruction { spot: Spot },
     /// The operand is no variable, or a literal outside its type.

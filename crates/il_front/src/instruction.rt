@@ -12,7 +12,7 @@ pub enum Operand {
     Number { ty: Ty, value: i64 },
 }
 
-/// What an instruction does with the current result. `negated` stands for the N of its operator.
+/// What an instruction does with the current result. `negated` is the N of its operator.
 #[derive(Clone, Copy)]
 pub enum Action {
     /// LD and LDN: the operand becomes the result.

@@ -9,7 +9,7 @@ ghost use Rattle.il_front.specs.Judging.{operator_named as named_of, operator_re
 use st_lexer::{Key, Tok, Token};
 use st_tree::BinOp;
 
-/// What an operator does with the current result and its operand. `negated` stands for its N.
+/// What an operator does with the current result and its operand. `negated` is its N.
 #[derive(Clone, Copy)]
 pub enum Operator {
     /// LD and LDN.

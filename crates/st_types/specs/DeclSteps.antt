@@ -1,5 +1,5 @@
 -- DeclSteps: what the steps of typing declarations give, and the faults that they note. The faults inside initial values are
--- told apart from all others: the names that these go by are known once all declarations have been read.
+-- kept apart from all others: the names that these go by are known once all declarations have been read.
 -- How the typing works, and no promise: what it promises is in Typing.
 use Rattle.std.specs.Prelude.{◌≡◌, ◌⊎◌, List, [], ◌∷◌, Option, Some, None}
 use Rattle.vcp_base.specs.declared.ty.Ty.{Ty}

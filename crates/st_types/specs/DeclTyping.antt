@@ -50,7 +50,7 @@ abbrev pub value_or_zero : Option Known → ℤ
 value_or_zero None = pos 0
 value_or_zero (Some k) = k.value
 
--- the constant that an initial value is, by what was declared before its declaration; one that is none is told at its expression alone
+-- the constant that an initial value is, by what was declared before its declaration; one that is none is reported at its expression alone
 abbrev pub known_init : Made → Option ExprTree → Option Known
 known_init m None = None
 known_init m (Some e) = constant m.entries e
@@ -65,7 +65,7 @@ Misfit k t = (x : Known) × (k ≡ Some x) × (within x.ty t ≡ false)
 
 -- ---- faults
 
--- f is a fault of the names of a declaration with this initial value, each of which is told
+-- f is a fault of the names of a declaration with this initial value, each of which is reported
 abbrev pub NamesFault : Made → Section → Ty → ℤ → Option Known → List DeclaredTree → Fault → Type 0
 NamesFault m k t v x [] f = ⊥
 NamesFault m k t v x (d ∷ ds) f =

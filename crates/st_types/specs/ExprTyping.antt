@@ -38,7 +38,7 @@ abbrev pub literal_type : Option Ty → ℤ → Option Ty
 literal_type None v = sized v
 literal_type (Some t) v = cond (fits t v) (Some t) None
 
--- the literal without a type that stands directly behind a `-`: the two are one literal
+-- the literal without a type directly behind a `-`: the two are one literal
 abbrev pub negated : UnOp → ExprTree → Option Untyped
 negated un.Neg (literal None v spot) = Some (record { value = v; spot = spot })
 negated un.Neg (literal (Some t) v spot) = None
@@ -181,7 +181,7 @@ abbrev mutual
 
 -- ---- checked expressions
 
--- what a name stands for: a constant by its value at the place of its use, and a variable by its slot
+-- what a name means: a constant by its value at the place of its use, and a variable by its slot
 abbrev pub got : Spot → Entry → Section → typed.TExprTree
 got spot e section.Constant = typed.literal e.ty e.value spot
 got spot e section.Input = typed.get e.slot e.ty

@@ -1,4 +1,4 @@
--- Places: where a name stands among others.
+-- Places: the place of a name among others.
 use Rattle.std.specs.Prelude.{◌≡◌, ℕ, ◌++◌, List, flat_map, slice_get, Some}
 use Rattle.vcp_base.specs.declared.spot.Spot.{Spot}
 use Rattle.st_tree.specs.ProgramTree.{DeclaredTree, DeclTree, BlockTree}

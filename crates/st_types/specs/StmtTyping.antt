@@ -83,7 +83,7 @@ number_in s t e = both (λ x u. form_number (Some x) (form s e)) t (type_of s e)
 abbrev pub is_free : List ℕ → Entry → Bool
 is_free held e = is_set e.section && not (list_any (λ n. n == e.slot) held)
 
--- f is a fault of a name that is set, which stands for this
+-- f is a fault of a name that is set, which means this
 abbrev pub NameFault : List ℕ → Option Entry → Spot → Fault → Type 0
 NameFault held None spot f = f ≡ fault rule.Unknown spot
 NameFault held (Some e) spot f = (f ≡ fault rule.Assign spot) × (is_free held e ≡ false)
@@ -157,7 +157,7 @@ abbrev pub held_in : List ℕ → Option Entry → List ℕ
 held_in held None = held
 held_in held (Some e) = cond (is_constant e.section) held (held ++ e.slot ∷ [])
 
--- f is a fault of the statement, which stands inside FORs over the slots `held`
+-- f is a fault of the statement, which is inside FORs over the slots `held`
 abbrev mutual
   pub StmtFault : List Entry → List ℕ → StmtTree → Fault → Type 0
   StmtFault s held (assign n e spot) f =

@@ -36,7 +36,7 @@ pub struct Form {
     pub value: i128,
 }
 
-/// What stands where a number of a type is wanted: the number of the constant form, and the same where there is a type
+/// What is put where a number of a type is wanted: the number of the constant form, and the same where there is a type
 /// and no fault inside the expression.
 #[derive(Clone, Copy, Drop)]
 pub struct Number {

@@ -4,7 +4,7 @@ use crate::names::Names;
 use std::alloc::Global;
 
 /// The names that are declared, the slots of the FORs round the place, which may not be set there, and the allocator of
-/// what is made. Its methods type the nodes: each notes the faults of its node, and gives what the node comes to, none
+/// what is made. Its methods type the nodes: each notes the faults of its node, and gives the typed node, none
 /// where it has a fault.
 #[derive(Clone, Copy)]
 pub(crate) struct Environment<'a> {

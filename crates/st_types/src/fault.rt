@@ -4,7 +4,7 @@ ghost use Rattle.std.specs.Prelude.{◌≡◌};
 
 use vcp_base::{Memory, Spot};
 
-/// A rule that a program may break. At one spot the earlier rule is told.
+/// A rule that a program may break. At one spot the earlier rule is reported.
 #[derive(Clone, Copy, Drop)]
 pub enum Rule {
     /// A name is declared before.
@@ -51,7 +51,7 @@ pub enum TypeFault {
     Label { spot: Spot },
     /// The function is unknown, or has another number of arguments.
     Call { spot: Spot },
-    /// A literal with a type is outside it; or `-` stands before the literal -2^63, which no source spells.
+    /// A literal with a type is outside it; or `-` is before the literal -2^63, which no source spells.
     Literal { spot: Spot },
     /// More than 1,024 names are declared: this is the 1,025th.
     Names { spot: Spot },

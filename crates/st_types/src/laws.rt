@@ -40,7 +40,7 @@ pub fn faultless_programs_are_checked()
     ensures limits { (p : ProgramTree) → IsFaultless p → ((t : Program) × IsTyped p t) ⊎ (((spot : Spot) × Refuses p (told.Names spot)) ⊎ Refuses p told.Size) }
 {}
 
-/// A tree has one answer: its checked program, or one refusal, want of memory apart. It does nothing: it
+/// A tree has one answer: its checked program, or one fault, want of memory apart. It does nothing: it
 /// states a law. So, but for want of memory, `typed` is exact.
 pub fn answers_are_one()
     ensures some { (p : ProgramTree) → ((t : Program) × IsTyped p t) ⊎ ((e : TypeFault) × (e ≡ told.Memory → ⊥) × Refuses p e) }

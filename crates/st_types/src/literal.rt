@@ -46,7 +46,7 @@ pub fn literal_type(ty: Option<Ty>, value: i64) -> Option<Ty>
     }
 }
 
-/// The literal without a type that stands directly behind a `-`.
+/// The literal without a type directly behind a `-`.
 pub(crate) fn negated(op: UnOp, arg: &Expr) -> Option<Untyped>
     ensures { result ≡ negated_of op (expr_tree arg.now) }
 {

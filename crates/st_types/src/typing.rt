@@ -95,7 +95,7 @@ fn judged(alloc: Global, program: &Program) -> Result<Typed, TypeFault>
 /// fault whose place and number are least; where there is none, `Names` at the 1,025th name; then `Size`. `Memory` where
 /// there is no room.
 ///
-/// Slots stand in order of declaration, widenings are put in, constants are replaced by their values, and
+/// Slots are in order of declaration, widenings are put in, constants are replaced by their values, and
 /// each FOR has its first value, step and number of turns. A checked program that the tree has is answered,
 /// or `Memory`.
 pub fn typed(alloc: Global, program: &Program) -> Result<Typed, TypeFault>

@@ -37,7 +37,7 @@ abbrev pub bracketed : Bool → List lexeme.Lexeme → List lexeme.Lexeme
 bracketed needed xs = cond needed (lexeme.symbol sym.LParen ∷ (xs ++ lexeme.symbol sym.RParen ∷ [])) xs
 
 -- The expression where an operator of level l or more is wanted: one that binds more weakly is in brackets. The right
--- operand of an operator stands where a stronger one is wanted, so that one of the same level is in brackets there.
+-- operand of an operator is where a stronger one is wanted, so that one of the same level is in brackets there.
 abbrev mutual
   pub expr : ℕ → ExprTree → List lexeme.Lexeme
   expr l (literal ty v s) = lexeme.literal ty v ∷ []

@@ -41,7 +41,7 @@ abbrev pub step : Option ExprTree → List lexeme.Lexeme
 step None = []
 step (Some e) = lexeme.word key.By ∷ lexeme.blank ∷ (expr any_level e ++ lexeme.blank ∷ [])
 
--- The statement at a level: its keywords stand at the level and its bodies one deeper; the labels of a CASE stand one
+-- The statement at a level: its keywords are at the level and its bodies one deeper; the labels of a CASE are one
 -- deeper, and the bodies of its branches two.
 abbrev mutual
   pub stmt : ℕ → StmtTree → List lexeme.Lexeme

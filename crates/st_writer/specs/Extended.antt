@@ -11,7 +11,7 @@ abbrev pub extended : List ℕ → List Lexeme → List ℕ
 extended text [] = text
 extended text (x ∷ xs) = extended (text ++ x.bytes) xs
 
--- what stands before item i of a list: nothing before the first, a comma and a space before each other
+-- what is written before item i of a list: nothing before the first, a comma and a space before each other
 abbrev pub separator : ℕ → List Lexeme
 separator zero = []
 separator (suc i) = symbol sym.Comma ∷ blank ∷ []

@@ -13,7 +13,7 @@ use st_spelling::level_of;
 use st_tree::{BinOp, Expr, UnOp, trees_of_nodes};
 use vcp_base::{Memory, Text};
 
-/// The level at which every expression stands without brackets.
+/// The level at which no expression has brackets.
 pub const ANY: u8 = 1;
 
 /// The level of the operand of a sign.

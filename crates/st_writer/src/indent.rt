@@ -7,7 +7,7 @@ use std::alloc::Global;
 use std::marker::Model;
 use vcp_base::Memory;
 
-/// The bytes that stand before a line, two spaces a level. It is seen as its level.
+/// The bytes before a line, two spaces a level. It is seen as its level.
 #[derive(Drop)]
 pub struct Indent {
     spaces: Vec<u8>,

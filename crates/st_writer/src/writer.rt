@@ -81,7 +81,7 @@ impl Writer {
         self.put(symbol_spelling(symbol))
     }
 
-    /// Writes a name, as it stands in the tree.
+    /// Writes a name, as the tree has it.
     pub fn name(&mut self, name: &Text) -> Result<(), Memory>
         ensures text { OnOk result (self.new ≡ extended self.old (lexeme.name name.now ∷ [])) }
     {
@@ -133,7 +133,7 @@ impl Writer {
         }
     }
 
-    /// Writes what stands before item `i` of a list: nothing before the first, and a comma and a space
+    /// Writes what comes before item `i` of a list: nothing before the first, and a comma and a space
     /// before each other.
     pub fn separator(&mut self, i: usize) -> Result<(), Memory>
         ensures text { OnOk result (self.new ≡ extended self.old (separator i)) }
