@@ -94,7 +94,7 @@ def open_assertions(folder: Path, precision: int, seconds: float) -> tuple[int, 
     if done.returncode != 0:
         raise SystemExit(f"frama-c: status {done.returncode}\n{done.stdout[-2000:]}{done.stderr[-2000:]}")
     with open(folder / "properties.csv", encoding="utf-8") as told:
-        rows = [row for row in csv.DictReader(told, delimiter="\t") if row["property"].startswith("operation_")]
+        rows = [row for row in csv.DictReader(told, delimiter="\t") if row["property kind"] == "user assertion"]
     return len(rows), sum(row["status"] != "Valid" for row in rows), time.monotonic() - begin
 
 

@@ -19,7 +19,7 @@ from tests.support import EXAMPLES, InFolder, needs_program
 from vcp_tools.read.verdict_lines import read_verdicts
 from vcp_tools.pictures.waves import segments
 
-VOID = ("meta", "line", "polyline", "rect")
+VOID = ("meta", "line", "polyline", "rect", "input", "br")
 
 
 class Balanced(HTMLParser):
@@ -71,9 +71,9 @@ class Reports(InFolder):
         self.assertEqual(parser.open, [])
         self.assertEqual(parser.outside, [])
         self.assertLessEqual(parser.links - {""}, parser.ids)
-        self.assertNotIn("<script", document)
-        covered = "cover " if find_program("vcp_study") else ""
-        wanted = f"summary {covered}files tool run audit campaign lint listing values source commands"
+        self.assertEqual(document.count("<script"), 1)
+        study = "cover graph " if find_program("vcp_study") else ""
+        wanted = f"summary {study}files tool run audit campaign lint listing values source commands"
         self.assertEqual(" ".join(sections_of(document)), wanted)
 
     @needs_program

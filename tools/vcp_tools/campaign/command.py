@@ -16,6 +16,7 @@ from vcp_tools.campaign.dormant import dormant_of, pairs_of
 from vcp_tools.campaign.engine import judge
 from vcp_tools.campaign.folder import FORM, Folder, Manifest, PartOf, copies_of, digest
 from vcp_tools.campaign.interval import share
+from vcp_tools.campaign.page import campaign_page
 from vcp_tools.campaign.parts import Judged, judged
 from vcp_tools.campaign.shown import Shown
 from vcp_tools.campaign.sites import CLASSES, Faults, cycles_of
@@ -63,6 +64,8 @@ def run(given: argparse.Namespace) -> int:
             print(done.summed)
         if len(runs) > 1:
             print(shown.add(str(rows), done.verdicts))
+        if words.page:
+            _write_page(words, programs, done)
         if words.then:
             unseen += _pairs(words, done).unseen
         elif words.draw is not None:
@@ -75,6 +78,14 @@ def run(given: argparse.Namespace) -> int:
     if store is not None:
         store.close()
     return FOUND if unseen else FINE
+
+
+def _write_page(words: Words, programs: tuple[Program, Program], done: "Done") -> None:
+    """Writes the page of a campaign."""
+    source = source_of(programs[0], words.source, read_image(done.image, words.image)) if words.source else None
+    page = campaign_page(f"Campaign: {words.faults} over {words.image}", done.tables, done.image, source, programs[1])
+    write_bytes(words.page, page.encode("utf-8"))
+    print(f"{words.page}: {len(page.encode())} bytes, the page of the campaign")
 
 
 def _pairs(words: Words, first: "Done") -> "Done":

@@ -22,13 +22,14 @@ judges each fault of a class, or of a script of any length, over the image M and
   --jobs N        so many parts side by side, else as many as there are processors
   --hosts FILE    judge on the machines that FILE names for GNU parallel, too
   --out FOLDER    what is kept of the campaign is there, else in campaign.DIGEST
+  --page FILE     write a page to look at: bars, the graph, the source with --source, and a table of operations
   --store FILE    keep each fault with its verdict in a database of SQLite
   --sum           have `vcp_study sum` count all parts together, too, which is proved, and compare: by one processor, and at most 10,000 parts
   --source P      the source of M, by which operations are named with the variables of their statements
   --quiet         say nothing of progress
   other options, and what follows them, go to GNU parallel
 statuses: 0 all faults were judged and each is seen, 9 one isn't (wrong or ran-on), 2 a part wasn't judged, or the words or a file can't be used"""
-_VALUED = ("--bits", "--rows", "--cycles", "--draw", "--seed", "--then", "--jobs", "-j", "--hosts", "--out", "--store", "--source")
+_VALUED = ("--bits", "--rows", "--cycles", "--draw", "--seed", "--then", "--jobs", "-j", "--hosts", "--out", "--page", "--store", "--source")
 
 
 @dataclass
@@ -45,6 +46,7 @@ class Words:
     then: str = ""
     jobs: int | None = None
     out: str = ""
+    page: str = ""
     store: str = ""
     source: str = ""
     sum: bool = False
@@ -90,6 +92,8 @@ def check_words(found: Words) -> None:
     """Refuses what can't be asked for together."""
     if found.faults in TOLD_BY_WORDS and len(found.rows) > 1:
         raise Refusal(f"campaign: the faults of `{found.faults}` are made from the words of one run: give one rows file, or a script")
+    if found.page and (len(found.rows) > 1 or found.then):
+        raise Refusal("campaign: `--page` is the page of one campaign, over one rows file, and without `--then`")
     if found.bits != BITS and "flips" not in (found.faults, found.then):
         raise Refusal("campaign: `--bits` are those that the class `flips` turns")
     if not found.then:
@@ -118,7 +122,7 @@ def _take(found: Words, word: str, value: str) -> None:
     elif word == "--hosts":
         read_bytes(value)
         found.parallel = ["--sshloginfile", value, *found.parallel]
-    elif word in ("--out", "--store", "--source", "--then"):
+    elif word in ("--out", "--page", "--store", "--source", "--then"):
         setattr(found, word[2:], value)
     else:
         least = 0 if word == "--seed" else 1

@@ -2,6 +2,7 @@
 from __future__ import annotations
 
 from vcp_tools.pictures.case import MOST_PAIRED, PAIRED, Case
+from vcp_tools.pictures.kinds import cover_bars
 from vcp_tools.pictures.markup import code, element, section, table, text
 from vcp_tools.read.cover_lines import BY_CLASS, BY_DELAY, TOLD, Cover
 
@@ -34,7 +35,7 @@ def cover_section(case: Case) -> str:
         about += f" {' and '.join(PAIRED)} are left out: the image has more than {MOST_PAIRED} operations."
     meanings = "; ".join(f"<b>{name}</b>: {said}" for name, said in _MEANINGS.items())
     parts = [
-        element("p", about, class_="dim"), _counts(found, BY_CLASS, "class"), _counts(found, BY_DELAY, "refused so many cycles later"),
+        element("p", about, class_="dim"), cover_bars(found), _counts(found, BY_CLASS, "class"), _counts(found, BY_DELAY, "refused so many cycles later"),
         element("p", meanings + ".", class_="dim"), _shows(case, found), _left(case, found),
     ]
     return section("cover", f"Faults in every run, across at most {found.horizon} cycle borders", "".join(parts))

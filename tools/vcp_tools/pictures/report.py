@@ -10,7 +10,7 @@ from typing import Sequence
 
 from vcp_tools.pictures.case import Case
 from vcp_tools.cycle_time import CycleTime
-from vcp_tools.pictures.markup import page
+from vcp_tools.pictures.looks import looked_at
 from vcp_tools.pictures.observe import observe, of_origin, rows_words
 from vcp_tools.files import read_bytes, write_bytes
 from vcp_tools.program import Program
@@ -19,7 +19,6 @@ from vcp_tools.refusal import FINE, FOUND, Refusal
 from vcp_tools.pictures.report_parts import SECTIONS
 from vcp_tools.read.source import Source
 from vcp_tools.pictures.table import add_run_words, period_of
-from vcp_tools.pictures.waves import STYLE
 
 HORIZON = 2
 """The cycle borders of the audit, where none are given."""
@@ -71,7 +70,7 @@ def make(
     case.note("check", file)
     case.note("compile", file, *code, into=case.image_name)
     parts = [part(case) for part in SECTIONS]
-    return page(f"{found.name}: program, run and audit", [part for part in parts if part], STYLE), case.found_something
+    return looked_at(f"{found.name}: program, run and audit", [part for part in parts if part]), case.found_something
 
 
 def sections_of(document: str) -> dict[str, tuple[str, str]]:

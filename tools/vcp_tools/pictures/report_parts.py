@@ -13,6 +13,8 @@ from vcp_tools.pictures.markup import code, element, section, table, text
 from vcp_tools.files import read_bytes
 from vcp_tools.needs import find_module
 from vcp_tools.pictures.cover_part import cover_section, cover_told
+from vcp_tools.pictures.filtered import filtered
+from vcp_tools.pictures.looks import faults_in, graph_section, kinds_in, marked_source, told_of_kinds, verdict_bars
 from vcp_tools.program import present_toolchain, promised_toolchain
 from vcp_tools.proved import digest, told_of
 from vcp_tools.read.verdict_lines import Verdict, faults_of_group, never_reached
@@ -128,7 +130,7 @@ def _tool(case: Case) -> str:
 
 
 def _picture(case: Case) -> str:
-    return section("run", "The run", waves(case.run, case.period))
+    return section("run", "The run", waves(case.run, case.period, faults_in(case)))
 
 
 def _rows(case: Case) -> str:
@@ -173,14 +175,16 @@ def _listing(case: Case) -> str:
     """The operations, with names and places."""
     listed = case.call("list", case.image_name).text.split("\n")
     rows = []
+    counts = kinds_in(case)
     for operation, line in zip(case.image.operations, listed):
         signature = re.search(r" sig (\d+) ", line)
         reads = ", ".join(_reference(case, case.image.operations[it]) for it in operation.operands)
         number = element("span", str(operation.number), id=f"O{operation.number}")
         types = operation.type if operation.type == operation.operand_type else f"{operation.operand_type} to {operation.type}"
         rows.append((number, code(operation.kind), types, element("span", reads, class_="m"), code(_name_of(case, operation)), _place(operation),
-                     code(signature[1] if signature else ""), code(operation.correction)))
-    return section("listing", "Operations", table(("no.", "kind", "type", "reads", "name or value", "place", "signature", "correction"), rows, (0, 6, 7)))
+                     code(signature[1] if signature else ""), code(operation.correction), told_of_kinds(counts, operation.number)))
+    head = ("no.", "kind", "type", "reads", "name or value", "place", "signature", "correction", "faults in every run")
+    return section("listing", "Operations", filtered("listing", table(head, rows, (0, 6, 7))))
 
 
 def _audit(case: Case) -> str:
@@ -242,8 +246,8 @@ def _campaign(case: Case) -> str:
         where = "; ".join(_where(case, fault) for fault in group)
         rows.append((str(it.line), faults, where, element("span", it.verdict, class_=mark), details, text(_remark(script, it.line))))
     meanings = "; ".join(f"<b>{name}</b>: {said}" for name, said in _MEANINGS.items())
-    told = table(("line", "fault", "operation", "verdict", "details", "remark above it"), rows, (0,))
-    return section("campaign", "Faults and their verdicts", told + element("p", code(totals)) + element("p", meanings + ".", class_="dim"))
+    told = filtered("campaign", table(("line", "fault", "operation", "verdict", "details", "remark above it"), rows, (0,)))
+    return section("campaign", "Faults and their verdicts", verdict_bars(case) + told + element("p", code(totals)) + element("p", meanings + ".", class_="dim"))
 
 
 def _details(case: Case, verdict: Verdict) -> str:
@@ -303,13 +307,8 @@ def _lint(case: Case) -> str:
 
 
 def _source(case: Case) -> str:
-    """The source with numbers of lines, to which places lead."""
-    count = len(case.source.starts) - (case.source.data.endswith(b"\n"))
-    lines = []
-    for number in range(1, count + 1):
-        content = text(case.source.line(number).decode("utf-8", "replace"))
-        lines.append(f'<span id="L{number}"><span class="dim">{number:>4}</span>  {content}</span>')
-    return section("source", "Source", element("pre", "\n".join(lines)))
+    """The source with numbers of lines, to which places lead, and a mark a line."""
+    return section("source", "Source", marked_source(case))
 
 
 def _commands(case: Case) -> str:
@@ -319,6 +318,6 @@ def _commands(case: Case) -> str:
 
 
 SECTIONS: tuple[Callable[[Case], str], ...] = (
-    _verdict_on, cover_section, _files, _tool, _picture, _audit, _may_stop, _campaign, _lint, _listing, _rows, _source, _commands,
+    _verdict_on, cover_section, graph_section, _files, _tool, _picture, _audit, _may_stop, _campaign, _lint, _listing, _rows, _source, _commands,
 )
 """What makes the sections, in order; the commands stand last, since the others note theirs."""

@@ -19,13 +19,16 @@ MOST_LETTERS = 40
 """So many letters of a name are shown at most."""
 STYLE = """
 .waves { display: flex; align-items: flex-start; overflow-x: auto; } .waves svg { flex: none; }
-.waves .names { position: sticky; left: 0; background: #fff; border-right: 1px solid #bbb; }
-.waves text { font: 12px ui-monospace, monospace; fill: #222; } .waves .g { font-weight: 600; fill: #555; } .waves .s { font-size: 10px; }
-.waves .i, .waves .o, .waves .v { fill: none; stroke: #444; stroke-width: 1.4; } .waves .o { stroke: #174ea6; } .waves .v { stroke: #7a4b00; }
-.waves .b { stroke: #bbb; } .waves .h { fill: #dde8f4; stroke: none; } .waves .t { stroke: #ddd; } .waves .e { stroke: #a31515; }
+.waves .names { position: sticky; left: 0; background: var(--bg); border-right: 1px solid var(--line); }
+.waves text { font: 12px ui-monospace, monospace; fill: var(--fg); } .waves .g { font-weight: 600; fill: var(--dim); } .waves .s { font-size: 10px; }
+.waves .i, .waves .o, .waves .v { fill: none; stroke: var(--fg); stroke-width: 1.4; } .waves .o { stroke: var(--link); } .waves .v { stroke: var(--own); }
+.waves .b { stroke: var(--line); } .waves .h { fill: var(--high); stroke: none; } .waves .t { stroke: var(--faint); } .waves .e { stroke: var(--bad-text); }
+.waves .f { stroke: var(--dim); stroke-width: 2; stroke-dasharray: 3 3; } .waves .f.unseen { stroke: var(--bad-text); stroke-dasharray: none; }
+.waves text.f { stroke: none; font-weight: 600; } .waves text.f.unseen { fill: var(--bad-text); }
 @media print { .waves { overflow: visible; } }
 """
-"""How the parts of a picture look: `g` groups, `i`, `o` and `v` lanes, `b` base lines, `h` a level of 1, `s` ends of ramps, `t` cycles, `e` an early end."""
+"""How the parts of a picture look: `g` groups, `i`, `o` and `v` lanes, `b` base lines, `h` a level of 1, `s` ends of ramps, `t` cycles, `e` an early end,
+`f` the cycle of a fault."""
 _LETTER, _DIGIT, _SMALL_DIGIT = 7.3, 6.6, 6.1
 """The width of a letter of a name, of a digit, and of one at the end of a ramp."""
 _HEAD = 24
@@ -49,11 +52,20 @@ class Ramp(NamedTuple):
     last: int
 
 
-def waves(found: Observation, period: CycleTime | None = None) -> str:
-    """The picture of all columns of a run, group by group; with the times of cycles where it is known how long one takes."""
+class Fault(NamedTuple):
+    """A fault in a run: its cycle, the number of its line in a script, and its verdict."""
+
+    cycle: int
+    line: int
+    verdict: str
+
+
+def waves(found: Observation, period: CycleTime | None = None, faults: Sequence[Fault] = ()) -> str:
+    """The picture of all columns of a run, group by group; with the times of cycles where it is known how long one takes, and the cycles of faults."""
     cycles = min(found.cycles, MOST_CYCLES)
     scale = max(3.0, min(26.0, 940 / max(1, cycles)))
-    head = _HEAD + (14 if period else 0)
+    struck = sorted(it for it in faults if it.cycle < cycles)
+    head = _HEAD + 14 * (bool(period) + bool(struck))
     names: list[str] = []
     lanes: list[str] = []
     y = head
@@ -68,9 +80,12 @@ def waves(found: Observation, period: CycleTime | None = None) -> str:
             y += LANE
     unit = period.unit_for(found.cycles) if period else ""
     names.append('<text x="2" y="12">cycle</text>' + (f'<text x="2" y="26">{unit}</text>' if period else ""))
+    if struck:
+        names.append(f'<text x="2" y="{head - 12}">fault, line</text>')
     marks = "".join(_marks(cycles, scale, head, y, period, unit))
     left = 18 + max((len(column.name[:MOST_LETTERS]) for column in found.columns), default=0) * _LETTER
-    pictures = (("names", max(90.0, left), names), ("lanes", cycles * scale + 60, [marks, *lanes, _ending(found, cycles, scale, head, y)]))
+    run = [marks, *lanes, *_faults(struck, scale, head, y), _ending(found, cycles, scale, head, y)]
+    pictures = (("names", max(90.0, left), names), ("lanes", cycles * scale + 60, run))
     drawn = [_svg(name, width, y + 24, parts) for name, width, parts in pictures]
     return element("div", "\n" + "\n".join(drawn) + "\n", class_="waves", role="img", aria_label="timing diagram")
 
@@ -96,6 +111,21 @@ def _marks(cycles: int, scale: float, head: int, bottom: int, period: CycleTime 
         yield f'<line class="t" x1="{x:.1f}" y1="{head - 8}" x2="{x:.1f}" y2="{bottom}"/><text x="{x:.1f}" y="12">{cycle}</text>'
         if period:
             yield f'<text x="{x:.1f}" y="26">{period.at(cycle, unit)}</text>'
+
+
+def _faults(faults: Sequence[Fault], scale: float, head: int, bottom: int) -> Iterator[str]:
+    """A line in the middle of each cycle with faults, solid where one isn't seen, with the numbers of their lines where they have room, and with their
+    verdicts where the pointer rests on it."""
+    free = 0.0
+    for cycle in sorted({it.cycle for it in faults}):
+        here = [it for it in faults if it.cycle == cycle]
+        style = "f unseen" if any(it.verdict in ("wrong", "ran-on") for it in here) else "f"
+        x, words = (cycle + 0.5) * scale, ",".join(str(it.line) for it in here)
+        told = text(f"cycle {cycle}: " + ", ".join(f"line {it.line} {it.verdict}" for it in here))
+        yield f'<line class="{style}" x1="{x:.1f}" y1="{head - 8}" x2="{x:.1f}" y2="{bottom}"><title>{told}</title></line>'
+        if x >= free:
+            yield f'<text class="{style}" x="{x:.1f}" y="{head - 12}">{words}</text>'
+            free = x + len(words) * _LETTER + 6
 
 
 def _ending(found: Observation, cycles: int, scale: float, head: int, bottom: int) -> str:
