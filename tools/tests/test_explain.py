@@ -127,7 +127,7 @@ class Calls(InFolder):
     def test_faults_that_do_not_follow_are_told(self) -> None:
         """Beside a fault that is told, in its statement or with a variable of its type: those that come whatever type that variable is given."""
         for body, told, left in (("q := SHL(w, 2) > 0;\n", ["WORD", "no function SHL"], 0), ("r := MAX(w, i, 5);\n", ["WORD", "MAX takes 2 arguments"], 0),
-                                 ("i := i ** 2;\nr := w;\n", ["WORD", "power", "`i` is an input"], 0), ("IF w THEN q := a; END_IF;\n", ["WORD"], 1),
+                                 ("i := i ** 2;\nr := w;\n", ["WORD", "`i` is an input", "power"], 0), ("IF w THEN q := a; END_IF;\n", ["WORD"], 1),
                                  ("IF a THEN d := w; END_IF;\n", ["WORD", "`d` is an input"], 0), ("q := w;\n", ["WORD"], 1),
                                  ("q := ABS(w, 1) > 2 AND a;\n", ["WORD", "ABS takes 1 argument"], 0)):
             self.write("p.st", (FRAME % body).replace("x : BOOL;", "w : WORD;"))
