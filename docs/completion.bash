@@ -46,8 +46,8 @@ _vcp_study() {
         esac
         ;;
     4:cover) mapfile -t COMPREPLY < <(compgen -W 'add rest stale skip from late operator all' -- "$word") ;;
-    4:sites) mapfile -t COMPREPLY < <(compgen -W 'bits stale skip from operator all flips' -- "$word") ;;
-    *:sites) mapfile -t COMPREPLY < <(compgen -W '--count flips' -- "$word") ;;
+    4:sites) mapfile -t COMPREPLY < <(compgen -W 'bits stale skip from operator all flips late' -- "$word") ;;
+    *:sites) mapfile -t COMPREPLY < <(compgen -W '--count flips late' -- "$word") ;;
     esac
 }
 

@@ -153,7 +153,7 @@ def main(words: Sequence[str]) -> int:
         sys.stdout.write("operation 2 ADD at 4:8 RANGE of 0 LOAD t 0..9 and 1 CONST 1..1\n" * stops + f"may stop {stops} of 1\n")
         return found if stops else 0
     elif command == "sites":
-        cycles = rows_of(words[3]) if words[4] == "flips" else int(words[3])
+        cycles = rows_of(words[3]) if words[4] in ("flips", "late") else int(words[3])
         first = 1 if words[4] in ("skip", "stale") else 0
         form = {"skip": "skip {} {}", "stale": "operand {} {} 0 stale"}.get(words[4], "result {} {} add 1")
         lines = [form.format(cycle, operation) for cycle in range(first, cycles) for operation in range(OPERATIONS)]

@@ -51,15 +51,17 @@ class Programs(InFolder):
     """The same of programs that are built."""
 
     @needs_programs
-    def test_the_bits_0_to_31_are_those_of_the_proved_script(self) -> None:
+    def test_the_bits_0_to_31_and_late_words_are_those_of_the_proved_script(self) -> None:
         programs = Program.found(), Program.found("vcp_study")
         for name, rows in (("add", "in"), ("crossing", "crossing"), ("odometer", "odometer")):
             shutil.copy(EXAMPLES / f"{rows}.csv", self.folder / "r.csv")
             image = self.write("m.img", self.program("compile", str(EXAMPLES / f"{name}.st")))
             over = [str(self.folder / "r.csv")]
-            proved = faults_of("flips", programs, image, over, 0, (0, 31))
-            wanted = [line for start in range(0, proved.count, 10_000) for line in proved.text(start, 10_000).split(b"\n")[1:-1]]
-            self.assertEqual(list(flips(words_of(programs[0], image, over), (0, 31))), wanted, name)
+            words = words_of(programs[0], image, over)
+            for of, told in (("flips", flips(words, (0, 31))), ("late", late(read_image(image.read_bytes(), "m.img"), words))):
+                proved = faults_of(of, programs, image, over, 0, (0, 31))
+                wanted = [line for start in range(0, proved.count, 10_000) for line in proved.text(start, 10_000).split(b"\n")[1:-1]]
+                self.assertEqual(list(told), wanted, (name, of))
 
     @needs_programs
     def test_upper_bits_and_late_words_are_judged(self) -> None:

@@ -2,13 +2,14 @@ mod Below
 mod Bits
 mod Counting
 mod Ended
-mod FlipGoing
-mod FlipsFit
-mod FlipsOnce
 mod Going
 mod OneBit
 mod Parts
 mod ReadBack
+mod RunFit
+mod RunGoing
+mod RunOnce
+mod RunWritten
 mod Short
 mod SitesFit
 mod SitesHave

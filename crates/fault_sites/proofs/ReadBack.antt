@@ -41,7 +41,7 @@ use Rattle.fault_sites.proofs.SitesFit.{each_fits}
 -- ---- lines
 
 -- a byte that is no control character
-abbrev plain : ℕ → Bool
+abbrev pub plain : ℕ → Bool
 plain c = nat_le 32 c
 
 and_both : (a b : Bool) → (a && b) ≡ true → (a ≡ true) × (b ≡ true)

@@ -13,7 +13,10 @@ use Rattle.fault_script.specs.declared.act.Act.TheVariants as act
 use Rattle.fault_script.specs.ScriptOf.{script_of}
 use Rattle.fault_sites.specs.declared.class.Class.TheVariants as class
 use Rattle.fault_sites.specs.declared.class.Classes.TheVariants as classes
-use Rattle.fault_sites.specs.Flips.{expected_word, flips, flips_of, flips_text}
+use Rattle.fault_sites.specs.Flips.{flips_of}
+use Rattle.fault_sites.specs.RunCycle.{expected_word}
+use Rattle.fault_sites.specs.RunSites.{run_sites, run_text}
+use Rattle.fault_sites.specs.declared.run_class.RunClass.TheVariants as run
 use Rattle.fault_sites.specs.Sites.{addend, site, sites_of, sites}
 use Rattle.fault_sites.specs.SiteText.{classes_name, classes_of, site_text, sites_text, said_from}
 
@@ -143,18 +146,18 @@ its_bit_31 : slice_get (flips_of (neg_ℤ (pos 2147483646))) 31 ≡ Some (act.Re
 its_bit_31 = refl
 
 -- five results in two cycles
-flips_count : length (flips numbers counter ([] ∷ [] ∷ [])) ≡ 320
+flips_count : length (run_sites run.Flips numbers counter ([] ∷ [] ∷ [])) ≡ 320
 unfolding counter op_on numbers coded signature
 flips_count = refl
 
 -- CONST is operation 1, of the signature 214748365. The stamp is 1, and so its word is 2147483647 + 214748365 + 1, which ends in 1101.
-flips_of_const : flips_text (codes "00ff") numbers counter ([] ∷ []) (record { skip = 32; left = 3 })
+flips_of_const : run_text run.Flips (codes "00ff") numbers counter ([] ∷ []) (record { skip = 32; left = 3 })
     ≡ codes "# sites flips of 00ff\nresult 0 1 add -1\nresult 0 1 add 2\nresult 0 1 add -4\n"
 unfolding digits counter op_on numbers coded signature
 flips_of_const = refl
 
 -- in the second cycle the stamp is 2, and the word ends in 1110
-flips_later : flips_text (codes "00ff") numbers counter ([] ∷ [] ∷ []) (record { skip = 192; left = 3 })
+flips_later : run_text run.Flips (codes "00ff") numbers counter ([] ∷ [] ∷ []) (record { skip = 192; left = 3 })
     ≡ codes "# sites flips of 00ff\nresult 1 1 add 1\nresult 1 1 add -2\nresult 1 1 add -4\n"
 unfolding digits counter op_on numbers coded signature
 flips_later = refl
@@ -164,7 +167,7 @@ stopping : Lists
 unfolding counter
 stopping = record counter { operations = op_on kind.Const 0 0 (pos 0) ∷ op_on kind.Div 0 0 (pos 0) ∷ [] }
 
-none_of_stopped : flips numbers stopping ([] ∷ []) ≡ []
+none_of_stopped : run_sites run.Flips numbers stopping ([] ∷ []) ≡ []
 unfolding counter stopping op_on numbers coded signature
 none_of_stopped = refl
 

@@ -9,9 +9,12 @@ use Rattle.fault_script.specs.Fits.{Fits}
 use Rattle.fault_script.specs.ScriptOf.{says, items_of, most_faults, script_of}
 use Rattle.fault_sites.specs.declared.class.Classes.{Classes}
 use Rattle.fault_sites.specs.declared.part.Part.{Part}
+use Rattle.fault_sites.specs.declared.run_class.RunClass.{RunClass}
+use Rattle.fault_sites.specs.declared.run_class.RunClass.TheVariants as run
 use Rattle.fault_sites.specs.declared.site.Site.{Site}
-use Rattle.fault_sites.specs.Flips.{bit_of, flip, flips, flips_text}
+use Rattle.fault_sites.specs.Flips.{bit_of, flip}
 use Rattle.fault_sites.specs.Part.{kept}
+use Rattle.fault_sites.specs.RunSites.{run_sites, run_text}
 use Rattle.fault_sites.specs.Sites.{as_fault, sites}
 use Rattle.fault_sites.specs.SiteText.{said_from, site_text, sites_text}
 
@@ -61,20 +64,22 @@ TurnsOneBit = (w : ℤ) (b c : ℕ) → bit_of (w +ℤ flip w b) c ≡ cond (c =
 
 -- each flip stands once
 abbrev pub EachFlipOnce : Type 0
-EachFlipOnce = (t : Numbers) (g : Lists) (rows : List (List ℤ)) → Distinct (flips t g rows)
+EachFlipOnce = (t : Numbers) (g : Lists) (rows : List (List ℤ)) → Distinct (run_sites run.Flips t g rows)
 
--- the same of flips: each fits the graph, and their script is read back
-abbrev pub EachFlipFits : Type 0
-EachFlipFits = (t : Numbers) (g : Lists) (rows : List (List ℤ)) (line : ℕ) → length rows ≤ most_cycles → All (λ s. Fits g (as_fault line s)) (flips t g rows)
+-- the same of the sites that a run decides: each fits the graph, and their script is read back
+abbrev pub EachRunSiteFits : Type 0
+EachRunSiteFits =
+    (c : RunClass) (t : Numbers) (g : Lists) (rows : List (List ℤ)) (line : ℕ) → length rows ≤ most_cycles
+    → All (λ s. Fits g (as_fault line s)) (run_sites c t g rows)
 
-abbrev pub FlipsAreReadBack : Type 0
-FlipsAreReadBack =
-    (digest : List ℕ) (t : Numbers) (g : Lists) (rows : List (List ℤ)) (p : Part) → All (λ b. 32 ≤ b) digest → length rows ≤ most_cycles
-    → length g.operations ≤ 2 ^ 32 → length (kept p (flips t g rows)) ≤ most_faults →
-    script_of g (flips_text digest t g rows p) ≡ Ok (said_from 2 (kept p (flips t g rows)))
+abbrev pub RunIsReadBack : Type 0
+RunIsReadBack =
+    (c : RunClass) (digest : List ℕ) (t : Numbers) (g : Lists) (rows : List (List ℤ)) (p : Part) → All (λ b. 32 ≤ b) digest → length rows ≤ most_cycles
+    → length g.operations ≤ 2 ^ 32 → length (kept p (run_sites c t g rows)) ≤ most_faults →
+    script_of g (run_text c digest t g rows p) ≡ Ok (said_from 2 (kept p (run_sites c t g rows)))
 
-abbrev pub FlipsAreShort : Type 0
-FlipsAreShort =
-    (digest : List ℕ) (t : Numbers) (g : Lists) (rows : List (List ℤ)) (p : Part) → length digest ≤ 1000 → length rows ≤ most_cycles
-    → length g.operations ≤ 2 ^ 32 → length (kept p (flips t g rows)) ≤ most_faults →
-    length (flips_text digest t g rows p) ≤ most_source_bytes
+abbrev pub RunIsShort : Type 0
+RunIsShort =
+    (c : RunClass) (digest : List ℕ) (t : Numbers) (g : Lists) (rows : List (List ℤ)) (p : Part) → length digest ≤ 1000 → length rows ≤ most_cycles
+    → length g.operations ≤ 2 ^ 32 → length (kept p (run_sites c t g rows)) ≤ most_faults →
+    length (run_text c digest t g rows p) ≤ most_source_bytes

@@ -1,10 +1,13 @@
+pub mod Digest
 pub mod Flips
+pub mod Late
 pub mod Laws
 pub mod Members
 pub mod Part
+pub mod Run
+pub mod RunCycle
+pub mod RunSites
+pub mod Script
 pub mod SiteText
 pub mod Sites
 pub mod Telling
-pub mod Run
-pub mod Digest
-pub mod Script

@@ -15,7 +15,7 @@ use vcp_base::{Kind, kind_code, kind_of_code, operand_type, operands, within};
 pub(crate) const KINDS: u8 = 19;
 
 /// The operation that operand `j` names.
-fn named(op: &Op, j: u32) -> u32
+pub(crate) fn named(op: &Op, j: u32) -> u32
     ensures { result ≡ named_of op.now j }
 {
     match j {

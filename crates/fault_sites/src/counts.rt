@@ -13,7 +13,7 @@ use op_graph::{Graph, Op};
 use vcp_base::operands;
 
 /// How many an act is that may be there.
-fn count_any(act: Option<Act>) -> u64
+pub(crate) fn count_any(act: Option<Act>) -> u64
     ensures count { result ≡ length (option_to_list act) }
     ensures few { result ≤ 1 }
 {

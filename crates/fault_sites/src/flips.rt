@@ -1,31 +1,27 @@
 //! Flips of bits of words, whose signs are taken from a run without faults.
 
-ghost use Rattle.std.specs.Prelude.{◌≡◌, ℕ, ◌<◌, ◌≤◌, ◌++◌, ◌/◌, ◌%◌, ◌^◌, ◌==◌, All, codes, length};
+ghost use Rattle.std.specs.Prelude.{◌≡◌, ◌<◌, ◌≤◌, ◌/◌, ◌%◌, ◌^◌, ◌==◌, length};
 ghost use Rattle.vcp_base.specs.Limits.{most_cycles};
-ghost use Rattle.vcp_outside.specs.Written.{WritesTo};
-ghost use Rattle.vcp_outside.specs.Gathering.{GathersTo};
-ghost use Rattle.fault_sites.specs.Run.{begun};
-ghost use Rattle.signature_table.specs.Signatures.{Numbers};
-ghost use Rattle.fault_sites.specs.Flips.{bit_of, expected_word as expected_word_of, flip as flip_of, flipped_bits, flips, flips_in, flips_of, flips_text};
+ghost use Rattle.fault_sites.specs.Flips.{bit_of, flip as flip_of, flipped_bits, flips_in, flips_of};
+ghost use Rattle.fault_sites.specs.RunCycle.{as_cycle, expected_word as expected_word_of};
 ghost use Rattle.fault_sites.specs.Sites.{sited};
 ghost use Rattle.fault_sites.specs.Telling.{Tells};
 
-use crate::GraphValues;
+use crate::cycle_values::CycleValues;
+use crate::graph_values::at;
 use crate::part::Part;
 use crate::telling::then_one;
 use crate::values::power;
 use coded_unit::Word;
 use fault_script::Act;
-use input_rows::RowList;
 use signature_table::{Table, expected};
-use vcp_base::Row;
-use vcp_outside::{Failed, Line, Sink};
+use vcp_outside::{Line, Sink};
 
 /// How many bits of a word are flipped.
 const BITS: u32 = 32;
 
 /// The word of operation `k` in cycle `n` where nothing is amiss and its value is `v`.
-fn expected_word(table: &Table, n: u32, k: u32, v: i64) -> Word
+pub(crate) fn expected_word(table: &Table, n: u32, k: u32, v: i64) -> Word
     requires { n < most_cycles }
     ensures { result ≡ expected_word_of table.now n k v }
 {
@@ -89,138 +85,50 @@ fn then_bits_of<O: Sink>(
     part
 }
 
-/// Goes on with the flips of cycle `n`, which is the last one of the run.
-fn then_flips_in<O: Sink>(
+/// Goes on with the flips of a cycle, one by one.
+fn then_each_flip<O: Sink>(
     line: &mut Line,
     out: &mut O,
     mut part: Part,
-    n: u32,
-    run: &GraphValues<'_>,
-    table: &Table,
+    c: &CycleValues<'_>,
 ) -> Part
-    requires { n < most_cycles }
-    ensures { Tells (O.seen out.old) (O.seen out.new) line.old line.new part result (flips_in table.now run.now.graph n run.now.values) }
+    requires { c.now.cycle < most_cycles }
+    ensures { Tells (O.seen out.old) (O.seen out.new) line.old line.new part result (flips_in (as_cycle c.now)) }
 {
-    'operations: for k in 0..run.graph().len() {
-        let word = expected_word(table, n, k, run.value(k));
-        part = then_bits_of(line, out, part, n, k, word);
+    'operations: for k in 0..c.graph.len() {
+        let word = expected_word(c.table, c.cycle, k, at(c.values, k as u64));
+        part = then_bits_of(line, out, part, c.cycle, k, word);
     }
     part
 }
 
 /// How many flips there are in a cycle.
-fn count_in(run: &GraphValues<'_>) -> u64
-    ensures count { (t : Numbers) (n : ℕ) → result ≡ length (flips_in t run.now.graph n run.now.values) }
+pub(crate) fn count_flips_in(c: &CycleValues<'_>) -> u64
+    ensures count { result ≡ length (flips_in (as_cycle c.now)) }
     ensures few { result ≤ 2097152 }
 {
-    run.graph().len() as u64 * BITS as u64
+    c.graph.len() as u64 * BITS as u64
 }
 
-/// The same as `then_flips_in`; they are passed over at once where they all stand before the part.
-fn then_cycle<O: Sink>(
+/// Goes on with the flips of a cycle, and passes over them at once where they all stand before the part.
+pub(crate) fn then_flips_in<O: Sink>(
     line: &mut Line,
     out: &mut O,
     part: Part,
-    n: u32,
-    run: &GraphValues<'_>,
-    table: &Table,
+    c: &CycleValues<'_>,
 ) -> Part
-    requires { n < most_cycles }
-    ensures { Tells (O.seen out.old) (O.seen out.new) line.old line.new part result (flips_in table.now run.now.graph n run.now.values) }
+    requires { c.now.cycle < most_cycles }
+    ensures { Tells (O.seen out.old) (O.seen out.new) line.old line.new part result (flips_in (as_cycle c.now)) }
 {
     if part.left == 0 {
         return part;
     }
-    let count = count_in(run);
+    let count = count_flips_in(c);
     if count <= part.skip {
         return Part {
             skip: part.skip - count,
             left: part.left,
         };
     }
-    then_flips_in(line, out, part, n, run, table)
-}
-
-/// Goes on with the flips of the run over all rows, or up to its stop.
-fn then_run<O: Sink>(
-    line: &mut Line,
-    out: &mut O,
-    mut part: Part,
-    run: &mut GraphValues<'_>,
-    table: &Table,
-    rows: &RowList,
-    row: &mut Row,
-) -> Part
-    requires begun { run.old ≡ begun run.old.graph }
-    requires few { length rows.now ≤ most_cycles }
-    requires width { All (λ r. length r ≡ length run.old.graph.inputs) rows.now }
-    requires row { length row.old ≡ length run.old.graph.inputs }
-    ensures { Tells (O.seen out.old) (O.seen out.new) line.old line.new part result (flips table.now run.old.graph rows.now) }
-{
-    let count = rows.len() as u32;
-    'cycles: for n in 0..count {
-        if part.left == 0 {
-            return part;
-        }
-        rows.get(n, row);
-        match run.cycle(row) {
-            Some(_) => return part,
-            None => part = then_cycle(line, out, part, n, run, table),
-        }
-    }
-    part
-}
-
-/// How many flips there are in the run over all rows, or up to its stop, whatever the seed and the step of the code. The run is before
-/// its first cycle, and `row` is for its inputs.
-pub fn count_flips(run: &mut GraphValues<'_>, rows: &RowList, row: &mut Row) -> u64
-    requires begun { run.old ≡ begun run.old.graph }
-    requires width { All (λ r. length r ≡ length run.old.graph.inputs) rows.now }
-    requires row { length row.old ≡ length run.old.graph.inputs }
-    ensures { (t : Numbers) → result ≡ length (flips t run.old.graph rows.now) }
-{
-    let count = rows.len() as u32;
-    let mut found = 0;
-    'cycles: for n in 0..count {
-        rows.get(n, row);
-        match run.cycle(row) {
-            Some(_) => return found,
-            None => found += count_in(run),
-        }
-    }
-    found
-}
-
-/// Goes on with the remark that names the image, without its LF.
-fn then_remark<O: Sink>(line: &mut Line, out: &mut O, digest: &[u8])
-    ensures { GathersTo (O.seen out.old) (O.seen out.new) line.old line.new (codes "# sites " ++ (codes "flips" ++ (codes " of " ++ digest.now))) }
-{
-    line.text(out, b"# sites ");
-    line.text(out, b"flips");
-    line.text(out, b" of ");
-    line.text(out, digest);
-}
-
-/// Writes the script of a part of the flips of a run over all rows, at most 1,000,000, or up to its stop: a remark with the digits of the
-/// image's digest, and a line for each flip, in the order of cycle, operation and bit. The words are those of the table's code. The run is
-/// before its first cycle, and `row` is for its inputs. It takes no memory. After `Failed` a part of the text is written.
-pub fn write_flips<O: Sink>(
-    out: &mut O,
-    digest: &[u8],
-    run: &mut GraphValues<'_>,
-    table: &Table,
-    rows: &RowList,
-    row: &mut Row,
-    part: Part,
-) -> Result<(), Failed>
-    requires begun { run.old ≡ begun run.old.graph }
-    requires few { length rows.now ≤ most_cycles }
-    requires width { All (λ r. length r ≡ length run.old.graph.inputs) rows.now }
-    requires row { length row.old ≡ length run.old.graph.inputs }
-    ensures { WritesTo (O.seen out.old) (O.seen out.new) (flips_text digest.now table.now run.old.graph rows.now part) result }
-{
-    let mut line = Line::new();
-    then_remark(&mut line, out, digest);
-    then_run(&mut line, out, part, run, table, rows, row);
-    line.end(out)
+    then_each_flip(line, out, part, c)
 }

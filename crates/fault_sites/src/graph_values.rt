@@ -6,6 +6,7 @@ ghost use Rattle.op_graph.specs.GraphRun.{cycle as cycle_of, initial, operand as
 ghost use Rattle.op_graph.specs.Reads.{named as named_of};
 ghost use Rattle.fault_sites.specs.Run.{after, begun};
 
+use crate::acts::named;
 use op_graph::{Graph, Op};
 use std::alloc::Global;
 use std::marker::Model;
@@ -34,7 +35,7 @@ impl<'a> Model for GraphValues<'a> {
 }
 
 /// The value at place `n`; 0 where there is none.
-fn at(values: &[i64], n: u64) -> i64
+pub(crate) fn at(values: &[i64], n: u64) -> i64
     ensures { result ≡ at_of values.now n }
 {
     match values.get(n as usize) {
@@ -75,19 +76,8 @@ fn own(row: &Row, op: &Op) -> i64
     }
 }
 
-/// The operation that operand `j` names.
-fn named(op: &Op, j: u32) -> u32
-    ensures { result ≡ named_of op.now j }
-{
-    match j {
-        0 => op.a,
-        1 => op.b,
-        _ => op.c,
-    }
-}
-
 /// The value of operand `j`; 0 where there is no such operand.
-fn operand(cells: &[i64], values: &[i64], op: &Op, j: u32) -> i64
+pub(crate) fn operand(cells: &[i64], values: &[i64], op: &Op, j: u32) -> i64
     ensures { result ≡ operand_of cells.now values.now op.now j (named_of op.now j) }
 {
     if operands(op.kind) <= j {
@@ -195,10 +185,17 @@ impl<'a> GraphValues<'a> {
         stop
     }
 
-    /// The value of operation `k` in the last cycle; 0 where it had none.
-    pub fn value(&self, k: u32) -> i64
-        ensures { result ≡ at_of self.now.values k }
+    /// The values that the cells hold.
+    pub fn cells(&self) -> &[i64]
+        ensures { result.now ≡ self.now.cells }
     {
-        at(&self.values, k as u64)
+        &self.cells
+    }
+
+    /// The values of the operations in the last cycle, up to the first that stopped in it.
+    pub fn values(&self) -> &[i64]
+        ensures { result.now ≡ self.now.values }
+    {
+        &self.values
     }
 }

@@ -1,6 +1,6 @@
 //! Laws of sites. Each function does nothing: it states a law.
 
-ghost use Rattle.fault_sites.specs.Laws.{EachFits, EachFlipFits, EachFlipOnce, EachOnce, FlipsAreReadBack, FlipsAreShort, IsLineRead, IsReadBack, IsShort, PartsAreWhole, TurnsOneBit};
+ghost use Rattle.fault_sites.specs.Laws.{EachFits, EachFlipOnce, EachOnce, EachRunSiteFits, IsLineRead, IsReadBack, IsShort, PartsAreWhole, RunIsReadBack, RunIsShort, TurnsOneBit};
 ghost use Rattle.fault_sites.specs.Members.{HasEach};
 
 /// Each site fits the graph, in the sense of scripts of faults, whatever line it stands in.
@@ -45,14 +45,14 @@ pub fn a_flip_turns_one_bit()
     ensures { TurnsOneBit }
 {}
 
-/// No flip of a run stands twice. Each fits the graph.
+/// No flip of a run stands twice.
 pub fn each_flip_stands_once()
     ensures { EachFlipOnce }
 {}
 
-/// The script of a part of at most 10,000 flips is read back as the faults of these, in the same way.
-pub fn a_script_of_flips_is_read_back()
-    ensures fit { EachFlipFits }
-    ensures read { FlipsAreReadBack }
-    ensures short { FlipsAreShort }
+/// Each site that a run decides fits the graph, and the script of a part of at most 10,000 of these is read back as their faults, in the same way.
+pub fn a_script_of_a_run_is_read_back()
+    ensures fit { EachRunSiteFits }
+    ensures read { RunIsReadBack }
+    ensures short { RunIsShort }
 {}

@@ -1,4 +1,4 @@
-//! Scripts of all single faults of a class that an image can have, or of all flips of bits in a run, as `inject` takes them, whole or in parts;
+//! Scripts of all single faults of a class that an image can have, or of all that the words of a run decide, as `inject` takes them, whole or in parts;
 //! and how many there are.
 
 mod chosen;
@@ -9,5 +9,5 @@ mod unwritten;
 
 pub use chosen::Chosen;
 pub use of_class::write_chosen_sites;
-pub use of_run::write_chosen_flips;
+pub use of_run::write_chosen_run_sites;
 pub use unwritten::Unwritten;

@@ -50,7 +50,7 @@ pub(crate) fn then_one<O: Sink>(
 }
 
 /// The same of an act that may be there.
-fn then_any<O: Sink>(
+pub(crate) fn then_any<O: Sink>(
     line: &mut Line,
     out: &mut O,
     part: Part,

@@ -12,7 +12,8 @@ pub(crate) const USAGE: &[u8] =
 pub(crate) const STUDY_USAGE: &[u8] =
     b"usage: vcp_study graph M HORIZON, dot M HORIZON, waves FILE, ranges M, ranges M --all, ranges M --inputs FILE, ranges M --all --inputs FILE, \
       cover M HORIZON CLASS, sites M CYCLES CLASS, sites M CYCLES CLASS FROM COUNT, \
-      sites M CYCLES CLASS --count, sites M ROWS flips, sites M ROWS flips FROM COUNT, sites M ROWS flips --count, sum M SCRIPT VERDICTS .., \
+      sites M CYCLES CLASS --count, sites M ROWS flips, sites M ROWS flips FROM COUNT, sites M ROWS flips --count, \
+      sites M ROWS late, sites M ROWS late FROM COUNT, sites M ROWS late --count, sum M SCRIPT VERDICTS .., \
       sum M SCRIPT VERDICTS .. ROWS, faults M SCRIPT VERDICTS or script M NAMED\n";
 
 /// Adds a word, which is empty where it is written `''`; nothing where it isn't written at all.

@@ -45,10 +45,10 @@ def faults_of(name: str, programs: tuple[Program, Program], image: Path, rows: S
     if name == "flips" and (bits != BITS or len(rows) > 1):
         title = f"flips of the bits {bits[0]} to {bits[1]}"
         return _told(name, title, image, flips(words_of(vcp, image, rows), bits))
-    if name == "late":
+    if name == "late" and len(rows) > 1:
         data = read_bytes(image)
         return _told(name, name, image, late(read_image(data, str(image)), words_of(vcp, image, rows)))
-    return Class(study, str(image), rows[0] if name == "flips" else str(cycles), name, shown)
+    return Class(study, str(image), rows[0] if name in TOLD_BY_WORDS else str(cycles), name, shown)
 
 
 def _told(name: str, title: str, image: Path, lines: Iterator[bytes]) -> Traced:

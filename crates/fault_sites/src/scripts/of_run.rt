@@ -1,11 +1,11 @@
-//! Flips of bits in a run.
+//! Sites of a class that the words of a run decide.
 
-ghost use Rattle.std.specs.Prelude.{◌≡◌, ◌≤◌, All, codes, length, Err, IfOk};
+ghost use Rattle.std.specs.Prelude.{◌≡◌, ◌≤◌, All, length, Err, IfOk};
 ghost use Rattle.vcp_base.specs.Limits.{most_cycles};
 ghost use Rattle.vcp_outside.specs.Counts.{Rose};
-ghost use Rattle.signature_table.specs.Signatures.{IsTableOf, Numbers};
-ghost use Rattle.fault_sites.specs.Flips.{flips};
+ghost use Rattle.signature_table.specs.Signatures.{IsTableOf};
 ghost use Rattle.fault_sites.specs.Part.{kept};
+ghost use Rattle.fault_sites.specs.RunSites.{run_class_name, run_sites};
 ghost use Rattle.fault_sites.specs.Script.{WritesScript, WritesChosen};
 ghost use Rattle.fault_sites.specs.declared.scripts.unwritten.Unwritten.TheVariants as unwritten;
 
@@ -13,7 +13,8 @@ use crate::scripts::chosen::{Chosen, size_of, whole};
 use crate::scripts::number::write_number;
 use crate::scripts::unwritten::Unwritten;
 use crate::{
-    GraphValues, Part, a_script_of_flips_is_read_back, count_flips, image_digest, write_flips,
+    GraphValues, Part, RunClass, a_script_of_a_run_is_read_back, count_run_sites, image_digest,
+    write_run_sites,
 };
 use fault_script::MOST_FAULTS;
 use input_rows::RowList;
@@ -23,22 +24,31 @@ use std::alloc::Global;
 use vcp_base::{Memory, Row};
 use vcp_outside::{Failed, Sink};
 
-/// How many flips there are in the run over all rows, or up to its stop.
-fn count(alloc: Global, graph: &Graph, rows: &RowList) -> Result<u64, Memory>
-    requires { All (λ r. length r ≡ length graph.now.inputs) rows.now }
-    ensures { IfOk result (λ n. (t : Numbers) → n ≡ length (flips t graph.now rows.now)) }
+/// How many sites a class has in the run over all rows, or up to its stop.
+fn count(
+    alloc: Global,
+    graph: &Graph,
+    table: &Table,
+    class: RunClass,
+    rows: &RowList,
+) -> Result<u64, Memory>
+    requires few { length rows.now ≤ most_cycles }
+    requires width { All (λ r. length r ≡ length graph.now.inputs) rows.now }
+    ensures { IfOk result (λ n. n ≡ length (run_sites class table.now graph.now rows.now)) }
 {
     let mut run = GraphValues::new(alloc, graph)?;
+    let mut past = GraphValues::new(alloc, graph)?;
     let mut row = Row::zeros(alloc, graph.inputs())?;
-    Ok(count_flips(&mut run, rows, &mut row))
+    Ok(count_run_sites(class, &mut run, &mut past, table, rows, &mut row))
 }
 
-/// Writes the script of a part of the flips of the run over all rows, unless it would have more than 10,000 faults. There are so many
-/// flips in all.
+/// Writes the script of a part of the sites of a class in the run over all rows, unless it would have more than 10,000 faults. There are so many
+/// in all.
 fn write_part<O: Sink>(
     alloc: Global,
     graph: &Graph,
     table: &Table,
+    class: RunClass,
     rows: &RowList,
     part: Part,
     total: u64,
@@ -47,12 +57,12 @@ fn write_part<O: Sink>(
     requires table { IsTableOf table.now graph.now }
     requires few { length rows.now ≤ most_cycles }
     requires width { All (λ r. length r ≡ length graph.now.inputs) rows.now }
-    requires total { total ≡ length (flips table.now graph.now rows.now) }
-    ensures writes { WritesScript graph.now table.now (codes "flips") (kept part (flips table.now graph.now rows.now)) (O.seen out.old).written
-        (O.seen out.new).written result }
+    requires total { total ≡ length (run_sites class table.now graph.now rows.now) }
+    ensures writes { WritesScript graph.now table.now (run_class_name class) (kept part (run_sites class table.now graph.now rows.now))
+        (O.seen out.old).written (O.seen out.new).written result }
     ensures failed { result ≡ Err unwritten.Failed → Rose (O.seen out.old).faults (O.seen out.new).faults }
 {
-    a_script_of_flips_is_read_back();
+    a_script_of_a_run_is_read_back();
     if size_of(part, total) > MOST_FAULTS as u64 {
         return Err(Unwritten::TooMany);
     }
@@ -61,12 +71,18 @@ fn write_part<O: Sink>(
         Ok(run) => run,
         Err(_) => return Err(Unwritten::Memory),
     };
+    let mut past = match GraphValues::new(alloc, graph) {
+        Ok(past) => past,
+        Err(_) => return Err(Unwritten::Memory),
+    };
     let mut row = match Row::zeros(alloc, graph.inputs()) {
         Ok(row) => row,
         Err(_) => return Err(Unwritten::Memory),
     };
     match image_digest(alloc, graph, table) {
-        Ok(digest) => match write_flips(out, &digest, &mut run, table, rows, &mut row, part) {
+        Ok(digest) => match write_run_sites(
+            out, &digest, class, &mut run, &mut past, table, rows, &mut row, part,
+        ) {
             Ok(()) => Ok(()),
             Err(Failed) => Err(Unwritten::Failed),
         },
@@ -74,13 +90,14 @@ fn write_part<O: Sink>(
     }
 }
 
-/// Writes of the flips of the run over all rows, at most 1,000,000, or up to its stop, what is chosen. The
-/// image is that of the graph with the seed and the step of its table, and a row has a value for each input.
-/// A script has at most 10,000 faults. It is such a script as `write_chosen_sites` writes.
-pub fn write_chosen_flips<O: Sink>(
+/// Writes of the sites of a class in the run over all rows, at most 1,000,000, or up to its stop, what is chosen. The image is that of the graph
+/// with the seed and the step of its table, and a row has a value for each input. A script has at most 10,000 faults. It is such a script as
+/// `write_chosen_sites` writes.
+pub fn write_chosen_run_sites<O: Sink>(
     alloc: Global,
     graph: &Graph,
     table: &Table,
+    class: RunClass,
     rows: &RowList,
     chosen: &Chosen,
     out: &mut O,
@@ -88,17 +105,17 @@ pub fn write_chosen_flips<O: Sink>(
     requires table { IsTableOf table.now graph.now }
     requires few { length rows.now ≤ most_cycles }
     requires width { All (λ r. length r ≡ length graph.now.inputs) rows.now }
-    ensures writes { WritesChosen graph.now table.now (codes "flips") (flips table.now graph.now rows.now) chosen.now (O.seen out.old).written
-        (O.seen out.new).written result }
+    ensures writes { WritesChosen graph.now table.now (run_class_name class) (run_sites class table.now graph.now rows.now) chosen.now
+        (O.seen out.old).written (O.seen out.new).written result }
     ensures failed { result ≡ Err unwritten.Failed → Rose (O.seen out.old).faults (O.seen out.new).faults }
 {
-    let total = match count(alloc, graph, rows) {
+    let total = match count(alloc, graph, table, class, rows) {
         Ok(total) => total,
         Err(_) => return Err(Unwritten::Memory),
     };
     match *chosen {
-        Chosen::All => write_part(alloc, graph, table, rows, whole(total), total, out),
-        Chosen::Part(part) => write_part(alloc, graph, table, rows, part, total, out),
+        Chosen::All => write_part(alloc, graph, table, class, rows, whole(total), total, out),
+        Chosen::Part(part) => write_part(alloc, graph, table, class, rows, part, total, out),
         Chosen::Number => write_number(out, total),
     }
 }

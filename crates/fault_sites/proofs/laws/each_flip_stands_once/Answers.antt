@@ -1,4 +1,4 @@
-use Rattle.fault_sites.proofs.FlipsOnce.{each_flip_once}
+use Rattle.fault_sites.proofs.RunOnce.{each_flip_once}
 use Rattle.fault_sites.proofs.laws.each_flip_stands_once.Goals as goal
 
 pub returns : goal.returns

@@ -1,0 +1,148 @@
+-- RunGoing: the sites that a run decides, cycle by cycle.
+use Rattle.std.proofs.Common.{◌≡◌, ℕ, ℤ, zero, suc, ◌+◌, ◌*◌, ◌≤◌, List, [], ◌∷◌, ◌++◌, length, drop, slice_get, Option, Some, None, All, refl, sym, ap, ◌∙◌, arith, append_assoc, length-append}
+use Rattle.std.proofs.lemmas.List.{append-nil}
+use Rattle.std.proofs.lemmas.List.Elements.{All-head, All-tail}
+use Rattle.vcp_base.specs.declared.kind.StopKind.{StopKind}
+use Rattle.vcp_base.specs.Values.{at}
+use Rattle.vcp_outside.specs.Seen.{SinkSeen}
+use Rattle.vcp_outside.specs.Gathering.{Gathered}
+use Rattle.op_graph.specs.Lists.{Lists}
+use Rattle.op_graph.specs.GraphRun.{Cycle, cycle}
+use Rattle.signature_table.specs.Signatures.{Numbers}
+use Rattle.fault_script.specs.declared.act.Act.TheVariants as act
+use Rattle.fault_sites.specs.declared.part.Part.{Part}
+use Rattle.fault_sites.specs.declared.run_class.RunClass.{RunClass}
+use Rattle.fault_sites.specs.declared.site.Site.{Site}
+use Rattle.fault_sites.specs.Flips.{flip, flips_in, flips_of, flipped_bits}
+use Rattle.fault_sites.specs.Run.{Moment, after, begun}
+use Rattle.fault_sites.specs.RunCycle.{RunCycle, expected_word}
+use Rattle.fault_sites.specs.RunSites.{cycle_of, in_cycle, run_sites, run_sites_from, unless_stopped}
+use Rattle.fault_sites.specs.Sites.{sited}
+use Rattle.fault_sites.specs.Telling.{Tells}
+use Rattle.fault_sites.proofs.Counting.{each_many, sited_many}
+use Rattle.fault_sites.proofs.Going.{tells_none, tells_both, tells_over, tells_same}
+use Rattle.fault_sites.proofs.Lists.{drop_there, drop_behind}
+
+pub width_there : (rows : List (List ℤ)) (w n : ℕ) (row : List ℤ) → All (λ r. length r ≡ w) rows → slice_get rows n ≡ Some row → length row ≡ w
+width_there [] w n row all there = absurd cc
+width_there (r ∷ rows) w zero row all there = let same : r ≡ row = cc in rw (← same) (All-head (λ r. length r ≡ w) r rows all)
+width_there (r ∷ rows) w (suc n) row all there = width_there rows w n row (All-tail (λ r. length r ≡ w) r rows all) there
+
+-- the sites that are left from cycle n on, at this moment
+abbrev pub left_at : RunClass → Numbers → Moment → ℕ → List (List ℤ) → List Site
+left_at class t now n rows = run_sites_from class t now n (drop n rows)
+
+-- those of the cycle of a row
+abbrev pub of_row : RunClass → Numbers → Moment → ℕ → List ℤ → List Site
+of_row class t now n row = in_cycle class (cycle_of t n now (cycle now.graph now.cells row).values)
+
+-- in a cycle of which these are parts
+pub same_cycle : (class : RunClass) (t : Numbers) (n : ℕ) (now : Moment) (g : Lists) (cells past values are : List ℤ) → g ≡ now.graph → cells ≡ now.cells
+    → past ≡ now.values → values ≡ are
+    → in_cycle class (cycle_of t n now are) ≡ in_cycle class (record { graph = g; table = t; cycle = n; cells = cells; past = past; values = values })
+same_cycle class t n now g cells past values are e f h k = rw (e, f, h, k) refl
+
+-- of a run that is a cycle behind
+pub row_is : (class : RunClass) (t : Numbers) (n : ℕ) (past now next : Moment) (row : List ℤ) → past ≡ now → next ≡ after now (cycle now.graph now.cells row)
+    → of_row class t now n row ≡ in_cycle class (cycle_of t n past next.values)
+row_is class t n past now next row same is = rw (same, is) refl
+
+-- it comes to the same
+pub both_after : (past now behind next : Moment) (row : List ℤ) → past ≡ now → behind ≡ after past (cycle past.graph past.cells row)
+    → next ≡ after now (cycle now.graph now.cells row) → behind ≡ next
+both_after past now behind next row same is also = is ∙ (ap (λ (m : Moment). after m (cycle m.graph m.cells row)) same ∙ sym also)
+
+-- those of a cycle without a stop, and the rest
+pub left_on : (class : RunClass) (t : Numbers) (now : Moment) (n : ℕ) (rows : List (List ℤ)) (row : List ℤ) → slice_get rows n ≡ Some row
+    → (cycle now.graph now.cells row).stop ≡ None
+    → left_at class t now n rows ≡ of_row class t now n row ++ left_at class t (after now (cycle now.graph now.cells row)) (n + 1) rows
+left_on class t now n rows row there on =
+    let c : Cycle = cycle now.graph now.cells row in
+    let rest : Moment → List Site = λ next. run_sites_from class t next (n + 1) (drop (n + 1) rows) in
+    ap (λ (rs : List (List ℤ)). run_sites_from class t now n rs) (drop_there rows n row there)
+    ∙ ap (λ (s : Option StopKind). unless_stopped (of_row class t now n row) rest now c s) on
+
+-- none from a stop on
+pub left_none : (class : RunClass) (t : Numbers) (now : Moment) (n : ℕ) (rows : List (List ℤ)) (row : List ℤ) (why : StopKind) → slice_get rows n ≡ Some row
+    → (cycle now.graph now.cells row).stop ≡ Some why → left_at class t now n rows ≡ []
+left_none class t now n rows row why there stops =
+    let c : Cycle = cycle now.graph now.cells row in
+    let rest : Moment → List Site = λ next. run_sites_from class t next (n + 1) (drop (n + 1) rows) in
+    ap (λ (rs : List (List ℤ)). run_sites_from class t now n rs) (drop_there rows n row there)
+    ∙ ap (λ (s : Option StopKind). unless_stopped (of_row class t now n row) rest now c s) stops
+
+-- and none behind the rows
+pub left_end : (class : RunClass) (t : Numbers) (now : Moment) (n : ℕ) (rows : List (List ℤ)) → length rows ≤ n → left_at class t now n rows ≡ []
+left_end class t now n rows few = ap (λ (rs : List (List ℤ)). run_sites_from class t now n rs) (drop_behind rows n few)
+
+-- ---- writing
+
+-- so far: some sites were told, and these are left
+pub record SoFar (a b : SinkSeen) (l m : Gathered) (p q : Part) (class : RunClass) (t : Numbers) (g : Lists) (rows : List (List ℤ)) (n : ℕ) (now : Moment) : Type 0
+  where
+    pub done : List Site
+    pub tells : Tells a b l m p q done
+    pub graph : now.graph ≡ g
+    pub whole : run_sites class t g rows ≡ done ++ left_at class t now n rows
+
+pub so_far_none : {a : SinkSeen} {l : Gathered} {p : Part} (class : RunClass) (t : Numbers) (g : Lists) (rows : List (List ℤ)) (now : Moment) → now ≡ begun g
+    → SoFar a a l l p p class t g rows 0 now
+so_far_none class t g rows now is = rw is record { done = []; tells = tells_none; graph = refl; whole = refl }
+
+pub so_far_more : {a b c : SinkSeen} {l m o : Gathered} {p q r : Part} (class : RunClass) (t : Numbers) (g : Lists) (rows : List (List ℤ)) (n : ℕ)
+    (now next : Moment) (row : List ℤ)
+    → SoFar a b l m p q class t g rows n now → slice_get rows n ≡ Some row → (cycle now.graph now.cells row).stop ≡ None
+    → next ≡ after now (cycle now.graph now.cells row) → Tells b c m o q r (of_row class t now n row) → SoFar a c l o p r class t g rows (n + 1) next
+so_far_more class t g rows n now next row so there on is tells =
+    let these : List Site = of_row class t now n row in
+    rw is record {
+      done = so.done ++ these;
+      tells = tells_both so.tells tells;
+      graph = so.graph;
+      whole = so.whole ∙ (ap (λ (xs : List Site). so.done ++ xs) (left_on class t now n rows row there on)
+          ∙ sym (append_assoc so.done these (left_at class t (after now (cycle now.graph now.cells row)) (n + 1) rows)));
+    }
+
+-- nothing is left
+pub so_far_all : {a b : SinkSeen} {l m : Gathered} {p q : Part} (class : RunClass) (t : Numbers) (g : Lists) (rows : List (List ℤ)) (n : ℕ) (now : Moment)
+    → SoFar a b l m p q class t g rows n now → left_at class t now n rows ≡ [] → Tells a b l m p q (run_sites class t g rows)
+so_far_all class t g rows n now so none =
+    tells_same so.tells (so.whole ∙ (ap (λ (xs : List Site). so.done ++ xs) none ∙ append-nil so.done))
+
+-- the part is over
+pub so_far_over : {a b : SinkSeen} {l m : Gathered} {p q : Part} (class : RunClass) (t : Numbers) (g : Lists) (rows : List (List ℤ)) (n : ℕ) (now : Moment)
+    → SoFar a b l m p q class t g rows n now → q.left ≡ 0 → Tells a b l m p q (run_sites class t g rows)
+so_far_over class t g rows n now so over = tells_same (tells_both so.tells (tells_over (left_at class t now n rows) over)) so.whole
+
+-- ---- counting
+
+pub bits_many : (v : ℤ) → length (flips_of v) ≡ 32
+bits_many v = each_many (λ b. act.ResultAdd (flip v b) ∷ []) flipped_bits 1 (λ b. refl) ∙ omega arith
+
+pub flips_many : (c : RunCycle) → length (flips_in c) ≡ length c.graph.operations * 32
+flips_many c =
+    each_many (λ k. sited c.cycle k (flips_of (expected_word c.table c.cycle k (at c.values k)))) (length c.graph.operations) 32
+    (λ k. sited_many c.cycle k (flips_of (expected_word c.table c.cycle k (at c.values k))) ∙ bits_many (expected_word c.table c.cycle k (at c.values k)))
+
+-- so many were counted, and these are left
+pub record Counted (count : ℕ) (class : RunClass) (t : Numbers) (g : Lists) (rows : List (List ℤ)) (n : ℕ) (now : Moment) : Type 0 where
+  pub graph : now.graph ≡ g
+  pub whole : length (run_sites class t g rows) ≡ count + length (left_at class t now n rows)
+
+pub counted_none : (class : RunClass) (t : Numbers) (g : Lists) (rows : List (List ℤ)) (now : Moment) → now ≡ begun g → Counted 0 class t g rows 0 now
+counted_none class t g rows now is = rw is record { graph = refl; whole = omega arith }
+
+pub counted_more : (count : ℕ) (class : RunClass) (t : Numbers) (g : Lists) (rows : List (List ℤ)) (n : ℕ) (now next : Moment) (row : List ℤ) (more : ℕ)
+    → Counted count class t g rows n now → slice_get rows n ≡ Some row → (cycle now.graph now.cells row).stop ≡ None
+    → next ≡ after now (cycle now.graph now.cells row) → more ≡ length (of_row class t now n row) → Counted (count + more) class t g rows (n + 1) next
+counted_more count class t g rows n now next row more so there on is here =
+    let these : List Site = of_row class t now n row in
+    let behind : List Site = left_at class t (after now (cycle now.graph now.cells row)) (n + 1) rows in
+    rw is record {
+      graph = so.graph;
+      whole = omega (arith, so.whole, here, ap length (left_on class t now n rows row there on), length-append these behind);
+    }
+
+pub counted_all : (count : ℕ) (class : RunClass) (t : Numbers) (g : Lists) (rows : List (List ℤ)) (n : ℕ) (now : Moment)
+    → Counted count class t g rows n now → left_at class t now n rows ≡ [] → count ≡ length (run_sites class t g rows)
+counted_all count class t g rows n now so none = omega (arith, so.whole, ap length none)

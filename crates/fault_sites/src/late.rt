@@ -1,0 +1,237 @@
+//! Words of the cycle before, as operands: what has to be added for each is taken from a run without faults.
+
+ghost use Rattle.std.specs.Prelude.{◌≡◌, ◌<◌, ◌≤◌, ◌+◌, length, slice_get, unsigned_abs};
+ghost use Rattle.std.specs.Option.{option_to_list};
+ghost use Rattle.vcp_base.specs.Limits.{most_cycles};
+ghost use Rattle.op_graph.specs.Lists.{cells};
+ghost use Rattle.signature_table.specs.Signatures.{store_of as store_of_cell};
+ghost use Rattle.fault_sites.specs.Late.{late_add, late_addend, late_one, lates_at, lates_in, lates_of, loads_from as loads_from_of, may_be_late as may_be_late_of, past_word as past_word_of, read_word as read_word_of, stored_word as stored_word_of};
+ghost use Rattle.fault_sites.specs.RunCycle.{as_cycle};
+ghost use Rattle.fault_sites.specs.Sites.{sited};
+ghost use Rattle.fault_sites.specs.Telling.{Tells};
+
+use crate::acts::named;
+use crate::counts::count_any;
+use crate::cycle_values::CycleValues;
+use crate::flips::expected_word;
+use crate::graph_values::{at, operand};
+use crate::part::Part;
+use crate::telling::then_any;
+use coded_unit::Word;
+use fault_script::Act;
+use op_graph::{Graph, Op};
+use vcp_base::{Kind, operand_type, operands, within};
+use vcp_outside::{Line, Sink};
+
+/// The number of the STORE of the cell that a LOAD reads, which its `imm` names; `None` where there is no such cell.
+pub fn store_of(graph: &Graph, op: &Op) -> Option<u32>
+    ensures { result ≡ store_of_cell (cells graph.now) (unsigned_abs op.now.imm) }
+{
+    let i = op.imm.unsigned_abs();
+    if i >= graph.cells() as u64 {
+        return None;
+    }
+    Some(graph.cell(i as u32).store)
+}
+
+/// Whether a LOAD reads its word of the cycle before from operation `r`.
+fn loads_from(graph: &Graph, op: &Op, r: u32) -> bool
+    ensures { result ≡ loads_from_of graph.now op.now r }
+{
+    match op.kind {
+        Kind::Load => match store_of(graph, op) {
+            Some(store) => store == r,
+            None => false,
+        },
+        _ => false,
+    }
+}
+
+/// Whether operand `j` may be the word of the cycle before of operation `r`, which is `source`: its type goes there, and it isn't what a LOAD reads anyway.
+pub fn may_be_late(graph: &Graph, op: &Op, j: u32, r: u32, source: &Op) -> bool
+    ensures { result ≡ may_be_late_of graph.now op.now j r source.now }
+{
+    within(source.ty, operand_type(op.kind, j, op.from)) && !loads_from(graph, op, r)
+}
+
+/// The word that operation `r` answered in the cycle before.
+fn past_word(c: &CycleValues<'_>, r: u32) -> Word
+    requires later { 0 < c.now.cycle }
+    requires few { c.now.cycle < most_cycles }
+    ensures { result ≡ past_word_of (as_cycle c.now) r }
+{
+    expected_word(c.table, c.cycle - 1, r, at(c.past, r as u64))
+}
+
+/// What a LOAD reads, where the value is `v`: the word of its cell's STORE of the cycle before.
+fn stored_word(c: &CycleValues<'_>, v: i64, store: Option<u32>) -> Word
+    requires later { 0 < c.now.cycle }
+    requires few { c.now.cycle < most_cycles }
+    ensures { result ≡ stored_word_of (as_cycle c.now) v store }
+{
+    match store {
+        Some(store) => expected_word(c.table, c.cycle - 1, store, v),
+        None => Word::ZERO,
+    }
+}
+
+/// What operand `j` is.
+fn read_word(c: &CycleValues<'_>, op: &Op, j: u32) -> Word
+    requires later { 0 < c.now.cycle }
+    requires few { c.now.cycle < most_cycles }
+    ensures { result ≡ read_word_of (as_cycle c.now) op.now j }
+{
+    let v = operand(c.cells, c.values, op, j);
+    match op.kind {
+        Kind::Load => stored_word(c, v, store_of(c.graph, op)),
+        _ => expected_word(c.table, c.cycle, named(op, j), v),
+    }
+}
+
+/// By how much the word of operation `r` in the cycle before is more than operand `j`.
+fn addend(c: &CycleValues<'_>, op: &Op, j: u32, r: u32) -> i128
+    requires later { 0 < c.now.cycle }
+    requires few { c.now.cycle < most_cycles }
+    ensures { result ≡ late_addend (as_cycle c.now) op.now j r }
+{
+    past_word(c, r).get() - read_word(c, op, j).get()
+}
+
+/// So much is added to operand `j`, where it isn't 0, which would be no fault, and a line may have it: at most 2^62 in size.
+fn added(j: u32, e: i128) -> Option<Act>
+    ensures { late_add j e ≡ option_to_list result }
+{
+    if 0 < e.unsigned_abs() && -(1 << 62) <= e && e <= 1 << 62 {
+        Some(Act::OperandAdd { j, e: e as i64 })
+    } else {
+        None
+    }
+}
+
+/// Operand `j` as the word of the cycle before of operation `r`, where that may stand for it and a line may have it.
+fn late_of(c: &CycleValues<'_>, op: &Op, j: u32, r: u32) -> Option<Act>
+    requires later { 0 < c.now.cycle }
+    requires few { c.now.cycle < most_cycles }
+    requires there { r < length c.now.graph.now.operations }
+    ensures { late_one (as_cycle c.now) op.now j r (slice_get c.now.graph.now.operations r) ≡ option_to_list result }
+{
+    let source = c.graph.operation(r);
+    if may_be_late(c.graph, op, j, r, &source) {
+        added(j, addend(c, op, j, r))
+    } else {
+        None
+    }
+}
+
+/// Goes on with operand `j` as the word of the cycle before of operation `k` and of each behind it.
+fn then_lates_at<O: Sink>(
+    line: &mut Line,
+    out: &mut O,
+    mut part: Part,
+    c: &CycleValues<'_>,
+    k: u32,
+    op: &Op,
+    j: u32,
+) -> Part
+    requires later { 0 < c.now.cycle }
+    requires few { c.now.cycle < most_cycles }
+    requires there { k < length c.now.graph.now.operations }
+    ensures { Tells (O.seen out.old) (O.seen out.new) line.old line.new part result (sited c.now.cycle k (lates_at (as_cycle c.now) k op.now j)) }
+{
+    if part.left == 0 {
+        return part;
+    }
+    'sources: for i in 0..c.graph.len() - k {
+        part = then_any(line, out, part, c.cycle, k, late_of(c, op, j, k + i));
+    }
+    part
+}
+
+/// Goes on with the operands of operation `k`.
+fn then_lates_of<O: Sink>(
+    line: &mut Line,
+    out: &mut O,
+    mut part: Part,
+    c: &CycleValues<'_>,
+    k: u32,
+) -> Part
+    requires later { 0 < c.now.cycle }
+    requires few { c.now.cycle < most_cycles }
+    requires there { k < length c.now.graph.now.operations }
+    ensures { Tells (O.seen out.old) (O.seen out.new) line.old line.new part result
+        (sited c.now.cycle k (lates_of (as_cycle c.now) k (slice_get c.now.graph.now.operations k))) }
+{
+    let op = c.graph.operation(k);
+    'operands: for j in 0..operands(op.kind) {
+        part = then_lates_at(line, out, part, c, k, &op, j);
+    }
+    part
+}
+
+/// Goes on with the words of the cycle before in a cycle.
+pub(crate) fn then_lates_in<O: Sink>(
+    line: &mut Line,
+    out: &mut O,
+    mut part: Part,
+    c: &CycleValues<'_>,
+) -> Part
+    requires { c.now.cycle < most_cycles }
+    ensures { Tells (O.seen out.old) (O.seen out.new) line.old line.new part result (lates_in (as_cycle c.now)) }
+{
+    if c.cycle == 0 {
+        return part;
+    }
+    'operations: for k in 0..c.graph.len() {
+        part = then_lates_of(line, out, part, c, k);
+    }
+    part
+}
+
+/// How many words of the cycle before operand `j` may be in a line.
+fn count_lates_at(c: &CycleValues<'_>, k: u32, op: &Op, j: u32) -> u64
+    requires later { 0 < c.now.cycle }
+    requires few { c.now.cycle < most_cycles }
+    requires there { k < length c.now.graph.now.operations }
+    requires within { length c.now.graph.now.operations ≤ 65536 }
+    ensures count { result ≡ length (lates_at (as_cycle c.now) k op.now j) }
+    ensures few { result ≤ 65536 }
+{
+    let mut count = 0;
+    'sources: for i in 0..c.graph.len() - k {
+        count += count_any(late_of(c, op, j, k + i));
+    }
+    count
+}
+
+/// The same of all operands of operation `k`.
+fn count_lates_of(c: &CycleValues<'_>, k: u32) -> u64
+    requires later { 0 < c.now.cycle }
+    requires few { c.now.cycle < most_cycles }
+    requires there { k < length c.now.graph.now.operations }
+    requires within { length c.now.graph.now.operations ≤ 65536 }
+    ensures count { result ≡ length (lates_of (as_cycle c.now) k (slice_get c.now.graph.now.operations k)) }
+    ensures few { result ≤ 196608 }
+{
+    let op = c.graph.operation(k);
+    let mut count = 0;
+    'operands: for j in 0..operands(op.kind) {
+        count += count_lates_at(c, k, &op, j);
+    }
+    count
+}
+
+/// How many there are in a cycle.
+pub(crate) fn count_lates_in(c: &CycleValues<'_>) -> u64
+    requires { c.now.cycle < most_cycles }
+    ensures count { result ≡ length (lates_in (as_cycle c.now)) }
+    ensures few { result ≤ 12884901888 }
+{
+    if c.cycle == 0 {
+        return 0;
+    }
+    let mut count = 0;
+    'operations: for k in 0..c.graph.len() {
+        count += count_lates_of(c, k);
+    }
+    count
+}
