@@ -1,14 +1,14 @@
 #!/usr/bin/env python3
 """Whether `vcp inject` says of single faults on drawn rows what `vcp_study cover` says of them in every run.
 
-    checks/cover_beside_inject.py [--seed N] [--images N] [--groups N] [--demo N] [SOURCE..]
+    checks/cover_beside_inject.py [--seed N] [--images N] [--groups N] [--demo N] [--statements N] [SOURCE..]
 
-Of each source, those of examples/ where none is given, N images (2) are made, with a drawn seed and step, of narrow ones some in the wide code, too; and
-one image of each of N programs as `demo` has them. On a few drawn rows for each image N faults (300) are drawn of all classes, each in a drawn cycle, and half
-of them with later faults at the same operation. What is told of a fault is read from what `cover` prints: that it shows, from its own line; that it runs on or
-is beyond, from the line of its operation; that it does nothing, by the operations from which no output and none that may stop (`ranges`) is reached; else that
-it is refused, so many cycles later as the least horizon with which its operation isn't beyond. The numbers of the tables have to be those of the faults that
-are counted here. Then, of each fault,
+Of each source, those of examples/ where none is given, N images (2) are made, with a drawn seed and step, of narrow ones some in the wide code, too; and one
+image of each of N programs as `demo` has them, with N of its statements (1000, all). On a few drawn rows for each image N faults (300) are drawn of all
+classes, each in a drawn cycle, and half of them with later faults at the same operation. What is told of a fault is read from what `cover` prints: that it
+shows, from its own line; that it runs on or is beyond, from the line of its operation; that it does nothing, by the operations from which no output and none
+that may stop (`ranges`) is reached; else that it is refused, so many cycles later as the least horizon with which its operation isn't beyond. The numbers of
+the tables have to be those of the faults that are counted here. Then, of each fault,
 
 - one that is told to be refused is neither `wrong` nor `ran-on`; where it is `refused`, it is so in the cycle that is told; and it isn't `same` where the run
   without it goes on beyond that cycle;
@@ -70,11 +70,11 @@ class Draws:
         return self.state // 65536 % most
 
 
-def demo(number):
-    """The source of the made program of a number."""
+def demo(number, statements):
+    """The source of the made program of a number, with so many of its statements."""
     draws = Draws(number)
     lines = ["PROGRAM demo", "VAR_INPUT a, b : DINT; END_VAR", "VAR_OUTPUT y : DINT; END_VAR", f"VAR {', '.join(f'v{i}' for i in range(100))} : DINT; END_VAR"]
-    for _ in range(1000):
+    for _ in range(statements):
         p, q, r, form = draws.draw(100), draws.draw(100), draws.draw(100), draws.draw(6)
         lines.append((f"v{p} := (v{q} + a) MOD 1000;", f"v{p} := (v{q} - b) MOD 1010;", f"v{p} := (v{q} * v{r}) MOD 1020;",
                       f"IF v{q} < v{r} THEN v{p} := (v{p} + 1) MOD 1000; END_IF;", f"v{p} := SEL(v{q} = v{r}, v{q}, a MOD 1030);",
@@ -330,13 +330,13 @@ def sources_of(given, folder):
             yield source, given.images
     for number in range(given.demo):
         file = folder / "demo.st"
-        file.write_text(demo(number))
+        file.write_text(demo(number, given.statements))
         yield file, 1
 
 
 def main():
     parser = argparse.ArgumentParser(description=(__doc__ or "").partition("\n")[0])
-    for name, default in (("seed", 0), ("images", 2), ("groups", 300), ("demo", 0)):
+    for name, default in (("seed", 0), ("images", 2), ("groups", 300), ("demo", 0), ("statements", 1000)):
         parser.add_argument(f"--{name}", type=int, default=default)
     parser.add_argument("sources", nargs="*")
     given = parser.parse_args()
