@@ -1,4 +1,4 @@
--- Part: a part of the sites, cut out by how many stand before it and how many it has.
+-- Part: a part of the sites, cut out by how many come before it and how many it has.
 use Rattle.std.specs.Prelude.{◌-◌, ◌==◌, cond, List, length, take, drop}
 use Rattle.fault_sites.specs.declared.part.Part.{Part}
 use Rattle.fault_sites.specs.declared.site.Site.{Site}

@@ -1,4 +1,4 @@
-//! The acts that may stand at an operation.
+//! The acts that may be at an operation.
 
 ghost use Rattle.std.specs.Prelude.{◌≡◌, ◌<◌, length, slice_get};
 ghost use Rattle.std.specs.Option.{option_to_list};
@@ -35,14 +35,14 @@ fn reads(op: &Op, j: u32, r: u32) -> bool
     }
 }
 
-/// Whether the word of operation `r`, which is `source`, may stand for operand `j`.
+/// Whether the word of operation `r`, which is `source`, may take the place of operand `j`.
 fn may_replace(op: &Op, j: u32, r: u32, source: &Op) -> bool
     ensures { result ≡ may_replace_of op.now j r source.now }
 {
     within(source.ty, operand_type(op.kind, j, op.from)) && !reads(op, j, r)
 }
 
-/// Operand `j` as the word of operation `r`, where that may stand for it.
+/// Operand `j` as the word of operation `r`, where that may take its place.
 pub(crate) fn from_of(graph: &Graph, op: &Op, j: u32, r: u32) -> Option<Act>
     requires { r < length graph.now.operations }
     ensures { from_one op.now j r (slice_get graph.now.operations r) ≡ option_to_list result }
@@ -62,7 +62,7 @@ fn may_stand(kind: Kind, other: Kind) -> bool
     operands(other) == operands(kind) && kind_code(other) != kind_code(kind)
 }
 
-/// The call as one of the kind with the code, where that may stand for the operation's.
+/// The call as one of the kind with the code, where that may take its place.
 pub(crate) fn operator_of(kind: Kind, code: u8) -> Option<Act>
     ensures { operator_one kind (slice_get kinds code) ≡ option_to_list result }
 {

@@ -23,7 +23,7 @@ pub(crate) fn count_any(act: Option<Act>) -> u64
     }
 }
 
-/// How many operations may stand for operand `j` of operation `k`.
+/// How many operations may take the place of operand `j` of operation `k`.
 fn count_sources(graph: &Graph, op: &Op, k: u32, j: u32) -> u64
     requires there { k ≤ length graph.now.operations }
     requires few { k ≤ 65536 }
@@ -51,7 +51,7 @@ fn count_from(graph: &Graph, op: &Op, k: u32) -> u64
     count
 }
 
-/// How many other kinds may stand for an operation's.
+/// How many other kinds may take the place of an operation's.
 fn count_operators(op: &Op) -> u64
     ensures count { result ≡ length (operator_of_op op.now) }
     ensures few { result ≤ 19 }
@@ -137,7 +137,7 @@ fn count_all(graph: &Graph, cycles: u32) -> u64
     bits + (stale + (skip + (from + operator)))
 }
 
-/// How many sites there are in the first cycles, at most 1,000,000. It takes no memory. It is told before any
+/// How many sites there are in the first cycles, at most 1,000,000. It takes no memory. It is known before any
 /// is written.
 pub fn count_sites(graph: &Graph, classes: Classes, cycles: u32) -> u64
     requires { cycles ≤ most_cycles }

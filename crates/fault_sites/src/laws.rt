@@ -3,12 +3,12 @@
 ghost use Rattle.fault_sites.specs.Laws.{EachFits, EachFlipOnce, EachOnce, EachRunSiteFits, IsLineRead, IsReadBack, IsShort, PartsAreWhole, RunIsReadBack, RunIsShort, TurnsOneBit};
 ghost use Rattle.fault_sites.specs.Members.{HasEach};
 
-/// Each site fits the graph, in the sense of scripts of faults, whatever line it stands in.
+/// Each site fits the graph, in the sense of scripts of faults, whatever line it is in.
 pub fn each_site_fits()
     ensures { EachFits }
 {}
 
-/// No site stands twice.
+/// No site comes twice.
 pub fn each_site_stands_once()
     ensures { EachOnce }
 {}
@@ -18,7 +18,7 @@ pub fn parts_are_the_whole()
     ensures { PartsAreWhole }
 {}
 
-/// The line of a fault that fits a graph is read back as that fault, whatever lines stand before it and behind it.
+/// The line of a fault that fits a graph is read back as that fault, whatever lines are before it and behind it.
 pub fn a_line_is_read_back()
     ensures { IsLineRead }
 {}
@@ -45,7 +45,7 @@ pub fn a_flip_turns_one_bit()
     ensures { TurnsOneBit }
 {}
 
-/// No flip of a run stands twice.
+/// No flip of a run comes twice.
 pub fn each_flip_stands_once()
     ensures { EachFlipOnce }
 {}

@@ -105,7 +105,7 @@ fn then_operand_from<O: Sink>(line: &mut Line, out: &mut O, j: u32, r: u32)
     line.count(out, r as u64);
 }
 
-/// Goes on with what stands behind the cycle and the operation.
+/// Goes on with what is behind the cycle and the operation.
 fn then_rest<O: Sink>(line: &mut Line, out: &mut O, act: &Act)
     ensures { GathersTo (O.seen out.old) (O.seen out.new) line.old line.new (rest_of act.now) }
 {

@@ -3,7 +3,7 @@
 /// A part of the sites, in their order.
 #[derive(Clone, Copy, PartialEq, Eq)]
 pub struct Part {
-    /// How many sites stand before it.
+    /// How many sites come before it.
     pub skip: u64,
     /// The most sites that it has.
     pub left: u64,

@@ -15,7 +15,7 @@ use crate::telling::then_cycle;
 use op_graph::Graph;
 use vcp_outside::{Failed, Line, Sink};
 
-/// Goes on with the sites of a class in cycle `n`, and passes over them at once where they all stand before the part. A class has so
+/// Goes on with the sites of a class in cycle `n`, and passes over them at once where they all are before the part. A class has so
 /// many sites in each cycle in which it has any.
 fn then_cycle_or_pass<O: Sink>(
     line: &mut Line,
