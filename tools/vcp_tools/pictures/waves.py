@@ -26,7 +26,7 @@ STYLE = """
 .waves .i, .waves .o, .waves .v { fill: none; stroke: var(--fg); stroke-width: 1.4; } .waves .o { stroke: var(--link); } .waves .v { stroke: var(--own); }
 .waves .b { stroke: var(--line); } .waves .h { fill: var(--high); stroke: none; } .waves .t { stroke: var(--faint); } .waves .e { stroke: var(--bad-text); }
 .waves .f { stroke: var(--dim); stroke-width: 2; stroke-dasharray: 3 3; } .waves .f.unseen { stroke: var(--bad-text); stroke-dasharray: none; }
-.waves text.f { stroke: none; font-weight: 600; } .waves text.f.unseen { fill: var(--bad-text); }
+.waves text.f { stroke: none; font-weight: 600; } .waves text.f.unseen { fill: var(--bad-text); stroke: none; }
 @media print { .waves { overflow: visible; } }
 """
 """How the parts of a picture look: `g` groups, `i`, `o` and `v` lanes, `b` base lines, `h` a level of 1, `s` ends of ramps, `t` cycles, `e` an early end,
