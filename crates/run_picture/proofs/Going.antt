@@ -67,8 +67,8 @@ pub three_texts : (v : Element) (a b : List Element)
     → flat_map element_text (v ∷ (a ++ b)) ≡ element_text v ++ (flat_map element_text a ++ flat_map element_text b)
 three_texts v a b = ap (λ t. element_text v ++ t) (flat_map-append element_text a b)
 
-joined : (start s a b c d end : List ℕ) → start ++ ((s ++ (a ++ (b ++ (c ++ d)))) ++ end) ≡ start ++ s ++ a ++ b ++ c ++ d ++ end
-joined start s a b c d end = simp append_assoc
+joined : (start s a b c d e end : List ℕ) → start ++ ((s ++ (a ++ (b ++ (c ++ (d ++ e))))) ++ end) ≡ start ++ s ++ a ++ b ++ c ++ d ++ e ++ end
+joined start s a b c d e end = simp append_assoc
 
 four : (a b c d : List Element)
     → flat_map element_text (a ++ (b ++ (c ++ d)))
@@ -78,10 +78,22 @@ four a b c d =
     ∙ ap (λ (t : List ℕ). flat_map element_text a ++ t)
     (flat_map-append element_text b (c ++ d) ∙ ap (λ (t : List ℕ). flat_map element_text b ++ t) (flat_map-append element_text c d))
 
+five : (a b c d e : List Element)
+    → flat_map element_text (a ++ (b ++ (c ++ (d ++ e))))
+    ≡ flat_map element_text a ++ (flat_map element_text b ++ (flat_map element_text c ++ (flat_map element_text d ++ flat_map element_text e)))
+five a b c d e = flat_map-append element_text a (b ++ (c ++ (d ++ e))) ∙ ap (λ (t : List ℕ). flat_map element_text a ++ t) (four b c d e)
+
 -- a picture, part by part
-pub parts : (start end : List ℕ) (s : Element) (a b c d : List Element)
-    → start ++ (flat_map element_text (s ∷ (a ++ (b ++ (c ++ d)))) ++ end)
-    ≡ start ++ element_text s ++ flat_map element_text a ++ flat_map element_text b ++ flat_map element_text c ++ flat_map element_text d ++ end
-parts start end s a b c d =
-    ap (λ (t : List ℕ). start ++ ((element_text s ++ t) ++ end)) (four a b c d)
-    ∙ joined start (element_text s) (flat_map element_text a) (flat_map element_text b) (flat_map element_text c) (flat_map element_text d) end
+pub parts : (start end : List ℕ) (s : Element) (a b c d e : List Element)
+    → start ++ (flat_map element_text (s ∷ (a ++ (b ++ (c ++ (d ++ e))))) ++ end)
+    ≡ start ++ element_text s ++ flat_map element_text a ++ flat_map element_text b ++ flat_map element_text c ++ flat_map element_text d
+    ++ flat_map element_text e ++ end
+parts start end s a b c d e =
+    ap (λ (t : List ℕ). start ++ ((element_text s ++ t) ++ end)) (five a b c d e)
+    ∙ joined start (element_text s) (flat_map element_text a) (flat_map element_text b) (flat_map element_text c) (flat_map element_text d)
+    (flat_map element_text e) end
+
+-- what is drawn for one thing more
+pub drawn_one_more : {X : Type 0} (h : X → List Element) (xs : List X) (x : X)
+    → drawn_text h (xs ++ x ∷ []) ≡ drawn_text h xs ++ flat_map element_text (h x)
+drawn_one_more h xs x = drawn_append h xs (x ∷ []) ∙ ap (λ t. drawn_text h xs ++ t) (drawn_one h x)

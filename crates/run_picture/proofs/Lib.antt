@@ -4,5 +4,8 @@ mod LastLines
 mod Numbers
 mod ReadBack
 mod Reading
+mod Rooms
+mod StretchEnds
+mod Walk
 mod WholeDrawing
 mod WholeText

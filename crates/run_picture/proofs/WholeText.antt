@@ -1,14 +1,14 @@
 -- WholeText: no element of a picture has an attribute twice.
-use Rattle.std.proofs.Common.{ℕ, zero, suc, List, [], ◌∷◌, ◌++◌, flat_map, length, refl, Bool, true, false, cond}
+use Rattle.std.proofs.Common.{ℕ, zero, suc, ◌+◌, ◌%◌, ◌==◌, ◌&&◌, nat_lt, List, [], ◌∷◌, ◌++◌, flat_map, length, refl, Bool, true, false, cond, codes}
 use Rattle.std.specs.List.{AllByRecursion}
 use Rattle.svg_text.specs.Drawing.{each_below}
 use Rattle.svg_text.specs.Elements.{Element}
 use Rattle.svg_text.specs.WellFormed.{HasEachOnce}
 use Rattle.run_picture.specs.declared.layout.Layout.{Layout}
-use Rattle.run_picture.specs.declared.shown.Shown.{Shown}
+use Rattle.run_picture.specs.declared.stretches.Stretch.{Stretch}
 use Rattle.run_picture.specs.RunOf.{Recorded}
-use Rattle.run_picture.specs.Drawn.{lanes}
-use Rattle.run_picture.specs.Elements.{level_element, number_element, edge_element, label_element, shown_elements, has_label, cycle_elements, name_element, ending_elements, cycles_elements, names_elements, waves_elements}
+use Rattle.run_picture.specs.Drawn.{is_level, lanes}
+use Rattle.run_picture.specs.Elements.{start_of, holds, level_element, number_element, ramp_element, edge_element, edge_elements, first_element, last_element, label_elements, stretch_elements, name_element, names_elements, base_element, base_elements, bases_elements, begin_element, cycle_element, mark_elements, page_elements, cycle_elements, cycles_elements, ending_elements, waves_elements}
 
 abbrev All : List Element → Type 0
 All es = AllByRecursion HasEachOnce es
@@ -25,27 +25,46 @@ all_below : (f : ℕ → List Element) → ((n : ℕ) → All (f n)) → (n : �
 all_below f each zero = tt
 all_below f each (suc n) = all_both (each_below f n) (f n) (all_below f each n) (each n)
 
-of_value : (l : Layout) (s : Shown) (b : Bool) → HasEachOnce (cond b (level_element l s) (number_element l s))
-of_value l s true = refl
-of_value l s false = refl
+of_value : (l : Layout) (s : Stretch) (a b : Bool) → HasEachOnce (cond a (level_element l s) (cond b (number_element l s) (ramp_element l s)))
+of_value l s true b = refl
+of_value l s false true = refl
+of_value l s false false = refl
 
-if_so : (b : Bool) (e : Element) → HasEachOnce e → All (cond b (e ∷ []) [])
-if_so true e h = (h, tt)
-if_so false e h = tt
+if_so : (b : Bool) (es : List Element) → All es → All (cond b es [])
+if_so true es h = h
+if_so false es h = tt
 
-of_shown : (l : Layout) (s : Shown) → All (shown_elements l s)
-of_shown l s = (
-  of_value l s s.is_level,
-  all_both (cond s.changes (edge_element l s ∷ []) []) (cond (has_label s) (label_element l s ∷ []) []) (if_so s.changes (edge_element l s) refl)
-      (if_so (has_label s) (label_element l s) refl),
+of_labels : (l : Layout) (s : Stretch) (a b : Bool) → All (cond a [] (first_element l s ∷ cond b [] (last_element l s ∷ [])))
+of_labels l s true b = tt
+of_labels l s false true = (refl, tt)
+of_labels l s false false = (refl, (refl, tt))
+
+of_stretch : (l : Layout) (s : Stretch) → All (stretch_elements l s)
+of_stretch l s = (
+  of_value l s s.is_level (holds s),
+  all_both (edge_elements l s) (label_elements l s) (if_so (nat_lt 0 s.start) (edge_element l s ∷ []) (refl, tt)) (of_labels l s s.is_level (holds s)),
 )
+
+of_names : (run : Recorded) (class : List ℕ) (x y columns : ℕ) → All (names_elements run class x y columns)
+of_names run class x y columns = all_below (λ column. name_element run class x y column ∷ []) (λ column. (refl, tt)) columns
+
+of_cycle : (l : Layout) (run : Recorded) (cycle : ℕ) → All (cycle_elements l run cycle)
+of_cycle l run cycle =
+    all_both (mark_elements l (length run.names) cycle) (page_elements l run cycle)
+    (if_so (cycle % l.every == 0) (begin_element l (length run.names) cycle ∷ cycle_element l (length run.names) cycle ∷ []) (refl, (refl, tt)))
+    (if_so (nat_lt 0 cycle && cycle % l.page == 0) (names_elements run (codes "again") (start_of l cycle + 4) 4 (length run.names))
+    (of_names run (codes "again") (start_of l cycle + 4) 4 (length run.names)))
+
+of_base : (l : Layout) (run : Recorded) (column : ℕ) → All (base_elements l run column)
+of_base l run column = if_so (is_level run column) (base_element l (length run.rows) column ∷ []) (refl, tt)
 
 pub each_once : (l : Layout) (run : Recorded) → All (waves_elements l run)
 each_once l run =
     let columns = length run.names in
     let cycles = length run.rows in
     let ends : All (ending_elements l columns cycles run.ending) = (refl, (refl, tt)) in
-    let values : All (flat_map (shown_elements l) (lanes run)) = all_flat (shown_elements l) (of_shown l) (lanes run) in
-    let names : All (names_elements run columns) = all_below (λ column. name_element run column ∷ []) (λ column. (refl, tt)) columns in
-    let drawn : All (cycles_elements l run cycles) = all_below (cycle_elements l columns) (λ cycle. (refl, (refl, tt))) cycles in
-    (refl, all_both _ _ drawn (all_both _ _ names (all_both _ _ values ends)))
+    let values : All (flat_map (stretch_elements l) (lanes run)) = all_flat (stretch_elements l) (of_stretch l) (lanes run) in
+    let bases : All (bases_elements l run columns) = all_below (base_elements l run) (of_base l run) columns in
+    let names : All (names_elements run (codes "name") 8 23 columns) = of_names run (codes "name") 8 23 columns in
+    let drawn : All (cycles_elements l run cycles) = all_below (cycle_elements l run) (of_cycle l run) cycles in
+    (refl, all_both _ _ drawn (all_both _ _ names (all_both _ _ bases (all_both _ _ values ends))))

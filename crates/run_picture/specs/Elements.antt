@@ -1,6 +1,7 @@
 -- Elements: how the values, the names, the cycles and the end of a run are drawn, and the text of the picture.
-use Rattle.std.specs.Prelude.{◌≡◌, ◌<◌, ◌≤◌, ℕ, ◌+◌, ◌*◌, ◌==◌, Bool, cond, ◌&&◌, ◌||◌, not, List, [], ◌∷◌, ◌++◌, length, codes, decimal, flat_map, slice_index_or, ℤ, pos}
+use Rattle.std.specs.Prelude.{◌≡◌, ◌<◌, ◌≤◌, ℕ, ◌+◌, ◌-◌, ◌*◌, ◌%◌, ◌==◌, Bool, cond, ◌&&◌, nat_lt, int_lt, List, [], ◌∷◌, ◌++◌, length, codes, decimal, flat_map, slice_index_or, ℤ, pos}
 use Rattle.std.specs.Fmt.{signed_decimal}
+use Rattle.std.specs.List.{AllByRecursion}
 use Rattle.std.specs.Ordering.{int_eq}
 use Rattle.svg_text.specs.declared.names.Tag.TheVariants as tag
 use Rattle.svg_text.specs.declared.names.Name.TheVariants as name
@@ -9,9 +10,9 @@ use Rattle.run_picture.specs.declared.ending.Mark.{Mark}
 use Rattle.run_picture.specs.declared.ending.Mark.TheVariants as mark
 use Rattle.run_picture.specs.declared.ending.Ending.{Ending}
 use Rattle.run_picture.specs.declared.layout.Layout.{Layout}
-use Rattle.run_picture.specs.declared.shown.Shown.{Shown}
+use Rattle.run_picture.specs.declared.stretches.Stretch.{Stretch}
 use Rattle.run_picture.specs.RunOf.{Recorded}
-use Rattle.run_picture.specs.Drawn.{lanes, value_at}
+use Rattle.run_picture.specs.Drawn.{lanes, is_level}
 use Rattle.svg_text.specs.Drawing.{each_below}
 
 -- the distance of a cycle's begin from the left, and of a column's upper side from above
@@ -21,60 +22,101 @@ start_of l cycle = l.left + cycle * l.cell
 abbrev pub top_of : ℕ → ℕ
 top_of column = 48 + column * 44
 
--- ---- a value
+-- ---- a stretch
 
 -- the height at which a level is drawn, below the upper side of its column: 0 is low
 abbrev pub level_of : ℤ → ℕ
 level_of v = cond (int_eq v (pos 0)) 30 8
 
--- a level: a line from the begin of the cycle to its end
-abbrev pub level_element : Layout → Shown → Element
+-- a level: a line from the begin of the first cycle to the end of the last one
+abbrev pub level_element : Layout → Stretch → Element
 level_element l s = element tag.Line
-    (attribute name.Column (decimal s.column) ∷ attribute name.Cycle (decimal s.cycle) ∷ attribute name.Class (codes "level")
-    ∷ attribute name.X1 (decimal (start_of l s.cycle)) ∷ attribute name.Y1 (decimal (top_of s.column + level_of s.value))
-    ∷ attribute name.X2 (decimal (start_of l (s.cycle + 1))) ∷ attribute name.Y2 (decimal (top_of s.column + level_of s.value)) ∷ [])
-    (signed_decimal s.value ∷ [])
+    (attribute name.Column (decimal s.column) ∷ attribute name.Cycle (decimal s.start) ∷ attribute name.Class (codes "level")
+    ∷ attribute name.X1 (decimal (start_of l s.start)) ∷ attribute name.Y1 (decimal (top_of s.column + level_of s.first))
+    ∷ attribute name.X2 (decimal (start_of l s.end)) ∷ attribute name.Y2 (decimal (top_of s.column + level_of s.first)) ∷ [])
+    (signed_decimal s.first ∷ [])
 
--- a number: a rectangle from the begin of the cycle to its end
-abbrev pub number_element : Layout → Shown → Element
+-- a number that holds: a rectangle from the begin of the first cycle to the end of the last one
+abbrev pub number_element : Layout → Stretch → Element
 number_element l s = element tag.Rect
-    (attribute name.Column (decimal s.column) ∷ attribute name.Cycle (decimal s.cycle) ∷ attribute name.Class (codes "number")
-    ∷ attribute name.X (decimal (start_of l s.cycle)) ∷ attribute name.Y (decimal (top_of s.column + 8))
-    ∷ attribute name.Width (decimal l.cell) ∷ attribute name.Height (decimal 22) ∷ []) (signed_decimal s.value ∷ [])
+    (attribute name.Column (decimal s.column) ∷ attribute name.Cycle (decimal s.start) ∷ attribute name.Class (codes "number")
+    ∷ attribute name.X (decimal (start_of l s.start)) ∷ attribute name.Y (decimal (top_of s.column + 8))
+    ∷ attribute name.Width (decimal ((s.end - s.start) * l.cell)) ∷ attribute name.Height (decimal 22) ∷ []) (signed_decimal s.first ∷ [])
 
-abbrev pub value_element : Layout → Shown → Element
-value_element l s = cond s.is_level (level_element l s) (number_element l s)
+-- a ramp rises or falls
+abbrev pub rises : Stretch → Bool
+rises s = int_lt s.first s.last
 
--- an edge, where the value changes
-abbrev pub edge_element : Layout → Shown → Element
+-- a number that changes by the same amount with each cycle: a slope from the begin of the first cycle to the end of the last one
+abbrev pub ramp_element : Layout → Stretch → Element
+ramp_element l s = element tag.Line
+    (attribute name.Column (decimal s.column) ∷ attribute name.Cycle (decimal s.start) ∷ attribute name.Class (codes "ramp")
+    ∷ attribute name.X1 (decimal (start_of l s.start)) ∷ attribute name.Y1 (decimal (top_of s.column + cond (rises s) 30 8))
+    ∷ attribute name.X2 (decimal (start_of l s.end)) ∷ attribute name.Y2 (decimal (top_of s.column + cond (rises s) 8 30)) ∷ [])
+    (signed_decimal s.first ∷ codes " to " ∷ signed_decimal s.last ∷ [])
+
+-- the value holds
+abbrev pub holds : Stretch → Bool
+holds s = int_eq s.first s.last
+
+abbrev pub value_element : Layout → Stretch → Element
+value_element l s = cond s.is_level (level_element l s) (cond (holds s) (number_element l s) (ramp_element l s))
+
+-- an edge, where a stretch begins behind another
+abbrev pub edge_element : Layout → Stretch → Element
 edge_element l s = element tag.Line
-    (attribute name.Class (codes "edge") ∷ attribute name.X1 (decimal (start_of l s.cycle)) ∷ attribute name.Y1 (decimal (top_of s.column + 8))
-    ∷ attribute name.X2 (decimal (start_of l s.cycle)) ∷ attribute name.Y2 (decimal (top_of s.column + 30)) ∷ []) []
+    (attribute name.Class (codes "edge") ∷ attribute name.X1 (decimal (start_of l s.start)) ∷ attribute name.Y1 (decimal (top_of s.column + 8))
+    ∷ attribute name.X2 (decimal (start_of l s.start)) ∷ attribute name.Y2 (decimal (top_of s.column + 30)) ∷ []) []
 
--- a number is written where it begins and where it changes
-abbrev pub label_element : Layout → Shown → Element
-label_element l s = element tag.Text
-    (attribute name.X (decimal (start_of l s.cycle + 4)) ∷ attribute name.Y (decimal (top_of s.column + 23)) ∷ []) (signed_decimal s.value ∷ [])
+abbrev pub edge_elements : Layout → Stretch → List Element
+edge_elements l s = cond (nat_lt 0 s.start) (edge_element l s ∷ []) []
 
-abbrev pub has_label : Shown → Bool
-has_label s = not s.is_level && (s.cycle == 0 || s.changes)
+-- a number is written at the begin of its stretch, in a ramp above the slope where that rises, and below it where it falls
+abbrev pub first_element : Layout → Stretch → Element
+first_element l s = element tag.Text
+    (attribute name.Class (codes "first") ∷ attribute name.X (decimal (start_of l s.start + 4))
+    ∷ attribute name.Y (decimal (top_of s.column + cond (holds s) 23 (cond (rises s) 17 30))) ∷ []) (signed_decimal s.first ∷ [])
 
-abbrev pub edge_elements : Layout → Shown → List Element
-edge_elements l s = cond s.changes (edge_element l s ∷ []) []
+-- of a ramp the last value is written at the end, on the other side of the slope
+abbrev pub last_element : Layout → Stretch → Element
+last_element l s = element tag.Text
+    (attribute name.Class (codes "last") ∷ attribute name.X (decimal (start_of l s.end - 4))
+    ∷ attribute name.Y (decimal (top_of s.column + cond (rises s) 30 17)) ∷ []) (signed_decimal s.last ∷ [])
 
-abbrev pub label_elements : Layout → Shown → List Element
-label_elements l s = cond (has_label s) (label_element l s ∷ []) []
+abbrev pub label_elements : Layout → Stretch → List Element
+label_elements l s = cond s.is_level [] (first_element l s ∷ cond (holds s) [] (last_element l s ∷ []))
 
-abbrev pub shown_elements : Layout → Shown → List Element
-shown_elements l s = value_element l s ∷ (edge_elements l s ++ label_elements l s)
+abbrev pub stretch_elements : Layout → Stretch → List Element
+stretch_elements l s = value_element l s ∷ (edge_elements l s ++ label_elements l s)
 
--- ---- names and cycles
+-- ---- names
 
--- the name of a column, left of its values
-abbrev pub name_element : Recorded → ℕ → Element
-name_element run column = element tag.Text
-    (attribute name.Column (decimal column) ∷ attribute name.X (decimal 8) ∷ attribute name.Y (decimal (top_of column + 23)) ∷ [])
+-- the name of a column
+abbrev pub name_element : Recorded → List ℕ → ℕ → ℕ → ℕ → Element
+name_element run class x y column = element tag.Text
+    (attribute name.Column (decimal column) ∷ attribute name.Class class ∷ attribute name.X (decimal x) ∷ attribute name.Y (decimal (top_of column + y)) ∷ [])
     (slice_index_or run.names column [] ∷ [])
+
+-- the names of the columns below this one, in a class, so far from the left and below the upper sides
+abbrev pub names_elements : Recorded → List ℕ → ℕ → ℕ → ℕ → List Element
+names_elements run class x y columns = each_below (λ column. name_element run class x y column ∷ []) columns
+
+-- ---- columns of levels
+
+-- a level is drawn over a base line, which is the height of 0
+abbrev pub base_element : Layout → ℕ → ℕ → Element
+base_element l cycles column = element tag.Line
+    (attribute name.Class (codes "base") ∷ attribute name.X1 (decimal (start_of l 0)) ∷ attribute name.Y1 (decimal (top_of column + 30))
+    ∷ attribute name.X2 (decimal (start_of l cycles)) ∷ attribute name.Y2 (decimal (top_of column + 30)) ∷ []) []
+
+abbrev pub base_elements : Layout → Recorded → ℕ → List Element
+base_elements l run column = cond (is_level run column) (base_element l (length run.rows) column ∷ []) []
+
+-- the base lines of the columns below this one
+abbrev pub bases_elements : Layout → Recorded → ℕ → List Element
+bases_elements l run columns = each_below (base_elements l run) columns
+
+-- ---- cycles
 
 -- the begin of a cycle, from above the first column to below the last one, and the cycle's number
 abbrev pub begin_element : Layout → ℕ → ℕ → Element
@@ -86,8 +128,21 @@ abbrev pub cycle_element : Layout → ℕ → ℕ → Element
 cycle_element l columns cycle = element tag.Text
     (attribute name.X (decimal (start_of l cycle + 4)) ∷ attribute name.Y (decimal (top_of columns + 14)) ∷ []) (decimal cycle ∷ [])
 
-abbrev pub cycle_elements : Layout → ℕ → ℕ → List Element
-cycle_elements l columns cycle = begin_element l columns cycle ∷ cycle_element l columns cycle ∷ []
+-- of so many cycles the first is marked
+abbrev pub mark_elements : Layout → ℕ → ℕ → List Element
+mark_elements l columns cycle = cond (cycle % l.every == 0) (begin_element l columns cycle ∷ cycle_element l columns cycle ∷ []) []
+
+-- a page has so many cycles; behind the first one the names stand again at the begin of each
+abbrev pub page_elements : Layout → Recorded → ℕ → List Element
+page_elements l run cycle = cond (nat_lt 0 cycle && cycle % l.page == 0)
+    (names_elements run (codes "again") (start_of l cycle + 4) 4 (length run.names)) []
+
+abbrev pub cycle_elements : Layout → Recorded → ℕ → List Element
+cycle_elements l run cycle = mark_elements l (length run.names) cycle ++ page_elements l run cycle
+
+-- the cycles below this one
+abbrev pub cycles_elements : Layout → Recorded → ℕ → List Element
+cycles_elements l run cycles = each_below (cycle_elements l run) cycles
 
 -- ---- the end
 
@@ -112,20 +167,13 @@ ending_elements l columns cycles ending = mark_element l columns cycles ending �
 -- ---- the picture
 
 abbrev pub style : Element
-style = element tag.Style [] (codes "text{font:11px monospace}.level,.edge{stroke:#000;stroke-width:2}.number{fill:#dde8f4}.cycle{stroke:#ccc}.ended{stroke:#000}.stopped,.refused{stroke:#d00;stroke-width:3}" ∷ [])
-
--- the cycles below this one
-abbrev pub cycles_elements : Layout → Recorded → ℕ → List Element
-cycles_elements l run cycles = each_below (cycle_elements l (length run.names)) cycles
-
--- the names of the columns below this one
-abbrev pub names_elements : Recorded → ℕ → List Element
-names_elements run columns = each_below (λ column. name_element run column ∷ []) columns
+style = element tag.Style [] (codes "text{font:11px monospace}.level,.edge,.ramp{stroke:#000;stroke-width:2}.base{stroke:#999}.number{fill:#dde8f4}.last{text-anchor:end}.again{fill:#666}.cycle{stroke:#ccc}.ended{stroke:#000}.stopped,.refused{stroke:#d00;stroke-width:3}" ∷ [])
 
 abbrev pub waves_elements : Layout → Recorded → List Element
 waves_elements l run =
-    style ∷ (cycles_elements l run (length run.rows) ++ (names_elements run (length run.names)
-    ++ (flat_map (shown_elements l) (lanes run) ++ ending_elements l (length run.names) (length run.rows) run.ending)))
+    style ∷ (cycles_elements l run (length run.rows) ++ (names_elements run (codes "name") 8 23 (length run.names)
+    ++ (bases_elements l run (length run.names)
+    ++ (flat_map (stretch_elements l) (lanes run) ++ ending_elements l (length run.names) (length run.rows) run.ending))))
 
 -- the size of the picture
 abbrev pub width_of : Layout → Recorded → ℕ
@@ -138,20 +186,37 @@ height_of run = top_of (length run.names) + 24
 abbrev pub waves_text : Layout → Recorded → List ℕ
 waves_text l run = picture_text (width_of l run) (height_of run) (waves_elements l run)
 
+-- ---- its layout
+
 -- the width of a character, in pixels
 abbrev pub character : ℕ
 character = 7
 
--- a text that is written 4 pixels behind the begin of a cycle is no wider than the cycle
-abbrev pub HasRoom : Layout → List ℕ → Type 0
-HasRoom l text = 4 + length text * character ≤ l.cell
+-- the width of a text that is written 4 pixels behind the begin of a cycle
+abbrev pub text_width : List ℕ → ℕ
+text_width text = 4 + length text * character
 
--- each cycle is wide enough for its value in each column, and for its number
+-- the width of the texts of a stretch
+abbrev pub need_of : Stretch → ℕ
+need_of s = cond s.is_level 0 (cond (holds s) (text_width (signed_decimal s.first)) (text_width (signed_decimal s.first) + text_width (signed_decimal s.last)))
+
+-- the texts of a stretch have room in its cycles, where each is so wide
+abbrev pub HasRoom : ℕ → Stretch → Type 0
+HasRoom cell s = need_of s ≤ cell * (s.end - s.start)
+
+-- the most pixels from one place where the names stand to the next
+abbrev pub page_width : ℕ
+page_width = 1000
+
+-- cycles are wide enough for their values and, as far as they are marked, for their numbers; and the names stand again in time
 pub record HaveRoom (run : Recorded) (l : Layout) : Type 0 where
-  pub values : (column cycle : ℕ) → column < length run.names → cycle < length run.rows → HasRoom l (signed_decimal (value_at run column cycle))
-  pub numbers : (cycle : ℕ) → cycle < length run.rows → HasRoom l (decimal cycle)
+  pub values : AllByRecursion (HasRoom l.cell) (lanes run)
+  pub marked : 0 < l.every
+  pub numbers : (cycle : ℕ) → cycle < length run.rows → text_width (decimal cycle) ≤ l.every * l.cell
+  pub paged : 0 < l.page
+  pub names : l.page * l.cell ≤ page_width
 
--- a text is a timing diagram of the run, in which each cycle is as wide as its text needs
+-- a text is a timing diagram of the run, in which its texts have room
 pub record IsPictureOf (run : Recorded) (text : List ℕ) : Type 0 where
   pub layout : Layout
   pub wide : HaveRoom run layout

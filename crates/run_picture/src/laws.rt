@@ -32,8 +32,9 @@ pub fn a_printed_run_is_read_back()
     ensures { (run : Recorded) → IsPrintable run → run_of (printed run) ≡ Ok run }
 {}
 
-/// What is drawn of the values of a run has each value once, in its column and its cycle; and the text of the
-/// picture is a well-formed document. Nothing else is drawn there, and nothing elsewhere.
+/// What is drawn of the values of a run tells each value once, in its column and its cycle: in one stretch, in which the
+/// value changes by the same amount with each cycle, or doesn't; and the text of the picture is a well-formed document.
+/// Nothing else is drawn there, and nothing elsewhere.
 pub fn a_run_is_drawn_whole()
     ensures whole { (run : Recorded) → IsWhole run (lanes run) }
     ensures well_formed { (l : LayoutOf) (run : Recorded) → IsDocument (waves_text l run) }

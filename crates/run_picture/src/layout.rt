@@ -1,12 +1,14 @@
-//! Where cycles stand in a picture. Each has the same width, in which the longest value has room.
+//! Where cycles stand in a picture. Each has the same width, in which the texts of each stretch have room.
 
 ghost use Rattle.std.specs.Fmt.{signed_decimal};
-ghost use Rattle.std.specs.Prelude.{◌≡◌, ◌≤◌, ◌<◌, ◌*◌, ℕ, decimal, length};
+ghost use Rattle.std.specs.List.{AllByRecursion};
+ghost use Rattle.std.specs.Prelude.{◌≡◌, ◌≤◌, ◌<◌, ◌+◌, ◌*◌, ℕ, decimal, length};
 ghost use Rattle.vcp_base.specs.Limits.{most_cycles};
-ghost use Rattle.run_picture.specs.Drawn.{value_at};
-ghost use Rattle.run_picture.specs.Elements.{start_of, top_of, character, HaveRoom};
+ghost use Rattle.run_picture.specs.Drawn.{lane, lanes};
+ghost use Rattle.run_picture.specs.Elements.{start_of, top_of, character, text_width as text_width_of, need_of, HasRoom, HaveRoom};
 
 use crate::run::Run;
+use crate::stretches::{Stretch, is_level, stretch_from};
 use itoa::Buffer;
 
 /// Where cycles stand in a picture, in pixels.
@@ -18,10 +20,17 @@ pub struct Layout {
     pub cell: u16,
     /// The width behind the last cycle.
     pub room: u16,
+    /// How many cycles stand from one marked one to the next.
+    pub every: u32,
+    /// How many cycles stand from one place where the names stand to the next.
+    pub page: u32,
 }
 
 /// The width of a character, in pixels.
 const CHARACTER: u16 = 7;
+
+/// The most pixels from one place where the names stand to the next.
+const PAGE: u32 = 1000;
 
 // The width in which so many characters have room; of more than this, as many.
 fn width_of(characters: usize, most: u16) -> u16
@@ -61,45 +70,130 @@ fn digits_of(cycles: u32) -> usize
     Buffer::new().format(cycles).len()
 }
 
-// The most characters that a value of a column has.
-fn longest_value_of(run: &Run, column: u32) -> usize
-    requires { column < length run.now.names }
-    ensures values { (cycle : ℕ) → cycle < length run.now.rows → length (signed_decimal (value_at run.now column cycle)) ≤ result }
-    ensures few { result ≤ 20 }
+// The width of a text of so many characters, and of the 4 pixels before it.
+fn text_width(characters: usize) -> u32
+    requires { characters ≤ 20 }
+    ensures { result ≡ 4 + characters * character }
 {
-    let mut longest = 0;
-    'cycles: for cycle in 0..run.cycles() {
-        let characters = characters_of(run.value(column, cycle));
-        longest = characters.max(longest);
-    }
-    longest
+    4 + characters as u32 * CHARACTER as u32
 }
 
-// The most characters that a value has, or the number of a cycle: that of all of them is no shorter.
-fn longest_value(run: &Run) -> usize
-    ensures values { (column cycle : ℕ) → column < length run.now.names → cycle < length run.now.rows
-        → length (signed_decimal (value_at run.now column cycle)) ≤ result }
-    ensures numbers { (cycle : ℕ) → cycle < length run.now.rows → length (decimal cycle) ≤ result }
-    ensures few { result ≤ 20 }
+// The width of the texts of a stretch.
+fn need(stretch: Stretch) -> u32
+    ensures need { result ≡ need_of stretch }
+    ensures few { result ≤ 288 }
 {
-    let mut longest = digits_of(run.cycles());
-    'columns: for column in 0..run.columns() {
-        let characters = longest_value_of(run, column);
-        longest = characters.max(longest);
+    if stretch.is_level {
+        return 0;
     }
-    longest
+    let first = text_width(characters_of(stretch.first));
+    if stretch.first == stretch.last {
+        return first;
+    }
+    first + text_width(characters_of(stretch.last))
+}
+
+// A width of a cycle in which the texts of a stretch have room.
+fn cell_for(stretch: Stretch) -> u32
+    requires { stretch.start < stretch.end }
+    ensures room { HasRoom result stretch }
+    ensures few { result ≤ 289 }
+{
+    let need = need(stretch);
+    need / (stretch.end - stretch.start) + 1
+}
+
+// A width of a cycle in which the texts of a column have room.
+fn widest_in(run: &Run, column: u32) -> u32
+    requires { column < length run.now.names }
+    ensures room { (cell : ℕ) → result ≤ cell → AllByRecursion (HasRoom cell) (lane run.now column) }
+    ensures few { result ≤ 289 }
+{
+    let is_level = is_level(run, column);
+    let mut widest = 0;
+    let mut at = 0;
+    'stretches: while at < run.cycles() {
+        let stretch = stretch_from(run, column, at, is_level);
+        let here = cell_for(stretch);
+        widest = here.max(widest);
+        at = stretch.end;
+    }
+    widest
+}
+
+// A width of a cycle in which all texts have room.
+fn widest(run: &Run) -> u32
+    ensures room { (cell : ℕ) → result ≤ cell → AllByRecursion (HasRoom cell) (lanes run.now) }
+    ensures few { result ≤ 289 }
+{
+    let mut widest = 0;
+    'columns: for column in 0..run.columns() {
+        let here = widest_in(run, column);
+        widest = here.max(widest);
+    }
+    widest
+}
+
+/// The width of a picture that is not to be much wider, in pixels.
+const WIDTH: u32 = 940;
+
+// The width of a cycle that is wanted where so many are drawn: wide where there are few of them.
+fn wanted(cycles: u32) -> u32
+    ensures some { 4 ≤ result }
+    ensures few { result ≤ 26 }
+{
+    if cycles <= WIDTH / 26 {
+        return 26;
+    }
+    if WIDTH / 4 <= cycles {
+        return 4;
+    }
+    (WIDTH / cycles).clamp(4, 26)
+}
+
+// A round number of cycles, no fewer than this.
+fn round(cycles: u32) -> u32
+    requires { cycles ≤ 100 }
+    ensures { cycles ≤ result }
+{
+    match cycles {
+        0..=1 => 1,
+        2 => 2,
+        3..=5 => 5,
+        6..=10 => 10,
+        11..=20 => 20,
+        21..=50 => 50,
+        _ => 100,
+    }
+}
+
+// How many cycles stand from one mark to the next, so that the number of each of so many has room.
+fn every(cycles: u32, cell: u32) -> u32
+    requires cycles { cycles ≤ most_cycles }
+    requires cell { 4 ≤ cell }
+    ensures some { 0 < result }
+    ensures numbers { (cycle : ℕ) → cycle < cycles → text_width_of (decimal cycle) ≤ result * cell }
+{
+    let digits = digits_of(cycles);
+    let wide = text_width(digits);
+    round(wide / cell + 1)
 }
 
 /// A layout in which values and numbers of cycles have room, and names and the last line, as far as they are not too long.
 pub(crate) fn layout_for(run: &Run) -> Layout
-    ensures { HaveRoom run.now result }
+    ensures room { HaveRoom run.now result }
+    ensures every { 0 < result.every }
+    ensures page { 0 < result.page }
 {
-    let longest = longest_value(run).max(2);
-    let text = width_of(longest, 20);
+    let cycles = run.cycles();
+    let widest = widest(run);
+    let cell = widest.max(wanted(cycles));
     Layout {
         left: 16 + width_of(longest_name(run), 60),
-        cell: 10 + text,
+        cell: cell as u16,
         room: 16 + width_of(run.ending().text.len(), 200),
+        every: every(cycles, cell),
+        page: PAGE / cell,
     }
 }
 

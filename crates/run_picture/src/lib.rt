@@ -1,21 +1,22 @@
 //! A run as a timing diagram: what a run printed is read back, and drawn in SVG.
 //!
 //! A text is a run where its records, as `csv` gives them, are the lines that a run prints: the header,
-//! a row for each cycle, and the last line. A picture has a lane for each column, with each value once,
-//! in its cycle.
+//! a row for each cycle, and the last line. A picture has a lane for each column, in stretches: a level, a
+//! number that holds, or a ramp, in which it changes by the same amount with each cycle.
 #![tactic(auto)]
 
 mod cycles;
 mod ending;
 mod fault;
 mod header;
+mod lanes;
 mod laws;
 mod layout;
 mod lines;
 mod picture;
 mod row_table;
 mod run;
-mod shown;
+mod stretches;
 mod values;
 
 pub use ending::{Ending, Mark};

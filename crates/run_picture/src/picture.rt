@@ -1,18 +1,20 @@
 //! The timing diagram of a run.
 
-ghost use Rattle.std.specs.Prelude.{◌≡◌, ℕ, List};
+ghost use Rattle.std.specs.Prelude.{◌≡◌, ◌<◌, ℕ, List};
 ghost use Rattle.vcp_outside.specs.Written.{WritesTo};
 ghost use Rattle.run_picture.specs.Elements.{waves_text, IsPictureOf};
 
-use crate::cycles::{then_cycles, then_ending, then_names, then_style};
+use crate::cycles::{then_bases, then_cycles, then_ending, then_names, then_style};
+use crate::lanes::then_lanes;
 use crate::layout::{Layout, layout_for, start, top};
 use crate::run::Run;
-use crate::shown::then_lanes;
 use svg_text::{begin_picture, end_picture};
 use vcp_outside::{Failed, Sink};
 
 // Writes the timing diagram of a run in a layout.
 fn write_in<O: Sink>(out: &mut O, layout: Layout, run: &Run) -> Result<(), Failed>
+    requires every { 0 < layout.every }
+    requires page { 0 < layout.page }
     ensures { WritesTo (O.seen out.old) (O.seen out.new) (waves_text layout run.now) result }
 {
     let width = start(layout, run.cycles()) + layout.room as u64;
@@ -20,16 +22,18 @@ fn write_in<O: Sink>(out: &mut O, layout: Layout, run: &Run) -> Result<(), Faile
     let mut line = begin_picture(out, width, height);
     then_style(&mut line, out);
     then_cycles(&mut line, out, layout, run);
-    then_names(&mut line, out, run);
+    then_names(&mut line, out, run, b"name", 8, 23);
+    then_bases(&mut line, out, layout, run);
     then_lanes(&mut line, out, layout, run);
     then_ending(&mut line, out, layout, run);
     end_picture(line, out)
 }
 
-/// Writes the timing diagram of a run: each value once, in its column and its cycle, columns of 0 and 1 as
-/// levels and others as numbers; the columns' names, the cycles, and the end. It takes no memory. After
-/// `Failed` a part of the picture is written. The end has the words of the last line. The layout is free;
-/// each cycle is as wide as its values and its number need.
+/// Writes the timing diagram of a run: each value once, in its column and its cycle, columns of 0 and 1 as levels over
+/// a base line, a number as a box where it holds, and as a ramp where it changes by the same amount three times or more;
+/// the columns' names, at the left and again at each page's width; the cycles, as far as their numbers have room; and the
+/// end, with the words of the last line. It takes no memory. After `Failed` a part of the picture is written. The layout
+/// is free; each cycle is as wide as the values need.
 pub fn write_waves<O: Sink>(out: &mut O, run: &Run) -> Result<(), Failed>
     ensures { (text : List ℕ) × IsPictureOf run.now text
         × WritesTo (O.seen out.old) (O.seen out.new) text result }

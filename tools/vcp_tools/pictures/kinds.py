@@ -25,8 +25,9 @@ STYLE = """
 .k-worst { fill: var(--worst); } .k-bad { fill: url(#hatch); } .k-open { fill: url(#dots); } .k-fine { fill: var(--fine); } .k-fair { fill: url(#rules); }
 .k-none { fill: var(--none); } .bar rect, .key rect { stroke: var(--fg); stroke-width: .6; }
 .key { list-style: none; padding: 0; margin: .4em 0; display: flex; flex-wrap: wrap; gap: .2em 1.4em; } .key svg { vertical-align: -2px; margin-right: 5px; }
-.bars { width: 100%; max-width: 900px; } .bars td { vertical-align: middle; } .bars td:nth-child(2) { width: 60%; min-width: 8em; } .bar { display: block; }
-@media (max-width: 600px) { .bars td:nth-child(2) { width: 38%; min-width: 5em; } }
+.bars { width: 100%; max-width: 960px; table-layout: fixed; } .bars td { vertical-align: middle; } .bars code { white-space: normal; } .bar { display: block; }
+.bars th:first-child { width: 24%; } .bars th:nth-child(2) { width: 50%; }
+@media (max-width: 600px) { .bars th:first-child { width: 30%; } .bars th:nth-child(2) { width: 34%; } }
 .mark { display: inline-block; width: 7.5ch; padding-left: .5ch; border-left: 6px solid transparent; }
 .mark.k-worst { border-color: var(--worst); color: var(--bad-text); font-weight: 700; } .mark.k-bad { border-left: 6px double var(--bad); font-weight: 600; }
 .mark.k-open { border-left: 6px dotted var(--open); font-weight: 600; } .mark.k-fine { border-color: var(--fine); }

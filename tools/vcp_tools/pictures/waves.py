@@ -15,6 +15,8 @@ LANE = 24
 """The height of a lane, in pixels."""
 MOST_CYCLES = 3000
 """So many cycles are drawn at most, the first ones."""
+MOST_NUMBERS = 3
+"""So many lines of faults are named at a cycle at most."""
 MOST_LETTERS = 40
 """So many letters of a name are shown at most."""
 STYLE = """
@@ -24,7 +26,7 @@ STYLE = """
 .waves .i, .waves .o, .waves .v { fill: none; stroke: var(--fg); stroke-width: 1.4; } .waves .o { stroke: var(--link); } .waves .v { stroke: var(--own); }
 .waves .b { stroke: var(--line); } .waves .h { fill: var(--high); stroke: none; } .waves .t { stroke: var(--faint); } .waves .e { stroke: var(--bad-text); }
 .waves .f { stroke: var(--dim); stroke-width: 2; stroke-dasharray: 3 3; } .waves .f.unseen { stroke: var(--bad-text); stroke-dasharray: none; }
-.waves text.f { stroke: none; font-weight: 600; } .waves text.f.unseen { fill: var(--bad-text); }
+.waves text.f { stroke: none; font-weight: 600; } .waves text.f.unseen { fill: var(--bad-text); stroke: none; }
 @media print { .waves { overflow: visible; } }
 """
 """How the parts of a picture look: `g` groups, `i`, `o` and `v` lanes, `b` base lines, `h` a level of 1, `s` ends of ramps, `t` cycles, `e` an early end,
@@ -120,7 +122,7 @@ def _faults(faults: Sequence[Fault], scale: float, head: int, bottom: int) -> It
     for cycle in sorted({it.cycle for it in faults}):
         here = [it for it in faults if it.cycle == cycle]
         style = "f unseen" if any(it.verdict in ("wrong", "ran-on") for it in here) else "f"
-        x, words = (cycle + 0.5) * scale, ",".join(str(it.line) for it in here)
+        x, words = (cycle + 0.5) * scale, ",".join(str(it.line) for it in here[:MOST_NUMBERS]) + " .." * (len(here) > MOST_NUMBERS)
         told = text(f"cycle {cycle}: " + ", ".join(f"line {it.line} {it.verdict}" for it in here))
         yield f'<line class="{style}" x1="{x:.1f}" y1="{head - 8}" x2="{x:.1f}" y2="{bottom}"><title>{told}</title></line>'
         if x >= free:

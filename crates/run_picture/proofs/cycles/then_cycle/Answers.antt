@@ -1,8 +1,13 @@
-use Rattle.run_picture.specs.Elements.{begin_element, cycle_element}
-use Rattle.run_picture.proofs.Going.{and_then, same, two_texts}
+use Rattle.std.proofs.Common.{length}
+use Rattle.std.proofs.lemmas.Grind.{flat_map-append}
+use Rattle.svg_text.specs.Elements.{element_text}
+use Rattle.run_picture.specs.Elements.{mark_elements, page_elements}
+use Rattle.run_picture.proofs.Going.{and_then, same}
 use Rattle.run_picture.proofs.cycles.then_cycle.Goals as goal
 
 pub returns : goal.returns
 returns g c =
-    same (and_then c.then_begin.ensures c.then_number_of_cycle.ensures)
-    (two_texts (begin_element c.args.layout c.args.columns c.args.cycle) (cycle_element c.args.layout c.args.columns c.args.cycle))
+    let run = c.args.run.now in
+    let marked = rw c.columns.ensures.count at c.then_marked.ensures in
+    same (and_then marked c.then_page.ensures)
+    (flat_map-append element_text (mark_elements c.args.layout (length run.names) c.args.cycle) (page_elements c.args.layout run c.args.cycle))

@@ -8,7 +8,8 @@ columns-init g c = unmoved
 
 pub columns-preserved : goal.columns-preserved
 columns-preserved g c =
-    same (and_then c.columns.invariant c.then_name.ensures) (single_more (name_element c.args.run.now) c.columns.column)
+    same (and_then c.columns.invariant c.then_name.ensures)
+    (single_more (name_element c.args.run.now c.args.class.now c.args.x c.args.y) c.columns.column)
 
 pub returns : goal.returns
 returns g c =

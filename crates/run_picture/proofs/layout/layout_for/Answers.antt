@@ -1,13 +1,21 @@
-use Rattle.std.proofs.Common.{◌≡◌, ◌≤◌, ◌*◌, arith}
+use Rattle.std.proofs.Common.{◌<◌, ◌≤◌, ◌*◌, arith}
+use Rattle.std.proofs.Math.Nat.{div-mul-le_self, le-div_iff_mul-le}
 use Rattle.run_picture.proofs.layout.layout_for.Goals as goal
 
 pub returns : goal.returns
 returns c =
-    let longest = c.max-longest.result in
-    let most : longest ≤ 20 = omega (arith, c.longest_value.ensures.few, c.max-longest.ensures) in
-    let wide : c.width_of-text.result ≡ longest * 7 = c.width_of-text.ensures.room most in
+    let cell = c.max-cell.result in
+    let some : 0 < cell = omega (arith, c.max-cell.ensures, c.wanted.ensures.some) in
+    let short : 1 * cell ≤ 1000 = omega (arith, c.max-cell.ensures, c.wanted.ensures.few, c.widest-widest.ensures.few) in
+    let page = (le-div_iff_mul-le some).1 short in
     record {
-      values = λ column cycle there less.
-          let short = c.longest_value.ensures.values column cycle there less in omega (arith, short, wide, c.max-longest.ensures);
-      numbers = λ cycle less. let short = c.longest_value.ensures.numbers cycle less in omega (arith, short, wide, c.max-longest.ensures);
+      room = record {
+        values = c.widest-widest.ensures.room cell (omega (arith, c.max-cell.ensures));
+        marked = c.every.ensures.some;
+        numbers = λ cycle less. c.every.ensures.numbers cycle (omega (arith, less, c.cycles-cycles.ensures.count));
+        paged = omega (arith, page);
+        names = div-mul-le_self 1000 cell;
+      };
+      every = c.every.ensures.some;
+      page = omega (arith, page);
     }

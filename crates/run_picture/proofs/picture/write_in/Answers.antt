@@ -1,7 +1,7 @@
-use Rattle.std.proofs.Common.{length, flat_map}
+use Rattle.std.proofs.Common.{length, flat_map, codes}
 use Rattle.svg_text.specs.Elements.{beginning, ending}
 use Rattle.run_picture.specs.Drawn.{lanes}
-use Rattle.run_picture.specs.Elements.{style, cycles_elements, names_elements, shown_elements, ending_elements, width_of, height_of}
+use Rattle.run_picture.specs.Elements.{style, cycles_elements, names_elements, bases_elements, stretch_elements, ending_elements, width_of, height_of}
 use Rattle.run_picture.proofs.Going.{parts}
 use Rattle.run_picture.proofs.picture.write_in.Goals as goal
 
@@ -13,6 +13,7 @@ returns g c =
     let cycles = length run.rows in
     let begun = rw (c.start.ensures.begin, c.cycles.ensures.count, c.top-height.ensures, c.columns.ensures.count) at c.begin_picture-line.ensures in
     let named = c.then_names.ensures _ _ _ (c.then_cycles.ensures _ _ _ (c.then_style.ensures _ _ _ begun)) in
-    let all = c.then_ending.ensures _ _ _ (c.then_lanes.ensures _ _ _ named) in
-    rw (parts (beginning (width_of l run) (height_of run)) ending style (cycles_elements l run cycles) (names_elements run columns)
-    (flat_map (shown_elements l) (lanes run)) (ending_elements l columns cycles run.ending)) (c.end_picture.ensures _ _ _ all)
+    let all = c.then_ending.ensures _ _ _ (c.then_lanes.ensures _ _ _ (c.then_bases.ensures _ _ _ named)) in
+    rw (parts (beginning (width_of l run) (height_of run)) ending style (cycles_elements l run cycles)
+    (names_elements run (codes "name") 8 23 columns) (bases_elements l run columns)
+    (flat_map (stretch_elements l) (lanes run)) (ending_elements l columns cycles run.ending)) (c.end_picture.ensures _ _ _ all)

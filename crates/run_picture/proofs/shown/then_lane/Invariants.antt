@@ -1,9 +1,17 @@
+use Rattle.std.proofs.Common.{◌-◌, List, length}
 use Rattle.vcp_outside.specs.Gathering.{GathersTo}
-use Rattle.run_picture.specs.Drawn.{lane}
-use Rattle.run_picture.specs.Elements.{shown_elements}
+use Rattle.run_picture.specs.declared.stretches.Stretch.{Stretch}
+use Rattle.run_picture.specs.Elements.{stretch_elements}
 use Rattle.run_picture.proofs.Going.{drawn_text}
-use Rattle.run_picture.proofs.shown.then_lane.Given as goal
+use Rattle.run_picture.proofs.Walk.{IsBefore}
+use Rattle.run_picture.proofs.lanes.then_lane.Given as goal
 
-abbrev pub invariant-cycles : goal.invariant-cycles
-invariant-cycles g l = GathersTo (g.O.Sink.seen l.fn.out) (g.O.Sink.seen l.out)
-    l.fn.line l.line (drawn_text (shown_elements l.layout) (lane l.run l.column l.cycle))
+abbrev pub invariant-stretches : goal.invariant-stretches
+invariant-stretches g l = record {
+  drawn : List Stretch;
+  before : IsBefore l.run l.column l.at drawn;
+  text : GathersTo (g.O.Sink.seen l.fn.out) (g.O.Sink.seen l.out) l.fn.line l.line (drawn_text (stretch_elements l.layout) drawn);
+}
+
+abbrev pub decreases-stretches : goal.decreases-stretches
+decreases-stretches g l = length l.run.rows - l.at

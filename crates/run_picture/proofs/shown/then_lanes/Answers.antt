@@ -1,16 +1,15 @@
 use Rattle.std.proofs.Common.{◌≡◌, length, arith}
 use Rattle.run_picture.specs.Drawn.{lane}
-use Rattle.run_picture.specs.Elements.{shown_elements}
+use Rattle.run_picture.specs.Elements.{stretch_elements}
 use Rattle.run_picture.proofs.Going.{unmoved, and_then, same, drawn_more}
-use Rattle.run_picture.proofs.shown.then_lanes.Goals as goal
+use Rattle.run_picture.proofs.lanes.then_lanes.Goals as goal
 
 pub columns-init : goal.columns-init
 columns-init g c = unmoved
 
 pub columns-preserved : goal.columns-preserved
 columns-preserved g c =
-    same (and_then c.columns.invariant c.then_lane.ensures)
-    (drawn_more (shown_elements c.args.layout) (λ column. lane c.args.run.now column (length c.args.run.now.rows)) c.columns.column)
+    same (and_then c.columns.invariant c.then_lane.ensures) (drawn_more (stretch_elements c.args.layout) (lane c.args.run.now) c.columns.column)
 
 pub returns : goal.returns
 returns g c =

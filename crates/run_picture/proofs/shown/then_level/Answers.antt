@@ -1,9 +1,9 @@
 use Rattle.std.proofs.Common.{rules, w64, SFits}
 use Rattle.std.proofs.lemmas.Int.{to_z-of_z}
-use Rattle.run_picture.proofs.shown.then_level.Goals as goal
+use Rattle.run_picture.proofs.lanes.then_level.Goals as goal
 
 pub returns : goal.returns
 returns g c =
-    let fits : SFits w64 c.args.shown.value = search rules in
+    let fits : SFits w64 c.args.stretch.first = search rules in
     let drawn = rw (c.height-height.ensures, c.start.ensures.begin, c.start-2.ensures.begin) at c.then_element.ensures in
-    rw (to_z-of_z w64 c.args.shown.value fits) at drawn
+    rw (to_z-of_z w64 c.args.stretch.first fits) at drawn

@@ -1,0 +1,315 @@
+//! The values of a run, drawn in lanes, stretch by stretch.
+
+ghost use Rattle.std.specs.Prelude.{◌≡◌, ◌<◌, ◌≤◌, ◌+◌, [], ◌∷◌, length, flat_map, cond};
+ghost use Rattle.vcp_outside.specs.Gathering.{GathersTo};
+ghost use Rattle.svg_text.specs.Elements.{element_text};
+ghost use Rattle.vcp_base.specs.Limits.{most_cycles};
+ghost use Rattle.run_picture.specs.Drawn.{lane, lanes};
+ghost use Rattle.run_picture.specs.Elements.{top_of, level_of, rises as rises_of, holds as holds_of, level_element, number_element, ramp_element, value_element, edge_element, edge_elements, first_element, last_element, label_elements, stretch_elements};
+
+use crate::layout::{Layout, start, top};
+use crate::run::Run;
+use crate::stretches::{Stretch, is_level, stretch_from};
+use svg_text::{Name, Piece, Tag, then_element};
+use vcp_outside::{Line, Sink};
+
+// The height at which a level is drawn.
+fn level(value: i64) -> u64
+    ensures value { result ≡ level_of value }
+    ensures low { result ≤ 30 }
+{
+    if value == 0 { 30 } else { 8 }
+}
+
+// The distance of a level from above.
+fn height(stretch: Stretch) -> u64
+    ensures { result ≡ top_of stretch.column + level_of stretch.first }
+{
+    top(stretch.column) + level(stretch.first)
+}
+
+// Draws a level.
+fn then_level<O: Sink>(line: &mut Line, out: &mut O, layout: Layout, stretch: Stretch)
+    requires some { stretch.start < stretch.end }
+    requires within { stretch.end ≤ most_cycles }
+    ensures { GathersTo (O.seen out.old) (O.seen out.new) line.old line.new
+        (element_text (level_element layout stretch)) }
+{
+    let height = height(stretch);
+    then_element(
+        line,
+        out,
+        Tag::Line,
+        &[
+            (Name::Column, Piece::Count(stretch.column as u64)),
+            (Name::Cycle, Piece::Count(stretch.start as u64)),
+            (Name::Class, Piece::Bytes(b"level")),
+            (Name::X1, Piece::Count(start(layout, stretch.start))),
+            (Name::Y1, Piece::Count(height)),
+            (Name::X2, Piece::Count(start(layout, stretch.end))),
+            (Name::Y2, Piece::Count(height)),
+        ],
+        &[Piece::Value(stretch.first)],
+    );
+}
+
+// Draws a number that holds.
+fn then_number<O: Sink>(line: &mut Line, out: &mut O, layout: Layout, stretch: Stretch)
+    requires some { stretch.start < stretch.end }
+    requires within { stretch.end ≤ most_cycles }
+    ensures { GathersTo (O.seen out.old) (O.seen out.new) line.old line.new
+        (element_text (number_element layout stretch)) }
+{
+    let width = (stretch.end - stretch.start) as u64 * layout.cell as u64;
+    then_element(
+        line,
+        out,
+        Tag::Rect,
+        &[
+            (Name::Column, Piece::Count(stretch.column as u64)),
+            (Name::Cycle, Piece::Count(stretch.start as u64)),
+            (Name::Class, Piece::Bytes(b"number")),
+            (Name::X, Piece::Count(start(layout, stretch.start))),
+            (Name::Y, Piece::Count(top(stretch.column) + 8)),
+            (Name::Width, Piece::Count(width)),
+            (Name::Height, Piece::Count(22)),
+        ],
+        &[Piece::Value(stretch.first)],
+    );
+}
+
+// Whether the last value of a stretch is greater than the first one.
+fn rises(stretch: Stretch) -> bool
+    ensures { result ≡ rises_of stretch }
+{
+    stretch.first < stretch.last
+}
+
+// Whether the value holds.
+fn holds(stretch: Stretch) -> bool
+    ensures { result ≡ holds_of stretch }
+{
+    stretch.first == stretch.last
+}
+
+// The distance from above, this far below the column's upper side where a stretch rises, else that far.
+fn height_by(stretch: Stretch, rising: u64, other: u64) -> u64
+    requires rising { rising ≤ 30 }
+    requires other { other ≤ 30 }
+    ensures { result ≡ top_of stretch.column + cond (rises_of stretch) rising other }
+{
+    if rises(stretch) {
+        top(stretch.column) + rising
+    } else {
+        top(stretch.column) + other
+    }
+}
+
+// Draws a ramp.
+fn then_ramp<O: Sink>(line: &mut Line, out: &mut O, layout: Layout, stretch: Stretch)
+    requires some { stretch.start < stretch.end }
+    requires within { stretch.end ≤ most_cycles }
+    ensures { GathersTo (O.seen out.old) (O.seen out.new) line.old line.new
+        (element_text (ramp_element layout stretch)) }
+{
+    let from = height_by(stretch, 30, 8);
+    let to = height_by(stretch, 8, 30);
+    then_element(
+        line,
+        out,
+        Tag::Line,
+        &[
+            (Name::Column, Piece::Count(stretch.column as u64)),
+            (Name::Cycle, Piece::Count(stretch.start as u64)),
+            (Name::Class, Piece::Bytes(b"ramp")),
+            (Name::X1, Piece::Count(start(layout, stretch.start))),
+            (Name::Y1, Piece::Count(from)),
+            (Name::X2, Piece::Count(start(layout, stretch.end))),
+            (Name::Y2, Piece::Count(to)),
+        ],
+        &[
+            Piece::Value(stretch.first),
+            Piece::Bytes(b" to "),
+            Piece::Value(stretch.last),
+        ],
+    );
+}
+
+// Draws the values of a stretch.
+fn then_value<O: Sink>(line: &mut Line, out: &mut O, layout: Layout, stretch: Stretch)
+    requires some { stretch.start < stretch.end }
+    requires within { stretch.end ≤ most_cycles }
+    ensures { GathersTo (O.seen out.old) (O.seen out.new) line.old line.new
+        (element_text (value_element layout stretch)) }
+{
+    if stretch.is_level {
+        then_level(line, out, layout, stretch);
+    } else if holds(stretch) {
+        then_number(line, out, layout, stretch);
+    } else {
+        then_ramp(line, out, layout, stretch);
+    }
+}
+
+// Draws the edge before a stretch.
+fn then_edge<O: Sink>(line: &mut Line, out: &mut O, layout: Layout, stretch: Stretch)
+    requires some { stretch.start < stretch.end }
+    requires within { stretch.end ≤ most_cycles }
+    ensures { GathersTo (O.seen out.old) (O.seen out.new) line.old line.new
+        (element_text (edge_element layout stretch)) }
+{
+    let x = start(layout, stretch.start);
+    then_element(
+        line,
+        out,
+        Tag::Line,
+        &[
+            (Name::Class, Piece::Bytes(b"edge")),
+            (Name::X1, Piece::Count(x)),
+            (Name::Y1, Piece::Count(top(stretch.column) + 8)),
+            (Name::X2, Piece::Count(x)),
+            (Name::Y2, Piece::Count(top(stretch.column) + 30)),
+        ],
+        &[],
+    );
+}
+
+// Draws the edge before a stretch, where it stands behind another one.
+fn then_edges<O: Sink>(line: &mut Line, out: &mut O, layout: Layout, stretch: Stretch)
+    requires some { stretch.start < stretch.end }
+    requires within { stretch.end ≤ most_cycles }
+    ensures { GathersTo (O.seen out.old) (O.seen out.new) line.old line.new
+        (flat_map element_text (edge_elements layout stretch)) }
+{
+    if 0 < stretch.start {
+        then_edge(line, out, layout, stretch);
+    }
+}
+
+// The distance from above of a stretch's first value.
+fn first_height(stretch: Stretch) -> u64
+    ensures { result ≡ top_of stretch.column + cond (holds_of stretch) 23 (cond (rises_of stretch) 17 30) }
+{
+    if holds(stretch) {
+        top(stretch.column) + 23
+    } else {
+        height_by(stretch, 17, 30)
+    }
+}
+
+// Writes the first value of a stretch.
+fn then_first<O: Sink>(line: &mut Line, out: &mut O, layout: Layout, stretch: Stretch)
+    requires some { stretch.start < stretch.end }
+    requires within { stretch.end ≤ most_cycles }
+    ensures { GathersTo (O.seen out.old) (O.seen out.new) line.old line.new
+        (element_text (first_element layout stretch)) }
+{
+    let y = first_height(stretch);
+    then_element(
+        line,
+        out,
+        Tag::Text,
+        &[
+            (Name::Class, Piece::Bytes(b"first")),
+            (Name::X, Piece::Count(start(layout, stretch.start) + 4)),
+            (Name::Y, Piece::Count(y)),
+        ],
+        &[Piece::Value(stretch.first)],
+    );
+}
+
+// Writes the last value of a ramp.
+fn then_last<O: Sink>(line: &mut Line, out: &mut O, layout: Layout, stretch: Stretch)
+    requires some { stretch.start < stretch.end }
+    requires within { stretch.end ≤ most_cycles }
+    ensures { GathersTo (O.seen out.old) (O.seen out.new) line.old line.new
+        (element_text (last_element layout stretch)) }
+{
+    let y = height_by(stretch, 30, 17);
+    then_element(
+        line,
+        out,
+        Tag::Text,
+        &[
+            (Name::Class, Piece::Bytes(b"last")),
+            (
+                Name::X,
+                Piece::Count(start(layout, stretch.end).saturating_sub(4)),
+            ),
+            (Name::Y, Piece::Count(y)),
+        ],
+        &[Piece::Value(stretch.last)],
+    );
+}
+
+// Writes the last value, where the value doesn't hold.
+fn then_other<O: Sink>(line: &mut Line, out: &mut O, layout: Layout, stretch: Stretch)
+    requires some { stretch.start < stretch.end }
+    requires within { stretch.end ≤ most_cycles }
+    ensures { GathersTo (O.seen out.old) (O.seen out.new) line.old line.new
+        (flat_map element_text (cond (holds_of stretch) [] (last_element layout stretch ∷ []))) }
+{
+    if !holds(stretch) {
+        then_last(line, out, layout, stretch);
+    }
+}
+
+// Writes the values at the ends of a stretch.
+fn then_ends<O: Sink>(line: &mut Line, out: &mut O, layout: Layout, stretch: Stretch)
+    requires some { stretch.start < stretch.end }
+    requires within { stretch.end ≤ most_cycles }
+    ensures { GathersTo (O.seen out.old) (O.seen out.new) line.old line.new
+        (flat_map element_text (first_element layout stretch ∷ cond (holds_of stretch) [] (last_element layout stretch ∷ []))) }
+{
+    then_first(line, out, layout, stretch);
+    then_other(line, out, layout, stretch);
+}
+
+// Writes the values of a stretch that is no level.
+fn then_labels<O: Sink>(line: &mut Line, out: &mut O, layout: Layout, stretch: Stretch)
+    requires some { stretch.start < stretch.end }
+    requires within { stretch.end ≤ most_cycles }
+    ensures { GathersTo (O.seen out.old) (O.seen out.new) line.old line.new
+        (flat_map element_text (label_elements layout stretch)) }
+{
+    if !stretch.is_level {
+        then_ends(line, out, layout, stretch);
+    }
+}
+
+// Draws a stretch, its edge and its values.
+fn then_stretch<O: Sink>(line: &mut Line, out: &mut O, layout: Layout, stretch: Stretch)
+    requires some { stretch.start < stretch.end }
+    requires within { stretch.end ≤ most_cycles }
+    ensures { GathersTo (O.seen out.old) (O.seen out.new) line.old line.new
+        (flat_map element_text (stretch_elements layout stretch)) }
+{
+    then_value(line, out, layout, stretch);
+    then_edges(line, out, layout, stretch);
+    then_labels(line, out, layout, stretch);
+}
+
+// Draws the values of a column.
+fn then_lane<O: Sink>(line: &mut Line, out: &mut O, layout: Layout, run: &Run, column: u32)
+    requires { column < length run.now.names }
+    ensures { GathersTo (O.seen out.old) (O.seen out.new) line.old line.new
+        (flat_map element_text (flat_map (stretch_elements layout) (lane run.now column))) }
+{
+    let is_level = is_level(run, column);
+    let mut at = 0;
+    'stretches: while at < run.cycles() {
+        let stretch = stretch_from(run, column, at, is_level);
+        then_stretch(line, out, layout, stretch);
+        at = stretch.end;
+    }
+}
+
+/// Draws the values of a run, column by column.
+pub(crate) fn then_lanes<O: Sink>(line: &mut Line, out: &mut O, layout: Layout, run: &Run)
+    ensures { GathersTo (O.seen out.old) (O.seen out.new) line.old line.new
+        (flat_map element_text (flat_map (stretch_elements layout) (lanes run.now))) }
+{
+    'columns: for column in 0..run.columns() {
+        then_lane(line, out, layout, run, column);
+    }
+}
