@@ -62,7 +62,7 @@ fn is_numbered(word: &[u8], n: u32, text: &[u8]) -> bool
     }
 }
 
-/// How a run ends by its last line, which stands behind the rows of the cycles below this one; `None`
+/// How a run ends by its last line, which is behind the rows of the cycles below this one; `None`
 /// where the text is no last line.
 pub(crate) fn mark_of(cycle: u32, text: &[u8]) -> Option<Mark>
     ensures { result ≡ mark_of_text cycle text.now }

@@ -12,7 +12,7 @@ pub enum RunTextFault {
     Header,
     /// The header has more than 1,024 names.
     Names,
-    /// The record is neither the row of the cycle whose row may stand there, nor a last line.
+    /// The record is neither the row of the cycle whose row may be there, nor a last line.
     Line {
         /// The number of the record.
         record: u32,
@@ -33,7 +33,7 @@ pub enum RunTextFault {
     Cycles,
     /// The records end before a last line.
     End,
-    /// A record stands behind the last line.
+    /// A record is behind the last line.
     Rest {
         /// The number of the record.
         record: u32,

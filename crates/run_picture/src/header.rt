@@ -12,7 +12,7 @@ use input_rows::field;
 use std::alloc::Global;
 use vcp_base::{MOST_NAMES, Words};
 
-/// The names in a header: what stands behind `cycle`.
+/// The names in a header: what is behind `cycle`.
 pub(crate) fn names(alloc: Global, cells: &ByteRecord) -> Result<Words, RunTextFault>
     ensures names { Answers (names_of (fields_of cells.now)) result }
     ensures few { IfOk result (λ names. length names ≤ most_names) }

@@ -1,4 +1,4 @@
-//! Where cycles stand in a picture. Each has the same width, in which the texts of each stretch have room.
+//! Where cycles are in a picture. Each has the same width, in which the texts of each stretch have room.
 
 ghost use Rattle.std.specs.Fmt.{signed_decimal};
 ghost use Rattle.std.specs.List.{AllByRecursion};
@@ -11,7 +11,7 @@ use crate::run::Run;
 use crate::stretches::{Stretch, is_level, stretch_from};
 use itoa::Buffer;
 
-/// Where cycles stand in a picture, in pixels.
+/// Where cycles are in a picture, in pixels.
 #[derive(Clone, Copy)]
 pub struct Layout {
     /// The distance of the first cycle's begin from the left.

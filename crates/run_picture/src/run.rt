@@ -50,7 +50,7 @@ fn ends_a_line(text: &[u8]) -> bool
 ///
 /// Records are those that `csv` gives; the first is `cycle` and at most 1,024 names, record n + 2 begins with
 /// the number of cycle n and has a value of 64 bits, as it is printed, for each name, and behind the rows
-/// stands one last line, ended by LF. Each other text has its fault, and nothing but want of memory comes
+/// is one last line, ended by LF. Each other text has its fault, and nothing but want of memory comes
 /// besides.
 pub fn read_run(alloc: Global, text: &[u8]) -> Result<Run, RunTextFault>
     ensures run { IfOk result (λ run. run_of text.now ≡ Ok run) }

@@ -101,7 +101,7 @@ fn then_marked<O: Sink>(line: &mut Line, out: &mut O, byte: u8)
     }
 }
 
-/// Goes on with a byte between double quotes, or what stands in its place.
+/// Goes on with a byte between double quotes, or what is in its place.
 fn then_quoted<O: Sink>(line: &mut Line, out: &mut O, byte: u8)
     ensures { GathersTo (O.seen out.old) (O.seen out.new) line.old line.new (quote byte) }
 {
@@ -112,7 +112,7 @@ fn then_quoted<O: Sink>(line: &mut Line, out: &mut O, byte: u8)
     }
 }
 
-/// Goes on with a byte, or what stands in its place.
+/// Goes on with a byte, or what is in its place.
 fn then_byte<O: Sink>(line: &mut Line, out: &mut O, escaping: Escaping, byte: u8)
     ensures { GathersTo (O.seen out.old) (O.seen out.new) line.old line.new (escape_in escaping byte) }
 {
@@ -122,7 +122,7 @@ fn then_byte<O: Sink>(line: &mut Line, out: &mut O, escaping: Escaping, byte: u8
     }
 }
 
-/// Goes on with these bytes, or what stands in their place.
+/// Goes on with these bytes, or what is in their place.
 fn then_escaped<O: Sink>(line: &mut Line, out: &mut O, escaping: Escaping, bytes: &[u8])
     ensures { GathersTo (O.seen out.old) (O.seen out.new) line.old line.new (escaped_in escaping bytes.now) }
 {

@@ -29,7 +29,7 @@ pub enum Name {
     Class,
     /// The distance of the left side.
     X,
-    /// The distance of the upper side, or of the line on which words stand.
+    /// The distance of the upper side, or of the line on which words are.
     Y,
     /// The width.
     Width,
@@ -43,7 +43,7 @@ pub enum Name {
     X2,
     /// The distance of a line's second end from above.
     Y2,
-    /// The number of the operation that a box stands for.
+    /// The number of the operation that a box represents.
     Operation,
     /// The number of the operation that is read.
     Operand,
@@ -51,7 +51,7 @@ pub enum Name {
     Reader,
     /// Which operand of the reader it is, counted from 0.
     Place,
-    /// The number of the column that a value stands in, counted from 0.
+    /// The number of the column that a value is in, counted from 0.
     Column,
     /// The cycle that a value is of.
     Cycle,
