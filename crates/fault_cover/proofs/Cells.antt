@@ -6,7 +6,7 @@ use Rattle.op_graph.specs.Lists.{Lists, joined, cells}
 use Rattle.op_graph.specs.Laws.{EntryLaws}
 use Rattle.op_graph.specs.Rules.{IsPart}
 
-load_at : (loads : List Loaded) (stores : List ℕ) (i : ℕ) (c : Cell) → slice_get (joined loads stores) i ≡ Some c
+pub load_at : (loads : List Loaded) (stores : List ℕ) (i : ℕ) (c : Cell) → slice_get (joined loads stores) i ≡ Some c
     → (l : Loaded) × (slice_get loads i ≡ Some l) × (l.load ≡ c.load)
 load_at [] stores i c e = absurd cc
 load_at (l ∷ loads) [] i c e = absurd cc

@@ -15,31 +15,32 @@ use Rattle.coded_unit.specs.WordLaws.{WordLaws}
 use Rattle.op_graph.specs.declared.op.Op.{Op}
 use Rattle.op_graph.specs.declared.op.Outlet.{Outlet}
 use Rattle.op_graph.specs.GraphRun.{Cycle, Stop, cells_after, cycle, initial, outputs}
-use Rattle.op_graph.specs.Laws.{CellLaws, EntryLaws}
+use Rattle.op_graph.specs.Laws.{CellLaws, EntryLaws, ReadLaws}
 use Rattle.op_graph.specs.Lists.{Lists}
 use Rattle.op_graph.specs.Reads.{Reads}
+use Rattle.op_graph.specs.Rules.{IsGraph}
 use Rattle.range_audit.specs.Audit.{RowsFit}
 use Rattle.range_walk.specs.declared.range.Stops.{Stops}
 use Rattle.range_walk.specs.Known.{is_any_named, is_named}
 use Rattle.fault_script.specs.declared.act.Act.{Act}
 use Rattle.fault_script.specs.Changes.{Acts}
-use Rattle.fault_script.specs.Differences.{difference_at, made, no_frame}
-use Rattle.fault_runs.specs.FaultRun.{operation_stop, outside, run_under, stop_under}
+use Rattle.fault_script.specs.Differences.{difference_at, made}
+use Rattle.fault_runs.specs.FaultRun.{operation_stop, outside, stop_under}
 use Rattle.fault_runs.specs.Accepted.{first_unaccepted}
 use Rattle.fault_injector.specs.declared.verdict.Verdict.{Verdict}
 use Rattle.fault_injector.specs.declared.verdict.Verdict.TheVariants as verdict
-use Rattle.fault_injector.specs.Verdicts.{judged, judged_cycle, plain_cycles, stops_alike}
+use Rattle.fault_injector.specs.Verdicts.{compared, judged, judged_cycle, plain_cycles, stops_alike}
 use Rattle.vcp_base.specs.Differences.{first_difference}
 use Rattle.weight_audit.specs.Paths.{Reached}
 use Rattle.weight_audit.specs.Weights.{sums, weight}
-use Rattle.fault_cover.specs.Certain.{IsQuiet, IsSubject, StandsAt, verdict_under}
+use Rattle.fault_cover.specs.Certain.{IsQuiet, IsSubject, StandsAt}
 use Rattle.fault_cover.specs.Sources.{Source, comes, source_at}
 use Rattle.fault_cover.specs.Telling.{NoOutputBefore, NoStopBefore, Nowhere, Reaches, Subject}
-use Rattle.fault_cover.specs.Touched.{FirstComesAlone, IsTouched, SameUntouched, UntouchedAreSame, UntouchedDifferByNothing}
+use Rattle.fault_cover.specs.Touched.{FirstComesAlone, IsTouched, SameUntouched, UntouchedDifferByNothing}
 use Rattle.fault_cover.proofs.Choosing.{contained_first}
 use Rattle.fault_cover.proofs.Dividing.{above_one, times_residue, times_scaled}
 use Rattle.fault_cover.proofs.Judging.{IsFirstUnaccepted, alike_quiet, all_accepted, compared_at, compared_by, judged_none, judged_quiet, no_first_difference}
-use Rattle.fault_cover.proofs.UntouchedRuns.{cycle_within, first_none, no_stop, plain_cycle_is, plain_whole, run_long, run_whole}
+use Rattle.fault_cover.proofs.UntouchedRuns.{IsRun, cycle_within, first_none, no_stop, plain_cycle_is}
 
 -- a stop that is named so is one however it may be
 named_any : (why : StopKind) (o : Option Stops) → is_named why o ≡ true → is_any_named o ≡ true
@@ -60,9 +61,18 @@ pub record Laws (g : Lists) : Type 0 where
   pub entries : EntryLaws
   pub cells : CellLaws
   pub earlier : (q k j : ℕ) → Reads g.operations q k j → k < q
-  pub same : UntouchedAreSame
   pub none : UntouchedDifferByNothing
   pub alone : FirstComesAlone
+
+pub laws_of : (g : Lists) → IsGraph g → WordLaws g.profile → EntryLaws → CellLaws → ReadLaws → UntouchedDifferByNothing → FirstComesAlone → Laws g
+laws_of g graph words entries cells reads none alone = record {
+  words = words;
+  entries = entries;
+  cells = cells;
+  earlier = λ q r j read. reads.earlier g q r j graph.part read;
+  none = none;
+  alone = alone;
+}
 
 -- what is touched in a cycle is reached from the fault, across no more borders than lie between
 pub record Touching (g : Lists) (from : List Source) (n m q : ℕ) : Type 0 where
@@ -70,7 +80,7 @@ pub record Touching (g : Lists) (from : List Source) (n m q : ℕ) : Type 0 wher
   pub borders : n + more ≤ m
   pub reaches : Reaches g from more q
 
-touching : (g : Lists) (acts : Acts) (n k : ℕ) (a : Act) (amount : ℤ) → StandsAt acts n k a → (m q : ℕ) → IsTouched g acts m q
+pub touching : (g : Lists) (acts : Acts) (n k : ℕ) (a : Act) (amount : ℤ) → StandsAt acts n k a → (m q : ℕ) → IsTouched g acts m q
     → Touching g (source_at k 0 amount ∷ []) n m q
 touching g acts n k a amount stands m q touched =
     let at_it : touched.op ≡ k = here in
@@ -105,27 +115,31 @@ pub record Hidden (s : Subject) (acts : Acts) (below : ℕ → Type 0) : Type 0 
   pub outputs : (m i : ℕ) (o : Outlet) → below m → slice_get s.graph.outputs i ≡ Some o → IsTouched s.graph acts m o.op → ⊥
   pub stops : (m q : ℕ) → below m → is_any_named (slice_get s.stops q) ≡ true → IsTouched s.graph acts m q → ⊥
 
-pub hidden_before : (s : Subject) (acts : Acts) (n k : ℕ) (a : Act) (amount : ℤ) (h : ℕ) → StandsAt acts n k a
-    → NoOutputBefore s (source_at k 0 amount ∷ []) h → NoStopBefore s (source_at k 0 amount ∷ []) h → Hidden s acts (λ m. m < n + h)
-hidden_before s acts n k a amount h stands outs stops = record {
+-- whatever is touched is reached from these sources
+abbrev pub TouchesFrom : Lists → Acts → ℕ → List Source → Type 0
+TouchesFrom g acts n from = (m q : ℕ) → IsTouched g acts m q → Touching g from n m q
+
+pub hidden_before : (s : Subject) (acts : Acts) (n : ℕ) (from : List Source) (h : ℕ) → TouchesFrom s.graph acts n from → NoOutputBefore s from h
+    → NoStopBefore s from h → Hidden s acts (λ m. m < n + h)
+hidden_before s acts n from h touches outs stops = record {
   outputs = λ m i o lt here touched.
-      let t = touching s.graph acts n k a amount stands m o.op touched in
+      let t = touches m o.op touched in
       let borders = t.borders in
       outs t.more i (omega (arith, lt, borders)) (record { output = o; there = here; reaches = t.reaches });
   stops = λ m q lt may touched.
-      let t = touching s.graph acts n k a amount stands m q touched in
+      let t = touches m q touched in
       let borders = t.borders in
       stops t.more q (omega (arith, lt, borders)) (record { may = may; reaches = t.reaches });
 }
 
-pub hidden_always : (s : Subject) (acts : Acts) (n k : ℕ) (a : Act) (amount : ℤ) → StandsAt acts n k a → Nowhere s (source_at k 0 amount ∷ [])
+pub hidden_always : (s : Subject) (acts : Acts) (n : ℕ) (from : List Source) → TouchesFrom s.graph acts n from → Nowhere s from
     → Hidden s acts (λ m. Unit {0})
-hidden_always s acts n k a amount stands nowhere = record {
+hidden_always s acts n from touches nowhere = record {
   outputs = λ m i o lt here touched.
-      let t = touching s.graph acts n k a amount stands m o.op touched in
+      let t = touches m o.op touched in
       nowhere.outputs t.more i (record { output = o; there = here; reaches = t.reaches });
   stops = λ m q lt may touched.
-      let t = touching s.graph acts n k a amount stands m q touched in
+      let t = touches m q touched in
       nowhere.stops t.more q (record { may = may; reaches = t.reaches });
 }
 
@@ -136,7 +150,7 @@ pub record Passes (s : Subject) (acts : Acts) (m : ℕ) (c p : Cycle) : Type 0 w
   pub outputs_same : first_difference (outputs s.graph c.values) (outputs s.graph p.values) 0 ≡ None
 
 module _ (s : Subject) (is : IsSubject s) (laws : Laws s.graph) (acts : Acts) (rows : List (List ℤ)) (fit : RowsFit s.graph rows)
-    (below : ℕ → Type 0) (hidden : Hidden s acts below) where
+    (run : List Cycle) (is_run : IsRun s.graph acts rows run) (below : ℕ → Type 0) (hidden : Hidden s acts below) where
   -- the run without acts stops at an operation that is named
   plain_named : (m : ℕ) (p : Cycle) (why : StopKind) → slice_get (plain_cycles s.graph (initial s.graph) rows) m ≡ Some p → p.stop ≡ Some why
       → is_any_named (slice_get s.stops (length p.values)) ≡ true
@@ -153,7 +167,7 @@ module _ (s : Subject) (is : IsSubject s) (laws : Laws s.graph) (acts : Acts) (r
       let few = cycle_within (cells_after s.graph (initial s.graph) (take m rows)) c.0 [] s.graph.operations in
       subst (λ (x : Cycle). length x.values ≤ length s.graph.operations) (sym c.2) (omega (arith, few))
 
-  passes : (m : ℕ) (c p : Cycle) → below m → slice_get (run_under s.table s.graph acts rows) m ≡ Some c
+  passes : (m : ℕ) (c p : Cycle) → below m → slice_get run m ≡ Some c
       → slice_get (plain_cycles s.graph (initial s.graph) rows) m ≡ Some p → stop_under s.graph c ≡ None → Passes s acts m c p
   passes m c p low here that none = record { other = other; accepted = accepted; outputs_same = outputs_same }
     where
@@ -161,10 +175,10 @@ module _ (s : Subject) (is : IsSubject s) (laws : Laws s.graph) (acts : Acts) (r
       no_stop_here = no_stop c (first_none (operation_stop c) (outside c.values s.graph.outputs) none)
 
       all : length c.values ≡ length s.graph.operations
-      all = run_whole s.table s.graph acts is.graph laws.earlier laws.entries laws.cells rows 0 no_frame (initial s.graph) m c here no_stop_here
+      all = is_run.whole m c here no_stop_here
 
       alike : SameUntouched s.graph acts m c p
-      alike = laws.same s.table s.graph acts rows m c p is.graph here that
+      alike = is_run.same m c p here that
 
       no_stop_there : (x : Option StopKind) → p.stop ≡ x → p.stop ≡ None
       no_stop_there None e = e
@@ -179,7 +193,7 @@ module _ (s : Subject) (is : IsSubject s) (laws : Laws s.graph) (acts : Acts) (r
       other = ap (option_map (λ why. record { op = length p.values; kind = why })) (no_stop_there p.stop refl)
 
       all_there : length p.values ≡ length s.graph.operations
-      all_there = plain_whole s.table s.graph acts is.graph laws.earlier laws.entries laws.cells rows (initial s.graph) m p that (no_stop_there p.stop refl)
+      all_there = is_run.plain_whole m p that (no_stop_there p.stop refl)
 
       accepted : first_unaccepted s.table s.graph acts m 0 s.graph.outputs ≡ None
       accepted = all_accepted s.table s.graph acts m 0 s.graph.outputs (λ i o at_it.
@@ -191,14 +205,14 @@ module _ (s : Subject) (is : IsSubject s) (laws : Laws s.graph) (acts : Acts) (r
           let inside = (laws.entries.output s.graph i o is.graph.part at_it).operation in
           alike.values o.op (λ touched. hidden.outputs m i o low at_it touched) (omega (arith, inside, all)) (omega (arith, inside, all_there)))
 
-  pub quiet_cycle : (m : ℕ) (c p : Cycle) → below m → slice_get (run_under s.table s.graph acts rows) m ≡ Some c
+  pub quiet_cycle : (m : ℕ) (c p : Cycle) → below m → slice_get run m ≡ Some c
       → slice_get (plain_cycles s.graph (initial s.graph) rows) m ≡ Some p → (v : Verdict) → judged_cycle s.table s.graph acts m c p ≡ Some v → IsQuiet v
   quiet_cycle m c p low here that v e =
       judged_quiet m (stop_under s.graph c) (operation_stop p) (first_unaccepted s.table s.graph acts m 0 s.graph.outputs)
       (first_difference (outputs s.graph c.values) (outputs s.graph p.values) 0) (λ none. (passes m c p low here that none).accepted)
       (λ none. (passes m c p low here that none).other) (λ none. (passes m c p low here that none).outputs_same) v e
 
-  pub no_verdict : (m : ℕ) (c p : Cycle) → below m → slice_get (run_under s.table s.graph acts rows) m ≡ Some c
+  pub no_verdict : (m : ℕ) (c p : Cycle) → below m → slice_get run m ≡ Some c
       → slice_get (plain_cycles s.graph (initial s.graph) rows) m ≡ Some p → stop_under s.graph c ≡ None → judged_cycle s.table s.graph acts m c p ≡ None
   no_verdict m c p low here that none =
       let p_is = passes m c p low here that none in
@@ -207,12 +221,12 @@ module _ (s : Subject) (is : IsSubject s) (laws : Laws s.graph) (acts : Acts) (r
 
 -- where nothing that shows is ever touched
 pub always_quiet : (s : Subject) (is : IsSubject s) (laws : Laws s.graph) (acts : Acts) (rows : List (List ℤ)) → RowsFit s.graph rows
-    → Hidden s acts (λ m. Unit {0}) → IsQuiet (verdict_under s.table s.graph acts rows)
-always_quiet s is laws acts rows fit hidden =
-    let run = run_under s.table s.graph acts rows in
+    → (run : List Cycle) → IsRun s.graph acts rows run → Hidden s acts (λ m. Unit {0})
+    → IsQuiet (compared s.table s.graph acts 0 run (plain_cycles s.graph (initial s.graph) rows))
+always_quiet s is laws acts rows fit run is_run hidden =
     let others = plain_cycles s.graph (initial s.graph) rows in
     compared_by s.table s.graph acts IsQuiet tt (length run) 0 run others
-    (λ j c p lt here that v e. quiet_cycle s is laws acts rows fit (λ m. Unit {0}) hidden j c p tt here that v
+    (λ j c p lt here that v e. quiet_cycle s is laws acts rows fit run is_run (λ m. Unit {0}) hidden j c p tt here that v
     (ap (λ m. judged_cycle s.table s.graph acts m c p) (let same : j ≡ 0 + j = omega arith in same) ∙ e))
     (λ c p here that. absurd (let none = slice_get_past run (length run) (let le : length run ≤ length run = omega arith in le) in
     let no : None ≡ Some c = sym none ∙ here in
@@ -220,8 +234,9 @@ always_quiet s is laws acts rows fit hidden =
 
 -- ---- where outputs are reached first
 
-module _ (s : Subject) (is : IsSubject s) (laws : Laws s.graph) (acts : Acts) (rows : List (List ℤ)) (fit : RowsFit s.graph rows) (cycles : ℕ)
-    (hidden : Hidden s acts (λ m. m < cycles)) (first : IsFirstUnaccepted s.table s.graph acts cycles 0 s.graph.outputs) where
+module _ (s : Subject) (is : IsSubject s) (laws : Laws s.graph) (acts : Acts) (rows : List (List ℤ)) (fit : RowsFit s.graph rows) (run : List Cycle)
+    (is_run : IsRun s.graph acts rows run) (cycles : ℕ) (hidden : Hidden s acts (λ m. m < cycles))
+    (first : IsFirstUnaccepted s.table s.graph acts cycles 0 s.graph.outputs) where
   judged_there : (c p : Cycle) → stop_under s.graph c ≡ None → judged_cycle s.table s.graph acts cycles c p
       ≡ Some (verdict.Refused cycles first.refused.output first.refused.found first.refused.expected)
   judged_there c p none =
@@ -253,26 +268,26 @@ module _ (s : Subject) (is : IsSubject s) (laws : Laws s.graph) (acts : Acts) (r
           )
 
   pub run_has : (P : Verdict → Type 0) → P verdict.Same → ((v : Verdict) → IsQuiet v → P v)
-      → P (verdict.Refused cycles first.refused.output first.refused.found first.refused.expected) → P (verdict_under s.table s.graph acts rows)
+      → P (verdict.Refused cycles first.refused.output first.refused.found first.refused.expected)
+      → P (compared s.table s.graph acts 0 run (plain_cycles s.graph (initial s.graph) rows))
   run_has P same quiet refused =
-      compared_by s.table s.graph acts P same cycles 0 (run_under s.table s.graph acts rows) (plain_cycles s.graph (initial s.graph) rows)
-      (λ j c p lt here that v e. quiet v (quiet_cycle s is laws acts rows fit (λ m. m < cycles) hidden j c p lt here that v
+      compared_by s.table s.graph acts P same cycles 0 run (plain_cycles s.graph (initial s.graph) rows)
+      (λ j c p lt here that v e. quiet v (quiet_cycle s is laws acts rows fit run is_run (λ m. m < cycles) hidden j c p lt here that v
       (ap (λ m. judged_cycle s.table s.graph acts m c p) (let count : j ≡ 0 + j = omega arith in count) ∙ e)))
       (λ c p here that. last_cycle P quiet refused c p)
 
   -- the run comes to that cycle, and is refused there
   pub run_is_refused : (p : Cycle) → slice_get (plain_cycles s.graph (initial s.graph) rows) cycles ≡ Some p
-      → ((m : ℕ) (c : Cycle) → m ≤ cycles → slice_get (run_under s.table s.graph acts rows) m ≡ Some c → stop_under s.graph c ≡ None)
-      → verdict_under s.table s.graph acts rows ≡ verdict.Refused cycles first.refused.output first.refused.found first.refused.expected
+      → ((m : ℕ) (c : Cycle) → m ≤ cycles → slice_get run m ≡ Some c → stop_under s.graph c ≡ None)
+      → compared s.table s.graph acts 0 run (plain_cycles s.graph (initial s.graph) rows)
+      ≡ verdict.Refused cycles first.refused.output first.refused.found first.refused.expected
   run_is_refused p that going =
-      let run = run_under s.table s.graph acts rows in
-      let c = run_long s.table s.graph acts is.graph laws.earlier laws.entries laws.cells rows 0 no_frame (initial s.graph) (initial s.graph) cycles p that
-      (λ j d lt here. going j d (omega (arith, lt)) here) in
+      let c = is_run.long cycles p that (λ j d lt here. going j d (omega (arith, lt)) here) in
       let count : 0 + cycles ≡ cycles = omega arith in
       compared_at s.table s.graph acts cycles 0 run (plain_cycles s.graph (initial s.graph) rows) c.0 p
       (verdict.Refused cycles first.refused.output first.refused.found first.refused.expected)
       (λ j d q lt here other. ap (λ m. judged_cycle s.table s.graph acts m d q) (let same : 0 + j ≡ j = omega arith in same)
-      ∙ no_verdict s is laws acts rows fit (λ m. m < cycles) hidden j d q lt here other (going j d (omega (arith, lt)) here))
+      ∙ no_verdict s is laws acts rows fit run is_run (λ m. m < cycles) hidden j d q lt here other (going j d (omega (arith, lt)) here))
       c.1 that (ap (λ m. judged_cycle s.table s.graph acts m c.0 p) count ∙ judged_there c.0 p (going cycles c.0 (omega arith) c.1))
 
 -- ---- what comes to the outputs that are reached first
@@ -281,7 +296,7 @@ module _ (s : Subject) (is : IsSubject s) (laws : Laws s.graph) (acts : Acts) (n
     (there : slice_get s.graph.operations k ≡ Some op) (stands : StandsAt acts n k a) (amount size : ℤ) (h : ℕ)
     (makes : modulo s.graph.profile (made s.table s.graph op a) ≡ modulo s.graph.profile (amount *ℤ size))
     (outs : NoOutputBefore s (source_at k 0 amount ∷ []) h) where
-  comes_is : (out : ℕ) → comes s.graph out h (source_at k 0 amount ∷ []) ≡ amount *ℤ pos (weight s.graph out h k)
+  pub comes_is : (out : ℕ) → comes s.graph out h (source_at k 0 amount ∷ []) ≡ amount *ℤ pos (weight s.graph out h k)
   comes_is out = ⊎_elim
       (λ (e : (nat_le 0 h ≡ true) × (0 ≤ h)).
       ap (λ b. cond b (amount *ℤ pos (weight s.graph out (h - 0) k)) (pos 0) +ℤ pos 0) e.0

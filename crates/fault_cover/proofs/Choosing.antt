@@ -22,13 +22,13 @@ use Rattle.fault_cover.specs.declared.nearest.Nearest.{Nearest}
 use Rattle.fault_cover.specs.declared.starts.Start.{Start}
 use Rattle.fault_cover.specs.declared.telling.Outlook.{Outlook}
 use Rattle.fault_cover.specs.declared.telling.Outlook.TheVariants as outlook
-use Rattle.fault_cover.specs.declared.told.Told.{Told}
-use Rattle.fault_cover.specs.declared.told.Told.TheVariants as told
+use Rattle.fault_cover.specs.declared.effect.Effect.{Effect}
+use Rattle.fault_cover.specs.declared.effect.Effect.TheVariants as told
 use Rattle.fault_cover.specs.Beginnings.{start_at, starts_at}
 use Rattle.fault_cover.specs.Firsts.{IsFirstOf, ToldAt, before, behind, outlook_of}
 use Rattle.fault_cover.specs.Sources.{Source, Refuses, comes, part}
 use Rattle.fault_cover.specs.Surveys.{AreAble, AreNumbers, AreOuts}
-use Rattle.fault_cover.specs.Telling.{Beyond, FirstReached, IsRefused, Reaches, ReachesOutput, ReachesStop, RunsOn, Shows, Subject, TellsOf}
+use Rattle.fault_cover.specs.Telling.{Beyond, FirstReached, RefusedWhenReached, Reaches, ReachesOutput, ReachesStop, RunsOn, Shows, Subject, TellsOf}
 use Rattle.fault_cover.specs.Walks.{AreNearest, AsNear, IsFirst, IsNearest, NotFurther, further, is_wanted, kept}
 use Rattle.fault_cover.proofs.Dividing.{above_one, nothing_refuses}
 use Rattle.fault_cover.proofs.Nearing.{further_more, no_further_through}
@@ -235,7 +235,7 @@ module _ (s : Subject) (outs able : List Bool) (outs_are : AreOuts s.graph outs)
 
 -- ---- what comes to outputs
 
-contained : {X : Type 0} (x y : X) (xs : List X) → Contains xs x → Contains (y ∷ xs) x
+pub contained : {X : Type 0} (x y : X) (xs : List X) → Contains xs x → Contains (y ∷ xs) x
 contained x y xs c = (suc c.0, let lt = c.1 in omega (arith, lt), c.2)
 
 pub contained_first : {X : Type 0} (x : X) (xs : List X) → Contains (x ∷ xs) x
@@ -340,10 +340,10 @@ module _ (s : Subject) (a : Audit) (outs able : List Bool) (numbers : List ℕ) 
       let same = o.3 in
       omega (arith, le, rise, same)
 
-  pub told_is : (told : Told) → ToldAt s.graph output n.borders any from told → TellsOf s any from told
+  pub told_is : (told : Effect) → ToldAt s.graph output n.borders any from told → TellsOf s any from told
   told_is (told.Refused b) is =
       let r = is.1 in
-      subst (IsRefused s any from) (sym is.0) (record {
+      subst (RefusedWhenReached s any from) (sym is.0) (record {
         first = reached;
         output = r.output;
         refused = record {

@@ -13,8 +13,8 @@ use Rattle.fault_cover.specs.declared.class.CoverClasses.{CoverClasses}
 use Rattle.fault_cover.specs.declared.counting.ClassCount.{ClassCount}
 use Rattle.fault_cover.specs.declared.left.LeftLine.{LeftLine}
 use Rattle.fault_cover.specs.declared.tally.Tally.{Tally}
-use Rattle.fault_cover.specs.declared.told.Told.{Told}
-use Rattle.fault_cover.specs.declared.told.Told.TheVariants as told
+use Rattle.fault_cover.specs.declared.effect.Effect.{Effect}
+use Rattle.fault_cover.specs.declared.effect.Effect.TheVariants as told
 use Rattle.fault_cover.specs.Classes.{Single, classes_of}
 use Rattle.fault_cover.specs.Counts.{AreCounted}
 use Rattle.fault_cover.specs.CoverText.{CoverOf, Covered, Heard, class_name, class_row, column_text, columns_text, count_told, cover_text, heard_at}
@@ -58,11 +58,11 @@ all_small (n ∷ counts) (c ∷ covered) are few =
 
 -- ---- where there is none
 
-none_first : (is : Told → Bool) (h : Heard) (heard : List Heard) → count_told is (h ∷ heard) ≡ 0 → (one_for (is h.told) ≡ 0) × (count_told is heard ≡ 0)
+none_first : (is : Effect → Bool) (h : Heard) (heard : List Heard) → count_told is (h ∷ heard) ≡ 0 → (one_for (is h.told) ≡ 0) × (count_told is heard ≡ 0)
 none_first is h heard none =
     let sum = sum_by-cons (λ (x : Heard). one_for (is x.told)) h heard in (omega (arith, sum, none), omega (arith, sum, none))
 
-not_shown : (g : Lists) (f : Single) (x : Told) → one_for (is_shown x) ≡ 0 → shows_text g f x ≡ []
+not_shown : (g : Lists) (f : Single) (x : Effect) → one_for (is_shown x) ≡ 0 → shows_text g f x ≡ []
 not_shown g f (told.Refused b) none = refl
 not_shown g f told.Nothing none = refl
 not_shown g f (told.Shows b o) none = absurd (omega (arith, none))
@@ -75,7 +75,7 @@ nothing_shown g (h ∷ heard) none =
     let parts = none_first is_shown h heard none in
     ap₂ (λ (xs ys : List ℕ). xs ++ ys) (not_shown g h.fault h.told parts.0) (nothing_shown g heard parts.1)
 
-not_running : (w : ℕ) (x : Told) → one_for (is_running_on x) ≡ 0 → key_if w x ≡ []
+not_running : (w : ℕ) (x : Effect) → one_for (is_running_on x) ≡ 0 → key_if w x ≡ []
 not_running w (told.Refused b) none = refl
 not_running w told.Nothing none = refl
 not_running w (told.Shows b o) none = refl
@@ -88,12 +88,12 @@ no_keys w (h ∷ heard) none =
     let parts = none_first is_running_on h heard none in
     ap₂ (λ (xs ys : List ℕ). xs ++ ys) (not_running w h.told parts.0) (no_keys w heard parts.1)
 
-chosen_of : (is : Told → Bool) (h : Heard) (kept : List Heard) (b : Bool) → one_for (is h.told) ≡ 0 → count_told is kept ≡ 0
+chosen_of : (is : Effect → Bool) (h : Heard) (kept : List Heard) (b : Bool) → one_for (is h.told) ≡ 0 → count_told is kept ≡ 0
     → count_told is (cond b (h ∷ kept) kept) ≡ 0
 chosen_of is h kept true one rest = let sum = sum_by-cons (λ (x : Heard). one_for (is x.told)) h kept in omega (arith, sum, rest, one)
 chosen_of is h kept false one rest = rest
 
-none_chosen : (is : Told → Bool) (p : Heard → Bool) (heard : List Heard) → count_told is heard ≡ 0 → count_told is (filter p heard) ≡ 0
+none_chosen : (is : Effect → Bool) (p : Heard → Bool) (heard : List Heard) → count_told is heard ≡ 0 → count_told is (filter p heard) ≡ 0
 none_chosen is p [] none = refl
 none_chosen is p (h ∷ heard) none =
     let parts = none_first is h heard none in

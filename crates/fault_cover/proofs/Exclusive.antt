@@ -3,10 +3,11 @@ use Rattle.std.proofs.Common.{◌≡◌, ⊎_elim, inl, inr, ℕ, ◌<◌, Bool,
 use Rattle.std.proofs.lemmas.Bool.{cases_lt}
 use Rattle.op_graph.specs.declared.op.Op.{Op}
 use Rattle.fault_cover.specs.declared.disturbance.Disturbance.{Disturbance}
-use Rattle.fault_cover.specs.declared.told.Told.{Told}
-use Rattle.fault_cover.specs.declared.told.Told.TheVariants as told
+use Rattle.fault_cover.specs.declared.effect.Effect.{Effect}
+use Rattle.fault_cover.specs.declared.effect.Effect.TheVariants as told
 use Rattle.fault_cover.specs.Sources.{Source, is_any, sources}
-use Rattle.fault_cover.specs.Telling.{Beyond, FirstReached, IsRefused, Nowhere, ReachesOutput, ReachesStop, RefusedAt, RunsOn, Shows, Subject, Tells, TellsAt}
+use Rattle.fault_cover.specs.Telling.{Beyond, FirstReached, RefusedWhenReached, Nowhere, ReachesOutput, ReachesStop, RefusedAt, RunsOn, Shows, Subject}
+use Rattle.fault_cover.specs.Telling.{Tells, TellsAt}
 use Rattle.fault_cover.specs.Telling.{TellsOf, UnlessSame, does_the_same}
 
 -- two numbers neither of which is less are one
@@ -20,7 +21,7 @@ neither_less a b first second = elim (cases_lt a b) [
 ]
 
 module _ (s : Subject) (any : Bool) (from : List Source) where
-  of_refused : (b : ℕ) → IsRefused s any from b → FirstReached s from b × ((i : ℕ) × ReachesOutput s.graph from b i)
+  of_refused : (b : ℕ) → RefusedWhenReached s any from b → FirstReached s from b × ((i : ℕ) × ReachesOutput s.graph from b i)
   of_refused b is = (is.first, (is.output, record { output = is.refused.output; there = is.refused.there; reaches = is.refused.reaches }))
 
   of_shows : (b i : ℕ) → Shows s any from b i → FirstReached s from b × ((j : ℕ) × ReachesOutput s.graph from b j)
@@ -43,7 +44,7 @@ module _ (s : Subject) (any : Bool) (from : List Source) where
   first_not_beyond : (a : ℕ) → FirstReached s from a × ((i : ℕ) × ReachesOutput s.graph from a i) → Beyond s from → ⊥
   first_not_beyond a one beyond = beyond.outputs a one.1.0 one.0.within one.1.1
 
-  refused_not_shown : (a b i : ℕ) → IsRefused s any from a → Shows s any from b i → ⊥
+  refused_not_shown : (a b i : ℕ) → RefusedWhenReached s any from a → Shows s any from b i → ⊥
   refused_not_shown a b i is shows =
       let same = one_first a b (of_refused a is) (of_shows b i shows) in
       shows.none is.output (subst (λ m. RefusedAt s any from m is.output) same is.refused)
@@ -73,7 +74,7 @@ module _ (s : Subject) (any : Bool) (from : List Source) where
   run_not_beyond : (b q : ℕ) → RunsOn s from b q → Beyond s from → ⊥
   run_not_beyond b q run beyond = beyond.stops b q run.within run.reached
 
-  pub one_told : (a b : Told) → TellsOf s any from a → TellsOf s any from b → a ≡ b
+  pub one_told : (a b : Effect) → TellsOf s any from a → TellsOf s any from b → a ≡ b
   one_told (told.Refused a) (told.Refused b) one other = ap told.Refused (one_first a b (of_refused a one) (of_refused b other))
   one_told (told.Refused a) told.Nothing one other = absurd (first_not_nowhere a (of_refused a one) other)
   one_told (told.Refused a) (told.Shows b i) one other = absurd (refused_not_shown a b i one other)
@@ -100,16 +101,16 @@ module _ (s : Subject) (any : Bool) (from : List Source) where
   one_told told.Beyond (told.RunsOn b q) one other = absurd (run_not_beyond b q other one)
   one_told told.Beyond told.Beyond one other = refl
 
-one_unless : (b : Bool) (s : Subject) (any : Bool) (from : List Source) (x y : Told) → UnlessSame b x (TellsOf s any from x) → UnlessSame b y
+one_unless : (b : Bool) (s : Subject) (any : Bool) (from : List Source) (x y : Effect) → UnlessSame b x (TellsOf s any from x) → UnlessSame b y
     (TellsOf s any from y)
     → x ≡ y
 one_unless true s any from x y one other = one ∙ sym other
 one_unless false s any from x y one other = one_told s any from x y one other
 
-one_at : (s : Subject) (k : ℕ) (d : Disturbance) (x y : Told) (o : Option Op) → TellsAt s k d x o → TellsAt s k d y o → x ≡ y
+one_at : (s : Subject) (k : ℕ) (d : Disturbance) (x y : Effect) (o : Option Op) → TellsAt s k d x o → TellsAt s k d y o → x ≡ y
 one_at s k d x y None one other = absurd one
 one_at s k d x y (Some op) one other = one_unless (does_the_same op.kind d) s (is_any d) (sources s.table s.graph k op d) x y one other
 
 -- what is told of what is amiss at an operation is one thing
-pub tells_one : (s : Subject) (k : ℕ) (d : Disturbance) (x y : Told) → Tells s k d x → Tells s k d y → x ≡ y
+pub tells_one : (s : Subject) (k : ℕ) (d : Disturbance) (x y : Effect) → Tells s k d x → Tells s k d y → x ≡ y
 tells_one s k d x y one other = one_at s k d x y (slice_get s.graph.operations k) one other

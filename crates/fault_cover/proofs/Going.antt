@@ -13,7 +13,7 @@ use Rattle.fault_script.specs.declared.act.Act.{Act}
 use Rattle.fault_sites.specs.Sites.{each_below}
 use Rattle.fault_cover.specs.declared.disturbance.Disturbance.{Disturbance}
 use Rattle.fault_cover.specs.declared.disturbance.Disturbance.TheVariants as disturbance
-use Rattle.fault_cover.specs.declared.told.Told.{Told}
+use Rattle.fault_cover.specs.declared.effect.Effect.{Effect}
 use Rattle.fault_cover.specs.Classes.{Single, act_at, fault_at}
 use Rattle.fault_cover.specs.CoverText.{AreHeard, Heard, heard_as}
 use Rattle.fault_cover.specs.Passing.{Passes}
@@ -46,7 +46,7 @@ heard_both {s = s} xs ys one other first second = record {
 pub heard_none : {s : Subject} → AreHeard s [] []
 heard_none {s = s} = record { faults_are = refl; told = All-nil (λ h. Tells s h.fault.op h.fault.does h.told) }
 
-pub heard_one : {s : Subject} (k : ℕ) (d : Disturbance) (x : Told) → Tells s k d x → AreHeard s (fault_at k d ∷ []) (heard_as k d x ∷ [])
+pub heard_one : {s : Subject} (k : ℕ) (d : Disturbance) (x : Effect) → Tells s k d x → AreHeard s (fault_at k d ∷ []) (heard_as k d x ∷ [])
 heard_one {s = s} k d x is = record {
   faults_are = refl;
   told = All-cons (λ h. Tells s h.fault.op h.fault.does h.told) (heard_as k d x) [] is (All-nil (λ h. Tells s h.fault.op h.fault.does h.told));
@@ -61,7 +61,7 @@ passes_none {s = s} {keeps = keeps} = record {
 }
 
 pub passes_one : {s : Subject} {text : Heard → List ℕ} {a b : SinkSeen} {l m : Gathered} {before after : List Heard → Type 0} (k : ℕ) (d : Disturbance) (x :
-    Told)
+    Effect)
     → Tells s k d x → GathersTo a b l m (text (heard_as k d x)) → ((past : List Heard) → before past → after (past ++ heard_as k d x ∷ []))
     → Passes s (fault_at k d ∷ []) text a b l m before after
 passes_one {s = s} {text = text} k d x tells gathers keeps = record {

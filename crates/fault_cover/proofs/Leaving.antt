@@ -19,8 +19,8 @@ use Rattle.fault_cover.specs.declared.left.LeftLine.{LeftLine}
 use Rattle.fault_cover.specs.declared.left.LeftLine.TheVariants as leftline
 use Rattle.fault_cover.specs.declared.left.Run.{Run}
 use Rattle.fault_cover.specs.declared.nearest.Nearest.{Nearest}
-use Rattle.fault_cover.specs.declared.told.Told.{Told}
-use Rattle.fault_cover.specs.declared.told.Told.TheVariants as told
+use Rattle.fault_cover.specs.declared.effect.Effect.{Effect}
+use Rattle.fault_cover.specs.declared.effect.Effect.TheVariants as told
 use Rattle.fault_cover.specs.Classes.{Single}
 use Rattle.fault_cover.specs.CoverText.{AreHeard, Heard, count_told, is_beyond, is_run_on, left_text, run_on_text}
 use Rattle.fault_cover.specs.Leftovers.{IsLeast, IsLeastKey, NoneFrom, beyond_line, count_key, key_if, key_line, keys_in, keys_of, line_text, lines_at}
@@ -128,7 +128,7 @@ lines_last k w keys from most up none = nothing_to (key_line k w keys) from most
 -- ---- what they say
 
 -- the operation at which a fault runs on is there
-abbrev Within : ℕ → Told → Type 0
+abbrev Within : ℕ → Effect → Type 0
 Within w (told.Refused b) = Unit {0}
 Within w told.Nothing = Unit {0}
 Within w (told.Shows b o) = Unit {0}
@@ -162,7 +162,7 @@ same_test w a p b q low high = ⊎_elim
     (λ one other. e.1 (ap₂ (λ (m n : ℕ). m * w + n) (is_number a b one) (is_number p q other)))))
     (eqb_tells (a * w + p) (b * w + q))
 
-one_key : (w b q : ℕ) (x : Told) → q < w → Within w x → count_key (key_if w x) (b * w + q) ≡ one_for (is_run_on b q x)
+one_key : (w b q : ℕ) (x : Effect) → q < w → Within w x → count_key (key_if w x) (b * w + q) ≡ one_for (is_run_on b q x)
 one_key w b q (told.Refused a) high within = refl
 one_key w b q told.Nothing high within = refl
 one_key w b q (told.Shows a o) high within = refl
@@ -254,7 +254,7 @@ module _ (s : Subject) (v : Surveyed) (survey : IsSurvey s v) (k : ℕ) (d : Dis
   at_within b q None is = absurd is
   at_within b q (Some op) is = runs_within b q (does_the_same op.kind d) op is
 
-  told_within : (x : Told) → Tells s k d x → Within (length s.graph.operations) x
+  told_within : (x : Effect) → Tells s k d x → Within (length s.graph.operations) x
   told_within (told.Refused b) is = tt
   told_within told.Nothing is = tt
   told_within (told.Shows b o) is = tt
@@ -269,7 +269,7 @@ heard_within s v faults heard survey are =
 
 -- ---- what is kept
 
-key_first : (w : ℕ) (x : Told) (runs : List Run) → keys_in w (run_if x ++ runs) ≡ key_if w x ++ keys_in w runs
+key_first : (w : ℕ) (x : Effect) (runs : List Run) → keys_in w (run_if x ++ runs) ≡ key_if w x ++ keys_in w runs
 key_first w (told.Refused b) runs = refl
 key_first w told.Nothing runs = refl
 key_first w (told.Shows b o) runs = refl

@@ -1,3 +1,5 @@
+mod AddedDifferences
+mod AddedRuns
 mod Adding
 mod Beginning
 mod Below
@@ -21,6 +23,8 @@ mod NoDifference
 mod Owning
 mod Placing
 mod Reaching
+mod ReadOnce
+mod RestMeaning
 mod SameKind
 mod Surveying
 mod Sweeping

@@ -34,7 +34,7 @@ found_at q k (l ∷ loads) e h = ⊎_elim
     (suc later.0, later.1, later.2, later.3, omega (arith, number)))
     (eqb_tells l.load q)
 
-both_true : (a b : Bool) → (a && b) ≡ true → (a ≡ true) × (b ≡ true)
+pub both_true : (a b : Bool) → (a && b) ≡ true → (a ≡ true) × (b ≡ true)
 both_true true b e = (refl, e)
 both_true false b e = absurd cc
 

@@ -10,6 +10,7 @@ use Rattle.coded_unit.specs.Words.{modulo}
 use Rattle.coded_unit.specs.WordLaws.{WordLaws}
 use Rattle.op_graph.specs.declared.op.Op.{Op}
 use Rattle.op_graph.specs.declared.op.Outlet.{Outlet}
+use Rattle.op_graph.specs.GraphRun.{Cycle, initial}
 use Rattle.op_graph.specs.Lists.{Lists}
 use Rattle.signature_table.specs.Signatures.{Numbers, signature, stamp}
 use Rattle.range_audit.specs.Audit.{RowsFit}
@@ -18,17 +19,20 @@ use Rattle.fault_script.specs.Changes.{Acts}
 use Rattle.fault_script.specs.Differences.{difference_at, made, origin}
 use Rattle.fault_runs.specs.FaultRun.{run_under}
 use Rattle.fault_runs.specs.Stepping.{word_of}
+use Rattle.fault_injector.specs.declared.verdict.Verdict.{Verdict}
 use Rattle.fault_injector.specs.declared.verdict.Verdict.TheVariants as verdict
+use Rattle.fault_injector.specs.Verdicts.{compared, plain_cycles}
 use Rattle.fault_cover.specs.declared.disturbance.Disturbance.{Disturbance}
 use Rattle.fault_cover.specs.declared.disturbance.Disturbance.TheVariants as disturbance
-use Rattle.fault_cover.specs.declared.told.Told.TheVariants as told
+use Rattle.fault_cover.specs.declared.effect.Effect.TheVariants as told
 use Rattle.fault_cover.specs.Beginnings.{amount_of, rest_of}
-use Rattle.fault_cover.specs.Certain.{ActsMean, FirstToDiffer, IsActOf, IsSafe, IsSubject, RefusedMeans, StandsAt, verdict_under}
+use Rattle.fault_cover.specs.Certain.{ActsMean, FirstToDiffer, IsActOf, IsSafe, IsSubject, Means, RefusedMeans, StandsAt, verdict_under}
 use Rattle.fault_cover.specs.Sources.{HasInverse, Refuses, comes, is_any, late_made, source_at, sources}
-use Rattle.fault_cover.specs.Telling.{IsRefused, Nowhere, Subject, Tells, TellsAt, UnlessSame, does_the_same}
-use Rattle.fault_cover.proofs.Certainty.{Laws, always_quiet, difference_is, hidden_always, hidden_before, run_has, run_is_refused}
+use Rattle.fault_cover.specs.Telling.{RefusedWhenReached, NoOutputBefore, Nowhere, Subject, Tells, TellsAt, UnlessSame, does_the_same}
+use Rattle.fault_cover.proofs.Certainty.{Laws, TouchesFrom, always_quiet, difference_is, hidden_always, hidden_before, run_has, run_is_refused, touching}
 use Rattle.fault_cover.proofs.Dividing.{above_one, apart, times_minus, times_residue, times_scaled}
 use Rattle.fault_cover.proofs.Judging.{IsFirstUnaccepted, one_unaccepted, quiet_is_safe, quiet_not_refused}
+use Rattle.fault_cover.proofs.UntouchedRuns.{IsRun, acts_run}
 
 -- ---- what the acts make
 
@@ -41,7 +45,7 @@ single t g k op (disturbance.Does a) one = refl
 
 module _ (p : Profile) (laws : WordLaws p) where
   -- a multiple of the constant, by a factor that has an inverse, is of a multiple
-  any_counts : (z size : ℤ) → HasInverse p z → modulo p size ≢ 0 → modulo p (z *ℤ size) ≢ 0
+  pub any_counts : (z size : ℤ) → HasInverse p z → modulo p size ≢ 0 → modulo p (z *ℤ size) ≢ 0
   any_counts z size inverse unknown none =
       let y = inverse.0 in
       let one : modulo p (size *ℤ (z *ℤ y)) ≡ modulo p (size *ℤ pos 1) =
@@ -151,57 +155,54 @@ nothing_spreads : (b : Bool) (X : Type 0) → b ≡ false → UnlessSame b told.
 nothing_spreads true X other tells = absurd cc
 nothing_spreads false X other tells = tells
 
-module _ (s : Subject) (is : IsSubject s) (laws : Laws s.graph) (acts : Acts) (rows : List (List ℤ)) (fit : RowsFit s.graph rows) (n k : ℕ) (op : Op)
-    (d : Disturbance) (a : Act) (size : ℤ) (there : slice_get s.graph.operations k ≡ Some op) (stands : StandsAt acts n k a)
-    (sized : IsSized s op d a size) where
-  tells_refused : (h : ℕ) → Tells s k d (told.Refused h) → IsRefused s (is_any d) (source_at k 0 (amount_of s.table s.graph op d) ∷ []) h
+-- What stands of a run with a fault: what it comes to is reached from the fault's sources, and what comes to the outputs that are reached first is what
+-- the sources say, times a size; of which an output refuses what it refuses of what is told.
+pub record Spreads (s : Subject) (acts : Acts) (n k : ℕ) (op : Op) (d : Disturbance) (size : ℤ) : Type 0 where
+  pub touches : TouchesFrom s.graph acts n (sources s.table s.graph k op d)
+  pub differences : (h : ℕ) → NoOutputBefore s (sources s.table s.graph k op d) h → (i : ℕ) (o : Outlet) → slice_get s.graph.outputs i ≡ Some o
+      → modulo s.table.profile (difference_at s.table s.graph acts (n + h) o.op)
+      ≡ modulo s.graph.profile (comes s.graph o.op h (sources s.table s.graph k op d) *ℤ size)
+  pub counts : (z : ℤ) → Refuses s.graph.profile (is_any d) z → modulo s.graph.profile (z *ℤ size) ≢ 0
+
+module _ (s : Subject) (is : IsSubject s) (laws : Laws s.graph) (acts : Acts) (rows : List (List ℤ)) (fit : RowsFit s.graph rows) (run : List Cycle)
+    (is_run : IsRun s.graph acts rows run) (n k : ℕ) (op : Op) (d : Disturbance) (size : ℤ) (there : slice_get s.graph.operations k ≡ Some op)
+    (spreads : Spreads s acts n k op d size) where
+  tells_refused : (h : ℕ) → Tells s k d (told.Refused h) → RefusedWhenReached s (is_any d) (sources s.table s.graph k op d) h
   tells_refused h tells =
-      subst (λ from. IsRefused s (is_any d) from h) (single s.table s.graph k op d sized.one)
-      (refused_spreads (does_the_same op.kind d) h (IsRefused s (is_any d) (sources s.table s.graph k op d) h)
-      (subst (TellsAt s k d (told.Refused h)) there tells))
+      refused_spreads (does_the_same op.kind d) h (RefusedWhenReached s (is_any d) (sources s.table s.graph k op d) h)
+      (subst (TellsAt s k d (told.Refused h)) there tells)
 
-  tells_nothing : does_the_same op.kind d ≡ false → Tells s k d told.Nothing → Nowhere s (source_at k 0 (amount_of s.table s.graph op d) ∷ [])
+  tells_nothing : does_the_same op.kind d ≡ false → Tells s k d told.Nothing → Nowhere s (sources s.table s.graph k op d)
   tells_nothing other tells =
-      subst (Nowhere s) (single s.table s.graph k op d sized.one)
-      (nothing_spreads (does_the_same op.kind d) (Nowhere s (sources s.table s.graph k op d)) other (subst (TellsAt s k d told.Nothing) there tells))
+      nothing_spreads (does_the_same op.kind d) (Nowhere s (sources s.table s.graph k op d)) other (subst (TellsAt s k d told.Nothing) there tells)
 
-  difference_of : (h : ℕ) → IsRefused s (is_any d) (source_at k 0 (amount_of s.table s.graph op d) ∷ []) h → (i : ℕ) (o : Outlet)
-      → slice_get s.graph.outputs i ≡ Some o
-      → modulo s.table.profile (difference_at s.table s.graph acts (n + h) o.op) ≡ modulo s.graph.profile
-      (comes s.graph o.op h (sources s.table s.graph k op d) *ℤ size)
-  difference_of h refused i o here =
-      difference_is s is laws acts n k op a there stands (amount_of s.table s.graph op d) size h sized.makes refused.first.outputs i o here
-      ∙ ap (λ from. modulo s.graph.profile (comes s.graph o.op h from *ℤ size)) (sym (single s.table s.graph k op d sized.one))
-
-  unaccepted : (h : ℕ) → IsRefused s (is_any d) (source_at k 0 (amount_of s.table s.graph op d) ∷ []) h
-      → IsFirstUnaccepted s.table s.graph acts (n + h) 0 s.graph.outputs
+  unaccepted : (h : ℕ) → RefusedWhenReached s (is_any d) (sources s.table s.graph k op d) h → IsFirstUnaccepted s.table s.graph acts (n + h) 0 s.graph.outputs
   unaccepted h refused =
       let r = refused.refused in
       one_unaccepted s.table s.graph acts (n + h) 0 s.graph.outputs refused.output r.output r.there
-      (λ none. sized.counts (comes s.graph r.output.op h (source_at k 0 (amount_of s.table s.graph op d) ∷ [])) r.refuses
-      (sym (difference_is s is laws acts n k op a there stands
-      (amount_of s.table s.graph op d) size h sized.makes refused.first.outputs refused.output r.output r.there) ∙ none))
+      (λ none. spreads.counts (comes s.graph r.output.op h (sources s.table s.graph k op d)) r.refuses
+      (sym (spreads.differences h refused.first.outputs refused.output r.output r.there) ∙ none))
 
-  first_to_differ : (h : ℕ) (refused : IsRefused s (is_any d) (source_at k 0 (amount_of s.table s.graph op d) ∷ []) h)
+  first_to_differ : (h : ℕ) (refused : RefusedWhenReached s (is_any d) (sources s.table s.graph k op d) h)
       → (u : IsFirstUnaccepted s.table s.graph acts (n + h) 0 s.graph.outputs) → FirstToDiffer s k d size h u.place
   first_to_differ h refused u = record {
     op = op;
     there = there;
     outlet = u.outlet;
     outlet_is = u.there;
-    differs = λ none. u.differs (difference_of h refused u.place u.outlet u.there ∙ none);
-    first = λ i o lt here differs. differs (sym (difference_of h refused i o here) ∙ u.before i o lt here);
+    differs = λ none. u.differs (spreads.differences h refused.first.outputs u.place u.outlet u.there ∙ none);
+    first = λ i o lt here differs. differs (sym (spreads.differences h refused.first.outputs i o here) ∙ u.before i o lt here);
   }
 
   refused_means : (h : ℕ) → Tells s k d (told.Refused h)
-      → RefusedMeans s (run_under s.table s.graph acts rows) (verdict_under s.table s.graph acts rows) rows n k d size h
+      → RefusedMeans s run (compared s.table s.graph acts 0 run (plain_cycles s.graph (initial s.graph) rows)) rows n k d size h
   refused_means h tells =
       let refused = tells_refused h tells in
-      let hidden = hidden_before s acts n k a (amount_of s.table s.graph op d) h stands refused.first.outputs refused.first.stops in
+      let hidden = hidden_before s acts n (sources s.table s.graph k op d) h spreads.touches refused.first.outputs refused.first.stops in
       let u = unaccepted h refused in
       record {
-        safe = run_has s is laws acts rows fit (n + h) hidden u IsSafe tt quiet_is_safe tt;
-        where_refused = run_has s is laws acts rows fit (n + h) hidden u
+        safe = run_has s is laws acts rows fit run is_run (n + h) hidden u IsSafe tt quiet_is_safe tt;
+        where_refused = run_has s is laws acts rows fit run is_run (n + h) hidden u
             (λ v. (cycle output found wanted : ℕ) → v ≡ verdict.Refused cycle output found wanted → (cycle ≡ n + h) × FirstToDiffer s k d size h output)
             (λ cycle output found wanted e. absurd cc)
             (λ v quiet cycle output found wanted e. absurd (quiet_not_refused cycle output found wanted v quiet e))
@@ -214,44 +215,66 @@ module _ (s : Subject) (is : IsSubject s) (laws : Laws s.graph) (acts : Acts) (r
           u.refused.output,
           u.refused.found,
           u.refused.expected,
-          run_is_refused s is laws acts rows fit
-              (n + h) hidden u comes_to.cycle comes_to.begun comes_to.going,
+          run_is_refused s is laws acts rows fit run is_run (n + h) hidden u comes_to.cycle comes_to.begun comes_to.going,
         );
       }
     where
       refusal_is : (a b c e f i j l : ℕ) → verdict.Refused a b c e ≡ verdict.Refused f i j l → (a ≡ f) × (b ≡ i)
       refusal_is a b c e f i j l h = (cc, cc)
 
-  pub act_means : ActsMean s acts rows n k d size
-  act_means = record {
+  pub run_means : Means s run (compared s.table s.graph acts 0 run (plain_cycles s.graph (initial s.graph) rows)) rows n k d size
+  run_means = record {
     refused = refused_means;
     nothing = λ other that no tells.
         let same : other ≡ op = op_is (sym that ∙ there) in
-        always_quiet s is laws acts rows fit (hidden_always s acts n k a (amount_of s.table s.graph op d) stands
+        always_quiet s is laws acts rows fit run is_run (hidden_always s acts n (sources s.table s.graph k op d) spreads.touches
         (tells_nothing (ap (λ (x : Op). does_the_same x.kind d) (sym same) ∙ no) tells));
   }
     where
       op_is : {x y : Op} → Some x ≡ Some y → x ≡ y
       op_is h = cc
 
+-- what comes of an act at one operation
+act_spreads : (s : Subject) (is : IsSubject s) (laws : Laws s.graph) (acts : Acts) (n k : ℕ) (op : Op) (d : Disturbance) (a : Act) (size : ℤ)
+    → slice_get s.graph.operations k ≡ Some op → StandsAt acts n k a → IsSized s op d a size → Spreads s acts n k op d size
+act_spreads s is laws acts n k op d a size there stands sized =
+    let amount = amount_of s.table s.graph op d in
+    let one : source_at k 0 amount ∷ [] ≡ sources s.table s.graph k op d = sym (single s.table s.graph k op d sized.one) in
+    record {
+      touches = subst (TouchesFrom s.graph acts n) one (touching s.graph acts n k a amount stands);
+      differences = subst
+          (λ from. (h : ℕ) → NoOutputBefore s from h → (i : ℕ) (o : Outlet) → slice_get s.graph.outputs i ≡ Some o
+          → modulo s.table.profile (difference_at s.table s.graph acts (n + h) o.op) ≡ modulo s.graph.profile (comes s.graph o.op h from *ℤ size)) one
+          (λ h none i o here. difference_is s is laws acts n k op a there stands amount size h sized.makes none i o here);
+      counts = sized.counts;
+    }
+
 -- of acts of a fault at an operation that is there
 pub fault_means : (s : Subject) (acts : Acts) (rows : List (List ℤ)) (n k : ℕ) (op : Op) (d : Disturbance) (a : Act) (size : ℤ) → IsSubject s → Laws s.graph
     → RowsFit s.graph rows → slice_get s.graph.operations k ≡ Some op → StandsAt acts n k a → IsActOf s rows n k d a size → ActsMean s acts rows n k d size
 fault_means s acts rows n k op d a size is laws fit there stands of =
-    act_means s is laws acts rows fit n k op d a size there stands (sized s rows n k op d a size is laws.words there of)
+    run_means s is laws acts rows fit (run_under s.table s.graph acts rows) (acts_run s.table s.graph acts is.graph laws.earlier laws.entries laws.cells rows)
+    n k op d size there (act_spreads s is laws acts n k op d a size there stands (sized s rows n k op d a size is laws.words there of))
 
 -- nothing is told where there is no such operation
-nothing_means : (s : Subject) (acts : Acts) (rows : List (List ℤ)) (n k : ℕ) (d : Disturbance) (size : ℤ) → slice_get s.graph.operations k ≡ None
-    → ActsMean s acts rows n k d size
-nothing_means s acts rows n k d size none = record {
+nothing_means : (s : Subject) (run : List Cycle) (v : Verdict) (rows : List (List ℤ)) (n k : ℕ) (d : Disturbance) (size : ℤ)
+    → slice_get s.graph.operations k ≡ None → Means s run v rows n k d size
+nothing_means s run v rows n k d size none = record {
   refused = λ h tells. absurd (subst (TellsAt s k d (told.Refused h)) none tells);
   nothing = λ op there no tells. absurd (subst (TellsAt s k d told.Nothing) none tells);
 }
 
+-- what is told of a fault has its meaning where it has it wherever there is the operation
+pub means_there : (s : Subject) (run : List Cycle) (v : Verdict) (rows : List (List ℤ)) (n k : ℕ) (d : Disturbance) (size : ℤ)
+    → ((op : Op) → slice_get s.graph.operations k ≡ Some op → Means s run v rows n k d size) → Means s run v rows n k d size
+means_there s run v rows n k d size there = by_operation (slice_get s.graph.operations k) refl
+  where
+    by_operation : (o : Option Op) → slice_get s.graph.operations k ≡ o → Means s run v rows n k d size
+    by_operation None e = nothing_means s run v rows n k d size e
+    by_operation (Some op) e = there op e
+
 pub acts_mean : (s : Subject) (acts : Acts) (rows : List (List ℤ)) (n k : ℕ) (d : Disturbance) (a : Act) (size : ℤ) → IsSubject s → Laws s.graph
     → RowsFit s.graph rows → StandsAt acts n k a → IsActOf s rows n k d a size → ActsMean s acts rows n k d size
-acts_mean s acts rows n k d a size is laws fit stands of = by_operation (slice_get s.graph.operations k) refl
-  where
-    by_operation : (o : Option Op) → slice_get s.graph.operations k ≡ o → ActsMean s acts rows n k d size
-    by_operation None e = nothing_means s acts rows n k d size e
-    by_operation (Some op) e = fault_means s acts rows n k op d a size is laws fit e stands of
+acts_mean s acts rows n k d a size is laws fit stands of =
+    means_there s (run_under s.table s.graph acts rows) (verdict_under s.table s.graph acts rows) rows n k d size
+    (λ op e. fault_means s acts rows n k op d a size is laws fit e stands of)

@@ -79,24 +79,7 @@ three_zeros x y z e f h = omega (arith, ints)
 
 read_none : (f : Frame) (op : Op) (j : ℕ) (k : Kind) → ((i : ℕ) → at f.held i ≡ pos 0) → at f.given (named op j) ≡ pos 0 → read_as f op j k ≡ pos 0
 read_none f op j kind.Load held given = held (unsigned_abs op.imm)
-read_none f op j kind.Input held given = given
-read_none f op j kind.Const held given = given
-read_none f op j kind.Store held given = given
-read_none f op j kind.Out held given = given
-read_none f op j kind.Conv held given = given
-read_none f op j kind.Neg held given = given
-read_none f op j kind.Not held given = given
-read_none f op j kind.Add held given = given
-read_none f op j kind.Sub held given = given
-read_none f op j kind.Mul held given = given
-read_none f op j kind.Div held given = given
-read_none f op j kind.Mod held given = given
-read_none f op j kind.Eq held given = given
-read_none f op j kind.Lt held given = given
-read_none f op j kind.And held given = given
-read_none f op j kind.Or held given = given
-read_none f op j kind.Xor held given = given
-read_none f op j kind.Sel held given = given
+read_none f op j _ held given = given
 
 -- nothing differs in what stands before an operation
 record IsClean (f : Frame) : Type 0 where
@@ -151,42 +134,8 @@ no_multiplier k j x none = elim (cases_lt j (operands k)) [
 operand_none : (f : Frame) (op : Op) (j : ℕ) (k : Kind) → ((i : ℕ) → at f.held i ≡ pos 0)
     → (is_some (reads_as k op.from j) ≡ true → at f.given (named op j) ≡ pos 0) → multiplier k j *ℤ read_as f op j k ≡ pos 0
 operand_none f op j kind.Load held given = zero_times (multiplier kind.Load j) (at f.held (unsigned_abs op.imm)) (held (unsigned_abs op.imm))
-operand_none f op j kind.Input held given =
-    no_multiplier kind.Input j (at f.given (named op j)) (λ lt. given (ap (λ b. is_some (cond b (Some (operand_type kind.Input j op.from)) None)) lt))
-operand_none f op j kind.Const held given =
-    no_multiplier kind.Const j (at f.given (named op j)) (λ lt. given (ap (λ b. is_some (cond b (Some (operand_type kind.Const j op.from)) None)) lt))
-operand_none f op j kind.Store held given =
-    no_multiplier kind.Store j (at f.given (named op j)) (λ lt. given (ap (λ b. is_some (cond b (Some (operand_type kind.Store j op.from)) None)) lt))
-operand_none f op j kind.Out held given =
-    no_multiplier kind.Out j (at f.given (named op j)) (λ lt. given (ap (λ b. is_some (cond b (Some (operand_type kind.Out j op.from)) None)) lt))
-operand_none f op j kind.Conv held given =
-    no_multiplier kind.Conv j (at f.given (named op j)) (λ lt. given (ap (λ b. is_some (cond b (Some (operand_type kind.Conv j op.from)) None)) lt))
-operand_none f op j kind.Neg held given =
-    no_multiplier kind.Neg j (at f.given (named op j)) (λ lt. given (ap (λ b. is_some (cond b (Some (operand_type kind.Neg j op.from)) None)) lt))
-operand_none f op j kind.Not held given =
-    no_multiplier kind.Not j (at f.given (named op j)) (λ lt. given (ap (λ b. is_some (cond b (Some (operand_type kind.Not j op.from)) None)) lt))
-operand_none f op j kind.Add held given =
-    no_multiplier kind.Add j (at f.given (named op j)) (λ lt. given (ap (λ b. is_some (cond b (Some (operand_type kind.Add j op.from)) None)) lt))
-operand_none f op j kind.Sub held given =
-    no_multiplier kind.Sub j (at f.given (named op j)) (λ lt. given (ap (λ b. is_some (cond b (Some (operand_type kind.Sub j op.from)) None)) lt))
-operand_none f op j kind.Mul held given =
-    no_multiplier kind.Mul j (at f.given (named op j)) (λ lt. given (ap (λ b. is_some (cond b (Some (operand_type kind.Mul j op.from)) None)) lt))
-operand_none f op j kind.Div held given =
-    no_multiplier kind.Div j (at f.given (named op j)) (λ lt. given (ap (λ b. is_some (cond b (Some (operand_type kind.Div j op.from)) None)) lt))
-operand_none f op j kind.Mod held given =
-    no_multiplier kind.Mod j (at f.given (named op j)) (λ lt. given (ap (λ b. is_some (cond b (Some (operand_type kind.Mod j op.from)) None)) lt))
-operand_none f op j kind.Eq held given =
-    no_multiplier kind.Eq j (at f.given (named op j)) (λ lt. given (ap (λ b. is_some (cond b (Some (operand_type kind.Eq j op.from)) None)) lt))
-operand_none f op j kind.Lt held given =
-    no_multiplier kind.Lt j (at f.given (named op j)) (λ lt. given (ap (λ b. is_some (cond b (Some (operand_type kind.Lt j op.from)) None)) lt))
-operand_none f op j kind.And held given =
-    no_multiplier kind.And j (at f.given (named op j)) (λ lt. given (ap (λ b. is_some (cond b (Some (operand_type kind.And j op.from)) None)) lt))
-operand_none f op j kind.Or held given =
-    no_multiplier kind.Or j (at f.given (named op j)) (λ lt. given (ap (λ b. is_some (cond b (Some (operand_type kind.Or j op.from)) None)) lt))
-operand_none f op j kind.Xor held given =
-    no_multiplier kind.Xor j (at f.given (named op j)) (λ lt. given (ap (λ b. is_some (cond b (Some (operand_type kind.Xor j op.from)) None)) lt))
-operand_none f op j kind.Sel held given =
-    no_multiplier kind.Sel j (at f.given (named op j)) (λ lt. given (ap (λ b. is_some (cond b (Some (operand_type kind.Sel j op.from)) None)) lt))
+operand_none f op j k held given =
+    no_multiplier k j (at f.given (named op j)) (λ lt. given (ap (λ b. is_some (cond b (Some (operand_type k j op.from)) None)) lt))
 
 brings_none : (f : Frame) (op : Op) → ((i : ℕ) → at f.held i ≡ pos 0)
     → ((j : ℕ) → is_some (reads_as op.kind op.from j) ≡ true → at f.given (named op j) ≡ pos 0) → brought f op op.kind ≡ pos 0

@@ -10,8 +10,8 @@ use Rattle.std.proofs.lemmas.List.Sums.{count_by-le-length, sum_by-append, sum_b
 use Rattle.fault_cover.specs.declared.class.CoverClass.{CoverClass}
 use Rattle.fault_cover.specs.declared.counting.ClassCount.{ClassCount}
 use Rattle.fault_cover.specs.declared.tally.Tally.{Tally}
-use Rattle.fault_cover.specs.declared.told.Told.{Told}
-use Rattle.fault_cover.specs.declared.told.Told.TheVariants as told
+use Rattle.fault_cover.specs.declared.effect.Effect.{Effect}
+use Rattle.fault_cover.specs.declared.effect.Effect.TheVariants as told
 use Rattle.fault_cover.specs.Counts.{AreCounted, AreCountsOf, AreDelays, Counts, IsClassCount, counted, together}
 use Rattle.fault_cover.specs.CoverText.{Covered, Heard, IsCovered, count_told, delays, heard_of, is_beyond, is_late, is_nothing, is_refused}
 use Rattle.fault_cover.specs.CoverText.{is_running_on, is_shown}
@@ -23,13 +23,13 @@ use Rattle.fault_cover.proofs.Going.{taken_more, taken_one}
 abbrev pub one_for : Bool → ℕ
 one_for b = cond b 1 0
 
-pub count_both : (is : Told → Bool) (xs ys : List Heard) → count_told is (xs ++ ys) ≡ count_told is xs + count_told is ys
+pub count_both : (is : Effect → Bool) (xs ys : List Heard) → count_told is (xs ++ ys) ≡ count_told is xs + count_told is ys
 count_both is xs ys = sum_by-append (λ h. one_for (is h.told)) xs ys
 
-pub count_next : (is : Told → Bool) (xs : List Heard) (h : Heard) → count_told is (xs ++ h ∷ []) ≡ count_told is xs + one_for (is h.told)
+pub count_next : (is : Effect → Bool) (xs : List Heard) (h : Heard) → count_told is (xs ++ h ∷ []) ≡ count_told is xs + one_for (is h.told)
 count_next is xs h = sum_by_push (λ (x : Heard). one_for (is x.told)) xs h
 
-pub count_few : (is : Told → Bool) (xs : List Heard) → count_told is xs ≤ length xs
+pub count_few : (is : Effect → Bool) (xs : List Heard) → count_told is xs ≤ length xs
 count_few is xs = count_by-le-length (λ (h : Heard). is h.told) xs
 
 -- ---- tallies
@@ -47,13 +47,13 @@ together_tally xs ys =
     made_same (sym (count_both is_refused xs ys)) (sym (count_both is_nothing xs ys)) (sym (count_both is_shown xs ys))
     (sym (count_both is_running_on xs ys)) (sym (count_both is_beyond xs ys))
 
-stays : (is : Told → Bool) (xs : List Heard) (h : Heard) → is h.told ≡ false → count_told is xs ≡ count_told is (xs ++ h ∷ [])
+stays : (is : Effect → Bool) (xs : List Heard) (h : Heard) → is h.told ≡ false → count_told is xs ≡ count_told is (xs ++ h ∷ [])
 stays is xs h never = let next = count_next is xs h in let none = ap one_for never in omega (arith, next, none)
 
-rises : (is : Told → Bool) (xs : List Heard) (h : Heard) → is h.told ≡ true → count_told is xs + 1 ≡ count_told is (xs ++ h ∷ [])
+rises : (is : Effect → Bool) (xs : List Heard) (h : Heard) → is h.told ≡ true → count_told is xs + 1 ≡ count_told is (xs ++ h ∷ [])
 rises is xs h holds = let next = count_next is xs h in let one = ap one_for holds in omega (arith, next, one)
 
-counted_as : (xs : List Heard) (h : Heard) (x : Told) → h.told ≡ x → counted (tally xs) x ≡ tally (xs ++ h ∷ [])
+counted_as : (xs : List Heard) (h : Heard) (x : Effect) → h.told ≡ x → counted (tally xs) x ≡ tally (xs ++ h ∷ [])
 counted_as xs h (told.Refused b) e = made_same (rises is_refused xs h (ap is_refused e)) (stays is_nothing xs h (ap is_nothing e))
     (stays is_shown xs h (ap is_shown e)) (stays is_running_on xs h (ap is_running_on e)) (stays is_beyond xs h (ap is_beyond e))
 counted_as xs h told.Nothing e = made_same (stays is_refused xs h (ap is_refused e)) (rises is_nothing xs h (ap is_nothing e))
@@ -66,10 +66,10 @@ counted_as xs h told.Beyond e = made_same (stays is_refused xs h (ap is_refused 
     (stays is_shown xs h (ap is_shown e)) (stays is_running_on xs h (ap is_running_on e)) (rises is_beyond xs h (ap is_beyond e))
 
 -- of each fault one thing is told
-abbrev one_or_none : (Told → Bool) → Told → ℕ
+abbrev one_or_none : (Effect → Bool) → Effect → ℕ
 one_or_none is x = one_for (is x)
 
-one_told : (x : Told)
+one_told : (x : Effect)
     → one_or_none is_refused x + one_or_none is_nothing x + one_or_none is_shown x + one_or_none is_running_on x + one_or_none is_beyond x ≡ 1
 one_told (told.Refused b) = refl
 one_told told.Nothing = refl
@@ -77,7 +77,7 @@ one_told (told.Shows b o) = refl
 one_told (told.RunsOn b q) = refl
 one_told told.Beyond = refl
 
-front : (is : Told → Bool) (h : Heard) (xs : List Heard) → count_told is (h ∷ xs) ≡ one_or_none is h.told + count_told is xs
+front : (is : Effect → Bool) (h : Heard) (xs : List Heard) → count_told is (h ∷ xs) ≡ one_or_none is h.told + count_told is xs
 front is h xs = sum_by-cons (λ (x : Heard). one_for (is x.told)) h xs
 
 pub sum_told : (xs : List Heard) → sum_of (tally xs) ≡ length xs

@@ -18,8 +18,8 @@ use Rattle.fault_cover.specs.declared.nearest.Nearest.{Nearest}
 use Rattle.fault_cover.specs.declared.starts.Start.{Start}
 use Rattle.fault_cover.specs.declared.telling.Outlook.{Outlook}
 use Rattle.fault_cover.specs.declared.telling.Outlook.TheVariants as outlook
-use Rattle.fault_cover.specs.declared.told.Told.{Told}
-use Rattle.fault_cover.specs.declared.told.Told.TheVariants as told
+use Rattle.fault_cover.specs.declared.effect.Effect.{Effect}
+use Rattle.fault_cover.specs.declared.effect.Effect.TheVariants as told
 use Rattle.fault_cover.specs.Beginnings.{ArePlaced, rest_of, starts_at}
 use Rattle.fault_cover.specs.Firsts.{IsFirstOf, ToldAt, before, behind, outlook_of}
 use Rattle.fault_cover.specs.Sited.{IsSited}
@@ -106,11 +106,12 @@ module _ (g : Lists) (t : Numbers) (stops : List Stops) (v : Surveyed) (survey :
       (outlook_is (subject g t v.horizon stops) survey.mapped.outs survey.mapped.able survey.mapped.outs_are survey.able_are any from output stop nearest_output
       nearest_stop)
 
-  pub told_directly : (told : Told) → x ≡ outlook.Is told → TellsOf (subject g t v.horizon stops) any from told
+  pub told_directly : (told : Effect) → x ≡ outlook.Is told → TellsOf (subject g t v.horizon stops) any from told
   told_directly told e = subst (Spreads (subject g t v.horizon stops) any from output) e spreads
 
   pub told_at_outputs : (n : Nearest) → x ≡ outlook.Outputs n → WeightsAreOfPaths g → WordLaws g.profile → EntryLaws → IsPart g → (number : ℕ)
-      → slice_index_or v.numbers n.op 0 ≡ number → (told : Told) → ToldAt g number n.borders any from told → TellsOf (subject g t v.horizon stops) any from told
+      → slice_index_or v.numbers n.op 0 ≡ number → (told : Effect) → ToldAt g number n.borders any from told
+      → TellsOf (subject g t v.horizon stops) any from told
   told_at_outputs n e unreached words entries part number number_is told told_so =
       let there : (output ≡ Some n) × FirstReached (subject g t v.horizon stops) from n.borders =
       subst (Spreads (subject g t v.horizon stops) any from output) e spreads in
@@ -140,8 +141,8 @@ told_same s k op d there same =
     subst (TellsAt s k d told.Nothing) (sym there)
     (subst (λ b. UnlessSame b told.Nothing (TellsOf s (is_any d) (sources s.table s.graph k op d) told.Nothing)) (sym same) refl)
 
-pub told_other : (s : Subject) (k : ℕ) (op : Op) (d : Disturbance) (answer : Told) → slice_get s.graph.operations k ≡ Some op → does_the_same op.kind d ≡ false
-    → TellsOf s (is_any d) (sources s.table s.graph k op d) answer → Tells s k d answer
+pub told_other : (s : Subject) (k : ℕ) (op : Op) (d : Disturbance) (answer : Effect) → slice_get s.graph.operations k ≡ Some op
+    → does_the_same op.kind d ≡ false → TellsOf s (is_any d) (sources s.table s.graph k op d) answer → Tells s k d answer
 told_other s k op d answer there other tells =
     subst (TellsAt s k d answer) (sym there)
     (subst (λ b. UnlessSame b answer (TellsOf s (is_any d) (sources s.table s.graph k op d) answer)) (sym other) tells)

@@ -81,42 +81,8 @@ operand_as : (k : Kind) (f : Frame) (held values : List ℤ) (op : Op) (j : ℕ)
     → (is_some (reads_as k op.from j) ≡ true → at f.given (named op j) ≡ at values (named op j))
     → cond (nat_lt j (operands k)) (read_as f op j k) (pos 0) ≡ cond (nat_lt j (operands k)) (plain_read held values k op.imm (named op j)) (pos 0)
 operand_as kind.Load f held values op j loads reads = ap (λ x. cond (nat_lt j 1) x (pos 0)) (loads refl)
-operand_as kind.Input f held values op j loads reads =
-    both_same (nat_lt j 0) (operand_type kind.Input j op.from) (at f.given (named op j)) (at values (named op j)) (pos 0) reads
-operand_as kind.Const f held values op j loads reads =
-    both_same (nat_lt j 0) (operand_type kind.Const j op.from) (at f.given (named op j)) (at values (named op j)) (pos 0) reads
-operand_as kind.Store f held values op j loads reads =
-    both_same (nat_lt j 1) (operand_type kind.Store j op.from) (at f.given (named op j)) (at values (named op j)) (pos 0) reads
-operand_as kind.Out f held values op j loads reads =
-    both_same (nat_lt j 1) (operand_type kind.Out j op.from) (at f.given (named op j)) (at values (named op j)) (pos 0) reads
-operand_as kind.Conv f held values op j loads reads =
-    both_same (nat_lt j 1) (operand_type kind.Conv j op.from) (at f.given (named op j)) (at values (named op j)) (pos 0) reads
-operand_as kind.Neg f held values op j loads reads =
-    both_same (nat_lt j 1) (operand_type kind.Neg j op.from) (at f.given (named op j)) (at values (named op j)) (pos 0) reads
-operand_as kind.Not f held values op j loads reads =
-    both_same (nat_lt j 1) (operand_type kind.Not j op.from) (at f.given (named op j)) (at values (named op j)) (pos 0) reads
-operand_as kind.Add f held values op j loads reads =
-    both_same (nat_lt j 2) (operand_type kind.Add j op.from) (at f.given (named op j)) (at values (named op j)) (pos 0) reads
-operand_as kind.Sub f held values op j loads reads =
-    both_same (nat_lt j 2) (operand_type kind.Sub j op.from) (at f.given (named op j)) (at values (named op j)) (pos 0) reads
-operand_as kind.Mul f held values op j loads reads =
-    both_same (nat_lt j 2) (operand_type kind.Mul j op.from) (at f.given (named op j)) (at values (named op j)) (pos 0) reads
-operand_as kind.Div f held values op j loads reads =
-    both_same (nat_lt j 2) (operand_type kind.Div j op.from) (at f.given (named op j)) (at values (named op j)) (pos 0) reads
-operand_as kind.Mod f held values op j loads reads =
-    both_same (nat_lt j 2) (operand_type kind.Mod j op.from) (at f.given (named op j)) (at values (named op j)) (pos 0) reads
-operand_as kind.Eq f held values op j loads reads =
-    both_same (nat_lt j 2) (operand_type kind.Eq j op.from) (at f.given (named op j)) (at values (named op j)) (pos 0) reads
-operand_as kind.Lt f held values op j loads reads =
-    both_same (nat_lt j 2) (operand_type kind.Lt j op.from) (at f.given (named op j)) (at values (named op j)) (pos 0) reads
-operand_as kind.And f held values op j loads reads =
-    both_same (nat_lt j 2) (operand_type kind.And j op.from) (at f.given (named op j)) (at values (named op j)) (pos 0) reads
-operand_as kind.Or f held values op j loads reads =
-    both_same (nat_lt j 2) (operand_type kind.Or j op.from) (at f.given (named op j)) (at values (named op j)) (pos 0) reads
-operand_as kind.Xor f held values op j loads reads =
-    both_same (nat_lt j 2) (operand_type kind.Xor j op.from) (at f.given (named op j)) (at values (named op j)) (pos 0) reads
-operand_as kind.Sel f held values op j loads reads =
-    both_same (nat_lt j 3) (operand_type kind.Sel j op.from) (at f.given (named op j)) (at values (named op j)) (pos 0) reads
+operand_as k f held values op j loads reads =
+    both_same (nat_lt j (operands k)) (operand_type k j op.from) (at f.given (named op j)) (at values (named op j)) (pos 0) reads
 
 -- without an act an operation gives what its kind gives on what it reads
 pub plain_outcome : (b : Begun) (held given plain : List ℤ) (op : Op)
@@ -143,11 +109,11 @@ same_outcome b held given plain op none loads reads =
 -- ---- a cycle, operation by operation
 
 -- what operations give one after another, by the values before
-pub walk : (List ℤ → Op → Outcome) → List ℤ → List Op → Cycle
+unfoldable pub walk : (List ℤ → Op → Outcome) → List ℤ → List Op → Cycle
 walk gives values [] = record { values = values; stop = None }
 walk gives values (op ∷ ops) = after values (λ v. walk gives (values ++ v ∷ []) ops) (gives values op)
 
-after_same : (values : List ℤ) (next other : ℤ → Cycle) (x : Outcome) → ((v : ℤ) → next v ≡ other v) → after values next x ≡ after values other x
+pub after_same : (values : List ℤ) (next other : ℤ → Cycle) (x : Outcome) → ((v : ℤ) → next v ≡ other v) → after values next x ≡ after values other x
 after_same values next other (Ok v) same = same v
 after_same values next other (Err why) same = refl
 

@@ -13,7 +13,7 @@ use Rattle.op_graph.specs.Building.{entry_op, with_name, with_input, with_load, 
 use Rattle.signature_table.specs.Signatures.{Numbers, table_of, signature}
 use Rattle.fault_script.specs.declared.act.Act.TheVariants as act
 use Rattle.fault_cover.specs.declared.disturbance.Disturbance.TheVariants as disturbance
-use Rattle.fault_cover.specs.declared.told.Told.TheVariants as told
+use Rattle.fault_cover.specs.declared.effect.Effect.TheVariants as told
 use Rattle.fault_cover.specs.Classes.{additions, lates, rests}
 use Rattle.fault_cover.specs.CoverText.{column_text, heard_as, single_text, tally}
 use Rattle.fault_cover.specs.Sources.{comes, readings, sources}

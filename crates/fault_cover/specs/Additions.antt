@@ -47,7 +47,7 @@ frame_with g adds (suc n) = frame_after g (adds (suc n)) (frame_with g adds n)
 
 -- ---- values
 
--- the value of operand j of an operation in cycle n, where these values and differences stand before it
+-- the value of operand j of an operation in cycle n, where these values and differences are before it
 abbrev pub operand_with : Numbers → Lists → ℕ → Frame → Frame → Op → (ℕ → ℤ) → ℕ → ℤ
 operand_with t g n now differences op e j = plain_operand now op j +ℤ carry t.profile (operand_residue t g n differences op j) (e j)
 

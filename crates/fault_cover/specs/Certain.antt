@@ -1,4 +1,4 @@
--- Certain: what it says of every run that a fault is told to be refused, or to do nothing.
+-- Certain: what it says of every run that a fault is reported as refused, or to do nothing.
 -- A run is one of acts: at the fault's operation alone, none before its cycle, in that cycle the one of the fault, and later whatever there is. So a
 -- fault that stays, or comes and goes at its operation, is among them. The rows are any whose values are in the types of their inputs.
 use Rattle.std.specs.Prelude.{◌≡◌, ◌≢◌, ℕ, suc, ◌+◌, ◌<◌, ◌≤◌, true, false, List, drop, slice_get, Some, None, ℤ, pos, ◌+ℤ◌, ◌-ℤ◌, ◌*ℤ◌}
@@ -26,7 +26,7 @@ use Rattle.fault_injector.specs.declared.verdict.Verdict.TheVariants as verdict
 use Rattle.fault_injector.specs.Verdicts.{compared, plain_cycles}
 use Rattle.fault_cover.specs.declared.disturbance.Disturbance.{Disturbance}
 use Rattle.fault_cover.specs.declared.disturbance.Disturbance.TheVariants as disturbance
-use Rattle.fault_cover.specs.declared.told.Told.TheVariants as told
+use Rattle.fault_cover.specs.declared.effect.Effect.TheVariants as told
 use Rattle.fault_cover.specs.Additions.{Addends, AreAdded, run_with, verdict_with}
 use Rattle.fault_cover.specs.Sources.{Reading, readings, sources, comes}
 use Rattle.fault_cover.specs.Telling.{Subject, Tells, does_the_same}
@@ -37,14 +37,14 @@ use Rattle.fault_cover.specs.Telling.{Subject, Tells, does_the_same}
 abbrev pub verdict_under : Numbers → Lists → Acts → List (List ℤ) → Verdict
 verdict_under t g acts rows = compared t g acts 0 (run_under t g acts rows) (plain_cycles g (initial g) rows)
 
--- this act stands at operation k in cycle n; other acts stand there alone, and later
+-- this act is at operation k in cycle n; other acts are there alone, and later
 pub record StandsAt (acts : Acts) (n k : ℕ) (a : Act) : Type 0 where
   pub first : acts n k ≡ Some a
   pub before : (m : ℕ) → m < n → acts m k ≡ None
   pub alone : (m q : ℕ) → q ≢ k → acts m q ≡ None
 
 -- The word that operation r answered in the cycle before cycle n is greater by e than the one that operand j of operation k reads in cycle n, in the
--- run without faults, which releases that cycle before and comes to the operation.
+-- run without faults, which releases that cycle before and reaches the operation.
 pub record IsLate (t : Numbers) (g : Lists) (rows : List (List ℤ)) (n k j r : ℕ) (e : ℤ) : Type 0 where
   pub before : ℕ
   pub cycle : n ≡ suc before
@@ -90,7 +90,7 @@ IsQuiet (verdict.RanOn cycle) = ⊥
 IsQuiet (verdict.Refused cycle output found wanted) = ⊥
 IsQuiet (verdict.Stopped cycle op kind) = Unit {0}
 
--- this is the first output to which something comes that is no multiple of the constant
+-- this is the first output at which something arrives that is no multiple of the constant
 abbrev pub Differs : Subject → ℕ → Disturbance → Op → ℤ → ℕ → Outlet → Type 0
 Differs s k d op size borders o =
     modulo s.graph.profile (comes s.graph o.op borders (sources s.table s.graph k op d) *ℤ size) ≢ 0
@@ -109,8 +109,8 @@ pub record ComesTo (g : Lists) (run : List Cycle) (rows : List (List ℤ)) (n : 
   pub begun : slice_get (plain_cycles g (initial g) rows) n ≡ Some cycle
   pub going : (m : ℕ) (c : Cycle) → m ≤ n → slice_get run m ≡ Some c → stop_under g c ≡ None
 
--- Told to be refused: no wrong output is ever released, and no stop is passed. Where the run is refused, it is so in that cycle, at the first output to
--- which the fault comes; and it is, unless it ends before.
+-- Reported as refused: no wrong output is ever released, and no stop is passed. Where the run is refused, it is so in that cycle, at the first output that
+-- the fault reaches; and it is, unless it ends before.
 pub record RefusedMeans (s : Subject) (run : List Cycle) (v : Verdict) (rows : List (List ℤ)) (n k : ℕ) (d : Disturbance) (size : ℤ) (borders : ℕ) : Type 0
   where
     pub safe : IsSafe v
@@ -136,7 +136,7 @@ pub record IsSubject (s : Subject) : Type 0 where
 
 -- ---- the theorem
 
--- Over every subject, rows that fit, fault at one operation, and acts that stand there alone, the first of which is the fault's.
+-- Over every subject, rows that fit, fault at one operation, and acts that are there alone, the first of which is the fault's.
 abbrev pub CertainAtOperation : Type 0
 CertainAtOperation = (s : Subject) (acts : Acts) (rows : List (List ℤ)) (n k : ℕ) (d : Disturbance) (a : Act) (size : ℤ) → IsSubject s → RowsFit s.graph rows
     → StandsAt acts n k a → IsActOf s rows n k d a size → ActsMean s acts rows n k d size

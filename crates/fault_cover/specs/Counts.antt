@@ -4,14 +4,14 @@ use Rattle.fault_cover.specs.declared.class.CoverClass.{CoverClass}
 use Rattle.fault_cover.specs.declared.counting.ClassCount.{ClassCount}
 use Rattle.fault_cover.specs.declared.counting.Counting.{Counting}
 use Rattle.fault_cover.specs.declared.tally.Tally.{Tally}
-use Rattle.fault_cover.specs.declared.told.Told.{Told}
-use Rattle.fault_cover.specs.declared.told.Told.TheVariants as told
+use Rattle.fault_cover.specs.declared.effect.Effect.{Effect}
+use Rattle.fault_cover.specs.declared.effect.Effect.TheVariants as told
 use Rattle.fault_cover.specs.Classes.{singles}
 use Rattle.fault_cover.specs.CoverText.{AreHeard, Covered, Heard, IsCovered, delays, tally}
 use Rattle.fault_cover.specs.Telling.{Subject}
 
--- one more of which this is told
-abbrev pub counted : Tally → Told → Tally
+-- one more of which this is reported
+abbrev pub counted : Tally → Effect → Tally
 counted t (told.Refused borders) = record t { refused = t.refused + 1 }
 counted t told.Nothing = record t { nothing = t.nothing + 1 }
 counted t (told.Shows borders output) = record t { shows = t.shows + 1 }

@@ -16,8 +16,8 @@ use Rattle.fault_cover.specs.declared.class.CoverClasses.TheVariants as covers
 use Rattle.fault_cover.specs.declared.disturbance.Disturbance.{Disturbance}
 use Rattle.fault_cover.specs.declared.disturbance.Disturbance.TheVariants as disturbance
 use Rattle.fault_cover.specs.declared.tally.Tally.{Tally}
-use Rattle.fault_cover.specs.declared.told.Told.{Told}
-use Rattle.fault_cover.specs.declared.told.Told.TheVariants as told
+use Rattle.fault_cover.specs.declared.effect.Effect.{Effect}
+use Rattle.fault_cover.specs.declared.effect.Effect.TheVariants as told
 use Rattle.fault_cover.specs.Classes.{Single, fault_at, singles, classes_of}
 use Rattle.fault_cover.specs.Telling.{Subject, Tells}
 
@@ -49,7 +49,7 @@ classes_in w =
     (cond (bytes_eq w (codes "all")) (Some covers.All)
     None)))))))
 
--- a fault as a script spells it, with N for whatever cycle: what stands in front of the cycle, and behind the operation
+-- a fault as a script spells it, with N for whatever cycle: what is in front of the cycle, and behind the operation
 abbrev pub front : Disturbance → List ℕ
 front disturbance.AddToResult = codes "result "
 front (disturbance.AddToOperand j) = codes "operand "
@@ -70,22 +70,22 @@ single_text f = front f.does ++ (codes "N " ++ (decimal f.op ++ back f.does))
 abbrev pub place_text : Lists → ℕ → List ℕ
 place_text g k = operation_text g k (slice_get g.operations k)
 
--- ---- what is told of each fault
+-- ---- what is reported of each fault
 
 pub record Heard : Type 0 where
   pub fault : Single
-  pub told : Told
+  pub told : Effect
 
--- this is told of what is amiss at operation k
-abbrev pub heard_as : ℕ → Disturbance → Told → Heard
+-- this is reported of what is amiss at operation k
+abbrev pub heard_as : ℕ → Disturbance → Effect → Heard
 heard_as k d x = record { fault = fault_at k d; told = x }
 
--- this is told of each of these faults, and becomes of it
+-- this is reported of each of these faults, and becomes of it
 pub record AreHeard (s : Subject) (faults : List Single) (heard : List Heard) : Type 0 where
   pub faults_are : map (λ h. h.fault) heard ≡ faults
   pub told : All (λ h. Tells s h.fault.op h.fault.does h.told) heard
 
--- a class, and what is told of its faults, in order
+-- a class, and what is reported of its faults, in order
 pub record Covered : Type 0 where
   pub class : CoverClass
   pub heard : List Heard
@@ -104,28 +104,28 @@ heard_at covered k = filter (λ h. h.fault.op == k) (heard_of covered)
 
 -- ---- counts
 
-abbrev pub is_refused : Told → Bool
+abbrev pub is_refused : Effect → Bool
 is_refused (told.Refused borders) = true
 is_refused _ = false
 
-abbrev pub is_nothing : Told → Bool
+abbrev pub is_nothing : Effect → Bool
 is_nothing told.Nothing = true
 is_nothing _ = false
 
-abbrev pub is_shown : Told → Bool
+abbrev pub is_shown : Effect → Bool
 is_shown (told.Shows borders output) = true
 is_shown _ = false
 
-abbrev pub is_running_on : Told → Bool
+abbrev pub is_running_on : Effect → Bool
 is_running_on (told.RunsOn borders q) = true
 is_running_on _ = false
 
-abbrev pub is_beyond : Told → Bool
+abbrev pub is_beyond : Effect → Bool
 is_beyond told.Beyond = true
 is_beyond _ = false
 
--- of how many such a thing is told
-abbrev pub count_told : (Told → Bool) → List Heard → ℕ
+-- of how many such a thing is reported
+abbrev pub count_told : (Effect → Bool) → List Heard → ℕ
 count_told is heard = count_by (λ h. is h.told) heard
 
 abbrev pub tally : List Heard → Tally
@@ -161,8 +161,8 @@ row_text name t = cond (sum_of t == 0) [] (columns_text t ++ (codes "  " ++ (nam
 abbrev pub class_row : Covered → List ℕ
 class_row c = row_text (class_name c.class) (tally c.heard)
 
--- told to be refused, by a number of cycles that row n of the delays has
-abbrev pub is_late : ℕ → Told → Bool
+-- reported as refused, by a number of cycles that row n of the delays has
+abbrev pub is_late : ℕ → Effect → Bool
 is_late n (told.Refused borders) = is_delay n borders
 is_late n told.Nothing = false
 is_late n (told.Shows borders output) = false
@@ -182,7 +182,7 @@ delay_row heard n = row_text (delay_text n) (refused_only (delays heard n))
 -- ---- the faults that are neither refused nor nothing
 
 -- the line of a fault that shows
-abbrev pub shows_text : Lists → Single → Told → List ℕ
+abbrev pub shows_text : Lists → Single → Effect → List ℕ
 shows_text g f (told.Shows borders output) =
     codes "shows " ++ (decimal borders ++ (codes " " ++ (output_name g output ++ (codes ": " ++ (single_text f ++ (codes ": " ++ (place_text g f.op ++ codes
     "\n")))))))
@@ -191,11 +191,11 @@ shows_text g f told.Nothing = []
 shows_text g f (told.RunsOn borders q) = []
 shows_text g f told.Beyond = []
 
--- how many faults of an operation there are of which something is told
+-- how many faults of an operation there are of which something is reported
 abbrev pub number_text : Lists → ℕ → ℕ → List ℕ
 number_text g k n = codes ": faults " ++ (decimal n ++ (codes " of " ++ (place_text g k ++ codes "\n")))
 
-abbrev pub is_run_on : ℕ → ℕ → Told → Bool
+abbrev pub is_run_on : ℕ → ℕ → Effect → Bool
 is_run_on borders q (told.RunsOn b p) = b == borders && p == q
 is_run_on borders q _ = false
 
@@ -243,12 +243,12 @@ abbrev pub cover_text : Lists → ℕ → List Covered → CoverClasses → List
 cover_text g horizon covered classes digest =
     remark classes horizon digest ++ (tables_text covered ++ (lines_text g horizon covered ++ totals_text (tally (heard_of covered))))
 
--- something is told of a fault that is neither `refused` nor `nothing`
+-- something is reported of a fault that is neither `refused` nor `nothing`
 abbrev pub leaves_any : Tally → Bool
 leaves_any t = not (t.shows + t.runs_on + t.beyond == 0)
 
--- The text is the cover of these classes: each fault of each class is counted in it once, under what is told of it; each that shows has its line; and
--- each other that is neither refused nor comes to nothing is in the number of its operation's line. `left` says whether there are any of those.
+-- The text is the cover of these classes: each fault of each class is counted in it once, under what is reported of it; each that shows has its line; and
+-- each other that is neither refused nor does nothing is in the number of its operation's line. `left` says whether there are any of those.
 pub record CoverOf (s : Subject) (classes : CoverClasses) (digest text : List ℕ) (left : Bool) : Type 0 where
   pub covered : List Covered
   pub classes_are : map (λ c. c.class) covered ≡ classes_of classes

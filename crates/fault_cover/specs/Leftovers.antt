@@ -8,14 +8,14 @@ use Rattle.fault_cover.specs.declared.left.Left.{Left}
 use Rattle.fault_cover.specs.declared.left.LeftLine.{LeftLine}
 use Rattle.fault_cover.specs.declared.left.Run.{Run}
 use Rattle.fault_cover.specs.declared.left.LeftLine.TheVariants as leftline
-use Rattle.fault_cover.specs.declared.told.Told.{Told}
-use Rattle.fault_cover.specs.declared.told.Told.TheVariants as told
+use Rattle.fault_cover.specs.declared.effect.Effect.{Effect}
+use Rattle.fault_cover.specs.declared.effect.Effect.TheVariants as told
 use Rattle.fault_cover.specs.CoverText.{Covered, Heard, IsCovered, count_told, heard_at, heard_of, is_beyond, number_text}
 use Rattle.fault_cover.specs.Telling.{Subject}
 
 -- ---- numbers that stand for a number of borders and an operation, of which there are w
 
-abbrev pub key_if : ℕ → Told → List ℕ
+abbrev pub key_if : ℕ → Effect → List ℕ
 key_if w (told.Refused borders) = []
 key_if w told.Nothing = []
 key_if w (told.Shows borders output) = []
@@ -26,7 +26,7 @@ abbrev pub keys_of : ℕ → List Heard → List ℕ
 keys_of w heard = flat_map (λ h. key_if w h.told) heard
 
 -- those that run on, and their numbers
-abbrev pub run_if : Told → List Run
+abbrev pub run_if : Effect → List Run
 run_if (told.Refused borders) = []
 run_if told.Nothing = []
 run_if (told.Shows borders output) = []
@@ -42,7 +42,7 @@ key_at w r = r.borders * w + r.op
 abbrev pub keys_in : ℕ → List Run → List ℕ
 keys_in w runs = map (key_at w) runs
 
--- how often a number stands in a list
+-- how often a number is in a list
 abbrev pub count_key : List ℕ → ℕ → ℕ
 count_key keys key = count_by (λ x. x == key) keys
 
@@ -83,7 +83,7 @@ lines_at g horizon heard k =
     each_below (key_line k (length g.operations) (keys_of (length g.operations) heard)) ((horizon + 1) * length g.operations)
     ++ beyond_line k (count_told is_beyond heard)
 
--- what is told of the faults of these classes, of which there are few
+-- what is reported of the faults of these classes, of which there are few
 pub record AreCovered (s : Subject) (classes : List CoverClass) (covered : List Covered) : Type 0 where
   pub classes_are : map (λ c. c.class) covered ≡ classes
   pub all : All (IsCovered s) covered

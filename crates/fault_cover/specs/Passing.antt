@@ -1,4 +1,4 @@
--- Passing: some faults are told of, one after another.
+-- Passing: some faults are reported of, one after another.
 use Rattle.std.specs.Prelude.{ℕ, List, ◌++◌, flat_map}
 use Rattle.op_graph.specs.Lists.{Lists}
 use Rattle.range_walk.specs.declared.range.Stops.{Stops}
@@ -10,7 +10,7 @@ use Rattle.fault_cover.specs.CoverText.{AreHeard, Heard}
 use Rattle.fault_cover.specs.Surveys.{IsSurvey, Surveyed}
 use Rattle.fault_cover.specs.Telling.{Subject, subject}
 
--- each of these faults is told of: its text is written, and it is kept with what was kept before
+-- each of these faults is reported of: its text is written, and it is kept with what was kept before
 pub record Passes (s : Subject) (faults : List Single) (text : Heard → List ℕ) (old new : SinkSeen) (line_old line_new : Gathered)
     (before after : List Heard → Type 0) : Type 0 where
   pub heard : List Heard

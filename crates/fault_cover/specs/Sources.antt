@@ -1,5 +1,5 @@
--- Sources: what is amiss at an operation, in whatever cycle, and from where and as how much of a difference it spreads. No value of the program
--- stands in it: the answer is made of multipliers, signatures and the step.
+-- Sources: what is amiss at an operation, in whatever cycle, and from where and as how much of a difference it spreads. No value of the program is in
+-- it: the answer is made of multipliers, signatures and the step.
 use Rattle.std.specs.Option.{is_some}
 use Rattle.std.specs.Prelude.{◌≡◌, ◌≢◌, ℕ, suc, ◌-◌, ◌==◌, ◌&&◌, nat_le, cond, Bool, true, false, List, [], ◌∷◌, ◌++◌, drop, map, ℤ, pos, ◌+ℤ◌, ◌-ℤ◌, ◌*ℤ◌}
 use Rattle.vcp_base.specs.declared.code.Profile.{Profile}
@@ -103,7 +103,7 @@ comes g out borders (s ∷ more) = part g out borders s +ℤ comes g out borders
 abbrev pub HasInverse : Profile → ℤ → Type 0
 HasInverse p z = (y : ℤ) × (modulo p (z *ℤ y) ≡ 1)
 
--- What comes to an output is refused there: it is no multiple of the constant; where the number that is added isn't known, what comes for each 1 of it
+-- What arrives at an output is refused there: it is no multiple of the constant; where the number that is added isn't known, what comes for each 1 of it
 -- has an inverse, so that no multiple comes of a number that is none. Nothing rests on the constant being prime.
 abbrev pub Refuses : Profile → Bool → ℤ → Type 0
 Refuses p true z = HasInverse p z

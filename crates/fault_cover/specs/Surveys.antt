@@ -1,4 +1,4 @@
--- Surveys: what faults are told by.
+-- Surveys: what faults are judged by.
 use Rattle.std.specs.Prelude.{◌≡◌, ℕ, Bool, true, List, length, slice_get, slice_index_or, Option, Some}
 use Rattle.op_graph.specs.declared.op.Outlet.{Outlet}
 use Rattle.op_graph.specs.Lists.{Lists}

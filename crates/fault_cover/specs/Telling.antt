@@ -1,4 +1,4 @@
--- Telling: what becomes of a fault in every run, as it is told from the graph, the numbers of its code and the operations that may stop.
+-- Telling: what becomes of a fault in every run, as it is reported from the graph, the numbers of its code and the operations that may stop.
 use Rattle.std.specs.Prelude.{◌≡◌, ◌⊎◌, ℕ, ◌+◌, ◌<◌, ◌≤◌, Bool, true, false, ◌&&◌, ◌||◌, List, slice_get, Option, Some, None}
 use Rattle.std.specs.List.{Contains}
 use Rattle.vcp_base.specs.declared.kind.Kind.{Kind}
@@ -13,11 +13,11 @@ use Rattle.range_walk.specs.declared.range.Stops.{Stops}
 use Rattle.range_walk.specs.Known.{is_any_named}
 use Rattle.fault_cover.specs.declared.disturbance.Disturbance.{Disturbance}
 use Rattle.fault_cover.specs.declared.disturbance.Disturbance.TheVariants as disturbance
-use Rattle.fault_cover.specs.declared.told.Told.{Told}
-use Rattle.fault_cover.specs.declared.told.Told.TheVariants as told
+use Rattle.fault_cover.specs.declared.effect.Effect.{Effect}
+use Rattle.fault_cover.specs.declared.effect.Effect.TheVariants as told
 use Rattle.fault_cover.specs.Sources.{Source, sources, is_any, comes, Refuses}
 
--- what faults are told over: a graph, the numbers of its code, which of its operations may stop, and across how many cycle borders is looked
+-- what faults are judged over: a graph, the numbers of its code, which of its operations may stop, and across how many cycle borders is looked
 pub record Subject : Type 0 where
   pub graph : Lists
   pub table : Numbers
@@ -60,7 +60,7 @@ pub record FirstReached (s : Subject) (from : List Source) (borders : ℕ) : Typ
   pub outputs : NoOutputBefore s from borders
   pub stops : NoStopBefore s from borders
 
--- output i is reached across so many borders, and what comes to it is refused there
+-- output i is reached across so many borders, and what arrives at it is refused there
 pub record RefusedAt (s : Subject) (any : Bool) (from : List Source) (borders i : ℕ) : Type 0 where
   pub output : Outlet
   pub there : slice_get s.graph.outputs i ≡ Some output
@@ -69,8 +69,8 @@ pub record RefusedAt (s : Subject) (any : Bool) (from : List Source) (borders i 
 
 -- ---- the five answers
 
--- `refused`: some output that is reached first refuses what comes to it
-pub record IsRefused (s : Subject) (any : Bool) (from : List Source) (borders : ℕ) : Type 0 where
+-- `refused`: some output that is reached first refuses what arrives at it
+pub record RefusedWhenReached (s : Subject) (any : Bool) (from : List Source) (borders : ℕ) : Type 0 where
   pub first : FirstReached s from borders
   pub output : ℕ
   pub refused : RefusedAt s any from borders output
@@ -102,9 +102,9 @@ pub record Beyond (s : Subject) (from : List Source) : Type 0 where
   pub outputs : (m i : ℕ) → m ≤ s.horizon → ReachesOutput s.graph from m i → ⊥
   pub stops : (m q : ℕ) → m ≤ s.horizon → ReachesStop s from m q → ⊥
 
--- what is told of what spreads from these sources
-abbrev pub TellsOf : Subject → Bool → List Source → Told → Type 0
-TellsOf s any from (told.Refused borders) = IsRefused s any from borders
+-- what is reported of what spreads from these sources
+abbrev pub TellsOf : Subject → Bool → List Source → Effect → Type 0
+TellsOf s any from (told.Refused borders) = RefusedWhenReached s any from borders
 TellsOf s any from told.Nothing = Nowhere s from
 TellsOf s any from (told.Shows borders output) = Shows s any from borders output
 TellsOf s any from (told.RunsOn borders q) = RunsOn s from borders q
@@ -143,17 +143,17 @@ does_the_same own (disturbance.Does (act.ResultAdd e)) = false
 does_the_same own (disturbance.Does (act.Operator other)) = does_as own other
 does_the_same own (disturbance.Does act.Skip) = false
 
--- ---- what is told of a fault
+-- ---- what is reported of a fault
 
--- `nothing` where the fault changes nothing at its operation, and else what is told of what spreads from there
-abbrev pub UnlessSame : Bool → Told → Type 0 → Type 0
+-- `nothing` where the fault changes nothing at its operation, and else what is reported of what spreads from there
+abbrev pub UnlessSame : Bool → Effect → Type 0 → Type 0
 UnlessSame true answer spreads = answer ≡ told.Nothing
 UnlessSame false answer spreads = spreads
 
-abbrev pub TellsAt : Subject → ℕ → Disturbance → Told → Option Op → Type 0
+abbrev pub TellsAt : Subject → ℕ → Disturbance → Effect → Option Op → Type 0
 TellsAt s k d answer None = ⊥
 TellsAt s k d answer (Some op) = UnlessSame (does_the_same op.kind d) answer (TellsOf s (is_any d) (sources s.table s.graph k op d) answer)
 
--- this is told of what is amiss at operation k
-abbrev pub Tells : Subject → ℕ → Disturbance → Told → Type 0
+-- this is reported of what is amiss at operation k
+abbrev pub Tells : Subject → ℕ → Disturbance → Effect → Type 0
 Tells s k d answer = TellsAt s k d answer (slice_get s.graph.operations k)

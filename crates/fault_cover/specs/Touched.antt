@@ -1,4 +1,4 @@
--- Touched: which operations acts come to, and what holds of the others.
+-- Touched: which operations acts reach, and what holds of the others.
 use Rattle.std.specs.Prelude.{◌≡◌, ◌≢◌, ℕ, ◌+◌, ◌<◌, ◌≤◌, List, length, slice_get, Some, None, ℤ, pos, ◌*ℤ◌}
 use Rattle.vcp_base.specs.Values.{at}
 use Rattle.op_graph.specs.declared.op.Op.{Op}
@@ -14,7 +14,7 @@ use Rattle.fault_injector.specs.Verdicts.{plain_cycles}
 use Rattle.weight_audit.specs.Paths.{Reached}
 use Rattle.weight_audit.specs.Weights.{sums}
 
--- operation q is touched in cycle m: from an operation at which an act stands, in this cycle or an earlier one, it is reached across the borders between
+-- operation q is touched in cycle m: from an operation at which an act is, in this cycle or an earlier one, it is reached across the borders between
 pub record IsTouched (g : Lists) (acts : Acts) (m q : ℕ) : Type 0 where
   pub cycle : ℕ
   pub op : ℕ
@@ -23,7 +23,7 @@ pub record IsTouched (g : Lists) (acts : Acts) (m q : ℕ) : Type 0 where
   pub borders : cycle + more ≡ m
   pub path : Reached g q more op
 
--- An operation that isn't touched has the same value in both cycles, as far as both come to it; and where one of them stops there, the other doesn't get
+-- An operation that isn't touched has the same value in both cycles, as far as both reach it; and where one of them stops there, the other doesn't get
 -- past it, but stops there, too, and for the same cause.
 pub record SameUntouched (g : Lists) (acts : Acts) (m : ℕ) (c p : Cycle) : Type 0 where
   pub values : (q : ℕ) → (IsTouched g acts m q → ⊥) → q < length c.values → q < length p.values → at c.values q ≡ at p.values q
@@ -39,7 +39,7 @@ UntouchedAreSame = (t : Numbers) (g : Lists) (acts : Acts) (rows : List (List �
 abbrev pub UntouchedDifferByNothing : Type 0
 UntouchedDifferByNothing = (t : Numbers) (g : Lists) (acts : Acts) (m q : ℕ) → IsGraph g → (IsTouched g acts m q → ⊥) → difference_at t g acts m q ≡ pos 0
 
--- Where acts stand at operation k alone and from cycle n on, and operation q isn't reached from there across fewer than h borders, its difference in cycle
+-- Where acts are at operation k alone and from cycle n on, and operation q isn't reached from there across fewer than h borders, its difference in cycle
 -- n + h is what the act of cycle n makes alone, times the sum over paths, and nothing else, whatever acts come later.
 abbrev pub FirstComesAlone : Type 0
 FirstComesAlone = (t : Numbers) (g : Lists) (acts : Acts) (n k h q : ℕ) (op : Op) (a : Act) → IsGraph g → slice_get g.operations k ≡ Some op → acts n k ≡ Some a

@@ -111,7 +111,7 @@ CrossesBelow g borders found = (k l : ℕ) (n : Nearest) → Crosses (cells g) k
 abbrev pub AreBegun : List Bool → List (Option Nearest) → Type 0
 AreBegun wanted found = (q : ℕ) → is_wanted wanted q ≡ true → NotFurther (kept found q) (Some (record { borders = 0; op = q }))
 
--- Nothing stands for one that was found across fewer borders; all that is new is as near as it was.
+-- No entry is of one that was found across fewer borders; all that is new is as near as it was.
 pub record Swept (borders : ℕ) (old new : List (Option Nearest)) : Type 0 where
   pub stays : (k : ℕ) (n : Nearest) → kept new k ≡ Some n → n.borders < borders → kept old k ≡ Some n
   pub no_further : (k : ℕ) → NotFurther (kept new k) (kept old k)

@@ -18,7 +18,7 @@ use Rattle.fault_cover.specs.CoverText.{CoverOf, Covered, class_name, heard_at, 
 use Rattle.fault_cover.specs.Leftovers.{AreCovered, lines_at}
 use Rattle.fault_cover.specs.Telling.{Subject}
 
--- The cover is written, and it is told whether something is told of a fault that is neither `refused` nor `nothing`; or a part of it is written, where
+-- The cover is written, and it is found whether something is reported of a fault that is neither `refused` nor `nothing`; or a part of it is written, where
 -- the sink failed; or memory was lacking, and nothing is written.
 abbrev pub WritesCover : Subject → CoverClasses → List ℕ → SinkSeen → SinkSeen → Result Bool Uncovered → Type 0
 WritesCover s classes digest old new (Ok left) = (text : List ℕ) × CoverOf s classes digest text left × Appends old.written new.written text

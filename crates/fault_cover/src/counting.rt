@@ -1,4 +1,4 @@
-//! Counts of what faults are told to be.
+//! Counts of what faults are reported as.
 
 ghost use Rattle.std.specs.Prelude.{◌≡◌, ◌+◌, ◌<◌, ◌^◌, ◌++◌, ◌∷◌, [], ◌==◌, ℕ, List, IfOk, OnOk, Some, length, slice_get};
 ghost use Rattle.range_walk.specs.declared.range.Stops.{Stops};
@@ -11,9 +11,9 @@ ghost use Rattle.fault_cover.specs.Telling.{subject as subject_of};
 
 use crate::class::CoverClass;
 use crate::disturbance::Disturbance;
+use crate::effect::Effect;
 use crate::faults::{Listener, Subject, class_in, then_class_faults};
 use crate::tally::{Tally, plus};
-use crate::told::Told;
 use op_graph::Graph;
 use std::alloc::Global;
 use vcp_base::Memory;
@@ -38,10 +38,10 @@ fn delay_row(borders: u32) -> usize
 }
 
 /// One more in its row, where it is refused.
-fn count_delay(delays: &mut [u64; DELAYS], told: &Told)
+fn count_delay(delays: &mut [u64; DELAYS], told: &Effect)
     ensures { (past : List Heard) (h : Heard) → h.told ≡ told.now → length past < 2 ^ 62 → AreDelays delays.old past → AreDelays delays.new (past ++ h ∷ []) }
 {
-    if let Told::Refused { borders } = told {
+    if let Effect::Refused { borders } = told {
         let row = delay_row(*borders);
         delays[row] = plus(delays[row], 1);
     }
@@ -71,7 +71,7 @@ impl Listener for Counting {
         _graph: &Graph,
         _k: u32,
         _disturbance: &Disturbance,
-        told: &Told,
+        told: &Effect,
     ) {
         self.tally.count(told);
         count_delay(&mut self.delays, told);

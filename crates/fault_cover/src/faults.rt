@@ -1,4 +1,4 @@
-//! The faults of a class, one after another, each with what it is told to be.
+//! The faults of a class, one after another, each with what is reported of it.
 
 ghost use Rattle.std.specs.Option.{option_to_list};
 ghost use Rattle.std.specs.Prelude.{◌≡◌, ◌<◌, ◌≤◌, ◌+◌, ◌-◌, ◌∷◌, ◌++◌, [], ℕ, List, Some, map, length, slice_get};
@@ -21,10 +21,10 @@ ghost use Rattle.fault_cover.specs.declared.disturbance.Disturbance.TheVariants 
 
 use crate::class::CoverClass;
 use crate::disturbance::Disturbance;
+use crate::effect::Effect;
 use crate::starts::{named, store_of};
 use crate::survey::Survey;
 use crate::telling::tell;
-use crate::told::Told;
 use fault_script::Act;
 use op_graph::{Graph, Op};
 use signature_table::Table;
@@ -42,7 +42,7 @@ pub struct Subject<'a> {
     pub(crate) survey: &'a Survey,
 }
 
-/// What is done with each fault and what it is told to be: it is counted, or a line is written.
+/// What is done with each fault and what is reported of it: it is counted, or a line is written.
 pub(crate) trait Listener {
     /// What is written of a fault.
     ghost text: { Lists → Heard → List ℕ };
@@ -58,14 +58,14 @@ pub(crate) trait Listener {
         graph: &Graph,
         k: u32,
         disturbance: &Disturbance,
-        told: &Told,
+        told: &Effect,
     )
         requires { k < length graph.now.operations }
         ensures gathers { GathersTo (O.seen out.old) (O.seen out.new) line.old line.new (text graph.now (heard_as k disturbance.now told.now)) }
         ensures keeps { (past : List Heard) → Keeps self.old past → Keeps self.new (past ++ heard_as k disturbance.now told.now ∷ []) };
 }
 
-/// Tells of one fault.
+/// Reports of one fault.
 fn then_fault<O: Sink, L: Listener>(
     line: &mut Line,
     out: &mut O,
@@ -91,7 +91,7 @@ fn then_fault<O: Sink, L: Listener>(
     listener.hear(line, out, subject.graph, k, &disturbance, &told);
 }
 
-/// Tells of an act of a script.
+/// Reports of an act of a script.
 fn then_act<O: Sink, L: Listener>(
     line: &mut Line,
     out: &mut O,
@@ -109,7 +109,7 @@ fn then_act<O: Sink, L: Listener>(
     then_fault(line, out, listener, subject, k, Disturbance::Does(act));
 }
 
-/// Tells of an act that may be there.
+/// Reports of an act that may be there.
 fn then_any_act<O: Sink, L: Listener>(
     line: &mut Line,
     out: &mut O,
@@ -282,14 +282,14 @@ fn reads(op: &Op, j: u32, r: u32) -> bool
     }
 }
 
-/// Whether the word of operation `r`, which is `source`, may stand for operand `j`.
+/// Whether the word of operation `r`, which is `source`, may take the place of operand `j`.
 fn may_replace(op: &Op, j: u32, r: u32, source: &Op) -> bool
     ensures { result ≡ may_replace_of op.now j r source.now }
 {
     within(source.ty, operand_type(op.kind, j, op.from)) && !reads(op, j, r)
 }
 
-/// Operand `j` as the word of operation `r`, where that may stand for it.
+/// Operand `j` as the word of operation `r`, where that may take its place.
 fn from_of(graph: &Graph, op: &Op, j: u32, r: u32) -> Option<Act>
     requires { r < length graph.now.operations }
     ensures { from_one op.now j r (slice_get graph.now.operations r) ≡ option_to_list result }
@@ -439,7 +439,7 @@ fn may_stand(kind: Kind, other: Kind) -> bool
     operands(other) == operands(kind) && kind_code(other) != kind_code(kind)
 }
 
-/// The call as one of the kind with the code, where that may stand for the operation's.
+/// The call as one of the kind with the code, where that may take its place.
 fn operator_of(kind: Kind, code: u8) -> Option<Act>
     ensures { operator_one kind (slice_get kinds code) ≡ option_to_list result }
 {
@@ -472,7 +472,7 @@ fn then_operators<O: Sink, L: Listener>(
     }
 }
 
-/// Tells of the faults of a class at operation `k`, in order.
+/// Reports of the faults of a class at operation `k`, in order.
 fn then_operation_faults<O: Sink, L: Listener>(
     line: &mut Line,
     out: &mut O,
@@ -499,7 +499,7 @@ fn then_operation_faults<O: Sink, L: Listener>(
     }
 }
 
-/// Tells of all faults of a class, in order.
+/// Reports of all faults of a class, in order.
 pub(crate) fn then_class_faults<O: Sink, L: Listener>(
     line: &mut Line,
     out: &mut O,
@@ -525,7 +525,7 @@ pub(crate) fn class_in(classes: &[CoverClass], i: usize) -> CoverClass
     classes[i]
 }
 
-/// Tells of all faults of these classes, class by class.
+/// Reports of all faults of these classes, class by class.
 pub(crate) fn then_faults<O: Sink, L: Listener>(
     line: &mut Line,
     out: &mut O,
@@ -544,7 +544,7 @@ pub(crate) fn then_faults<O: Sink, L: Listener>(
     }
 }
 
-/// Tells of the faults of these classes at operation `k`, class by class.
+/// Reports of the faults of these classes at operation `k`, class by class.
 pub(crate) fn then_faults_at<O: Sink, L: Listener>(
     line: &mut Line,
     out: &mut O,

@@ -10,7 +10,7 @@ use coded_unit::{remainder, words_split_in_one_way};
 use signature_table::constants_are_in_range;
 use vcp_base::{Profile, Residue, modulus};
 
-/// A number, and a factor by which a residue comes to it, modulo the constant of the code.
+/// A number, and a factor by which a residue becomes it, modulo the constant of the code.
 #[derive(Clone, Copy)]
 struct Division {
     divisor: Residue,
@@ -62,7 +62,7 @@ fn divided(profile: Profile, z: Residue, first: Division, second: Division) -> D
     divided(profile, z, second, Division { divisor, factor })
 }
 
-/// The greatest common divisor of the constant and a residue, and the factor by which the residue comes to it.
+/// The greatest common divisor of the constant and a residue, and the factor by which the residue becomes it.
 fn bezout(profile: Profile, z: Residue) -> Division
     requires { z < modulus_of profile }
     ensures bezout { IsBezout profile z (modulus_of profile) z result.divisor result.factor }
@@ -100,7 +100,7 @@ fn differs(residue: Residue) -> bool
     residue != 0
 }
 
-/// Whether an output refuses what comes to it, where that is this, or this for each 1 of a number of which nothing is known.
+/// Whether an output refuses what arrives at it, where that is this, or this for each 1 of a number of which nothing is known.
 pub(crate) fn refuses(profile: Profile, any: bool, comes: Residue) -> bool
     requires { comes < modulus_of profile }
     ensures yes { result ≡ true → Refuses profile any (pos comes) }

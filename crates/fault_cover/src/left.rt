@@ -11,15 +11,15 @@ ghost use Rattle.fault_sites.specs.Sites.{each_below};
 
 use crate::class::CoverClass;
 use crate::disturbance::Disturbance;
+use crate::effect::Effect;
 use crate::faults::{Listener, Subject, then_faults_at};
 use crate::tally::plus;
-use crate::told::Told;
 use op_graph::Graph;
 use std::alloc::Global;
 use vcp_base::Memory;
 use vcp_outside::{Line, MemSink, Sink};
 
-/// So many faults of an operation that are neither refused nor come to nothing, nor show.
+/// So many faults of an operation that are neither refused nor do nothing, nor show.
 #[derive(Clone, Copy)]
 pub enum LeftLine {
     /// They run on.
@@ -98,17 +98,17 @@ impl Listener for Left {
         _graph: &Graph,
         _k: u32,
         _disturbance: &Disturbance,
-        told: &Told,
+        told: &Effect,
     ) {
         match told {
-            Told::RunsOn { borders, op } => self.push(Run {
+            Effect::RunsOn { borders, op } => self.push(Run {
                 borders: *borders,
                 op: *op,
             }),
-            Told::Beyond => self.beyond = plus(self.beyond, 1),
-            Told::Refused { borders: _ }
-            | Told::Nothing
-            | Told::Shows {
+            Effect::Beyond => self.beyond = plus(self.beyond, 1),
+            Effect::Refused { borders: _ }
+            | Effect::Nothing
+            | Effect::Shows {
                 borders: _,
                 output: _,
             } => {}

@@ -13,14 +13,14 @@ ghost use Rattle.fault_cover.specs.CoverText.{front as front_of, heading_text, n
 ghost use Rattle.fault_cover.specs.CoverText.{single_text};
 ghost use Rattle.fault_cover.specs.CoverText.{sum_of, totals_line};
 ghost use Rattle.fault_cover.specs.Leftovers.{line_text};
-ghost use Rattle.fault_cover.specs.declared.told.Told.TheVariants as told;
+ghost use Rattle.fault_cover.specs.declared.effect.Effect.TheVariants as told;
 
 use crate::class::{CoverClass, CoverClasses};
 use crate::disturbance::Disturbance;
+use crate::effect::Effect;
 use crate::faults::Listener;
 use crate::left::LeftLine;
 use crate::tally::Tally;
-use crate::told::Told;
 use fault_script::Act;
 use itoa::Buffer;
 use op_graph::{Graph, Op};
@@ -139,7 +139,7 @@ pub(crate) fn then_class_row<O: Sink>(
     line.text(out, b"\n");
 }
 
-/// What stands behind a number of cycles that is the last of the table.
+/// What is behind a number of cycles that is the last of the table.
 fn or_more(n: u32) -> &'static [u8]
     ensures { result.now ≡ more_text n }
 {
@@ -295,7 +295,7 @@ fn then_result<O: Sink>(line: &mut Line, out: &mut O, e: i64)
     line.value(out, e);
 }
 
-/// Goes on with what stands behind the operation of an act.
+/// Goes on with what is behind the operation of an act.
 fn then_act<O: Sink>(line: &mut Line, out: &mut O, act: &Act)
     ensures { GathersTo (O.seen out.old) (O.seen out.new) line.old line.new (rest_of_act act.now) }
 {
@@ -309,7 +309,7 @@ fn then_act<O: Sink>(line: &mut Line, out: &mut O, act: &Act)
     }
 }
 
-/// Goes on with what stands behind the operation of a fault.
+/// Goes on with what is behind the operation of a fault.
 fn then_back<O: Sink>(line: &mut Line, out: &mut O, disturbance: &Disturbance)
     ensures { GathersTo (O.seen out.old) (O.seen out.new) line.old line.new (back_of disturbance.now) }
 {
@@ -371,9 +371,9 @@ impl Listener for Showing {
         graph: &Graph,
         k: u32,
         disturbance: &Disturbance,
-        told: &Told,
+        told: &Effect,
     ) {
-        if let Told::Shows { borders, output } = told {
+        if let Effect::Shows { borders, output } = told {
             then_shows(line, out, graph, k, disturbance, *borders, *output);
         }
     }

@@ -1,7 +1,7 @@
 //! What is reached from each operation across the fewest cycle borders.
 //!
 //! The walk goes border by border: first to what is reached without one, and from there, as long as a STORE is found from which nothing was reached
-//! so far, one border further. So it ends behind as many borders as there are cells, and tells what is reached across any number.
+//! so far, one border further. So it ends behind as many borders as there are cells, and says what is reached across any number.
 
 ghost use Rattle.std.specs.Option.{is_some, is_none};
 ghost use Rattle.std.specs.Prelude.{◌≡◌, ◌≢◌, ◌+◌, ◌<◌, ◌≤◌, ◌^◌, ◌&&◌, ℕ, List, Bool, true, false, Some, length, IfOk, slice_get};

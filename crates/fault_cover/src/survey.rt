@@ -1,4 +1,4 @@
-//! What faults of a graph are told by.
+//! What faults of a graph are judged by.
 
 ghost use Rattle.std.specs.Prelude.{◌≡◌, ◌<◌, ◌≤◌, length, slice_get, slice_index_or, Some, IfOk, IfErr, Err};
 ghost use Rattle.vcp_base.specs.Limits.{most_horizon};

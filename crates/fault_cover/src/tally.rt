@@ -1,12 +1,12 @@
-//! How many faults are told to be what.
+//! How many faults are reported as what.
 
 ghost use Rattle.std.specs.Prelude.{◌≡◌, ◌+◌, ◌<◌, ◌^◌, [], not, ◌==◌};
 ghost use Rattle.fault_cover.specs.CoverText.{leaves_any as leaves_any_of, refused_only as refused_only_of, sum_of, tally};
 ghost use Rattle.fault_cover.specs.Counts.{counted, together};
 
-use crate::told::Told;
+use crate::effect::Effect;
 
-/// How many faults are told to be what. A graph has fewer than 2^40 faults of a class.
+/// How many faults are reported as what. A graph has fewer than 2^40 faults of a class.
 #[derive(Clone, Copy, PartialEq, Eq)]
 pub struct Tally {
     /// Refused.
@@ -21,7 +21,7 @@ pub struct Tally {
     pub beyond: u64,
 }
 
-/// The sum of two counts, which stands still at the greatest number.
+/// The sum of two counts, which stays at the greatest number.
 pub(crate) fn plus(one: u64, more: u64) -> u64
     ensures { one + more < 2 ^ 64 → result ≡ one + more }
 {
@@ -65,19 +65,19 @@ impl Tally {
         plus(third, self.beyond)
     }
 
-    /// One more of which this is told.
-    pub(crate) fn count(&mut self, told: &Told)
+    /// One more of which this is reported.
+    pub(crate) fn count(&mut self, told: &Effect)
         ensures { sum_of self.old < 2 ^ 63 → self.new ≡ counted self.old told.now }
     {
         match told {
-            Told::Refused { borders: _ } => self.refused = plus(self.refused, 1),
-            Told::Nothing => self.nothing = plus(self.nothing, 1),
-            Told::Shows {
+            Effect::Refused { borders: _ } => self.refused = plus(self.refused, 1),
+            Effect::Nothing => self.nothing = plus(self.nothing, 1),
+            Effect::Shows {
                 borders: _,
                 output: _,
             } => self.shows = plus(self.shows, 1),
-            Told::RunsOn { borders: _, op: _ } => self.runs_on = plus(self.runs_on, 1),
-            Told::Beyond => self.beyond = plus(self.beyond, 1),
+            Effect::RunsOn { borders: _, op: _ } => self.runs_on = plus(self.runs_on, 1),
+            Effect::Beyond => self.beyond = plus(self.beyond, 1),
         }
     }
 
@@ -99,7 +99,7 @@ impl Tally {
         }
     }
 
-    /// Whether one is told to be neither refused nor nothing.
+    /// Whether one is reported as neither refused nor nothing.
     pub(crate) fn leaves_any(&self) -> bool
         ensures { result ≡ leaves_any_of self.now }
     {

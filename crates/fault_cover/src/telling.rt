@@ -1,4 +1,4 @@
-//! What a fault is told to be.
+//! What a fault is reported as.
 
 ghost use Rattle.std.specs.Prelude.{◌≡◌, ◌<◌, ◌≤◌, ◌^◌, ℕ, List, Some, None, true, false, pos, ◌+ℤ◌, ◌*ℤ◌, ◌≤ℤ◌, cond, nat_le, drop, map, length, slice_get};
 ghost use Rattle.vcp_base.specs.Code.{modulus as modulus_of};
@@ -10,7 +10,7 @@ ghost use Rattle.signature_table.specs.Signatures.{IsTableOf, Numbers};
 ghost use Rattle.range_walk.specs.declared.range.Stops.{Stops};
 ghost use Rattle.weight_audit.specs.Audit.{IsAudit};
 ghost use Rattle.fault_cover.specs.declared.disturbance.Disturbance.TheVariants as disturbance;
-ghost use Rattle.fault_cover.specs.declared.told.Told.TheVariants as told;
+ghost use Rattle.fault_cover.specs.declared.effect.Effect.TheVariants as told;
 ghost use Rattle.fault_cover.specs.Beginnings.{ArePlaced, IsPlaced, rest_of as rest_of_disturbance, start_at, starts_at};
 ghost use Rattle.fault_cover.specs.Sited.{IsSited};
 ghost use Rattle.fault_cover.specs.Firsts.{IsFirstOf, IsToldAt, NoneRefuses, OneRefuses, before as before_of, behind as behind_of, outlook_of as outlook_is};
@@ -21,11 +21,11 @@ ghost use Rattle.fault_cover.specs.Telling.{gives_own as gives_own_of, subject};
 ghost use Rattle.fault_cover.specs.Walks.{AreWithin, further as further_of, kept};
 
 use crate::disturbance::Disturbance;
+use crate::effect::Effect;
 use crate::inverse::{product, refuses};
 use crate::nearest::{Nearest, further, nearer};
 use crate::starts::{Start, start_of};
 use crate::survey::Survey;
-use crate::told::Told;
 use coded_unit::{remainder, words_split_in_one_way};
 use fault_script::Act;
 use op_graph::{Graph, entries_keep_their_rules};
@@ -33,11 +33,11 @@ use signature_table::{Table, constants_are_in_range};
 use vcp_base::{Kind, Profile, Residue};
 use weight_audit::{Weights, differences_are_superposed};
 
-/// What is told before it is looked at what comes to outputs.
+/// What is reported before it is looked at what arrives at outputs.
 #[derive(Clone, Copy)]
 pub(crate) enum Outlook {
     /// This.
-    Is(Told),
+    Is(Effect),
     /// Outputs are reached first, across so many borders; the first of them has this OUT.
     Outputs(Nearest),
 }
@@ -74,30 +74,30 @@ fn first_of(profile: Profile, found: &[Option<Nearest>], starts: &[Start]) -> Op
     first
 }
 
-/// What an operation that may stop is told to do, where it is reached within the horizon and no output is.
-fn runs_on(horizon: u32, stop: Nearest) -> Told
+/// What an operation that may stop is reported to do, where it is reached within the horizon and no output is.
+fn runs_on(horizon: u32, stop: Nearest) -> Effect
     ensures { result ≡ cond (nat_le stop.borders horizon) (told.RunsOn stop.borders stop.op) told.Beyond }
 {
     if stop.borders <= horizon {
-        Told::RunsOn {
+        Effect::RunsOn {
             borders: stop.borders,
             op: stop.op,
         }
     } else {
-        Told::Beyond
+        Effect::Beyond
     }
 }
 
 /// Where no output is reached within the horizon.
-fn behind(horizon: u32, output: Option<Nearest>, stop: Option<Nearest>) -> Told
+fn behind(horizon: u32, output: Option<Nearest>, stop: Option<Nearest>) -> Effect
     ensures { result ≡ behind_of horizon output stop }
 {
     match stop {
         Some(near) => runs_on(horizon, near),
         None => if output.is_some() {
-            Told::Beyond
+            Effect::Beyond
         } else {
-            Told::Nothing
+            Effect::Nothing
         },
     }
 }
@@ -108,7 +108,7 @@ fn before(output: Nearest, stop: Option<Nearest>) -> Outlook
 {
     match stop {
         Some(near) => if near.borders < output.borders {
-            Outlook::Is(Told::RunsOn {
+            Outlook::Is(Effect::RunsOn {
                 borders: near.borders,
                 op: near.op,
             })
@@ -192,7 +192,7 @@ fn comes(graph: &Graph, weights: &Weights, output: u32, borders: u32, starts: &[
     sum
 }
 
-/// Whether an output refuses what comes to it.
+/// Whether an output refuses what arrives at it.
 fn output_refuses(
     graph: &Graph,
     weights: &Weights,
@@ -215,7 +215,7 @@ fn output_refuses(
     refuses(graph.profile(), any, residue)
 }
 
-/// Whether one of the outputs from this one on refuses what comes to it. What isn't reached has the weight 0, and refuses nothing.
+/// Whether one of the outputs from this one on refuses what arrives at it. What isn't reached has the weight 0, and refuses nothing.
 fn is_refused(
     graph: &Graph,
     weights: &Weights,
@@ -239,7 +239,7 @@ fn is_refused(
     false
 }
 
-/// What is told where outputs are reached first, across so many borders, of which this is the first.
+/// What is reported where outputs are reached first, across so many borders, of which this is the first.
 fn told_at(
     graph: &Graph,
     weights: &Weights,
@@ -247,7 +247,7 @@ fn told_at(
     borders: u32,
     starts: &[Start],
     any: bool,
-) -> Told
+) -> Effect
     requires audit { IsAudit graph.now weights.now.horizon weights.now }
     requires borders { borders ≤ weights.now.horizon }
     requires placed { ArePlaced graph.now.profile (length graph.now.operations) starts.now }
@@ -255,17 +255,17 @@ fn told_at(
 {
     let refused = is_refused(graph, weights, first, borders, starts, any);
     if refused {
-        Told::Refused { borders }
+        Effect::Refused { borders }
     } else {
-        Told::Shows {
+        Effect::Shows {
             borders,
             output: first,
         }
     }
 }
 
-/// What is told of what spreads from these starts.
-fn told_of(graph: &Graph, survey: &Survey, starts: &[Start], any: bool) -> Told
+/// What is reported of what spreads from these starts.
+fn told_of(graph: &Graph, survey: &Survey, starts: &[Start], any: bool) -> Effect
     requires graph { IsGraph graph.now }
     requires mapped { IsMapped graph.now survey.now }
     requires placed { ArePlaced graph.now.profile (length graph.now.operations) starts.now }
@@ -366,8 +366,8 @@ fn left_of(starts: &[Start], right: usize) -> &[Start]
     &starts[right..]
 }
 
-/// What is told where the word of operation `k` changes behind so many readings.
-fn told_of_rest(graph: &Graph, survey: &Survey, k: u32, right: u32) -> Told
+/// What is reported where the word of operation `k` changes behind so many readings.
+fn told_of_rest(graph: &Graph, survey: &Survey, k: u32, right: u32) -> Effect
     requires graph { IsGraph graph.now }
     requires mapped { IsMapped graph.now survey.now }
     requires there { k < length graph.now.operations }
@@ -383,14 +383,14 @@ fn told_of_rest(graph: &Graph, survey: &Survey, k: u32, right: u32) -> Told
     told_of(graph, survey, left, true)
 }
 
-/// What is told where what is amiss begins at operation `k` alone.
+/// What is reported where what is amiss begins at operation `k` alone.
 fn told_of_one(
     graph: &Graph,
     table: &Table,
     survey: &Survey,
     k: u32,
     disturbance: &Disturbance,
-) -> Told
+) -> Effect
     requires graph { IsGraph graph.now }
     requires mapped { IsMapped graph.now survey.now }
     requires there { k < length graph.now.operations }
@@ -405,14 +405,14 @@ fn told_of_one(
     told_of(graph, survey, &starts, any)
 }
 
-/// What is told of what is amiss at operation `k` of a surveyed graph, whose table this is.
+/// What is reported of what is amiss at operation `k` of a surveyed graph, whose table this is.
 pub fn tell(
     graph: &Graph,
     table: &Table,
     survey: &Survey,
     k: u32,
     disturbance: &Disturbance,
-) -> Told
+) -> Effect
     requires table { IsTableOf table.now graph.now }
     requires there { k < length graph.now.operations }
     requires survey { IsMapped graph.now survey.now }
@@ -424,7 +424,7 @@ pub fn tell(
     let op = graph.operation(k);
     let same = does_the_same(op.kind, disturbance);
     if same {
-        return Told::Nothing;
+        return Effect::Nothing;
     }
     let rest = rest_of(disturbance);
     match rest {

@@ -259,7 +259,7 @@ fn write_classes<O: Sink>(
 }
 
 /// Writes the cover of a surveyed graph, whose table this is, with the digits of its image's digest: each fault of each class is counted once under what
-/// is told of it, each that shows has its line, and each other that is neither refused nor comes to nothing is in its operation's line. Answers whether
+/// is reported of it, each that shows has its line, and each other that is neither refused nor does nothing is in its operation's line. Answers whether
 /// there are any of those. After `Memory` nothing is written, and after `Failed` a part of it.
 pub fn write_cover<O: Sink>(
     alloc: Global,

@@ -1,9 +1,9 @@
-//! What a fault is told to be.
+//! What a fault is reported as.
 
 /// What becomes of a fault in every run, over all rows that fit and whatever is added.
 #[derive(Clone, Copy, PartialEq, Eq)]
-pub enum Told {
-    /// No wrong output is released, and no stop is passed: an output refuses what comes to it.
+pub enum Effect {
+    /// No wrong output is released, and no stop is passed: an output refuses what arrives at it.
     Refused {
         /// How many cycles behind the fault.
         borders: u32,
