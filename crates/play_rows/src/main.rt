@@ -1,7 +1,7 @@
 //! The program `play_rows`: plays the rows that stand in the files of these names, each a call of a library and what it tells. It writes how
 //! many rows a file has. Where some tell something else, it writes each with its file and its line on the errors, and ends with status 1.
 //!
-//! `docs/SESSIONS.md` has the lines of a file and the calls; `checks/count_rows.py --write` writes the program's `args` and `stdout`.
+//! `docs/dev/SESSIONS.md` has the lines of a file and the calls; `checks/count_rows.py --write` writes the program's `args` and `stdout`.
 #![tactic(auto)]
 
 mod calls;

@@ -1,6 +1,6 @@
 //! The program `play_sessions`: plays the sessions that stand in the files of these names, and tells what came out of each. A session says
 //! which files there are, which calls are made of `vcp`, of `vcp_study` or of a library, what each call's unit answers, and what each call
-//! gives: `docs/SESSIONS.md` has its lines.
+//! gives: `docs/dev/SESSIONS.md` has its lines.
 //!
 //! It writes how many calls a session made. Where some gave something else than the session says, it writes how many, tells each
 //! such line with its file, its number, what was wanted and what came on the errors, and ends with status 1.
