@@ -107,7 +107,7 @@ class Parts(InFolder):
 
     def setUp(self) -> None:
         super().setUp()
-        for name in ("crossing.st", "crossing.csv", "shares.st"):
+        for name in ("crossing.st", "crossing.csv"):
             shutil.copy(EXAMPLES / name, self.folder)
 
     def report(self, *words: str, status: int | None) -> dict[str, tuple[str, str]]:
@@ -138,9 +138,12 @@ class Parts(InFolder):
 
     @needs_study
     def test_faults_that_run_on_are_told_with_their_operations(self) -> None:
-        told = self.report("shares.st", "--cycles", "3", status=None)["cover"][1]
+        declared = "PROGRAM late VAR_INPUT a, b : INT; END_VAR VAR_OUTPUT y : INT; END_VAR VAR c : INT; END_VAR\n"
+        self.write("late.st", declared + "y := c;\nc := a / b;\nEND_PROGRAM\n")
+        self.write("late.csv", "a,b\n1,2\n3,4\n")
+        told = self.report("late.st", "late.csv", status=9)["cover"][1]
         self.assertIn("<code>runs-on</code>", told)
-        self.assertRegex(told, r"operation \d+ DIV at 8:14")
+        self.assertRegex(told, r"operation \d+ DIV at 3:8")
 
     @needs_program
     def test_without_the_program_the_summary_says_so(self) -> None:
