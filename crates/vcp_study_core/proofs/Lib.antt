@@ -1,12 +1,12 @@
-mod ApartReaching
-mod CoverReaching
-mod FlipsReaching
-mod PartsReaching
-mod RangesReaching
-mod Reaching
-pub mod RunReaching
-mod ScriptReaching
-mod SitesReaching
-mod Statuses
+mod Carrying
+mod ChosenSites
+mod Covers
+mod Facts
+mod NamedScripts
+mod PartsRead
+mod Ranged
+mod Rows
 mod SumWords
-mod ToldReaching
+mod Tables
+mod TextFaults
+mod Weights

@@ -1,16 +1,14 @@
 -- SumWords: the words of `sum`, one part after another.
-use Rattle.std.proofs.Common.{◌≡◌, ◌≢◌, ℕ, zero, suc, ◌+◌, ◌-◌, ◌<◌, ◌≤◌, ◌==◌, Bool, true, false, cond, List, [], ◌∷◌, length, drop, slice_get, Option, Some, None, IfSome, refl, sym, ap, ◌∙◌, arith, length-drop}
-use Rattle.std.specs.Prelude.{IfNone}
+use Rattle.std.proofs.Common.{◌≡◌, ◌≢◌, ℕ, zero, suc, ◌+◌, ◌-◌, ◌<◌, ◌≤◌, ◌==◌, Bool, true, false, cond, List, [], ◌∷◌, length, drop, slice_get, Option, Some, None, refl, sym, ap, ◌∙◌, arith, length-drop}
 use Rattle.std.specs.Option.{option_and_then, option_map}
 use Rattle.std.proofs.lemmas.Bool.{ne_eqb}
 use Rattle.std.proofs.lemmas.List.{drop_more}
 use Rattle.std.proofs.lemmas.Option.{get_or_from_slice_get, slice_get_within}
 use Rattle.vcp_words.specs.Forms.{Rows, file as from_file, cycles as from_cycles, is_end, is_file_name, name_and_rest, rows_and_rest, rows_of}
 use Rattle.verdict_tables.specs.Parts.{most_parts}
-use Rattle.vcp_study_core.specs.Forms.{PartNames, as_names, no_more, a_part, the_rows, part_by, next_by, next_of, Behind, one_more, behind_by, behind_of, names_in, sum_with, sum_behind, sum_form}
-use Rattle.vcp_study_core.specs.declared.command.NextWord.{NextWord}
-use Rattle.vcp_study_core.specs.declared.part_words.Named.{Named}
-use Rattle.vcp_study_core.specs.declared.command.NextWord.TheVariants as word
+use Rattle.vcp_study_core.specs.Forms.{no_more, a_part, the_rows, part_by, next_by, next_of, Behind, one_more, behind_by, behind_of, names_in, sum_with, sum_behind, sum_form}
+use Rattle.vcp_study_core.specs.declared.words.NextWord.{NextWord}
+use Rattle.vcp_study_core.specs.declared.words.NextWord.TheVariants as word
 use Rattle.vcp_study_core.specs.SumSteps.{as_next, ended_of}
 
 -- ---- names
@@ -40,17 +38,6 @@ few_names zero words = omega arith
 few_names (suc n) [] = omega arith
 few_names (suc n) (s ∷ []) = omega arith
 few_names (suc n) (s ∷ v ∷ words) = omega (arith, few_names n words)
-
--- a place of a list, from its first element on
-pub one_behind : {X : Type 0} (xs ys : List X) (x : X) (n m : ℕ) → xs ≡ x ∷ ys → n ≡ suc m → slice_get xs n ≡ slice_get ys m
-one_behind xs ys x n m is more = ap (λ zs. slice_get zs n) is ∙ ap (λ (k : ℕ). slice_get (x ∷ ys) k) more
-
-pub none_there : {X : Type 0} (xs : List X) (n : ℕ) → xs ≡ [] → slice_get xs n ≡ None
-none_there xs n is = ap (λ zs. slice_get zs n) is
-
-pub first_there : (xs ys : List PartNames) (r : Option Named) → IfNone r (xs ≡ []) → IfSome r (λ n. xs ≡ as_names n ∷ ys) → option_map as_names r ≡ slice_get xs 0
-first_there xs ys None none some = sym (ap (λ zs. slice_get zs 0) none)
-first_there xs ys (Some n) none some = sym (ap (λ zs. slice_get zs 0) some)
 
 -- ---- what stands next
 
@@ -172,17 +159,11 @@ pub behind_first : (all rest : List (List ℕ)) (w : List ℕ) → all ≡ w ∷
 behind_first all rest w is = ap (drop 1) (sym is)
 
 -- the form of these words, where so much stands behind M
-pub form_behind : (words rest : List (List ℕ)) (m : List ℕ) (d : Option Behind) → Some (m, rest) ≡ name_and_rest words → d ≡ behind_of most_parts rest
-    → option_and_then (sum_behind m rest) d ≡ sum_form words
-form_behind words rest m d is behind =
-    ap (option_and_then (sum_behind m rest)) behind
-    ∙ ap (option_and_then (λ (x : List ℕ × List (List ℕ)). option_and_then (sum_behind x.0 x.1) (behind_of most_parts x.1))) is
+pub form_behind : (words : List (List ℕ)) (d : Option Behind) → d ≡ behind_of most_parts words → option_and_then (sum_behind words) d ≡ sum_form words
+form_behind words d behind = ap (option_and_then (sum_behind words)) behind
 
-pub form_without_name : (words : List (List ℕ)) → None ≡ name_and_rest words → None ≡ sum_form words
-form_without_name words is = ap (option_and_then (λ (x : List ℕ × List (List ℕ)). option_and_then (sum_behind x.0 x.1) (behind_of most_parts x.1))) is
+pub no_parts : (words : List (List ℕ)) (d : Behind) → d.parts ≡ 0 → sum_behind words d ≡ None
+no_parts words d none = ap (λ (n : ℕ). cond (n == 0) None (Some (sum_with (names_in d.parts words) d.rows))) none
 
-pub no_parts : (m : List ℕ) (words : List (List ℕ)) (d : Behind) → d.parts ≡ 0 → sum_behind m words d ≡ None
-no_parts m words d none = ap (λ (n : ℕ). cond (n == 0) None (Some (sum_with m (names_in d.parts words) d.rows))) none
-
-pub some_parts : (m : List ℕ) (words : List (List ℕ)) (d : Behind) → d.parts ≢ 0 → sum_behind m words d ≡ Some (sum_with m (names_in d.parts words) d.rows)
-some_parts m words d some = ap (λ (b : Bool). cond b None (Some (sum_with m (names_in d.parts words) d.rows))) (ne_eqb d.parts 0 some)
+pub some_parts : (words : List (List ℕ)) (d : Behind) → d.parts ≢ 0 → sum_behind words d ≡ Some (sum_with (names_in d.parts words) d.rows)
+some_parts words d some = ap (λ (b : Bool). cond b None (Some (sum_with (names_in d.parts words) d.rows))) (ne_eqb d.parts 0 some)

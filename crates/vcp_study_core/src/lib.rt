@@ -2,26 +2,24 @@
 //! And the top call.
 #![tactic(auto)]
 
-mod apart;
 mod command;
 mod cover;
-mod dot;
 mod fault;
-mod faults;
-mod flips;
 mod graph;
+mod loading;
 mod part_words;
 mod parts;
 mod ranges;
 mod script;
 mod sites;
+mod studies;
 mod sum;
-mod summing;
 mod telling;
-mod told;
 mod top;
 mod waves;
+mod words;
 
-pub use command::{StudyCommand, command_of};
+pub use command::{ImageStudy, StudyCommand};
 pub use part_words::{Named, PartWords};
 pub use top::vcp_study;
+pub use words::command_of;

@@ -1,7 +1,6 @@
 //! The names of the files of parts, in the words of a command.
 
-ghost use Rattle.std.specs.Prelude.{◌≡◌, ◌∷◌, [], IfNone, IfSome, slice_get};
-ghost use Rattle.std.specs.Option.{option_map};
+ghost use Rattle.std.specs.Prelude.{◌≡◌, ◌∷◌, [], IfNone, IfSome};
 ghost use Rattle.vcp_study_core.specs.Forms.{as_names, names_of};
 
 use vcp_base::{Text, Words};
@@ -47,16 +46,5 @@ impl<'a> PartWords<'a> {
         self.at += 2;
         self.left -= 1;
         Some(Named { script, verdicts })
-    }
-
-    /// The names of part `k`, counted from 0; none where there is no such part.
-    pub(crate) fn nth(&self, k: u32) -> Option<Named<'a>>
-        ensures { option_map as_names result ≡ slice_get (names_of self.now) k }
-    {
-        let mut left = *self;
-        'steps: for i in 0..k {
-            left.next()?;
-        }
-        left.next()
     }
 }

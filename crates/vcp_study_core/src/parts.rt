@@ -1,153 +1,175 @@
-//! The parts of a campaign: their scripts and their verdicts are read, part by part.
+//! The parts of a campaign: their scripts and their verdicts are read, part by part. And the command `faults`, behind its image.
 
-ghost use Rattle.std.specs.Prelude.{◌≡◌, ◌≢◌, ◌≤◌, IfSome, IfOk, IfErr, OnOk, Err, All, length};
+ghost use Rattle.std.specs.Prelude.{ℕ, List, ◌≡◌, ◌≤◌, IfOk, IfErr, Ok, All, length};
 ghost use Rattle.std.specs.Io.KnownBytes.{IsAtEnd};
-ghost use Rattle.vcp_outside.specs.Counts.{Rose};
+ghost use Rattle.vcp_base.specs.Limits.{most_source_bytes};
 ghost use Rattle.signature_table.specs.Signatures.{table_of};
 ghost use Rattle.fault_script.specs.Groups.{GroupFits};
 ghost use Rattle.fault_script.specs.ScriptOf.{most_faults};
 ghost use Rattle.fault_injector.specs.Names.{Names};
+ghost use Rattle.verdict_tables.specs.Reading.{verdicts_in as verdicts_in_text};
 ghost use Rattle.verdict_tables.specs.Parts.{most_parts, IsWhole, PartFits};
-ghost use Rattle.vcp_study_core.specs.Forms.{as_names, names_of};
-ghost use Rattle.vcp_study_core.specs.Reach.{IsUnread};
-ghost use Rattle.vcp_study_core.specs.PartsReach.{of_part as of_part_of, GivesScript, GivesVerdicts, GivesPart, GivesParts};
-ghost use Rattle.vcp_study_core.specs.declared.fault.Fault.TheVariants as fault;
+ghost use Rattle.vcp_inputs.specs.Refusals.{unscripted};
+ghost use Rattle.vcp_study_core.specs.CarriedOut.{Fetches, Studies, WritesSo, told_line, told_status};
+ghost use Rattle.vcp_study_core.specs.Forms.{as_names, faults, names_of};
+ghost use Rattle.vcp_study_core.specs.FromFiles.{as_found};
+ghost use Rattle.vcp_study_core.specs.Parts.{PartFrom, PartsFrom, ScriptFrom, ScriptIn, VerdictsFrom};
+ghost use Rattle.vcp_study_core.specs.TextFaults.{IsUntold};
+ghost use Rattle.vcp_study_core.specs.Tasks.{StudyOf};
+ghost use Rattle.vcp_study_core.specs.Texts.{ShowsPart};
 
-use crate::fault::{Fault, PartFault};
+use crate::fault::{Fault, StudyRefusal, told};
+use crate::loading::bytes_under;
 use crate::part_words::{Named, PartWords};
-use crate::told::{script_in, verdicts_in};
-use fault_script::Script;
+use fault_script::{Script, ScriptFault, read_script};
+use fault_sites::image_digest;
+use graph_picture::{layout_of, write_faults};
 use op_graph::Graph;
 use std::alloc::Global;
 use vcp_base::{MOST_ROWS_BYTES, MOST_SOURCE_BYTES, Memory, Text};
-use vcp_inputs::{Image, read_file};
-use vcp_outside::Files;
-use verdict_tables::{Part, Parts, Verdicts};
+use vcp_inputs::{Image, NoInput};
+use vcp_outside::{Files, Sink};
+use verdict_tables::{
+    Part, Parts, Verdicts, VerdictsFault, is_for, read_verdicts, shows_unseen, totals_of_all,
+};
 
-/// The fault of reading one part, told of the part of this number.
-fn of_part(number: u32, fault: Fault) -> Fault
-    ensures { result ≡ of_part_of number fault }
+/// Why a text is no script, as of a file.
+fn no_script(why: ScriptFault) -> NoInput
+    ensures { result ≡ unscripted why }
 {
-    match fault {
-        Fault::Script(input) => Fault::Part {
-            number,
-            why: PartFault::Script(input),
-        },
-        Fault::Verdicts(input) => Fault::Part {
-            number,
-            why: PartFault::Verdicts(input),
-        },
-        Fault::Image => Fault::Part {
-            number,
-            why: PartFault::Image,
-        },
-        Fault::NoVerdicts(why) => Fault::Part {
-            number,
-            why: PartFault::NoVerdicts(why),
-        },
-        other => other,
-    }
+    NoInput::from(why)
 }
 
-/// The script of a file for an image.
-fn load_script<F: Files>(
+/// The script that the text of the file under a name is for an image: one that names another image is refused before its lines are read.
+fn script_in<'a>(
     alloc: Global,
     image: &Image,
-    name: &Text,
-    files: &mut F,
-) -> Result<Script, Fault>
+    name: &'a Text,
+    text: &[u8],
+) -> Result<Script, Fault<'a>>
+    requires short { length text.now ≤ most_source_bytes }
     requires table { image.now.table ≡ table_of image.now.table.seed image.now.table.step image.now.graph }
-    ensures gives { IfSome (F.seen files.old).held
-        (λ h. GivesScript image.now h name.now (F.seen files.old).broken (F.seen files.new).broken result) }
+    ensures reads { ScriptIn image.now name.now text.now (as_found result) }
     ensures fits { IfOk result (All (GroupFits image.now.graph)) }
     ensures few { IfOk result (λ s. length s ≤ most_faults) }
-    ensures unread { IfErr result (λ e. IsUnread e → Rose (F.seen files.old).faults (F.seen files.new).faults) }
-    ensures no_write { result ≢ Err fault.Write }
-    ensures held { (F.seen files.new).held ≡ (F.seen files.old).held }
-    ensures later { (F.seen files.old).faults ≤ (F.seen files.new).faults }
-    ensures broken_later { (F.seen files.old).broken ≤ (F.seen files.new).broken }
 {
-    match read_file(alloc, files, name, MOST_SOURCE_BYTES) {
-        Ok(text) => script_in(alloc, image, text.bytes()),
-        Err(input) => Err(Fault::Script(input)),
+    match image_digest(alloc, &image.graph, &image.table) {
+        Ok(digest) => if !is_for(&digest, text) {
+            return Err(Fault::Refused {
+                name: name.bytes(),
+                why: StudyRefusal::Image,
+            });
+        },
+        Err(_) => return Err(Fault::Memory),
+    }
+    match read_script(alloc, text, &image.graph) {
+        Ok(script) => Ok(script),
+        Err(why) => Err(Fault::Input {
+            name: name.bytes(),
+            input: no_script(why),
+        }),
     }
 }
 
-/// The verdicts that a file tells of a script.
-fn load_verdicts<F: Files>(
+/// The verdicts that the text of the file under a name tells of a script.
+fn verdicts_in<'a>(
     alloc: Global,
     graph: &Graph,
     script: &Script,
-    name: &Text,
-    files: &mut F,
-) -> Result<Verdicts, Fault>
+    name: &'a Text,
+    text: &[u8],
+) -> Result<Verdicts, Fault<'a>>
     requires fits { All (GroupFits graph.now) script.now }
     requires few { length script.now ≤ most_faults }
-    ensures gives { IfSome (F.seen files.old).held
-        (λ h. GivesVerdicts graph.now script.now h name.now (F.seen files.old).broken (F.seen files.new).broken result) }
-    ensures names { IfOk result (λ vs. All (Names (length graph.now.outputs) (length graph.now.operations)) vs) }
+    ensures verdicts { IfOk result (λ vs. verdicts_in_text graph.now script.now text.now ≡ Ok vs) }
+    ensures fault { IfErr result (IsUntold graph.now script.now name.now text.now) }
+    ensures named { IfOk result (All (Names (length graph.now.outputs) (length graph.now.operations))) }
     ensures many { IfOk result (λ vs. length vs ≡ length script.now) }
-    ensures unread { IfErr result (λ e. IsUnread e → Rose (F.seen files.old).faults (F.seen files.new).faults) }
-    ensures no_write { result ≢ Err fault.Write }
-    ensures held { (F.seen files.new).held ≡ (F.seen files.old).held }
-    ensures later { (F.seen files.old).faults ≤ (F.seen files.new).faults }
-    ensures broken_later { (F.seen files.old).broken ≤ (F.seen files.new).broken }
-    ensures ended { OnOk result (IsAtEnd (F.seen files.new).rest) }
 {
-    match read_file(alloc, files, name, MOST_ROWS_BYTES) {
-        Ok(text) => verdicts_in(alloc, graph, script, text.bytes()),
-        Err(input) => Err(Fault::Verdicts(input)),
+    match read_verdicts(alloc, text, graph, script) {
+        Ok(verdicts) => Ok(verdicts),
+        Err(VerdictsFault::Memory) => Err(Fault::Memory),
+        Err(why) => Err(Fault::Refused {
+            name: name.bytes(),
+            why: StudyRefusal::Verdicts(why),
+        }),
+    }
+}
+
+/// The script of a part for an image.
+fn load_script<'a, F: Files>(
+    alloc: Global,
+    image: &Image,
+    names: &Named<'a>,
+    files: &mut F,
+) -> Result<Script, Fault<'a>>
+    requires table { image.now.table ≡ table_of image.now.table.seed image.now.table.step image.now.graph }
+    ensures fetches { Fetches (ScriptFrom image.now (as_names names.now)) (F.seen files.old) (F.seen files.new) (as_found result) }
+    ensures fits { IfOk result (All (GroupFits image.now.graph)) }
+    ensures few { IfOk result (λ s. length s ≤ most_faults) }
+{
+    match bytes_under(alloc, files, names.script, MOST_SOURCE_BYTES) {
+        Ok(text) => script_in(alloc, image, names.script, text.bytes()),
+        Err(why) => Err(why),
+    }
+}
+
+/// The verdicts of a part on its script.
+fn load_verdicts<'a, F: Files>(
+    alloc: Global,
+    graph: &Graph,
+    script: &Script,
+    names: &Named<'a>,
+    files: &mut F,
+) -> Result<Verdicts, Fault<'a>>
+    requires fits { All (GroupFits graph.now) script.now }
+    requires few { length script.now ≤ most_faults }
+    ensures fetches { Fetches (VerdictsFrom graph.now script.now (as_names names.now)) (F.seen files.old) (F.seen files.new) (as_found result) }
+    ensures named { IfOk result (All (Names (length graph.now.outputs) (length graph.now.operations))) }
+    ensures many { IfOk result (λ vs. length vs ≡ length script.now) }
+{
+    match bytes_under(alloc, files, names.verdicts, MOST_ROWS_BYTES) {
+        Ok(text) => verdicts_in(alloc, graph, script, names.verdicts, text.bytes()),
+        Err(why) => Err(why),
     }
 }
 
 /// The part of the files under these names: its script is read, and then its verdicts.
-fn load_part<F: Files>(
+fn load_part<'a, F: Files>(
     alloc: Global,
     image: &Image,
-    named: &Named<'_>,
+    names: &Named<'a>,
     files: &mut F,
-) -> Result<Part, Fault>
+) -> Result<Part, Fault<'a>>
     requires table { image.now.table ≡ table_of image.now.table.seed image.now.table.step image.now.graph }
-    ensures gives { IfSome (F.seen files.old).held
-        (λ h. GivesPart image.now h (as_names named.now) (F.seen files.old).broken (F.seen files.new).broken result) }
+    ensures fetches { Fetches (PartFrom image.now (as_names names.now)) (F.seen files.old) (F.seen files.new) (as_found result) }
     ensures whole { IfOk result IsWhole }
     ensures fits { IfOk result (PartFits image.now.graph) }
-    ensures unread { IfErr result (λ e. IsUnread e → Rose (F.seen files.old).faults (F.seen files.new).faults) }
-    ensures no_write { result ≢ Err fault.Write }
-    ensures held { (F.seen files.new).held ≡ (F.seen files.old).held }
-    ensures later { (F.seen files.old).faults ≤ (F.seen files.new).faults }
-    ensures broken_later { (F.seen files.old).broken ≤ (F.seen files.new).broken }
-    ensures ended { OnOk result (IsAtEnd (F.seen files.new).rest) }
 {
-    match load_script(alloc, image, named.script, files) {
-        Ok(script) => match load_verdicts(alloc, &image.graph, &script, named.verdicts, files) {
-            Ok(verdicts) => Ok(Part { script, verdicts }),
-            Err(why) => Err(why),
-        },
+    let script = match load_script(alloc, image, names, files) {
+        Ok(script) => script,
+        Err(why) => return Err(why),
+    };
+    match load_verdicts(alloc, &image.graph, &script, names, files) {
+        Ok(verdicts) => Ok(Part { script, verdicts }),
         Err(why) => Err(why),
     }
 }
 
 /// The parts of the files under these names, which are read part by part; the first of which there is nothing ends it.
-pub(crate) fn load_parts<F: Files>(
+pub(crate) fn load_parts<'a, F: Files>(
     alloc: Global,
     image: &Image,
-    names: &PartWords<'_>,
+    names: &PartWords<'a>,
     files: &mut F,
-) -> Result<Parts, Fault>
+) -> Result<Parts, Fault<'a>>
     requires table { image.now.table ≡ table_of image.now.table.seed image.now.table.step image.now.graph }
     requires few { length (names_of names.now) ≤ most_parts }
-    ensures gives { IfSome (F.seen files.old).held
-        (λ h. GivesParts image.now h (names_of names.now) (F.seen files.old).broken (F.seen files.new).broken result) }
+    ensures fetches { IsAtEnd (F.seen files.old).rest →
+        Fetches (PartsFrom image.now (names_of names.now)) (F.seen files.old) (F.seen files.new) (as_found result) }
     ensures whole { IfOk result (λ ps. All IsWhole ps) }
     ensures fits { IfOk result (λ ps. All (PartFits image.now.graph) ps) }
     ensures few { IfOk result (λ ps. length ps ≤ most_parts) }
-    ensures unread { IfErr result (λ e. IsUnread e → Rose (F.seen files.old).faults (F.seen files.new).faults) }
-    ensures no_write { result ≢ Err fault.Write }
-    ensures held { (F.seen files.new).held ≡ (F.seen files.old).held }
-    ensures later { (F.seen files.old).faults ≤ (F.seen files.new).faults }
-    ensures broken_later { (F.seen files.old).broken ≤ (F.seen files.new).broken }
-    ensures ended { OnOk result (IsAtEnd (F.seen files.old).rest → IsAtEnd (F.seen files.new).rest) }
 {
     let mut parts = Parts::new(alloc);
     let mut left = *names;
@@ -157,8 +179,47 @@ pub(crate) fn load_parts<F: Files>(
                 Ok(()) => {}
                 Err(Memory) => return Err(Fault::Memory),
             },
-            Err(why) => return Err(of_part(parts.len() as u32, why)),
+            Err(why) => return Err(why),
         }
     }
     Ok(parts)
+}
+
+/// Writes the picture of a graph by the verdicts of a part; whether a fault is unseen.
+fn write_part<'a, O: Sink>(
+    alloc: Global,
+    graph: &Graph,
+    part: &Part,
+    out: &mut O,
+) -> Result<bool, Fault<'a>>
+    requires whole { IsWhole part.now }
+    requires fits { PartFits graph.now part.now }
+    ensures { WritesSo (ShowsPart graph.now part.now) (O.seen out.old) (O.seen out.new) (told_line result) (told_status result) }
+{
+    let unseen = shows_unseen(&totals_of_all(&part.verdicts));
+    match layout_of(alloc, graph) {
+        Ok(layout) => told(
+            write_faults(out, graph, &part.script, &part.verdicts, &layout),
+            unseen,
+        ),
+        Err(Memory) => Err(Fault::Memory),
+    }
+}
+
+/// Reads a script and its verdicts for an image, and writes the picture of its graph by them; whether a fault is unseen.
+pub(crate) fn faults_of_image<'a, F: Files, O: Sink>(
+    alloc: Global,
+    image: &Image,
+    names: &Named<'a>,
+    files: &mut F,
+    out: &mut O,
+) -> Result<bool, Fault<'a>>
+    requires table { image.now.table ≡ table_of image.now.table.seed image.now.table.step image.now.graph }
+    ensures { (m : List ℕ) → Studies (StudyOf (faults (as_names names.now)) m image.now)
+        (F.seen files.old) (F.seen files.new) (O.seen out.old) (O.seen out.new) (told_line result) (told_status result) }
+{
+    match load_part(alloc, image, names, files) {
+        Ok(part) => write_part(alloc, &image.graph, &part, out),
+        Err(why) => Err(why),
+    }
 }

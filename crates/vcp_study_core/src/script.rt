@@ -1,107 +1,80 @@
-//! The command `script`, up to the line of its fault.
+//! The command `script`, behind its image.
 
-ghost use Rattle.std.specs.Prelude.{◌≡◌, ◌≤◌, IfSome, IfOk, IfErr, OnOk, Err, All, length};
-ghost use Rattle.std.specs.Io.KnownBytes.{IsAtEnd};
-ghost use Rattle.vcp_outside.specs.Counts.{Rose};
+ghost use Rattle.std.specs.Prelude.{ℕ, List, ◌≡◌, ◌≤◌, All, length};
 ghost use Rattle.signature_table.specs.Signatures.{table_of};
 ghost use Rattle.fault_names.specs.Entries.{most_named_bytes};
-ghost use Rattle.vcp_study_core.specs.Reach.{IsUnread};
-ghost use Rattle.vcp_study_core.specs.ScriptReach.{digits, TellsScript, ReachesNamed, ReachesNames};
-ghost use Rattle.vcp_study_core.specs.declared.fault.Fault.TheVariants as fault;
+ghost use Rattle.vcp_study_core.specs.CarriedOut.{Studies, WritesSo, told_line, told_status};
+ghost use Rattle.vcp_study_core.specs.Forms.{script_named};
+ghost use Rattle.vcp_study_core.specs.Parts.{digits};
+ghost use Rattle.vcp_study_core.specs.Tasks.{StudyOf};
+ghost use Rattle.vcp_study_core.specs.Texts.{NamedScript};
 
-use crate::fault::Fault;
+use crate::fault::{Fault, StudyRefusal, told};
+use crate::loading::bytes_under;
 use fault_names::{MOST_NAMED_BYTES, a_script_by_names_is_read_back, check, write_script};
 use fault_sites::image_digest;
 use std::alloc::Global;
 use vcp_base::Text;
-use vcp_inputs::{Image, load_image, read_file};
-use vcp_outside::{Failed, Files, Sink};
+use vcp_inputs::Image;
+use vcp_outside::{Files, Sink};
 
-/// Writes the script of a text for the image with this digest, unless a line is refused. It looks for nothing: `false`.
-fn tell_script<O: Sink>(
+/// Writes the script of the text of the file under a name for the image with this digest, unless a line is refused. It looks for nothing: `false`.
+fn write_checked<'a, O: Sink>(
+    name: &'a Text,
     image: &Image,
     digest: &[u8],
     text: &[u8],
     out: &mut O,
-) -> Result<bool, Fault>
+) -> Result<bool, Fault<'a>>
     requires short { length text.now ≤ most_named_bytes }
     requires same { digest.now ≡ digits image.now }
     requires plain { All (λ b. 32 ≤ b) digest.now }
     requires count { length digest.now ≡ 64 }
-    ensures tells { TellsScript image.now text.now (O.seen out.old).written (O.seen out.new).written result }
-    ensures write { result ≡ Err fault.Write → Rose (O.seen out.old).faults (O.seen out.new).faults }
+    ensures { WritesSo (NamedScript name.now image.now text.now) (O.seen out.old) (O.seen out.new) (told_line result) (told_status result) }
 {
     a_script_by_names_is_read_back();
     let _rules = image.graph.len();
     match check(&image.graph, digest, text) {
-        Ok(()) => match write_script(out, digest, &image.graph, text) {
-            Ok(()) => Ok(false),
-            Err(Failed) => Err(Fault::Write),
-        },
-        Err(refused) => Err(Fault::Named(refused)),
+        Ok(()) => told(write_script(out, digest, &image.graph, text), false),
+        Err(refused) => Err(Fault::Refused {
+            name: name.bytes(),
+            why: StudyRefusal::Named(refused),
+        }),
     }
 }
 
-/// Writes the script of a text for an image, unless a line is refused. It looks for nothing: `false`.
-fn script_of_text<O: Sink>(
+/// Writes the script of the text of the file under a name for an image, unless a line is refused. It looks for nothing: `false`.
+fn write_named<'a, O: Sink>(
     alloc: Global,
+    name: &'a Text,
     image: &Image,
     text: &[u8],
     out: &mut O,
-) -> Result<bool, Fault>
+) -> Result<bool, Fault<'a>>
     requires short { length text.now ≤ most_named_bytes }
     requires table { image.now.table ≡ table_of image.now.table.seed image.now.table.step image.now.graph }
-    ensures tells { TellsScript image.now text.now (O.seen out.old).written (O.seen out.new).written result }
-    ensures write { result ≡ Err fault.Write → Rose (O.seen out.old).faults (O.seen out.new).faults }
+    ensures { WritesSo (NamedScript name.now image.now text.now) (O.seen out.old) (O.seen out.new) (told_line result) (told_status result) }
 {
     match image_digest(alloc, &image.graph, &image.table) {
-        Ok(digest) => tell_script(image, &digest, text, out),
+        Ok(digest) => write_checked(name, image, &digest, text, out),
         Err(_) => Err(Fault::Memory),
     }
 }
 
 /// Reads a text of lines that name faults, and writes its script for an image. It looks for nothing: `false`.
-fn script_of_image<F: Files, O: Sink>(
+pub(crate) fn script_of_image<'a, F: Files, O: Sink>(
     alloc: Global,
     image: &Image,
-    named: &Text,
+    named: &'a Text,
     files: &mut F,
     out: &mut O,
-) -> Result<bool, Fault>
+) -> Result<bool, Fault<'a>>
     requires table { image.now.table ≡ table_of image.now.table.seed image.now.table.step image.now.graph }
-    ensures held { (F.seen files.new).held ≡ (F.seen files.old).held }
-    ensures reaches { IfSome (F.seen files.old).held (λ h. ReachesNamed image.now named.now h (O.seen out.old).written (O.seen out.new).written
-        (F.seen files.old).broken (F.seen files.new).broken result) }
-    ensures unread { IfErr result (λ e. IsUnread e → Rose (F.seen files.old).faults (F.seen files.new).faults) }
-    ensures write { result ≡ Err fault.Write → Rose (O.seen out.old).faults (O.seen out.new).faults }
-    ensures ended { OnOk result (IsAtEnd (F.seen files.new).rest) }
-    ensures later { (F.seen files.old).faults ≤ (F.seen files.new).faults }
-    ensures broken_later { (F.seen files.old).broken ≤ (F.seen files.new).broken }
+    ensures { (m : List ℕ) → Studies (StudyOf (script_named named.now) m image.now)
+        (F.seen files.old) (F.seen files.new) (O.seen out.old) (O.seen out.new) (told_line result) (told_status result) }
 {
-    match read_file(alloc, files, named, MOST_NAMED_BYTES as u64) {
-        Ok(text) => script_of_text(alloc, image, text.bytes(), out),
-        Err(input) => Err(Fault::Script(input)),
-    }
-}
-
-/// Does what the words `script M NAMED` say, and writes to `out` alone: M and NAMED are read whole, in this order, and taken through their
-/// refusals, and then the script of NAMED's lines is written. It looks for nothing: `false`.
-pub fn script_command<F: Files, O: Sink>(
-    alloc: Global,
-    image: &Text,
-    named: &Text,
-    files: &mut F,
-    out: &mut O,
-) -> Result<bool, Fault>
-    ensures held { (F.seen files.new).held ≡ (F.seen files.old).held }
-    ensures reaches { IfSome (F.seen files.old).held (λ h. ReachesNames image.now named.now h (O.seen out.old).written (O.seen out.new).written
-        (F.seen files.old).broken (F.seen files.new).broken result) }
-    ensures unread { IfErr result (λ e. IsUnread e → Rose (F.seen files.old).faults (F.seen files.new).faults) }
-    ensures write { result ≡ Err fault.Write → Rose (O.seen out.old).faults (O.seen out.new).faults }
-    ensures ended { OnOk result (IsAtEnd (F.seen files.new).rest) }
-{
-    match load_image(alloc, files, image) {
-        Ok(image) => script_of_image(alloc, &image, named, files, out),
-        Err(input) => Err(Fault::Source(input)),
+    match bytes_under(alloc, files, named, MOST_NAMED_BYTES as u64) {
+        Ok(text) => write_named(alloc, named, image, text.bytes(), out),
+        Err(why) => Err(why),
     }
 }

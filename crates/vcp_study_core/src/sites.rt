@@ -1,36 +1,72 @@
-//! The command `sites`, up to the line of its fault.
+//! The command `sites`, behind its image.
 
-ghost use Rattle.std.specs.Prelude.{◌≡◌, ◌≤◌, IfSome, IfOk, IfErr, OnOk, Err};
+ghost use Rattle.std.specs.Prelude.{ℕ, List, ◌≡◌, ◌≤◌, All, Err, length};
 ghost use Rattle.std.specs.Io.KnownBytes.{IsAtEnd};
 ghost use Rattle.vcp_base.specs.Limits.{most_cycles};
 ghost use Rattle.vcp_outside.specs.Counts.{Rose};
+ghost use Rattle.vcp_outside.specs.Held.{Held};
+ghost use Rattle.vcp_outside.specs.Seen.{SinkSeen};
 ghost use Rattle.signature_table.specs.Signatures.{table_of};
-ghost use Rattle.vcp_study_core.specs.Reach.{IsUnread};
-ghost use Rattle.vcp_study_core.specs.SitesReach.{ReachesSites, WritesSites};
-ghost use Rattle.vcp_study_core.specs.declared.fault.Fault.TheVariants as fault;
+ghost use Rattle.fault_sites.specs.RunSites.{run_class_name, run_sites as run_sites_of};
+ghost use Rattle.fault_sites.specs.Script.{WritesChosen};
+ghost use Rattle.fault_sites.specs.declared.scripts.chosen.Chosen.{Chosen as ChosenOf};
+ghost use Rattle.fault_sites.specs.declared.scripts.unwritten.Unwritten.TheVariants as unwritten;
+ghost use Rattle.fault_sites.specs.declared.site.Site.{Site};
+ghost use Rattle.vcp_words.specs.Forms.{rows_of, AreFew};
+ghost use Rattle.vcp_inputs.specs.declared.images.Image.{Image as ImageOf};
+ghost use Rattle.vcp_study_core.specs.CarriedOut.{Studies, WritesSo, told_line, told_status};
+ghost use Rattle.vcp_study_core.specs.Forms.{run_sites, sites};
+ghost use Rattle.vcp_study_core.specs.Tasks.{StudyOf};
+ghost use Rattle.vcp_study_core.specs.Texts.{Chooses};
 
-use crate::fault::Fault;
-use fault_sites::{Chosen, Classes, Unwritten, each_site_stands_once, write_chosen_sites};
+use crate::fault::{Fault, StudyRefusal};
+use crate::loading::rows_for;
+use fault_sites::{
+    Chosen, Classes, RunClass, Unwritten, each_site_stands_once, write_chosen_run_sites,
+    write_chosen_sites,
+};
+use input_rows::RowList;
 use std::alloc::Global;
 use vcp_base::Text;
-use vcp_inputs::{Image, load_image};
+use vcp_inputs::Image;
 use vcp_outside::{Files, Sink};
+use vcp_words::RowsWord;
 
-/// Writes of the sites of an image what is chosen. It looks for nothing: `false`.
-fn write_chosen<O: Sink>(
+/// What a command comes to that wrote sites of an image, which has this name. It looks for nothing: `false`.
+fn chosen_of<'a>(name: &'a Text, wrote: Result<(), Unwritten>) -> Result<bool, Fault<'a>>
+    ensures { (i : ImageOf) (named : List ℕ) (xs : List Site) (which : ChosenOf) (old new : SinkSeen)
+        → WritesChosen i.graph i.table named xs which old.written new.written wrote
+        → (wrote ≡ Err unwritten.Failed → Rose old.faults new.faults)
+        → WritesSo (Chooses name.now i named xs which) old new (told_line result) (told_status result) }
+{
+    match wrote {
+        Ok(()) => Ok(false),
+        Err(Unwritten::TooMany) => Err(Fault::Refused {
+            name: name.bytes(),
+            why: StudyRefusal::Sites,
+        }),
+        Err(Unwritten::Memory) => Err(Fault::Memory),
+        Err(Unwritten::Failed) => Err(Fault::Write),
+    }
+}
+
+/// Writes of the sites of a class in an image, which has this name, what is chosen.
+pub(crate) fn write_sites<'a, O: Sink>(
     alloc: Global,
+    name: &'a Text,
     image: &Image,
     classes: Classes,
     cycles: u32,
     chosen: &Chosen,
     out: &mut O,
-) -> Result<bool, Fault>
+) -> Result<bool, Fault<'a>>
     requires table { image.now.table ≡ table_of image.now.table.seed image.now.table.step image.now.graph }
     requires few { cycles ≤ most_cycles }
-    ensures writes { WritesSites image.now cycles classes chosen.now (O.seen out.old).written (O.seen out.new).written result }
-    ensures write { result ≡ Err fault.Write → Rose (O.seen out.old).faults (O.seen out.new).faults }
+    ensures { (h : Held) (b n : ℕ) → WritesSo (StudyOf (sites cycles classes chosen.now) name.now image.now h b n)
+        (O.seen out.old) (O.seen out.new) (told_line result) (told_status result) }
 {
-    match write_chosen_sites(
+    each_site_stands_once();
+    let written = write_chosen_sites(
         alloc,
         &image.graph,
         &image.table,
@@ -38,37 +74,56 @@ fn write_chosen<O: Sink>(
         cycles,
         chosen,
         out,
-    ) {
-        Ok(()) => Ok(false),
-        Err(Unwritten::TooMany) => Err(Fault::Sites),
-        Err(Unwritten::Memory) => Err(Fault::Memory),
-        Err(Unwritten::Failed) => Err(Fault::Write),
-    }
+    );
+    chosen_of(name, written)
 }
 
-/// Does what the words `sites M CYCLES CLASS` say, with a part behind them or `--count`, and writes to `out` alone: M is read whole and
-/// taken through its refusals, and then the script of these faults is written, or how many there are. It
-/// looks for nothing: `false`.
-pub fn sites_command<F: Files, O: Sink>(
+/// Writes of the sites of a class in the run over these rows of an image's graph what is chosen; the image has this name.
+fn write_run_sites<'a, O: Sink>(
     alloc: Global,
-    image: &Text,
-    cycles: u32,
-    classes: Classes,
+    name: &'a Text,
+    image: &Image,
+    rows: &RowList,
+    class: RunClass,
+    chosen: &Chosen,
+    out: &mut O,
+) -> Result<bool, Fault<'a>>
+    requires table { image.now.table ≡ table_of image.now.table.seed image.now.table.step image.now.graph }
+    requires few { length rows.now ≤ most_cycles }
+    requires width { All (λ r. length r ≡ length image.now.graph.inputs) rows.now }
+    ensures { WritesSo (Chooses name.now image.now (run_class_name class) (run_sites_of class image.now.table image.now.graph rows.now) chosen.now)
+        (O.seen out.old) (O.seen out.new) (told_line result) (told_status result) }
+{
+    let written = write_chosen_run_sites(
+        alloc,
+        &image.graph,
+        &image.table,
+        class,
+        rows,
+        chosen,
+        out,
+    );
+    chosen_of(name, written)
+}
+
+/// Reads ROWS for an image, which has this name, and writes of the sites of a class in their run what is chosen.
+pub(crate) fn run_sites_of_image<'a, F: Files, O: Sink>(
+    alloc: Global,
+    name: &'a Text,
+    image: &Image,
+    rows: RowsWord<'a>,
+    class: RunClass,
     chosen: &Chosen,
     files: &mut F,
     out: &mut O,
-) -> Result<bool, Fault>
-    requires few { cycles ≤ most_cycles }
-    ensures held { (F.seen files.new).held ≡ (F.seen files.old).held }
-    ensures reaches { IfSome (F.seen files.old).held (λ h. ReachesSites image.now cycles classes chosen.now h (O.seen out.old).written (O.seen out.new).written
-        (F.seen files.old).broken (F.seen files.new).broken result) }
-    ensures unread { IfErr result (λ e. IsUnread e → Rose (F.seen files.old).faults (F.seen files.new).faults) }
-    ensures write { result ≡ Err fault.Write → Rose (O.seen out.old).faults (O.seen out.new).faults }
-    ensures ended { OnOk result (IsAtEnd (F.seen files.new).rest) }
+) -> Result<bool, Fault<'a>>
+    requires table { image.now.table ≡ table_of image.now.table.seed image.now.table.step image.now.graph }
+    requires few { AreFew (rows_of rows) }
+    ensures { IsAtEnd (F.seen files.old).rest → Studies (StudyOf (run_sites (rows_of rows.entry) class chosen.now) name.now image.now)
+        (F.seen files.old) (F.seen files.new) (O.seen out.old) (O.seen out.new) (told_line result) (told_status result) }
 {
-    each_site_stands_once();
-    match load_image(alloc, files, image) {
-        Ok(image) => write_chosen(alloc, &image, classes, cycles, chosen, out),
-        Err(input) => Err(Fault::Source(input)),
+    match rows_for(alloc, image, rows, files) {
+        Ok(list) => write_run_sites(alloc, name, image, &list, class, chosen, out),
+        Err(why) => Err(why),
     }
 }

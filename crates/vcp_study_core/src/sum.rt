@@ -1,67 +1,133 @@
-//! The command `sum`, up to the line of its fault.
+//! The command `sum`, behind its image.
 
-ghost use Rattle.std.specs.Prelude.{◌≡◌, ◌≤◌, IfSome, IfErr, OnOk, Err, length};
+ghost use Rattle.std.specs.Prelude.{ℕ, List, ◌≡◌, ◌≤◌, All, length};
 ghost use Rattle.std.specs.Io.KnownBytes.{IsAtEnd};
-ghost use Rattle.vcp_outside.specs.Counts.{Rose};
-ghost use Rattle.verdict_tables.specs.Parts.{most_parts};
-ghost use Rattle.vcp_study_core.specs.Forms.{names_of};
-ghost use Rattle.vcp_study_core.specs.Reach.{IsUnread};
-ghost use Rattle.vcp_study_core.specs.PartsReach.{AreTables, ReachesSum};
-ghost use Rattle.vcp_study_core.specs.declared.fault.Fault.TheVariants as fault;
+ghost use Rattle.vcp_base.specs.Limits.{most_cycles};
+ghost use Rattle.signature_table.specs.Signatures.{table_of};
+ghost use Rattle.verdict_tables.specs.Parts.{most_parts, IsWhole, PartFits};
+ghost use Rattle.verdict_tables.specs.SameEndings.{endings_over, sum_apart_text};
+ghost use Rattle.verdict_tables.specs.SumText.{sum_text};
+ghost use Rattle.vcp_words.specs.Forms.{rows_of, AreFew};
+ghost use Rattle.vcp_study_core.specs.CarriedOut.{Studies, WritesSo, told_line, told_status};
+ghost use Rattle.vcp_study_core.specs.Forms.{names_of, sum, sum_apart};
+ghost use Rattle.vcp_study_core.specs.FromFiles.{Onward};
+ghost use Rattle.vcp_study_core.specs.Parts.{PartsFrom};
+ghost use Rattle.vcp_study_core.specs.Tasks.{StudyOf};
+ghost use Rattle.vcp_study_core.specs.Texts.{sums_up};
 
-use crate::fault::Fault;
+use crate::fault::{Fault, told};
+use crate::loading::rows_for;
 use crate::part_words::PartWords;
-use crate::summing::{Summing, sum_of_image};
+use crate::parts::load_parts;
+use input_rows::RowList;
 use op_graph::Graph;
 use std::alloc::Global;
-use vcp_base::Text;
-use vcp_inputs::load_image;
-use vcp_outside::{Failed, Files, Sink};
-use verdict_tables::{Parts, write_sum};
+use vcp_base::Memory;
+use vcp_inputs::Image;
+use vcp_outside::{Files, Sink};
+use vcp_words::RowsWord;
+use verdict_tables::{
+    Parts, endings_of_parts, shows_unseen, totals_of_parts, write_sum, write_sum_apart,
+};
 
-/// The tables of verdicts are written.
-#[derive(Drop)]
-struct Tables;
+/// Writes the tables of the verdicts of parts; whether a fault is unseen.
+fn write_tables<'a, O: Sink>(graph: &Graph, parts: &Parts, out: &mut O) -> Result<bool, Fault<'a>>
+    requires whole { All IsWhole parts.now }
+    requires fits { All (PartFits graph.now) parts.now }
+    requires few { length parts.now ≤ most_parts }
+    ensures { WritesSo (λ x. x ≡ sums_up parts.now (sum_text graph.now parts.now)) (O.seen out.old) (O.seen out.new)
+        (told_line result) (told_status result) }
+{
+    let unseen = shows_unseen(&totals_of_parts(parts));
+    told(write_sum(out, graph, parts), unseen)
+}
 
-impl Summing for Tables {
-    ghost Tells = { λ s. AreTables };
-
-    ghost Belongs = { λ s g. Unit {0} };
-
-    fn write<O: Sink>(
-        &self,
-        _alloc: Global,
-        graph: &Graph,
-        parts: &Parts,
-        out: &mut O,
-    ) -> Result<(), Fault> {
-        match write_sum(out, graph, parts) {
-            Ok(()) => Ok(()),
-            Err(Failed) => Err(Fault::Write),
-        }
+/// Reads the parts for an image, and writes the tables of their verdicts; whether a fault is unseen.
+pub(crate) fn sum_of_image<'a, F: Files, O: Sink>(
+    alloc: Global,
+    image: &Image,
+    names: &PartWords<'a>,
+    files: &mut F,
+    out: &mut O,
+) -> Result<bool, Fault<'a>>
+    requires table { image.now.table ≡ table_of image.now.table.seed image.now.table.step image.now.graph }
+    requires few { length (names_of names.now) ≤ most_parts }
+    ensures { IsAtEnd (F.seen files.old).rest → (m : List ℕ) → Studies (StudyOf (sum (names_of names.now)) m image.now)
+        (F.seen files.old) (F.seen files.new) (O.seen out.old) (O.seen out.new) (told_line result) (told_status result) }
+{
+    match load_parts(alloc, image, names, files) {
+        Ok(parts) => write_tables(&image.graph, &parts, out),
+        Err(why) => Err(why),
     }
 }
 
-/// Does what the words `sum M SCRIPT VERDICTS ..` say, and writes to `out` alone: M is read whole and taken through its refusals, then SCRIPT and
-/// VERDICTS of each part, in this order, and then the tables of all verdicts are written. Answers whether a fault is unseen: whether one
-/// of them is `wrong` or `ran-on`.
-pub fn sum_command<F: Files, O: Sink>(
+/// Writes the tables of the verdicts of parts, in which those that are `same` are told apart by runs over rows; whether a fault is unseen.
+fn write_tables_apart<'a, O: Sink>(
     alloc: Global,
-    image: &Text,
-    parts: &PartWords<'_>,
+    image: &Image,
+    rows: &RowList,
+    parts: &Parts,
+    out: &mut O,
+) -> Result<bool, Fault<'a>>
+    requires table { image.now.table ≡ table_of image.now.table.seed image.now.table.step image.now.graph }
+    requires width { All (λ r. length r ≡ length image.now.graph.inputs) rows.now }
+    requires few_rows { length rows.now ≤ most_cycles }
+    requires whole { All IsWhole parts.now }
+    requires fits { All (PartFits image.now.graph) parts.now }
+    requires few { length parts.now ≤ most_parts }
+    ensures { WritesSo
+        (λ x. x ≡ sums_up parts.now
+        (sum_apart_text image.now.graph parts.now (endings_over image.now.table image.now.graph rows.now parts.now)))
+        (O.seen out.old) (O.seen out.new) (told_line result) (told_status result) }
+{
+    let unseen = shows_unseen(&totals_of_parts(parts));
+    match endings_of_parts(alloc, &image.graph, &image.table, rows, parts) {
+        Ok(endings) => told(write_sum_apart(out, &image.graph, parts, &endings), unseen),
+        Err(Memory) => Err(Fault::Memory),
+    }
+}
+
+/// Reads the parts for an image, and writes the tables of their verdicts, told apart by runs over rows; whether a fault is unseen.
+fn apart_over<'a, F: Files, O: Sink>(
+    alloc: Global,
+    image: &Image,
+    rows: &RowList,
+    names: &PartWords<'a>,
     files: &mut F,
     out: &mut O,
-) -> Result<bool, Fault>
-    requires few { length (names_of parts.now) ≤ most_parts }
-    ensures held { (F.seen files.new).held ≡ (F.seen files.old).held }
-    ensures reaches { IfSome (F.seen files.old).held (λ h. ReachesSum image.now (names_of parts.now) h (O.seen out.old).written
-        (O.seen out.new).written (F.seen files.old).broken (F.seen files.new).broken result) }
-    ensures unread { IfErr result (λ e. IsUnread e → Rose (F.seen files.old).faults (F.seen files.new).faults) }
-    ensures write { result ≡ Err fault.Write → Rose (O.seen out.old).faults (O.seen out.new).faults }
-    ensures ended { OnOk result (IsAtEnd (F.seen files.new).rest) }
+) -> Result<bool, Fault<'a>>
+    requires table { image.now.table ≡ table_of image.now.table.seed image.now.table.step image.now.graph }
+    requires width { All (λ r. length r ≡ length image.now.graph.inputs) rows.now }
+    requires few_rows { length rows.now ≤ most_cycles }
+    requires few { length (names_of names.now) ≤ most_parts }
+    ensures { IsAtEnd (F.seen files.old).rest → Studies
+        (λ h. Onward (PartsFrom image.now (names_of names.now) h) (λ parts k n x. x ≡ sums_up parts
+        (sum_apart_text image.now.graph parts (endings_over image.now.table image.now.graph rows.now parts))))
+        (F.seen files.old) (F.seen files.new) (O.seen out.old) (O.seen out.new) (told_line result) (told_status result) }
 {
-    match load_image(alloc, files, image) {
-        Ok(image) => sum_of_image(alloc, &Tables, &image, parts, files, out),
-        Err(input) => Err(Fault::Source(input)),
+    match load_parts(alloc, image, names, files) {
+        Ok(parts) => write_tables_apart(alloc, image, rows, &parts, out),
+        Err(why) => Err(why),
+    }
+}
+
+/// Reads ROWS for an image, then the parts, and writes the tables of their verdicts, told apart by runs over ROWS; whether a fault is unseen.
+pub(crate) fn apart_of_image<'a, F: Files, O: Sink>(
+    alloc: Global,
+    image: &Image,
+    rows: RowsWord<'a>,
+    names: &PartWords<'a>,
+    files: &mut F,
+    out: &mut O,
+) -> Result<bool, Fault<'a>>
+    requires table { image.now.table ≡ table_of image.now.table.seed image.now.table.step image.now.graph }
+    requires few_rows { AreFew (rows_of rows) }
+    requires few { length (names_of names.now) ≤ most_parts }
+    ensures { IsAtEnd (F.seen files.old).rest → (m : List ℕ) → Studies (StudyOf (sum_apart (names_of names.now) (rows_of rows.entry)) m image.now)
+        (F.seen files.old) (F.seen files.new) (O.seen out.old) (O.seen out.new) (told_line result) (told_status result) }
+{
+    match rows_for(alloc, image, rows, files) {
+        Ok(list) => apart_over(alloc, image, &list, names, files, out),
+        Err(why) => Err(why),
     }
 }

@@ -4,12 +4,10 @@ ghost use Rattle.std.specs.Prelude.{◌≡◌};
 ghost use Rattle.vcp_outside.specs.Written.{WritesTo};
 ghost use Rattle.vcp_study_core.specs.Forms.{usage_text};
 ghost use Rattle.vcp_inputs.specs.Lines.{rows_text};
-ghost use Rattle.vcp_study_core.specs.RunLines.{run_text};
-ghost use Rattle.vcp_study_core.specs.ScriptLines.{refused_line_text};
-ghost use Rattle.vcp_study_core.specs.SumLines.{verdicts_text};
-ghost use Rattle.vcp_study_core.specs.Reach.{fault_text, fault_status as status_of_fault, part_text, part_status as status_of_part};
+ghost use Rattle.vcp_study_core.specs.FromFiles.{fault_answer};
+ghost use Rattle.vcp_study_core.specs.Lines.{own_text, refused_line_text, run_text, verdicts_text};
 
-use crate::fault::{Fault, PartFault};
+use crate::fault::{Fault, StudyRefusal};
 use fault_names::Why;
 use input_rows::RowFault;
 use run_picture::RunTextFault;
@@ -18,7 +16,7 @@ use vcp_outside::{Failed, Sink, write_all};
 use verdict_tables::VerdictsFault;
 
 /// Prints the usage line.
-pub fn tell_usage<E: Sink>(err: &mut E) -> Result<(), Failed>
+pub(crate) fn tell_usage<E: Sink>(err: &mut E) -> Result<(), Failed>
     ensures { WritesTo (E.seen err.old) (E.seen err.new) usage_text result }
 {
     write_all(
@@ -27,40 +25,34 @@ pub fn tell_usage<E: Sink>(err: &mut E) -> Result<(), Failed>
           ranges M --inputs FILE, ranges M --all --inputs FILE, \
           cover M HORIZON CLASS, sites M CYCLES CLASS, sites M CYCLES CLASS FROM COUNT, sites M CYCLES CLASS --count, \
           sites M ROWS flips, sites M ROWS flips FROM COUNT, sites M ROWS flips --count, \
+          sites M ROWS late, sites M ROWS late FROM COUNT, sites M ROWS late --count, \
           sum M SCRIPT VERDICTS .., sum M SCRIPT VERDICTS .. ROWS, faults M SCRIPT VERDICTS \
           or script M NAMED\n",
     )
 }
 
-/// Prints the line of a fault of a command on the file under a name.
-pub fn tell<E: Sink>(err: &mut E, name: &[u8], fault: &Fault) -> Result<(), Failed>
-    ensures { WritesTo (E.seen err.old) (E.seen err.new) (fault_text name.now fault.now) result }
+/// Prints the line of a fault.
+pub(crate) fn tell<E: Sink>(err: &mut E, fault: &Fault<'_>) -> Result<(), Failed>
+    ensures { WritesTo (E.seen err.old) (E.seen err.new) (fault_answer fault.now).err result }
 {
     match fault {
-        Fault::Source(input) => tell_input(err, name, input),
+        Fault::Input { name, input } => tell_input(err, name, input),
+        Fault::Refused { name, why } => tell_own(err, name, why),
         Fault::Write => write_all(err, b"write fault\n"),
         Fault::Memory => write_all(err, b"no memory\n"),
-        Fault::NoRun(why) => tell_no_run(err, name, *why),
-        Fault::Sites => tell_of(err, name, b" L9 Sites"),
-        Fault::Rows(input) => tell_input(err, name, input),
-        Fault::Script(input) => tell_input(err, name, input),
-        Fault::Verdicts(input) => tell_input(err, name, input),
-        Fault::Image => tell_of(err, name, b":1 U1 Image"),
-        Fault::NoVerdicts(why) => tell_no_verdicts(err, name, *why),
-        Fault::Named(refused) => tell_refused_line(err, name, refused.line, refused.why),
-        Fault::Part { number: _, why } => tell_no_part(err, name, why),
     }
 }
 
-/// Prints the line where there is nothing of a part of a campaign.
-fn tell_no_part<E: Sink>(err: &mut E, name: &[u8], why: &PartFault) -> Result<(), Failed>
-    ensures { WritesTo (E.seen err.old) (E.seen err.new) (part_text name.now why.now) result }
+/// Prints the line of the file under a name that only this program refuses.
+fn tell_own<E: Sink>(err: &mut E, name: &[u8], why: &StudyRefusal) -> Result<(), Failed>
+    ensures { WritesTo (E.seen err.old) (E.seen err.new) (own_text name.now why.now) result }
 {
     match why {
-        PartFault::Script(input) => tell_input(err, name, input),
-        PartFault::Verdicts(input) => tell_input(err, name, input),
-        PartFault::Image => tell_of(err, name, b":1 U1 Image"),
-        PartFault::NoVerdicts(why) => tell_no_verdicts(err, name, *why),
+        StudyRefusal::Run(why) => tell_no_run(err, name, *why),
+        StudyRefusal::Sites => tell_of(err, name, b" L9 Sites"),
+        StudyRefusal::Image => tell_of(err, name, b":1 U1 Image"),
+        StudyRefusal::Verdicts(why) => tell_no_verdicts(err, name, *why),
+        StudyRefusal::Named(refused) => tell_refused_line(err, name, refused.line, refused.why),
     }
 }
 
@@ -128,25 +120,13 @@ fn tell_rows<E: Sink>(err: &mut E, name: &[u8], why: RowFault) -> Result<(), Fai
 }
 
 /// The status of a fault whose line was printed.
-pub fn fault_status(fault: &Fault) -> u8
-    ensures { result ≡ status_of_fault fault.now }
+pub(crate) fn fault_status(fault: &Fault<'_>) -> u8
+    ensures { result ≡ (fault_answer fault.now).status }
 {
     match fault {
-        Fault::Source(input) | Fault::Rows(input) | Fault::Script(input) | Fault::Verdicts(input) =>
-            input_status(input),
+        Fault::Input { name: _, input } => input_status(input),
+        Fault::Refused { name: _, why: _ } => 1,
         Fault::Write => 6,
         Fault::Memory => 7,
-        Fault::NoRun(_) | Fault::Sites | Fault::Image | Fault::NoVerdicts(_) | Fault::Named(_) => 1,
-        Fault::Part { number: _, why } => part_status(why),
-    }
-}
-
-/// The same where there is nothing of a part of a campaign.
-fn part_status(why: &PartFault) -> u8
-    ensures { result ≡ status_of_part why.now }
-{
-    match why {
-        PartFault::Script(input) | PartFault::Verdicts(input) => input_status(input),
-        PartFault::Image | PartFault::NoVerdicts(_) => 1,
     }
 }

@@ -1,72 +1,62 @@
 //! The command `waves`, up to the line of its fault.
 
-ghost use Rattle.std.specs.Prelude.{◌≡◌, IfSome, IfOk, IfErr, OnOk, Ok, Err};
-ghost use Rattle.std.specs.Io.KnownBytes.{IsAtEnd};
-ghost use Rattle.vcp_outside.specs.Counts.{Rose};
+ghost use Rattle.std.specs.Prelude.{◌≡◌, IfOk, IfErr, Ok};
 ghost use Rattle.run_picture.specs.RunOf.{run_of};
-ghost use Rattle.vcp_study_core.specs.Reach.{IsUnread};
-ghost use Rattle.vcp_study_core.specs.RunReach.{IsNoRun, WritesRun, DrawsRun, ReachesRun};
-ghost use Rattle.vcp_study_core.specs.declared.fault.Fault.TheVariants as fault;
+ghost use Rattle.vcp_study_core.specs.CarriedOut.{Studies, WritesSo, told_line, told_status};
+ghost use Rattle.vcp_study_core.specs.Forms.{waves};
+ghost use Rattle.vcp_study_core.specs.Tasks.{TaskOf};
+ghost use Rattle.vcp_study_core.specs.TextFaults.{IsNoRun};
+ghost use Rattle.vcp_study_core.specs.Texts.{Waves};
 
-use crate::fault::Fault;
+use crate::fault::{Fault, StudyRefusal, told};
+use crate::loading::bytes_under;
 use run_picture::{Run, RunTextFault, read_run, write_waves};
 use std::alloc::Global;
 use vcp_base::{MOST_ROWS_BYTES, Text};
-use vcp_inputs::read_file;
-use vcp_outside::{Failed, Files, Sink};
+use vcp_outside::{Files, Sink};
 
-/// The run that a text tells.
-fn run_in(alloc: Global, text: &[u8]) -> Result<Run, Fault>
+/// The run that the text of the file under a name tells.
+fn run_in<'a>(alloc: Global, name: &'a Text, text: &[u8]) -> Result<Run, Fault<'a>>
     ensures run { IfOk result (λ run. run_of text.now ≡ Ok run) }
-    ensures fault { IfErr result (IsNoRun text.now) }
+    ensures fault { IfErr result (IsNoRun name.now text.now) }
 {
     match read_run(alloc, text) {
-        Ok(told) => Ok(told),
+        Ok(recorded) => Ok(recorded),
         Err(RunTextFault::Memory) => Err(Fault::Memory),
-        Err(why) => Err(Fault::NoRun(why)),
+        Err(why) => Err(Fault::Refused {
+            name: name.bytes(),
+            why: StudyRefusal::Run(why),
+        }),
     }
 }
 
-/// Writes the timing diagram of a run.
-fn write_run<O: Sink>(out: &mut O, told: &Run) -> Result<(), Fault>
-    ensures writes { WritesRun told.now (O.seen out.old).written (O.seen out.new).written result }
-    ensures write { result ≡ Err fault.Write → Rose (O.seen out.old).faults (O.seen out.new).faults }
+/// Writes the timing diagram of the run that the text of the file under a name tells. It looks for nothing: `false`.
+fn draw_run<'a, O: Sink>(
+    alloc: Global,
+    name: &'a Text,
+    text: &[u8],
+    out: &mut O,
+) -> Result<bool, Fault<'a>>
+    ensures { WritesSo (Waves name.now text.now) (O.seen out.old) (O.seen out.new) (told_line result) (told_status result) }
 {
-    match write_waves(out, told) {
-        Ok(()) => Ok(()),
-        Err(Failed) => Err(Fault::Write),
-    }
-}
-
-/// Writes the timing diagram of the run that a text tells.
-#[tactic(auto, using(crate::proofs::RunReaching::written_run, crate::proofs::RunReaching::no_run, crate::proofs::RunReaching::no_run_no_write))]
-fn draw_run<O: Sink>(alloc: Global, text: &[u8], out: &mut O) -> Result<(), Fault>
-    ensures draws { DrawsRun text.now (O.seen out.old).written (O.seen out.new).written result }
-    ensures write { result ≡ Err fault.Write → Rose (O.seen out.old).faults (O.seen out.new).faults }
-{
-    match run_in(alloc, text) {
-        Ok(told) => write_run(out, &told),
+    match run_in(alloc, name, text) {
+        Ok(recorded) => told(write_waves(out, &recorded), false),
         Err(why) => Err(why),
     }
 }
 
 /// Does what the words `waves FILE` say, and writes to `out` alone: FILE is read whole, of at most
 /// 67,108,864 bytes, and the timing diagram of its run is written.
-pub fn waves_command<F: Files, O: Sink>(
+pub(crate) fn waves_command<'a, F: Files, O: Sink>(
     alloc: Global,
-    file: &Text,
+    file: &'a Text,
     files: &mut F,
     out: &mut O,
-) -> Result<(), Fault>
-    ensures held { (F.seen files.new).held ≡ (F.seen files.old).held }
-    ensures reaches { IfSome (F.seen files.old).held (λ h. ReachesRun file.now h (O.seen out.old).written (O.seen out.new).written
-        (F.seen files.old).broken (F.seen files.new).broken result) }
-    ensures unread { IfErr result (λ e. IsUnread e → Rose (F.seen files.old).faults (F.seen files.new).faults) }
-    ensures write { result ≡ Err fault.Write → Rose (O.seen out.old).faults (O.seen out.new).faults }
-    ensures ended { OnOk result (IsAtEnd (F.seen files.new).rest) }
+) -> Result<bool, Fault<'a>>
+    ensures { Studies (TaskOf (waves file.now)) (F.seen files.old) (F.seen files.new) (O.seen out.old) (O.seen out.new) (told_line result) (told_status result) }
 {
-    match read_file(alloc, files, file, MOST_ROWS_BYTES) {
-        Ok(text) => draw_run(alloc, text.bytes(), out),
-        Err(input) => Err(Fault::Source(input)),
+    match bytes_under(alloc, files, file, MOST_ROWS_BYTES) {
+        Ok(text) => draw_run(alloc, file, text.bytes(), out),
+        Err(why) => Err(why),
     }
 }

@@ -2,7 +2,7 @@ use Rattle.std.proofs.Common.{◌≡◌, ◌≤◌, ◌+◌, All, IfSome, length
 use Rattle.std.specs.Io.KnownBytes.{IsAtEnd}
 use Rattle.verdict_tables.specs.Parts.{most_parts, IsWhole, PartFits}
 use Rattle.vcp_study_core.specs.Forms.{names_of}
-use Rattle.vcp_study_core.proofs.PartsReaching.{SoFar}
+use Rattle.vcp_study_core.proofs.PartsRead.{SoFar}
 use Rattle.vcp_study_core.proofs.parts.load_parts.Given as goal
 
 abbrev pub invariant-parts : goal.invariant-parts

@@ -1,20 +1,19 @@
-use Rattle.vcp_study_core.proofs.Reaching.{if_some_weaker}
-use Rattle.vcp_study_core.specs.PartsReach.{no_script_file}
-use Rattle.vcp_study_core.proofs.PartsReaching.{script_given, script_not_unread, script_not_write}
+use Rattle.vcp_study_core.specs.FromFiles.{as_found}
+use Rattle.vcp_study_core.specs.Parts.{ScriptIn}
+use Rattle.vcp_base.specs.Limits.{most_source_bytes}
+use Rattle.vcp_study_core.proofs.Carrying.{lost_with, made_of}
+use Rattle.vcp_study_core.proofs.PartsRead.{script_quiet, text_lost, text_read}
 use Rattle.vcp_study_core.proofs.parts.load_script.Goals as goal
 
-pub returns-in-Ok-clause-gives : goal.returns-in-Ok-clause-gives
-returns-in-Ok-clause-gives g c =
-    if_some_weaker (g.F.Files.seen c.args.files.now).held _ _
-    (λ h reads. script_given c.args.image.now h c.args.name.now (g.F.Files.seen c.args.files.now).broken (g.F.Files.seen c.read_file.new.files).broken
-    c.in-Ok.text reads c.script_in.result (rw c.bytes.ensures at c.script_in.ensures.reads)) c.in-Ok.ensures.reads
+pub returns-in-Ok-clause-fetches : goal.returns-in-Ok-clause-fetches
+returns-in-Ok-clause-fetches g c =
+    let i = c.args.image.now in
+    let name = c.args.names.now.script.now in
+    let reads = rw c.bytes.ensures at c.script_in.ensures.reads in
+    made_of (as_found c.script_in.result) c.in-Ok.ensures.fetches (script_quiet i name c.in-Ok.text _ reads)
+    (λ h bytes. text_read (ScriptIn i name) name most_source_bytes h _ _ c.in-Ok.text bytes _ reads)
 
-pub returns-in-Ok-clause-unread : goal.returns-in-Ok-clause-unread
-returns-in-Ok-clause-unread g c = script_not_unread c.args.image.now _ _ c.script_in.result c.script_in.ensures.reads
-
-pub returns-in-Ok-clause-no_write : goal.returns-in-Ok-clause-no_write
-returns-in-Ok-clause-no_write g c = script_not_write c.args.image.now _ c.script_in.result c.script_in.ensures.reads
-
-pub returns-in-Err-clause-gives : goal.returns-in-Err-clause-gives
-returns-in-Err-clause-gives g c =
-    if_some_weaker (g.F.Files.seen c.args.files.now).held _ _ (λ h reads. no_script_file c.in-Err.input reads) c.in-Err.ensures.reads
+pub returns-in-Err-clause-fetches : goal.returns-in-Err-clause-fetches
+returns-in-Err-clause-fetches g c =
+    let name = c.args.names.now.script.now in
+    lost_with c.in-Err.ensures.fetches (λ h lost. text_lost (ScriptIn c.args.image.now name) name most_source_bytes h _ _ _ lost)

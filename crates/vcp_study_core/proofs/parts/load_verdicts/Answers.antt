@@ -1,27 +1,21 @@
-use Rattle.vcp_study_core.proofs.Reaching.{if_some_weaker}
-use Rattle.vcp_study_core.specs.PartsReach.{no_verdicts_file}
-use Rattle.vcp_study_core.proofs.PartsReaching.{verdicts_given, verdicts_not_unread, verdicts_not_write, verdicts_named, verdicts_many}
+use Rattle.vcp_study_core.specs.FromFiles.{as_found}
+use Rattle.vcp_study_core.specs.Parts.{VerdictsIn}
+use Rattle.vcp_base.specs.Limits.{most_rows_bytes}
+use Rattle.vcp_study_core.proofs.Carrying.{lost_with, made_of}
+use Rattle.vcp_study_core.proofs.PartsRead.{verdicts_quiet, text_lost, text_read}
+use Rattle.vcp_study_core.proofs.TextFaults.{told_in}
 use Rattle.vcp_study_core.proofs.parts.load_verdicts.Goals as goal
 
-pub returns-in-Ok-clause-gives : goal.returns-in-Ok-clause-gives
-returns-in-Ok-clause-gives g c =
-    if_some_weaker (g.F.Files.seen c.args.files.now).held _ _
-    (λ h reads. verdicts_given c.args.graph.now c.args.script.now h c.args.name.now (g.F.Files.seen c.args.files.now).broken
-    (g.F.Files.seen c.read_file.new.files).broken c.in-Ok.text reads c.verdicts_in.result (rw c.bytes.ensures at c.verdicts_in.ensures.reads))
-    c.in-Ok.ensures.reads
+pub returns-in-Ok-clause-fetches : goal.returns-in-Ok-clause-fetches
+returns-in-Ok-clause-fetches g c =
+    let name = c.args.names.now.verdicts.now in
+    let e = c.verdicts_in.ensures in
+    let reads = told_in c.args.graph.now c.args.script.now name c.in-Ok.text c.verdicts_in.result (rw c.bytes.ensures at e.verdicts) e.named e.many
+    (rw c.bytes.ensures at e.fault) in
+    made_of (as_found c.verdicts_in.result) c.in-Ok.ensures.fetches (verdicts_quiet c.args.graph.now c.args.script.now name c.in-Ok.text _ reads)
+    (λ h bytes. text_read (VerdictsIn c.args.graph.now c.args.script.now name) name most_rows_bytes h _ _ c.in-Ok.text bytes _ reads)
 
-pub returns-in-Ok-clause-names : goal.returns-in-Ok-clause-names
-returns-in-Ok-clause-names g c = verdicts_named c.args.graph.now c.args.script.now _ c.verdicts_in.result c.verdicts_in.ensures.reads
-
-pub returns-in-Ok-clause-many : goal.returns-in-Ok-clause-many
-returns-in-Ok-clause-many g c = verdicts_many c.args.graph.now c.args.script.now _ c.verdicts_in.result c.verdicts_in.ensures.reads
-
-pub returns-in-Ok-clause-unread : goal.returns-in-Ok-clause-unread
-returns-in-Ok-clause-unread g c = verdicts_not_unread c.args.graph.now c.args.script.now _ _ c.verdicts_in.result c.verdicts_in.ensures.reads
-
-pub returns-in-Ok-clause-no_write : goal.returns-in-Ok-clause-no_write
-returns-in-Ok-clause-no_write g c = verdicts_not_write c.args.graph.now c.args.script.now _ c.verdicts_in.result c.verdicts_in.ensures.reads
-
-pub returns-in-Err-clause-gives : goal.returns-in-Err-clause-gives
-returns-in-Err-clause-gives g c =
-    if_some_weaker (g.F.Files.seen c.args.files.now).held _ _ (λ h reads. no_verdicts_file c.in-Err.input reads) c.in-Err.ensures.reads
+pub returns-in-Err-clause-fetches : goal.returns-in-Err-clause-fetches
+returns-in-Err-clause-fetches g c =
+    let name = c.args.names.now.verdicts.now in
+    lost_with c.in-Err.ensures.fetches (λ h lost. text_lost (VerdictsIn c.args.graph.now c.args.script.now name) name most_rows_bytes h _ _ _ lost)

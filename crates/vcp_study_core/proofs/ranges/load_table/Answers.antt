@@ -1,19 +1,45 @@
-use Rattle.vcp_study_core.specs.RangesReach.{IsTableOf, NotTable}
-use Rattle.vcp_study_core.proofs.Reaching.{if_some_weaker}
-use Rattle.vcp_study_core.proofs.RangesReaching.{of_read, not_read, is_read}
+use Rattle.std.proofs.Common.{List, refl, arith}
+use Rattle.range_walk.specs.declared.range.Range.{Range}
+use Rattle.vcp_base.specs.Limits.{most_source_bytes}
+use Rattle.vcp_inputs.specs.Files.{Loads}
+use Rattle.vcp_inputs.specs.RowsRead.{graph_columns}
+use Rattle.vcp_inputs.specs.declared.refusal.NoInput.TheVariants as input
+use Rattle.vcp_study_core.specs.FromFiles.{got, ends_by, input_answer}
+use Rattle.vcp_study_core.specs.Parts.{NotTable, TellsRanges}
+use Rattle.vcp_study_core.proofs.Facts.{if_some_always}
+use Rattle.vcp_study_core.proofs.Carrying.{lost_with, made_of, not_loaded}
+use Rattle.vcp_study_core.proofs.Tables.{taken, unloaded, untaken, untaken_quiet}
 use Rattle.vcp_study_core.proofs.ranges.load_table.Goals as goal
 
-pub returns-in-Ok-clause-loads : goal.returns-in-Ok-clause-loads
-returns-in-Ok-clause-loads g c =
-    let columns = c.args.columns.now in
-    if_some_weaker (g.F.Files.seen c.args.files.now).held _ _
-    (λ h reads. of_read (λ text inputs. IsTableOf columns text inputs.items) (NotTable columns) h c.args.name.now _ _ _ c.in-Ok.text reads c.table_in.result
-    (rw c.bytes.ensures at c.table_in.ensures.ok) (rw c.bytes.ensures at c.table_in.ensures.err)) c.in-Ok.ensures.reads
+pub returns-in-Err : goal.returns-in-Err
+returns-in-Err g c end =
+    let columns = graph_columns c.args.image.now.graph in
+    not_loaded (λ h b n r. Loads (TellsRanges columns) (NotTable columns) h c.args.name.now most_source_bytes b n r) c.args.name.now _ _ input.Memory
+    (if_some_always _ _ (λ h. tt)) (λ e. cc) refl (omega arith) (omega arith)
 
-pub returns-in-Ok-clause-unread : goal.returns-in-Ok-clause-unread
-returns-in-Ok-clause-unread g c e = absurd (is_read _ c.table_in.result c.table_in.ensures.err e)
+pub returns-in-Err-bytes_under : goal.returns-in-Err-bytes_under
+returns-in-Err-bytes_under g c end =
+    let columns = graph_columns c.args.image.now.graph in
+    lost_with c.in-Err-bytes_under.ensures.fetches
+    (λ h lost. unloaded (TellsRanges columns) (NotTable columns) h c.args.name.now most_source_bytes _ _ _ lost)
 
-pub returns-in-Err-clause-loads : goal.returns-in-Err-clause-loads
-returns-in-Err-clause-loads g c =
-    if_some_weaker (g.F.Files.seen c.args.files.now).held _ _
-    (λ h reads. not_read (NotTable c.args.columns.now) h c.args.name.now _ _ _ c.in-Err.why reads) c.in-Err.ensures.reads
+pub returns-in-Ok-table_in : goal.returns-in-Ok-table_in
+returns-in-Ok-table_in g c end =
+    let before = g.F.Files.seen c.args.files.now in
+    let after = g.F.Files.seen c.bytes_under.new.files in
+    let columns = graph_columns c.args.image.now.graph in
+    let is = rw (c.bytes.ensures, c.in-Ok.ensures.columns) at c.in-Ok-table_in.ensures.ok in
+    made_of (got c.in-Ok-table_in.inputs.items) c.in-Ok-bytes_under.ensures.fetches tt
+    (λ h reads. taken (TellsRanges columns) (NotTable columns) h c.args.name.now most_source_bytes before.broken after.broken c.in-Ok-bytes_under.text reads _ is)
+
+pub returns : goal.returns
+returns g c end =
+    let before = g.F.Files.seen c.args.files.now in
+    let after = g.F.Files.seen c.bytes_under.new.files in
+    let columns = graph_columns c.args.image.now.graph in
+    let why = rw (c.bytes.ensures, c.in-Ok.ensures.columns) at c.in-Err-table_in.ensures.err in
+    rw c.bytes-in-Err-table_in.ensures
+    (made_of (ends_by (input_answer c.args.name.now c.in-Err-table_in.input)) c.in-Ok-bytes_under.ensures.fetches
+    (untaken_quiet (List Range) (NotTable columns c.in-Ok-bytes_under.text) c.args.name.now c.in-Err-table_in.input why)
+    (λ h reads. untaken (TellsRanges columns) (NotTable columns) h c.args.name.now most_source_bytes before.broken after.broken c.in-Ok-bytes_under.text reads
+    c.in-Err-table_in.input why))

@@ -1,0 +1,44 @@
+-- Weights: an image whose graph has too many weights.
+use Rattle.std.proofs.Common.{◌≡◌, ◌⊎◌, ◌<◌, ◌≤◌, inl, inr, ℕ, Bool, List, refl}
+use Rattle.vcp_outside.specs.Seen.{SinkSeen}
+use Rattle.op_graph.specs.Lists.{Lists}
+use Rattle.weight_audit.specs.Audit.{Audit, IsAudit, most_weights, weights_up_to}
+use Rattle.graph_picture.specs.Arrangement.{Arrangement, IsArranged}
+use Rattle.graph_picture.specs.Elements.{IsGraphPicture, graph_text}
+use Rattle.graph_picture.specs.DotText.{IsDotOf, dot_text}
+use Rattle.vcp_inputs.specs.declared.images.Image.{Image}
+use Rattle.vcp_inputs.specs.declared.refusal.NoInput.{NoInput}
+use Rattle.vcp_inputs.specs.declared.refusal.NoInput.TheVariants as input
+use Rattle.vcp_inputs.specs.declared.refusal.Refusal.TheVariants as refusal
+use Rattle.vcp_inputs.specs.Lines.{input_text, input_status}
+use Rattle.vcp_study_core.specs.CarriedOut.{WritesSo, CarriedOut, done, cut, unmade}
+use Rattle.vcp_study_core.specs.FromFiles.{input_answer}
+use Rattle.vcp_study_core.specs.Texts.{WritesOne, Weighed, too_large, few}
+use Rattle.vcp_study_core.proofs.Carrying.{no_memory, refused}
+use Rattle.vcp_study_core.proofs.Facts.{appends-nothing}
+
+-- there are no weights of its graph: memory was wanted, or they are too many
+pub unweighed : (horizon : ℕ) (m : List ℕ) (i : Image) (Is : List ℕ → Bool → Type 0) (old : SinkSeen) (e : NoInput)
+    → (e ≡ input.Memory) ⊎ ((e ≡ input.Refused refusal.Audit) × (most_weights < weights_up_to i.graph horizon))
+    → WritesSo (Weighed horizon m i Is) old old (input_text m e) (input_status e)
+unweighed horizon m i Is old e (inl memory) = rw memory (no_memory (Weighed horizon m i Is) old old (appends-nothing old.written))
+unweighed horizon m i Is old e (inr (audit, more)) =
+    rw audit (refused (Weighed horizon m i Is) old old (input_answer m (input.Refused refusal.Audit)) (too_large more refl) refl refl (appends-nothing old.written))
+
+-- they are few enough, and a text is written
+pub weighed : (horizon : ℕ) (m : List ℕ) (i : Image) (Is : List ℕ → Bool → Type 0) (old new : SinkSeen) (line : List ℕ) (code : ℕ)
+    → weights_up_to i.graph horizon ≤ most_weights → WritesSo (WritesOne Is) old new line code → WritesSo (Weighed horizon m i Is) old new line code
+weighed horizon m i Is old new line code le w = record { reaches = by w.reaches; statuses = w.statuses; write = w.write }
+  where
+    by : CarriedOut (WritesOne Is) old new line code → CarriedOut (Weighed horizon m i Is) old new line code
+    by (done x is appends told same) = done x (few le is) appends told same
+    by (cut x is appends told same) = cut x (few le is) appends told same
+    by (unmade appends told same) = unmade appends told same
+
+-- the texts of a graph
+pub picture : (g : Lists) (horizon : ℕ) (a : Audit) → IsAudit g horizon a → (l : Arrangement) → IsArranged g l
+    → IsGraphPicture g horizon (graph_text g a horizon l)
+picture g horizon a is l arranged = record { audit = a; is = is; arrangement = l; arranged = arranged; told = refl }
+
+pub dot_of : (g : Lists) (horizon : ℕ) (a : Audit) → IsAudit g horizon a → IsDotOf g horizon (dot_text g a horizon)
+dot_of g horizon a is = record { audit = a; is = is; told = refl }

@@ -1,9 +1,0 @@
-use Rattle.std.proofs.Common.{refl}
-use Rattle.verdict_tables.specs.SumText.{sum_text}
-use Rattle.vcp_study_core.proofs.sum.TablesSumming.write.Goals as goal
-
-pub returns-in-Ok-clause-writes : goal.returns-in-Ok-clause-writes
-returns-in-Ok-clause-writes g c = (sum_text c.args.graph.now c.args.parts.now, refl, c.in-Ok.ensures.whole)
-
-pub returns-in-Err-clause-writes : goal.returns-in-Err-clause-writes
-returns-in-Err-clause-writes g c = (sum_text c.args.graph.now c.args.parts.now, refl, c.in-Err.ensures.part)

@@ -1,0 +1,122 @@
+//! Files and ROWS, with the answers with which a command ends for want of them.
+
+ghost use Rattle.std.specs.Prelude.{◌≡◌, ◌<◌, ◌≤◌, ◌^◌, All, IfSome, IfOk, OnOk, Err, length};
+ghost use Rattle.std.specs.Io.KnownBytes.{IsAtEnd};
+ghost use Rattle.vcp_base.specs.Limits.{most_cycles, most_names};
+ghost use Rattle.vcp_outside.specs.Counts.{Rose};
+ghost use Rattle.signature_table.specs.Signatures.{table_of};
+ghost use Rattle.vcp_words.specs.Forms.{rows_of, AreFew};
+ghost use Rattle.vcp_words.specs.Tables.{rows_name as rows_name_of};
+ghost use Rattle.vcp_inputs.specs.RowsOutcome.{rows_outcome};
+ghost use Rattle.vcp_inputs.specs.declared.refusal.NoInput.TheVariants as input;
+ghost use Rattle.vcp_study_core.specs.CarriedOut.{Fetches};
+ghost use Rattle.vcp_study_core.specs.FromFiles.{as_found};
+ghost use Rattle.vcp_study_core.specs.Parts.{ReadsRows, RowsFrom};
+ghost use Rattle.vcp_study_core.specs.Tasks.{BytesFrom, ImageFrom};
+
+use crate::fault::Fault;
+use input_rows::RowList;
+use std::alloc::Global;
+use vcp_base::{Columns, Text};
+use vcp_inputs::{Image, NoInput, graph_columns, load_image, load_rows, read_file, whole_rows};
+use vcp_outside::Files;
+use vcp_words::RowsWord;
+
+/// The bytes of the file under a name, which has at most so many.
+pub(crate) fn bytes_under<'a, F: Files>(
+    alloc: Global,
+    files: &mut F,
+    name: &'a Text,
+    limit: u64,
+) -> Result<Text, Fault<'a>>
+    requires { limit < 2 ^ 32 }
+    ensures fetches { Fetches (BytesFrom name.now limit) (F.seen files.old) (F.seen files.new) (as_found result) }
+    ensures within { IfOk result (λ text. length text ≤ limit) }
+{
+    match read_file(alloc, files, name, limit) {
+        Ok(text) => Ok(text),
+        Err(input) => Err(Fault::Input {
+            name: name.bytes(),
+            input,
+        }),
+    }
+}
+
+/// The image under a name.
+pub(crate) fn image_under<'a, F: Files>(
+    alloc: Global,
+    files: &mut F,
+    name: &'a Text,
+) -> Result<Image, Fault<'a>>
+    ensures fetches { Fetches (ImageFrom name.now) (F.seen files.old) (F.seen files.new) (as_found result) }
+    ensures table { IfOk result (λ i. i.table ≡ table_of i.table.seed i.table.step i.graph) }
+{
+    match load_image(alloc, files, name) {
+        Ok(image) => Ok(image),
+        Err(input) => Err(Fault::Input {
+            name: name.bytes(),
+            input,
+        }),
+    }
+}
+
+/// The name by which lines tell ROWS.
+fn rows_name<'a>(rows: RowsWord<'a>) -> &'a [u8]
+    ensures { result.now ≡ rows_name_of (rows_of rows.entry) }
+{
+    match rows {
+        RowsWord::File(name) => name.bytes(),
+        RowsWord::Cycles(_) => b"--cycles",
+    }
+}
+
+/// All rows of ROWS for these columns.
+fn all_rows<F: Files>(
+    alloc: Global,
+    rows: RowsWord<'_>,
+    columns: &Columns,
+    files: &mut F,
+) -> Result<RowList, NoInput>
+    requires few { AreFew (rows_of rows) }
+    requires narrow { length columns.now ≤ most_names }
+    ensures reads { IfSome (F.seen files.old).held
+        (λ h. ReadsRows (rows_outcome (rows_of rows.entry) h columns.now) (F.seen files.old).broken (F.seen files.new).broken result) }
+    ensures unread { result ≡ Err input.Unread → Rose (F.seen files.old).faults (F.seen files.new).faults }
+    ensures held { (F.seen files.new).held ≡ (F.seen files.old).held }
+    ensures later { (F.seen files.old).faults ≤ (F.seen files.new).faults }
+    ensures broken_later { (F.seen files.old).broken ≤ (F.seen files.new).broken }
+    ensures ended { OnOk result (IsAtEnd (F.seen files.old).rest → IsAtEnd (F.seen files.new).rest) }
+    ensures width { IfOk result (λ list. All (λ row. length row ≡ length columns.now) list) }
+    ensures few { IfOk result (λ list. length list ≤ most_cycles) }
+{
+    match load_rows(alloc, files, rows, columns) {
+        Ok(source) => whole_rows(alloc, &source, columns),
+        Err(why) => Err(why),
+    }
+}
+
+/// All rows of ROWS for an image's inputs.
+pub(crate) fn rows_for<'a, F: Files>(
+    alloc: Global,
+    image: &Image,
+    rows: RowsWord<'a>,
+    files: &mut F,
+) -> Result<RowList, Fault<'a>>
+    requires few { AreFew (rows_of rows) }
+    ensures fetches { IsAtEnd (F.seen files.old).rest →
+        Fetches (RowsFrom (rows_of rows.entry) image.now) (F.seen files.old) (F.seen files.new) (as_found result) }
+    ensures width { IfOk result (λ list. All (λ row. length row ≡ length image.now.graph.inputs) list) }
+    ensures few { IfOk result (λ list. length list ≤ most_cycles) }
+{
+    let columns = match graph_columns(alloc, &image.graph) {
+        Ok(columns) => columns,
+        Err(_) => return Err(Fault::Memory),
+    };
+    match all_rows(alloc, rows, &columns, files) {
+        Ok(list) => Ok(list),
+        Err(input) => Err(Fault::Input {
+            name: rows_name(rows),
+            input,
+        }),
+    }
+}

@@ -1,0 +1,83 @@
+//! The studies of an image, up to the line of their fault.
+
+ghost use Rattle.std.specs.Prelude.{◌≡◌};
+ghost use Rattle.std.specs.Io.KnownBytes.{IsAtEnd};
+ghost use Rattle.signature_table.specs.Signatures.{table_of};
+ghost use Rattle.vcp_study_core.specs.CarriedOut.{Studies, told_line, told_status};
+ghost use Rattle.vcp_study_core.specs.Forms.{IsSoundStudy, on, study as study_form};
+ghost use Rattle.vcp_study_core.specs.Tasks.{StudyOf, TaskOf};
+
+use crate::command::ImageStudy;
+use crate::cover::write_cover;
+use crate::fault::Fault;
+use crate::graph::{write_dot, write_graph};
+use crate::loading::image_under;
+use crate::parts::faults_of_image;
+use crate::ranges::ranges_of_image;
+use crate::script::script_of_image;
+use crate::sites::{run_sites_of_image, write_sites};
+use crate::sum::{apart_of_image, sum_of_image};
+use std::alloc::Global;
+use vcp_base::Text;
+use vcp_inputs::Image;
+use vcp_outside::{Files, Sink};
+
+/// Does what is to be done with an image that was read whole from the file under a name, and writes to `out` alone. Answers whether it found what it looks for.
+fn study_image<'a, F: Files, O: Sink>(
+    alloc: Global,
+    name: &'a Text,
+    image: &Image,
+    study: &ImageStudy<'a>,
+    files: &mut F,
+    out: &mut O,
+) -> Result<bool, Fault<'a>>
+    requires table { image.now.table ≡ table_of image.now.table.seed image.now.table.step image.now.graph }
+    requires sound { IsSoundStudy (study_form study.now) }
+    ensures { IsAtEnd (F.seen files.old).rest → Studies (StudyOf (study_form study.now) name.now image.now)
+        (F.seen files.old) (F.seen files.new) (O.seen out.old) (O.seen out.new) (told_line result) (told_status result) }
+{
+    match study {
+        ImageStudy::Graph { horizon } => write_graph(alloc, name, image, *horizon, out),
+        ImageStudy::Dot { horizon } => write_dot(alloc, name, image, *horizon, out),
+        ImageStudy::Ranges { all, inputs } => ranges_of_image(
+            alloc, image, *all, *inputs, files, out,
+        ),
+        ImageStudy::Cover { horizon, classes } => write_cover(
+            alloc, name, image, *horizon, *classes, out,
+        ),
+        ImageStudy::Sites {
+            cycles,
+            classes,
+            chosen,
+        } => write_sites(alloc, name, image, *classes, *cycles, chosen, out),
+        ImageStudy::RunSites {
+            rows,
+            class,
+            chosen,
+        } => run_sites_of_image(alloc, name, image, *rows, *class, chosen, files, out),
+        ImageStudy::Sum { parts } => sum_of_image(alloc, image, parts, files, out),
+        ImageStudy::SumApart { parts, rows } => apart_of_image(
+            alloc, image, *rows, parts, files, out,
+        ),
+        ImageStudy::Faults { names } => faults_of_image(alloc, image, names, files, out),
+        ImageStudy::Script { named } => script_of_image(alloc, image, named, files, out),
+    }
+}
+
+/// Reads the image under a name whole, takes it through its refusals, and does with it what is to be done. Answers whether it found what it looks for.
+pub(crate) fn image_command<'a, F: Files, O: Sink>(
+    alloc: Global,
+    name: &'a Text,
+    study: &ImageStudy<'a>,
+    files: &mut F,
+    out: &mut O,
+) -> Result<bool, Fault<'a>>
+    requires sound { IsSoundStudy (study_form study.now) }
+    ensures { Studies (TaskOf (on name.now (study_form study.now)))
+        (F.seen files.old) (F.seen files.new) (O.seen out.old) (O.seen out.new) (told_line result) (told_status result) }
+{
+    match image_under(alloc, files, name) {
+        Ok(image) => study_image(alloc, name, &image, study, files, out),
+        Err(why) => Err(why),
+    }
+}

@@ -1,0 +1,419 @@
+//! From words to a command.
+
+ghost use Rattle.std.specs.Prelude.{ℕ, List, ◌≡◌, ◌≤◌, IfSome, drop, length};
+ghost use Rattle.std.specs.Option.{option_map};
+ghost use Rattle.vcp_base.specs.Limits.{most_cycles, most_horizon};
+ghost use Rattle.vcp_study_core.specs.Forms.{form, form_of, study, study_of, graph, dot, horizon_form, ranges_form, all_form, inputs_form, cover_form, IsSound, IsSoundStudy};
+ghost use Rattle.vcp_study_core.specs.Forms.{class_word as class_word_of, faults_form, sites_form, behind_form, class_form, cycles_in as cycles_in_of, run_sites, names_of, next_of, behind_of, sum_with, sum_form, script_form, chosen_of, number_word, part_of};
+ghost use Rattle.vcp_study_core.specs.SumSteps.{as_next, as_behind, ended_of, IsFew, FewBehind};
+ghost use Rattle.verdict_tables.specs.Parts.{most_parts};
+ghost use Rattle.vcp_words.specs.Forms.{rows_of, AreFew};
+
+use crate::command::{ImageStudy, StudyCommand};
+use crate::part_words::{Named, PartWords};
+use fault_cover::classes_named as cover_classes_named;
+use fault_sites::{Chosen, Part, RunClass, classes_named, run_class_named};
+use vcp_base::{MOST_CYCLES, MOST_HORIZON, Text, Words, numeral};
+use vcp_words::{CommandWords, RowsWord};
+use verdict_tables::MOST_PARTS;
+
+/// The command that the words say; None where they are none of the forms.
+pub fn command_of(words: &Words) -> Option<StudyCommand<'_>>
+    ensures form { option_map form result ≡ form_of words.now }
+    ensures sound { IfSome result (λ command. IsSound (form command)) }
+{
+    let mut left = CommandWords::new(words);
+    let command = left.next()?.bytes();
+    let name = left.name()?;
+    if command == b"waves".as_slice() {
+        return if left.is_end() {
+            Some(StudyCommand::Waves { file: name })
+        } else {
+            None
+        };
+    }
+    let study = study_words(words, command, &mut left)?;
+    Some(StudyCommand::On { image: name, study })
+}
+
+/// What is done with an image, by a command's name and, of all words, those behind the image's name.
+fn study_words<'a>(
+    all: &'a Words,
+    command: &[u8],
+    words: &mut CommandWords<'a>,
+) -> Option<ImageStudy<'a>>
+    requires { words.old ≡ drop 2 all.now }
+    ensures form { option_map study result ≡ study_of command.now words.old }
+    ensures sound { IfSome result (λ s. IsSoundStudy (study s)) }
+{
+    if command == b"graph".as_slice() {
+        return graph_words(words);
+    }
+    if command == b"dot".as_slice() {
+        return dot_words(words);
+    }
+    if command == b"ranges".as_slice() {
+        return ranges_words(words);
+    }
+    if command == b"cover".as_slice() {
+        return cover_words(words);
+    }
+    if command == b"sites".as_slice() {
+        return sites_words(words);
+    }
+    if command == b"sum".as_slice() {
+        return sum_words(all, words);
+    }
+    if command == b"faults".as_slice() {
+        return faults_words(words);
+    }
+    if command == b"script".as_slice() {
+        return script_words(words);
+    }
+    None
+}
+
+/// The word of `graph`.
+fn graph_words<'a>(words: &mut CommandWords<'a>) -> Option<ImageStudy<'a>>
+    ensures form { option_map study result ≡ horizon_form graph words.old }
+    ensures sound { IfSome result (λ s. IsSoundStudy (study s)) }
+{
+    let horizon = words.number(0, MOST_HORIZON)?;
+    if words.is_end() {
+        Some(ImageStudy::Graph { horizon })
+    } else {
+        None
+    }
+}
+
+/// The word of `dot`.
+fn dot_words<'a>(words: &mut CommandWords<'a>) -> Option<ImageStudy<'a>>
+    ensures form { option_map study result ≡ horizon_form dot words.old }
+    ensures sound { IfSome result (λ s. IsSoundStudy (study s)) }
+{
+    let horizon = words.number(0, MOST_HORIZON)?;
+    if words.is_end() {
+        Some(ImageStudy::Dot { horizon })
+    } else {
+        None
+    }
+}
+
+/// Of `ranges`, behind `--all`, where that is said: `--inputs` and FILE.
+fn inputs_words<'a>(all: bool, word: &Text, words: &mut CommandWords<'a>) -> Option<ImageStudy<'a>>
+    ensures form { option_map study result ≡ inputs_form all word.now words.old }
+    ensures sound { IfSome result (λ s. IsSoundStudy (study s)) }
+{
+    if word.bytes() != b"--inputs".as_slice() {
+        return None;
+    }
+    let file = words.name()?;
+    if !words.is_end() {
+        return None;
+    }
+    Some(ImageStudy::Ranges {
+        all,
+        inputs: Some(file),
+    })
+}
+
+/// Behind `--all`.
+fn all_words<'a>(words: &mut CommandWords<'a>) -> Option<ImageStudy<'a>>
+    ensures form { option_map study result ≡ all_form words.old }
+    ensures sound { IfSome result (λ s. IsSoundStudy (study s)) }
+{
+    match words.next() {
+        Some(word) => inputs_words(true, word, words),
+        None => Some(ImageStudy::Ranges {
+            all: true,
+            inputs: None,
+        }),
+    }
+}
+
+/// The words of `ranges`.
+fn ranges_words<'a>(words: &mut CommandWords<'a>) -> Option<ImageStudy<'a>>
+    ensures form { option_map study result ≡ ranges_form words.old }
+    ensures sound { IfSome result (λ s. IsSoundStudy (study s)) }
+{
+    match words.next() {
+        Some(word) => if word.bytes() == b"--all".as_slice() {
+            all_words(words)
+        } else {
+            inputs_words(false, word, words)
+        },
+        None => Some(ImageStudy::Ranges {
+            all: false,
+            inputs: None,
+        }),
+    }
+}
+
+/// Of `cover`, CLASS behind HORIZON.
+fn class_word<'a>(horizon: u32, words: &mut CommandWords<'a>) -> Option<ImageStudy<'a>>
+    requires { horizon ≤ most_horizon }
+    ensures form { option_map study result ≡ class_word_of horizon words.old }
+    ensures sound { IfSome result (λ s. IsSoundStudy (study s)) }
+{
+    let word = words.next()?;
+    let classes = cover_classes_named(word.bytes())?;
+    if !words.is_end() {
+        return None;
+    }
+    Some(ImageStudy::Cover { horizon, classes })
+}
+
+/// The words of `cover`: HORIZON and CLASS.
+fn cover_words<'a>(words: &mut CommandWords<'a>) -> Option<ImageStudy<'a>>
+    ensures form { option_map study result ≡ cover_form words.old }
+    ensures sound { IfSome result (λ s. IsSoundStudy (study s)) }
+{
+    let horizon = words.number(0, MOST_HORIZON)?;
+    class_word(horizon, words)
+}
+
+/// Whether only the number is wanted: `--count` says so.
+fn number_chosen(word: &Text) -> Option<Chosen>
+    ensures { result ≡ number_word word.now }
+{
+    if word.bytes() == b"--count".as_slice() {
+        Some(Chosen::Number)
+    } else {
+        None
+    }
+}
+
+/// A part: how many sites stand before it, FROM, and the most that it has, COUNT.
+fn part_chosen(from: &Text, count: &Text) -> Option<Chosen>
+    ensures { result ≡ part_of from.now count.now }
+{
+    let skip = numeral(from.bytes())?;
+    let left = numeral(count.bytes())?;
+    Some(Chosen::Part(Part { skip, left }))
+}
+
+/// What is written of the sites: without more words the script of all.
+fn chosen_words(words: &mut CommandWords<'_>) -> Option<Chosen>
+    ensures { result ≡ chosen_of words.old }
+{
+    match words.next() {
+        None => Some(Chosen::All),
+        Some(first) => match words.next() {
+            None => number_chosen(first),
+            Some(second) => if words.is_end() {
+                part_chosen(first, second)
+            } else {
+                None
+            },
+        },
+    }
+}
+
+/// CYCLES, where a file's name may stand too.
+fn cycles_in(rows: RowsWord<'_>) -> Option<u32>
+    ensures cycles { result ≡ cycles_in_of (rows_of rows.entry) }
+    ensures few { IfSome result (λ n. n ≤ most_cycles) }
+{
+    match rows {
+        RowsWord::File(word) => {
+            let cycles = numeral(word.bytes())?;
+            if 1 <= cycles && cycles <= MOST_CYCLES as u64 {
+                Some(cycles as u32)
+            } else {
+                None
+            }
+        }
+        RowsWord::Cycles(_) => None,
+    }
+}
+
+/// CYCLES, CLASS, and which of the sites.
+fn class_words<'a>(
+    rows: RowsWord<'a>,
+    class: &Text,
+    words: &mut CommandWords<'a>,
+) -> Option<ImageStudy<'a>>
+    ensures form { option_map study result ≡ class_form (rows_of rows.entry) class.now words.old }
+    ensures sound { IfSome result (λ s. IsSoundStudy (study s)) }
+{
+    let cycles = cycles_in(rows)?;
+    let classes = classes_named(class.bytes())?;
+    let chosen = chosen_words(words)?;
+    Some(ImageStudy::Sites {
+        cycles,
+        classes,
+        chosen,
+    })
+}
+
+/// Which of the sites that the words of a run decide.
+fn run_words<'a>(
+    rows: RowsWord<'a>,
+    class: RunClass,
+    words: &mut CommandWords<'a>,
+) -> Option<ImageStudy<'a>>
+    requires { AreFew (rows_of rows) }
+    ensures form { option_map study result ≡ option_map (run_sites (rows_of rows.entry) class) (chosen_of words.old) }
+    ensures sound { IfSome result (λ s. IsSoundStudy (study s)) }
+{
+    let chosen = chosen_words(words)?;
+    Some(ImageStudy::RunSites {
+        rows,
+        class,
+        chosen,
+    })
+}
+
+/// Of `sites`, what is behind ROWS, or behind CYCLES: CLASS, and which of the sites.
+fn behind_words<'a>(rows: RowsWord<'a>, words: &mut CommandWords<'a>) -> Option<ImageStudy<'a>>
+    requires { AreFew (rows_of rows) }
+    ensures form { option_map study result ≡ behind_form (rows_of rows.entry) words.old }
+    ensures sound { IfSome result (λ s. IsSoundStudy (study s)) }
+{
+    let word = words.next()?;
+    match run_class_named(word.bytes()) {
+        Some(class) => run_words(rows, class, words),
+        None => class_words(rows, word, words),
+    }
+}
+
+/// The words of `sites`.
+fn sites_words<'a>(words: &mut CommandWords<'a>) -> Option<ImageStudy<'a>>
+    ensures form { option_map study result ≡ sites_form words.old }
+    ensures sound { IfSome result (λ s. IsSoundStudy (study s)) }
+{
+    let rows = words.rows()?;
+    behind_words(rows, words)
+}
+
+/// What stands next behind M of `sum`.
+#[derive(Clone, Copy)]
+pub(crate) enum NextWord<'a> {
+    /// No more words.
+    NoMore,
+    /// The names of a part's files, which were taken.
+    Part,
+    /// ROWS, as the last word.
+    Rows(RowsWord<'a>),
+}
+
+/// All that stands behind M of `sum`.
+#[derive(Clone, Copy)]
+pub(crate) struct BehindWords<'a> {
+    /// How many parts.
+    pub parts: u32,
+    /// ROWS, where it is there.
+    pub rows: Option<RowsWord<'a>>,
+}
+
+/// Takes what stands next behind M: the names of a part's files, or ROWS as the last word.
+fn next_behind<'a>(words: &mut CommandWords<'a>) -> Option<NextWord<'a>>
+    ensures next { option_map (as_next words.new) result ≡ next_of words.old }
+    ensures few { IfSome result IsFew }
+{
+    if words.is_end() {
+        return Some(NextWord::NoMore);
+    }
+    let rows = words.rows()?;
+    if words.is_end() {
+        return Some(NextWord::Rows(rows));
+    }
+    match rows {
+        RowsWord::File(_) => {
+            words.name()?;
+            Some(NextWord::Part)
+        }
+        RowsWord::Cycles(_) => None,
+    }
+}
+
+/// All that stands behind M, which is so many parts and then this, unless it is one more part.
+fn ended<'a>(parts: u32, next: NextWord<'a>) -> Option<BehindWords<'a>>
+    requires { IsFew next }
+    ensures behind { (words : List (List ℕ)) → option_map as_behind result ≡ ended_of parts (as_next words next.entry) }
+    ensures parts { IfSome result (λ d. d.parts ≡ parts) }
+    ensures few { IfSome result FewBehind }
+{
+    match next {
+        NextWord::NoMore => Some(BehindWords { parts, rows: None }),
+        NextWord::Part => None,
+        NextWord::Rows(rows) => Some(BehindWords {
+            parts,
+            rows: Some(rows),
+        }),
+    }
+}
+
+/// Takes all that stands behind M.
+fn behind_image<'a>(words: &mut CommandWords<'a>) -> Option<BehindWords<'a>>
+    ensures behind { option_map as_behind result ≡ behind_of most_parts words.old }
+    ensures parts { IfSome result (λ d. d.parts ≤ most_parts) }
+    ensures few { IfSome result FewBehind }
+{
+    'parts: for i in 0..MOST_PARTS {
+        let next = next_behind(words)?;
+        match ended(i, next) {
+            Some(behind) => return Some(behind),
+            None => {}
+        }
+    }
+    let last = next_behind(words)?;
+    ended(MOST_PARTS, last)
+}
+
+/// What is done with these parts, with ROWS or without.
+fn sum_of<'a>(parts: PartWords<'a>, rows: Option<RowsWord<'a>>) -> ImageStudy<'a>
+    requires few { IfSome rows (λ r. AreFew (rows_of r)) }
+    requires parts { length (names_of parts) ≤ most_parts }
+    ensures form { study result ≡ sum_with (names_of parts.entry) (option_map rows_of rows.entry) }
+    ensures sound { IsSoundStudy (study result) }
+{
+    match rows {
+        None => ImageStudy::Sum { parts },
+        Some(rows) => ImageStudy::SumApart { parts, rows },
+    }
+}
+
+/// The words of `sum`, of all these words those behind M: the names of parts, and ROWS where one word more is there.
+fn sum_words<'a>(all: &'a Words, words: &mut CommandWords<'a>) -> Option<ImageStudy<'a>>
+    requires { words.old ≡ drop 2 all.now }
+    ensures form { option_map study result ≡ sum_form words.old }
+    ensures sound { IfSome result (λ s. IsSoundStudy (study s)) }
+{
+    let behind = behind_image(words)?;
+    if behind.parts == 0 {
+        return None;
+    }
+    let parts = PartWords {
+        words: all,
+        at: 2,
+        left: behind.parts,
+    };
+    Some(sum_of(parts, behind.rows))
+}
+
+/// The words of `faults`: SCRIPT and VERDICTS.
+fn faults_words<'a>(words: &mut CommandWords<'a>) -> Option<ImageStudy<'a>>
+    ensures form { option_map study result ≡ faults_form words.old }
+    ensures sound { IfSome result (λ s. IsSoundStudy (study s)) }
+{
+    let script = words.name()?;
+    let verdicts = words.name()?;
+    if !words.is_end() {
+        return None;
+    }
+    let names = Named { script, verdicts };
+    Some(ImageStudy::Faults { names })
+}
+
+/// The word of `script`: NAMED.
+fn script_words<'a>(words: &mut CommandWords<'a>) -> Option<ImageStudy<'a>>
+    ensures form { option_map study result ≡ script_form words.old }
+    ensures sound { IfSome result (λ s. IsSoundStudy (study s)) }
+{
+    let named = words.name()?;
+    if !words.is_end() {
+        return None;
+    }
+    Some(ImageStudy::Script { named })
+}
