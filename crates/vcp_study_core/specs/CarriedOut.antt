@@ -1,4 +1,4 @@
--- CarriedOut: how far a command comes before the line of its fault, if there is one, is told, by that line and the status that it has; and what it keeps.
+-- CarriedOut: how far a command comes before the line of its fault, if there is one, is reported, by that line and the status that it has; and what it keeps.
 use Rattle.std.specs.Prelude.{ℕ, ◌≡◌, ◌⊎◌, ◌≤◌, Bool, true, false, List, [], ◌∷◌, IfSome, Result, Ok, Err}
 use Rattle.std.specs.Io.KnownBytes.{Appends, IsAtEnd}
 use Rattle.vcp_outside.specs.Counts.{Rose}
@@ -53,7 +53,7 @@ abbrev pub EndsSo : {V : Type 0} → FilesSeen → FilesSeen → FromFiles V →
 EndsSo files after (got v) = IsAtEnd after.rest
 EndsSo files after (ends_by x) = IsLoss files after x
 
--- what a function promises that only reads files, by what they come to where it is told what they hold
+-- what a function promises that only reads files, by what they come to where it is reported what they hold
 pub record Fetches {V : Type 0} (Comes : Held → ℕ → ℕ → FromFiles V → Type 0) (files after : FilesSeen) (r : FromFiles V) : Type 0 where
   pub reads : IfSome files.held (λ h. Comes h files.broken after.broken r)
   pub ends : EndsSo files after r
@@ -61,7 +61,7 @@ pub record Fetches {V : Type 0} (Comes : Held → ℕ → ℕ → FromFiles V �
   pub later : files.faults ≤ after.faults
   pub broken_later : files.broken ≤ after.broken
 
--- What a function promises that reads files and writes: how far it comes where it is told what they hold; and whatever they tell, that they hold the same
+-- What a function promises that reads files and writes: how far it comes where it is reported what they hold; and whatever they tell, that they hold the same
 -- and nothing is unread where all is written; and that a file or a sink failed only where its count rose.
 pub record Studies (Is : Held → ℕ → ℕ → Answer → Type 0) (files after : FilesSeen) (old new : SinkSeen) (line : List ℕ) (code : ℕ) : Type 0 where
   pub reaches : IfSome files.held (λ h. CarriedOut (Is h files.broken after.broken) old new line code)

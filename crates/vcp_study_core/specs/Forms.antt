@@ -25,7 +25,7 @@ pub record PartNames : Type 0 where
   pub script : List ℕ
   pub verdicts : List ℕ
 
--- what is done with an image: HORIZON, whether all operations are told and FILE, CLASS of faults, CYCLES, CLASS and which of the sites, ROWS, CLASS and
+-- what is done with an image: HORIZON, whether all operations are reported and FILE, CLASS of faults, CYCLES, CLASS and which of the sites, ROWS, CLASS and
 -- which of the sites, the names of SCRIPT and VERDICTS, and NAMED
 pub data Study : Type 0 where
   graph : ℕ → Study
@@ -64,7 +64,7 @@ abbrev pub all_form : List (List ℕ) → Option Study
 all_form [] = Some (ranges true None)
 all_form (w ∷ rest) = inputs_form true w rest
 
--- all operations are told where `--all` is said, and then FILE may be said
+-- all operations are reported where `--all` is said, and then FILE may be said
 abbrev pub ranges_form : List (List ℕ) → Option Study
 ranges_form [] = Some (ranges false None)
 ranges_form (w ∷ rest) = cond (bytes_eq w (codes "--all")) (all_form rest) (inputs_form false w rest)
@@ -90,7 +90,7 @@ chosen_of [] = Some chosen.All
 chosen_of (w ∷ []) = number_word w
 chosen_of (w ∷ v ∷ rest) = cond (is_end rest) (part_of w v) None
 
--- CYCLES, where a file's name may stand too
+-- CYCLES, where a file's name may be too
 abbrev pub cycles_in : Rows → Option ℕ
 cycles_in (from_file w) = number_within 1 most_cycles w
 cycles_in (from_cycles n) = None
@@ -114,7 +114,7 @@ sites_form words = option_and_then (λ r. behind_form r.0 r.1) (rows_and_rest wo
 
 -- ---- words of `sum` behind M: SCRIPT and VERDICTS of each part, and ROWS where one word more is there
 
--- what stands next behind M: no more words, a part and the words behind it, or ROWS as the last word
+-- what is next behind M: no more words, a part and the words behind it, or ROWS as the last word
 pub data SumWord : Type 0 where
   no_more : SumWord
   a_part : List (List ℕ) → SumWord
@@ -132,7 +132,7 @@ abbrev pub next_of : List (List ℕ) → Option SumWord
 next_of [] = Some no_more
 next_of (w ∷ words) = option_and_then next_by (rows_and_rest (w ∷ words))
 
--- how many parts stand behind M, and ROWS where it is there
+-- how many parts are behind M, and ROWS where it is there
 pub record Behind : Type 0 where
   pub parts : ℕ
   pub rows : Option Rows

@@ -24,7 +24,7 @@ run_text name (fault.Rest number) = place_text name number (codes "V3 Rest")
 run_text name fault.Cut = name ++ codes " V4 Cut\n"
 run_text name fault.Memory = memory_text
 
--- of a text that doesn't tell the verdicts of a script, by its first refused line
+-- of a text that doesn't have the verdicts of a script, by its first refused line
 abbrev pub verdicts_text : List ℕ → VerdictsFault → List ℕ
 verdicts_text name (verdicts.Group line) = place_text name line (codes "U2 Group")
 verdicts_text name (verdicts.Verdict line) = place_text name line (codes "U3 Verdict")

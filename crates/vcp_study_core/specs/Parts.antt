@@ -53,7 +53,7 @@ pub data ScriptIn (i : Image) (name text : List ℕ) : FromFiles (List (List Fau
       → ScriptIn i name text (ends_by (input_answer name (input.Refused (refusal.Script f))))
   script_unmade : ScriptIn i name text (ends_by memory_answer)
 
--- a text tells these verdicts of the groups: one of each, and they name outputs and operations that the graph has
+-- a text has these verdicts of the groups: one of each, and they name outputs and operations that the graph has
 pub record AreTold (g : Lists) (groups : List (List FaultOf)) (text : List ℕ) (vs : List Verdict) : Type 0 where
   pub read : verdicts_in g groups text ≡ Ok vs
   pub names : All (Names (length g.outputs) (length g.operations)) vs

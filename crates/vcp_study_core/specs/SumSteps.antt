@@ -7,7 +7,7 @@ use Rattle.vcp_study_core.specs.declared.words.BehindWords.{BehindWords}
 use Rattle.vcp_study_core.specs.declared.words.NextWord.{NextWord}
 use Rattle.vcp_study_core.specs.declared.words.NextWord.TheVariants as word
 
--- what stands next, before these words
+-- what is next, before these words
 abbrev pub as_next : List (List ℕ) → NextWord → SumWord
 as_next words word.NoMore = no_more
 as_next words word.Part = a_part words
@@ -16,7 +16,7 @@ as_next words (word.Rows r) = the_rows (rows_of r)
 abbrev pub as_behind : BehindWords → Behind
 as_behind d = record { parts = d.parts; rows = option_map rows_of d.rows }
 
--- so many parts, and what stands next, unless it is a part
+-- so many parts, and what is next, unless it is a part
 abbrev pub ended_of : ℕ → SumWord → Option Behind
 ended_of n no_more = Some (record { parts = n; rows = None })
 ended_of n (a_part words) = None

@@ -35,29 +35,29 @@ abbrev pub StudyOf : Study → List ℕ → Image → Held → ℕ → ℕ → A
 -- too large for an audit.
 StudyOf (graph horizon) m i held b n x = Weighed horizon m i (Draws (IsGraphPicture i.graph horizon)) x
 StudyOf (dot horizon) m i held b n x = Weighed horizon m i (Draws (IsDotOf i.graph horizon)) x
--- `ranges M` writes what is told of the operations of the image's graph, and finds whether one is named that may stop; with `--inputs FILE` on rows whose
--- inputs are in the ranges that the table FILE tells.
+-- `ranges M` writes what is reported of the operations of the image's graph, and finds whether one is named that may stop; with `--inputs FILE` on rows whose
+-- inputs are in the ranges that the table FILE has.
 StudyOf (ranges all None) m i held b n x = WritesOne (IsRanged i.graph [] all) x
 StudyOf (ranges all (Some name)) m i held b n x = Onward (RangesFrom name i held) (λ inputs k n. WritesOne (IsRanged i.graph inputs all)) b n x
 -- `cover M HORIZON CLASS` writes what becomes, in every run, of each fault of the class at the image's operations: each fault is counted once under what is
--- told of it, each that shows has its line, and each other that is neither `refused` nor `nothing` is in its operation's line. It finds whether there are
+-- reported of it, each that shows has its line, and each other that is neither `refused` nor `nothing` is in its operation's line. It finds whether there are
 -- any of those. M is refused where its graph is too large for an audit.
 StudyOf (cover horizon classes) m i held b n x = Weighed horizon m i (IsCover i horizon classes) x
 -- `sites M CYCLES CLASS` and `sites M ROWS CLASS` write the script of the class's sites in the image's graph, and of those in its run over all rows, or
 -- up to its stop: all, or a part of them, behind a remark with the image's digest. Read back, it is exactly these faults, a group each, in their order, of
--- which none stands twice. Or their number is written. M is refused where the script would have more than 10,000 faults.
+-- which none comes twice. Or their number is written. M is refused where the script would have more than 10,000 faults.
 StudyOf (sites cycles classes which) m i held b n x =
     Distinct (sites_of classes i.graph cycles) × Chooses m i (classes_name classes) (sites_of classes i.graph cycles) which x
 StudyOf (run_sites rows class which) m i held b n x =
     Onward (RowsFrom rows i held) (λ list k n. Chooses m i (run_class_name class) (run_sites_of class i.table i.graph list) which) b n x
--- `sum M SCRIPT VERDICTS ..` writes the tables of the verdicts that each VERDICTS tells of the groups of its SCRIPT over the image, one count over all groups
+-- `sum M SCRIPT VERDICTS ..` writes the tables of the verdicts that each VERDICTS has of the groups of its SCRIPT over the image, one count over all groups
 -- of all these parts, in order, and finds whether one of the verdicts is `wrong` or `ran-on`, so that a fault is unseen. With ROWS there is one table more,
--- in which the groups whose verdict is `same` are told apart by their runs over all rows: never reached, died out, or standing in a cell.
+-- in which the groups whose verdict is `same` are distinguished by their runs over all rows: never reached, died out, or in a cell at the end.
 StudyOf (sum names) m i held b n x = Onward (PartsFrom i names held) (λ parts k n x. x ≡ sums_up parts (sum_text i.graph parts)) b n x
 StudyOf (sum_apart names rows) m i held b n x =
     Onward (RowsFrom rows i held)
     (λ list. Onward (PartsFrom i names held) (λ parts k n x. x ≡ sums_up parts (sum_apart_text i.graph parts (endings_over i.table i.graph list parts)))) b n x
--- `faults M SCRIPT VERDICTS` writes the picture of the image's graph, each operation in the colour of the worst of the verdicts that VERDICTS tells of the
+-- `faults M SCRIPT VERDICTS` writes the picture of the image's graph, each operation in the colour of the worst of the verdicts that VERDICTS has of the
 -- groups of SCRIPT that have a fault there, and finds whether a fault is unseen.
 StudyOf (faults names) m i held b n x = Onward (PartFrom i names held) (λ p k n. ShowsPart i.graph p) b n x
 -- `script M NAMED` writes the script of the lines of NAMED, which are all taken over the image. Read back, it is the faults that these lines name, and it
@@ -66,7 +66,7 @@ StudyOf (script_named name) m i held b n x = Onward (BytesFrom name most_named_b
 
 -- ---- all commands
 
--- `waves FILE` writes the timing diagram of the run that FILE tells. All others end where M is lacking or no image, with its line; then, for want of the
+-- `waves FILE` writes the timing diagram of the run that FILE has. All others end where M is lacking or no image, with its line; then, for want of the
 -- first of their other files of which there is nothing.
 abbrev pub TaskOf : Form → Held → ℕ → ℕ → Answer → Type 0
 TaskOf (waves file) held b n x = Onward (BytesFrom file most_rows_bytes held) (λ text k n. Waves file text) b n x

@@ -16,7 +16,7 @@ IsNoRun name text (fault.Refused n (why.Run f)) = (n.now ≡ name) × (f ≢ run
 IsNoRun name text fault.Memory = Unit {0}
 IsNoRun name text _ = ⊥
 
--- it doesn't tell the verdicts of these groups
+-- it doesn't have the verdicts of these groups
 abbrev pub IsUntold : Lists → List (List FaultOf) → List ℕ → List ℕ → Fault → Type 0
 IsUntold g groups name text (fault.Refused n (why.Verdicts f)) = (n.now ≡ name) × (f ≢ verdicts_fault.Memory) × (verdicts_in g groups text ≡ Err f)
 IsUntold g groups name text fault.Memory = Unit {0}

@@ -54,7 +54,7 @@ pub data Weighed (horizon : ℕ) (m : List ℕ) (i : Image) (Is : List ℕ → B
 
 -- ---- runs
 
--- the timing diagram of the run that the text of FILE tells, or its first fault as one
+-- the timing diagram of the run that the text of FILE has, or its first fault as one
 pub data Waves (name text : List ℕ) (x : Answer) : Type 0 where
   no_run : (f : RunTextFault) → f ≢ run_fault.Memory → run_of text ≡ Err f → x ≡ own_answer name (why.Run f) → Waves name text x
   waves : (recorded : Recorded) → run_of text ≡ Ok recorded → WritesOne (Draws (IsPictureOf recorded)) x → Waves name text x
@@ -79,8 +79,9 @@ pub record IsRanged (g : Lists) (inputs : List Range) (all : Bool) (text : List 
 
 -- ---- faults
 
--- A text is the cover of an image's faults of these classes, by operations that may stop of which no others do; and it is found whether a fault is neither
--- told to be refused nor to come to nothing. What is told is certain in every run over rows that fit: of a fault at one operation, and of a number that is
+-- A text is the cover of an image's faults of these classes, by operations that may stop of which no others do; and it is found
+-- whether a fault is reported neither as refused nor as nothing. What is reported is certain in every run over rows that fit: of a
+-- fault at one operation, and of a number that is
 -- added to the later readings of a word, so of each class.
 pub record IsCover (i : Image) (horizon : ℕ) (classes : CoverClasses) (text : List ℕ) (found : Bool) : Type 0 where
   pub stops : List Stops

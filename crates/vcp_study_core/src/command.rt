@@ -38,7 +38,7 @@ pub enum ImageStudy<'a> {
     },
     /// `ranges M`, with `--all` and then `--inputs FILE` behind it or without: which operations of its graph may stop.
     Ranges {
-        /// Whether the range of each operation is told too.
+        /// Whether the range of each operation is reported too.
         all: bool,
         /// The name of the table of the inputs' ranges.
         inputs: Option<&'a Text>,
@@ -73,7 +73,7 @@ pub enum ImageStudy<'a> {
         /// The names of the scripts, and of what was printed on each.
         parts: PartWords<'a>,
     },
-    /// `sum M SCRIPT VERDICTS .. ROWS`: the same with those that are `same` told apart by runs over ROWS.
+    /// `sum M SCRIPT VERDICTS .. ROWS`: the same with those that are `same` distinguished by runs over ROWS.
     SumApart {
         /// The names of the scripts, and of what was printed on each.
         parts: PartWords<'a>,

@@ -23,7 +23,7 @@ use vcp_inputs::{Image, NoInput, Refusal};
 use vcp_outside::Sink;
 use weight_audit::AuditFault;
 
-/// What the faults of an image are told by, unless there are too many weights.
+/// What the faults of an image are judged by, unless there are too many weights.
 fn surveyed(alloc: Global, image: &Image, horizon: u32) -> Result<Survey, NoInput>
     requires table { image.now.table ≡ table_of image.now.table.seed image.now.table.step image.now.graph }
     requires horizon { horizon ≤ most_horizon }
@@ -40,7 +40,7 @@ fn surveyed(alloc: Global, image: &Image, horizon: u32) -> Result<Survey, NoInpu
     }
 }
 
-/// Writes the cover of a surveyed image, with the digits of its digest; whether a fault is neither told to be refused nor to come to nothing.
+/// Writes the cover of a surveyed image, with the digits of its digest; whether a fault is reported neither as refused nor as nothing.
 fn write_surveyed<'a, O: Sink>(
     alloc: Global,
     image: &Image,
@@ -72,7 +72,7 @@ fn write_surveyed<'a, O: Sink>(
     }
 }
 
-/// Writes the cover of an image, which has this name; whether a fault is neither told to be refused nor to come to nothing.
+/// Writes the cover of an image, which has this name; whether a fault is reported neither as refused nor as nothing.
 pub(crate) fn write_cover<'a, O: Sink>(
     alloc: Global,
     name: &'a Text,

@@ -41,7 +41,7 @@ pub enum StudyRefusal {
     Sites,
     /// The script names another image.
     Image,
-    /// The text doesn't tell the verdicts of the script.
+    /// The text doesn't have the verdicts of the script.
     Verdicts(VerdictsFault),
     /// A line that names faults is refused.
     Named(Refused),

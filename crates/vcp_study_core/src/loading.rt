@@ -60,7 +60,7 @@ pub(crate) fn image_under<'a, F: Files>(
     }
 }
 
-/// The name by which lines tell ROWS.
+/// The name by which lines name ROWS.
 fn rows_name<'a>(rows: RowsWord<'a>) -> &'a [u8]
     ensures { result.now ≡ rows_name_of (rows_of rows.entry) }
 {

@@ -29,7 +29,7 @@ use vcp_base::{Columns, MOST_SOURCE_BYTES, Text};
 use vcp_inputs::{Image, NoInput, Refusal, graph_columns};
 use vcp_outside::{Files, Sink};
 
-/// What is told of the operations of a graph, on rows whose inputs are in these ranges. Where all are told, it is searched for closer ranges.
+/// What is reported of the operations of a graph, on rows whose inputs are in these ranges. Where all are reported, it is searched for closer ranges.
 fn audit_of<'a>(
     alloc: Global,
     graph: &Graph,
@@ -73,7 +73,7 @@ fn write_ranges<'a, O: Sink>(
     }
 }
 
-/// The ranges that a table's bytes tell of these inputs.
+/// The ranges that a table's bytes give for these inputs.
 fn table_in(alloc: Global, text: &[u8], columns: &Columns) -> Result<Vec<Range>, NoInput>
     requires narrow { length columns.now ≤ most_names }
     ensures ok { IfOk result (λ inputs. TellsRanges columns.now text.now inputs.items) }

@@ -61,7 +61,7 @@ pub(crate) fn sum_of_image<'a, F: Files, O: Sink>(
     }
 }
 
-/// Writes the tables of the verdicts of parts, in which those that are `same` are told apart by runs over rows; whether a fault is unseen.
+/// Writes the tables of the verdicts of parts, in which those that are `same` are distinguished by runs over rows; whether a fault is unseen.
 fn write_tables_apart<'a, O: Sink>(
     alloc: Global,
     image: &Image,
@@ -87,7 +87,7 @@ fn write_tables_apart<'a, O: Sink>(
     }
 }
 
-/// Reads the parts for an image, and writes the tables of their verdicts, told apart by runs over rows; whether a fault is unseen.
+/// Reads the parts for an image, and writes the tables of their verdicts, distinguished by runs over rows; whether a fault is unseen.
 fn apart_over<'a, F: Files, O: Sink>(
     alloc: Global,
     image: &Image,
@@ -111,7 +111,7 @@ fn apart_over<'a, F: Files, O: Sink>(
     }
 }
 
-/// Reads ROWS for an image, then the parts, and writes the tables of their verdicts, told apart by runs over ROWS; whether a fault is unseen.
+/// Reads ROWS for an image, then the parts, and writes the tables of their verdicts, distinguished by runs over ROWS; whether a fault is unseen.
 pub(crate) fn apart_of_image<'a, F: Files, O: Sink>(
     alloc: Global,
     image: &Image,

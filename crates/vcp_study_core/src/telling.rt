@@ -81,7 +81,7 @@ fn tell_no_run<E: Sink>(err: &mut E, name: &[u8], why: RunTextFault) -> Result<(
     }
 }
 
-/// Prints the line of a text that doesn't tell the verdicts of a script.
+/// Prints the line of a text that doesn't have the verdicts of a script.
 fn tell_no_verdicts<E: Sink>(err: &mut E, name: &[u8], why: VerdictsFault) -> Result<(), Failed>
     ensures { WritesTo (E.seen err.old) (E.seen err.new) (verdicts_text name.now why) result }
 {

@@ -59,7 +59,7 @@ pub fn vcp_study<F: Files, O: Sink, E: Sink>(
     }
 }
 
-/// Does a command and, where it ends by a fault, tells the fault's line.
+/// Does a command and, where it ends by a fault, prints the fault's line.
 fn serve<F: Files, O: Sink, E: Sink>(
     alloc: Global,
     command: &StudyCommand<'_>,

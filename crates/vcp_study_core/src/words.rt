@@ -183,7 +183,7 @@ fn number_chosen(word: &Text) -> Option<Chosen>
     }
 }
 
-/// A part: how many sites stand before it, FROM, and the most that it has, COUNT.
+/// A part: how many sites are before it, FROM, and the most that it has, COUNT.
 fn part_chosen(from: &Text, count: &Text) -> Option<Chosen>
     ensures { result ≡ part_of from.now count.now }
 {
@@ -209,7 +209,7 @@ fn chosen_words(words: &mut CommandWords<'_>) -> Option<Chosen>
     }
 }
 
-/// CYCLES, where a file's name may stand too.
+/// CYCLES, where a file's name may be too.
 fn cycles_in(rows: RowsWord<'_>) -> Option<u32>
     ensures cycles { result ≡ cycles_in_of (rows_of rows.entry) }
     ensures few { IfSome result (λ n. n ≤ most_cycles) }
@@ -286,7 +286,7 @@ fn sites_words<'a>(words: &mut CommandWords<'a>) -> Option<ImageStudy<'a>>
     behind_words(rows, words)
 }
 
-/// What stands next behind M of `sum`.
+/// What is next behind M of `sum`.
 #[derive(Clone, Copy)]
 pub(crate) enum NextWord<'a> {
     /// No more words.
@@ -297,7 +297,7 @@ pub(crate) enum NextWord<'a> {
     Rows(RowsWord<'a>),
 }
 
-/// All that stands behind M of `sum`.
+/// All that is behind M of `sum`.
 #[derive(Clone, Copy)]
 pub(crate) struct BehindWords<'a> {
     /// How many parts.
@@ -306,7 +306,7 @@ pub(crate) struct BehindWords<'a> {
     pub rows: Option<RowsWord<'a>>,
 }
 
-/// Takes what stands next behind M: the names of a part's files, or ROWS as the last word.
+/// Takes what is next behind M: the names of a part's files, or ROWS as the last word.
 fn next_behind<'a>(words: &mut CommandWords<'a>) -> Option<NextWord<'a>>
     ensures next { option_map (as_next words.new) result ≡ next_of words.old }
     ensures few { IfSome result IsFew }
@@ -327,7 +327,7 @@ fn next_behind<'a>(words: &mut CommandWords<'a>) -> Option<NextWord<'a>>
     }
 }
 
-/// All that stands behind M, which is so many parts and then this, unless it is one more part.
+/// All that is behind M, which is so many parts and then this, unless it is one more part.
 fn ended<'a>(parts: u32, next: NextWord<'a>) -> Option<BehindWords<'a>>
     requires { IsFew next }
     ensures behind { (words : List (List ℕ)) → option_map as_behind result ≡ ended_of parts (as_next words next.entry) }
@@ -344,7 +344,7 @@ fn ended<'a>(parts: u32, next: NextWord<'a>) -> Option<BehindWords<'a>>
     }
 }
 
-/// Takes all that stands behind M.
+/// Takes all that is behind M.
 fn behind_image<'a>(words: &mut CommandWords<'a>) -> Option<BehindWords<'a>>
     ensures behind { option_map as_behind result ≡ behind_of most_parts words.old }
     ensures parts { IfSome result (λ d. d.parts ≤ most_parts) }
