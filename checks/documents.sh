@@ -31,7 +31,7 @@ if command -v python3 >/dev/null 2>&1; then
     python3 "$here/foreign_proofs.py" || status=1
     python3 "$here/sections.py" || status=1
     python3 "$here/long_lines.py" --documents || status=1
-    python3 "$here/words.py" || status=1
+    python3 "$here/words.py" --all || status=1
     python3 "$here/commands.py" || status=1
 else
     echo "documents: names are not looked at, since python3 isn't there"
