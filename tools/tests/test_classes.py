@@ -74,7 +74,7 @@ class Programs(InFolder):
         number = len(list(late(read_image(image.read_bytes(), "m.img"), words_of(Program.found(), image, [str(self.folder / "r.csv")]))))
         self.assertRegex(printed, rf"\nfaults {number} same \d+ wrong \d+ ran-on \d+ refused \d+ stopped \d+\n\Z")
         for name in ("flips", "late"):
-            self.assertIn("are told by the words of one run", self.tool("campaign", "m.img", name, "--rows", "r.csv", "--rows", "r.csv", status=2))
+            self.assertIn("are made from the words of one run", self.tool("campaign", "m.img", name, "--rows", "r.csv", "--rows", "r.csv", status=2))
 
 
 if __name__ == "__main__":
