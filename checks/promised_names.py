@@ -322,7 +322,7 @@ def faults_of_families(crates):
             yield f"the definitions of `{found[4]}` have {wanted} lines, and not {found[2]}"
 
 
-EDITS = re.compile(r"(\d+) edits stand in\s+`must-fail/`(.*?)(\d+) others stand in\s+`checks/edits/`", re.S)
+EDITS = re.compile(r"(\d+) edits are in\s+`must-fail/`(.*?)(\d+) others are in\s+`checks/edits/`", re.S)
 
 
 def count_edits():
