@@ -30,6 +30,7 @@ _vcp_study() {
     case $COMP_CWORD:${COMP_WORDS[1]} in
     1:*) mapfile -t COMPREPLY < <(compgen -W "$_vcp_study_commands" -- "$word") ;;
     2:* | 3:faults | 4:faults | 3:script) mapfile -t COMPREPLY < <(compgen -f -- "$word") ;;
+    3:waves) mapfile -t COMPREPLY < <(compgen -W '--cycle-time' -- "$word") ;;
     3:ranges) mapfile -t COMPREPLY < <(compgen -W '--all --inputs' -- "$word") ;;
     4:ranges) mapfile -t COMPREPLY < <(compgen -f -W '--inputs' -- "$word") ;;
     5:ranges) mapfile -t COMPREPLY < <(compgen -f -- "$word") ;;

@@ -10,7 +10,7 @@ pub(crate) const USAGE: &[u8] =
 
 /// That of `vcp_study`.
 pub(crate) const STUDY_USAGE: &[u8] =
-    b"usage: vcp_study graph M HORIZON, dot M HORIZON, waves FILE, ranges M, ranges M --all, ranges M --inputs FILE, ranges M --all --inputs FILE, \
+    b"usage: vcp_study graph M HORIZON, dot M HORIZON, waves FILE, waves FILE --cycle-time TIME, ranges M, ranges M --all, ranges M --inputs FILE, ranges M --all --inputs FILE, \
       cover M HORIZON CLASS, sites M CYCLES CLASS, sites M CYCLES CLASS FROM COUNT, \
       sites M CYCLES CLASS --count, sites M ROWS flips, sites M ROWS flips FROM COUNT, sites M ROWS flips --count, \
       sites M ROWS late, sites M ROWS late FROM COUNT, sites M ROWS late --count, sum M SCRIPT VERDICTS .., \

@@ -6,6 +6,7 @@ mod ReadBack
 mod Reading
 mod Rooms
 mod StretchEnds
+mod Timed
 mod Walk
 mod WholeDrawing
 mod WholeText

@@ -1,7 +1,7 @@
 -- Elements: how the values, the names, the cycles and the end of a run are drawn, and the text of the picture.
-use Rattle.std.specs.Prelude.{◌≡◌, ◌<◌, ◌≤◌, ℕ, ◌+◌, ◌-◌, ◌*◌, ◌%◌, ◌==◌, Bool, cond, ◌&&◌, nat_lt, int_lt, List, [], ◌∷◌, ◌++◌, length, codes, decimal, flat_map, slice_index_or, ℤ, pos}
+use Rattle.std.specs.Prelude.{◌≡◌, ◌<◌, ◌≤◌, ℕ, ◌+◌, ◌-◌, ◌*◌, ◌%◌, ◌==◌, Bool, cond, ◌&&◌, nat_lt, int_lt, Option, Some, None, IfSome, List, [], ◌∷◌, ◌++◌, length, codes, decimal, flat_map, slice_index_or, ℤ, pos}
 use Rattle.std.specs.Fmt.{signed_decimal}
-use Rattle.std.specs.List.{AllByRecursion}
+use Rattle.std.specs.List.{AllByRecursion, concat}
 use Rattle.std.specs.Ordering.{int_eq}
 use Rattle.svg_text.specs.declared.names.Tag.TheVariants as tag
 use Rattle.svg_text.specs.declared.names.Name.TheVariants as name
@@ -11,8 +11,10 @@ use Rattle.run_picture.specs.declared.ending.Mark.TheVariants as mark
 use Rattle.run_picture.specs.declared.ending.Ending.{Ending}
 use Rattle.run_picture.specs.declared.layout.Layout.{Layout}
 use Rattle.run_picture.specs.declared.stretches.Stretch.{Stretch}
+use Rattle.run_picture.specs.declared.times.Period.{Period}
 use Rattle.run_picture.specs.RunOf.{Recorded}
 use Rattle.run_picture.specs.Drawn.{lanes, is_level}
+use Rattle.run_picture.specs.Times.{time_pieces}
 use Rattle.svg_text.specs.Drawing.{each_below}
 
 -- the distance of a cycle's begin from the left, and of a column's upper side from above
@@ -128,21 +130,33 @@ abbrev pub cycle_element : Layout → ℕ → ℕ → Element
 cycle_element l columns cycle = element tag.Text
     (attribute name.X (decimal (start_of l cycle + 4)) ∷ attribute name.Y (decimal (top_of columns + 14)) ∷ []) (decimal cycle ∷ [])
 
+-- below its number, when the cycle begins
+abbrev pub time_element : Layout → ℕ → Period → ℕ → Element
+time_element l columns period cycle = element tag.Text
+    (attribute name.Class (codes "time") ∷ attribute name.X (decimal (start_of l cycle + 4)) ∷ attribute name.Y (decimal (top_of columns + 28)) ∷ [])
+    (time_pieces period cycle)
+
+-- where it is known how long a cycle takes
+abbrev pub time_elements : Layout → ℕ → Option Period → ℕ → List Element
+time_elements l columns None cycle = []
+time_elements l columns (Some period) cycle = time_element l columns period cycle ∷ []
+
 -- of so many cycles the first is marked
-abbrev pub mark_elements : Layout → ℕ → ℕ → List Element
-mark_elements l columns cycle = cond (cycle % l.every == 0) (begin_element l columns cycle ∷ cycle_element l columns cycle ∷ []) []
+abbrev pub mark_elements : Layout → ℕ → Option Period → ℕ → List Element
+mark_elements l columns period cycle =
+    cond (cycle % l.every == 0) (begin_element l columns cycle ∷ cycle_element l columns cycle ∷ time_elements l columns period cycle) []
 
 -- a page has so many cycles; behind the first one the names stand again at the begin of each
 abbrev pub page_elements : Layout → Recorded → ℕ → List Element
 page_elements l run cycle = cond (nat_lt 0 cycle && cycle % l.page == 0)
     (names_elements run (codes "again") (start_of l cycle + 4) 4 (length run.names)) []
 
-abbrev pub cycle_elements : Layout → Recorded → ℕ → List Element
-cycle_elements l run cycle = mark_elements l (length run.names) cycle ++ page_elements l run cycle
+abbrev pub cycle_elements : Layout → Recorded → Option Period → ℕ → List Element
+cycle_elements l run period cycle = mark_elements l (length run.names) period cycle ++ page_elements l run cycle
 
 -- the cycles below this one
-abbrev pub cycles_elements : Layout → Recorded → ℕ → List Element
-cycles_elements l run cycles = each_below (cycle_elements l run) cycles
+abbrev pub cycles_elements : Layout → Recorded → Option Period → ℕ → List Element
+cycles_elements l run period cycles = each_below (cycle_elements l run period) cycles
 
 -- ---- the end
 
@@ -167,11 +181,11 @@ ending_elements l columns cycles ending = mark_element l columns cycles ending �
 -- ---- the picture
 
 abbrev pub style : Element
-style = element tag.Style [] (codes "text{font:11px monospace}.level,.edge,.ramp{stroke:#000;stroke-width:2}.base{stroke:#999}.number{fill:#dde8f4}.last{text-anchor:end}.again{fill:#666}.cycle{stroke:#ccc}.ended{stroke:#000}.stopped,.refused{stroke:#d00;stroke-width:3}" ∷ [])
+style = element tag.Style [] (codes "text{font:11px monospace}.level,.edge,.ramp{stroke:#000;stroke-width:2}.base{stroke:#999}.number{fill:#dde8f4}.last{text-anchor:end}.again,.time{fill:#666}.cycle{stroke:#ccc}.ended{stroke:#000}.stopped,.refused{stroke:#d00;stroke-width:3}" ∷ [])
 
-abbrev pub waves_elements : Layout → Recorded → List Element
-waves_elements l run =
-    style ∷ (cycles_elements l run (length run.rows) ++ (names_elements run (codes "name") 8 23 (length run.names)
+abbrev pub waves_elements : Layout → Recorded → Option Period → List Element
+waves_elements l run period =
+    style ∷ (cycles_elements l run period (length run.rows) ++ (names_elements run (codes "name") 8 23 (length run.names)
     ++ (bases_elements l run (length run.names)
     ++ (flat_map (stretch_elements l) (lanes run) ++ ending_elements l (length run.names) (length run.rows) run.ending))))
 
@@ -179,12 +193,16 @@ waves_elements l run =
 abbrev pub width_of : Layout → Recorded → ℕ
 width_of l run = start_of l (length run.rows) + l.room
 
-abbrev pub height_of : Recorded → ℕ
-height_of run = top_of (length run.names) + 24
+abbrev pub height_below : Option Period → ℕ
+height_below None = 24
+height_below (Some period) = 38
 
--- the timing diagram of a run in a layout
-abbrev pub waves_text : Layout → Recorded → List ℕ
-waves_text l run = picture_text (width_of l run) (height_of run) (waves_elements l run)
+abbrev pub height_of : Recorded → Option Period → ℕ
+height_of run period = top_of (length run.names) + height_below period
+
+-- the timing diagram of a run in a layout, with the times of its cycles where it is known how long one takes
+abbrev pub waves_text : Layout → Recorded → Option Period → List ℕ
+waves_text l run period = picture_text (width_of l run) (height_of run period) (waves_elements l run period)
 
 -- ---- its layout
 
@@ -208,16 +226,21 @@ HasRoom cell s = need_of s ≤ cell * (s.end - s.start)
 abbrev pub page_width : ℕ
 page_width = 1000
 
--- cycles are wide enough for their values and, as far as they are marked, for their numbers; and the names stand again in time
-pub record HaveRoom (run : Recorded) (l : Layout) : Type 0 where
+-- the times of cycles that are marked have room
+abbrev pub TimesHaveRoom : Layout → ℕ → Period → Type 0
+TimesHaveRoom l cycles period = (cycle : ℕ) → cycle < cycles → text_width (concat (time_pieces period cycle)) ≤ l.every * l.cell
+
+-- cycles are wide enough for their values and, as far as they are marked, for their numbers and times; and the names stand again in time
+pub record HaveRoom (run : Recorded) (period : Option Period) (l : Layout) : Type 0 where
   pub values : AllByRecursion (HasRoom l.cell) (lanes run)
   pub marked : 0 < l.every
   pub numbers : (cycle : ℕ) → cycle < length run.rows → text_width (decimal cycle) ≤ l.every * l.cell
+  pub times : IfSome period (TimesHaveRoom l (length run.rows))
   pub paged : 0 < l.page
   pub names : l.page * l.cell ≤ page_width
 
--- a text is a timing diagram of the run, in which its texts have room
-pub record IsPictureOf (run : Recorded) (text : List ℕ) : Type 0 where
+-- a text is a timing diagram of the run, of which a cycle takes so long where that is known, in which its texts have room
+pub record IsPictureOf (run : Recorded) (period : Option Period) (text : List ℕ) : Type 0 where
   pub layout : Layout
-  pub wide : HaveRoom run layout
-  pub told : text ≡ waves_text layout run
+  pub wide : HaveRoom run period layout
+  pub told : text ≡ waves_text layout run period

@@ -4,6 +4,7 @@ pub mod Elements
 pub mod Ending
 pub mod Printed
 pub mod RunOf
+pub mod Times
 pub mod Told
 pub mod Values
 pub mod Whole

@@ -1,21 +1,22 @@
 //! The style, the cycles, the names, the base lines and the end of a picture.
 
-ghost use Rattle.std.specs.Prelude.{◌≡◌, ◌<◌, ◌≤◌, [], ◌∷◌, length, flat_map};
+ghost use Rattle.std.specs.Prelude.{◌≡◌, ◌<◌, ◌≤◌, ◌∷◌, length, flat_map};
 ghost use Rattle.vcp_outside.specs.Gathering.{GathersTo};
 ghost use Rattle.svg_text.specs.Elements.{element_text};
 ghost use Rattle.vcp_base.specs.Limits.{most_cycles};
-ghost use Rattle.run_picture.specs.Elements.{style, begin_element, cycle_element, mark_elements, page_elements, cycle_elements, cycles_elements, name_element, names_elements, base_element, base_elements, bases_elements, class_of as class_of_mark, mark_element, ending_element, ending_elements};
+ghost use Rattle.run_picture.specs.Elements.{style, begin_element, cycle_element, time_element, time_elements, mark_elements, page_elements, cycle_elements, cycles_elements, name_element, names_elements, base_element, base_elements, bases_elements, class_of as class_of_mark, mark_element, ending_element, ending_elements};
 
 use crate::ending::{Ending, Mark};
 use crate::layout::{Layout, start, top};
 use crate::run::Run;
 use crate::stretches::is_level;
+use crate::times::{Period, drawn_in, thousandths};
 use svg_text::{Name, Piece, Tag, then_element};
 use vcp_outside::{Line, Sink};
 
 /// The rules of style.
 const STYLE: &[u8] =
-    b"text{font:11px monospace}.level,.edge,.ramp{stroke:#000;stroke-width:2}.base{stroke:#999}.number{fill:#dde8f4}.last{text-anchor:end}.again{fill:#666}.cycle{stroke:#ccc}.ended{stroke:#000}.stopped,.refused{stroke:#d00;stroke-width:3}";
+    b"text{font:11px monospace}.level,.edge,.ramp{stroke:#000;stroke-width:2}.base{stroke:#999}.number{fill:#dde8f4}.last{text-anchor:end}.again,.time{fill:#666}.cycle{stroke:#ccc}.ended{stroke:#000}.stopped,.refused{stroke:#d00;stroke-width:3}";
 
 /// Goes on with the rules of style.
 pub(crate) fn then_style<O: Sink>(line: &mut Line, out: &mut O)
@@ -70,25 +71,92 @@ fn then_number_of_cycle<O: Sink>(
     );
 }
 
-// Draws the begin of a cycle and writes its number.
-fn then_begun<O: Sink>(line: &mut Line, out: &mut O, layout: Layout, columns: u32, cycle: u32)
+// Writes when a cycle begins.
+fn then_time<O: Sink>(
+    line: &mut Line,
+    out: &mut O,
+    layout: Layout,
+    columns: u32,
+    period: Period,
+    cycle: u32,
+)
     requires { cycle < most_cycles }
     ensures { GathersTo (O.seen out.old) (O.seen out.new) line.old line.new
-        (flat_map element_text (begin_element layout columns cycle ∷ cycle_element layout columns cycle ∷ [])) }
+        (element_text (time_element layout columns period cycle)) }
+{
+    let time = thousandths(period, cycle);
+    then_element(
+        line,
+        out,
+        Tag::Text,
+        &[
+            (Name::Class, Piece::Bytes(b"time")),
+            (Name::X, Piece::Count(start(layout, cycle) + 4)),
+            (Name::Y, Piece::Count(top(columns) + 28)),
+        ],
+        &[
+            Piece::Count(time / 1000),
+            Piece::Bytes(b"."),
+            Piece::Count(time % 1000 / 100),
+            Piece::Count(time % 100 / 10),
+            Piece::Count(time % 10),
+            Piece::Bytes(drawn_in(period.unit)),
+        ],
+    );
+}
+
+// Writes when a cycle begins, where it is known how long one takes.
+fn then_times<O: Sink>(
+    line: &mut Line,
+    out: &mut O,
+    layout: Layout,
+    columns: u32,
+    period: Option<Period>,
+    cycle: u32,
+)
+    requires { cycle < most_cycles }
+    ensures { GathersTo (O.seen out.old) (O.seen out.new) line.old line.new
+        (flat_map element_text (time_elements layout columns period cycle)) }
+{
+    if let Some(period) = period {
+        then_time(line, out, layout, columns, period, cycle);
+    }
+}
+
+// Draws the begin of a cycle and writes its number and its time.
+fn then_begun<O: Sink>(
+    line: &mut Line,
+    out: &mut O,
+    layout: Layout,
+    columns: u32,
+    period: Option<Period>,
+    cycle: u32,
+)
+    requires { cycle < most_cycles }
+    ensures { GathersTo (O.seen out.old) (O.seen out.new) line.old line.new
+        (flat_map element_text (begin_element layout columns cycle ∷ cycle_element layout columns cycle ∷ time_elements layout columns period cycle)) }
 {
     then_begin(line, out, layout, columns, cycle);
     then_number_of_cycle(line, out, layout, columns, cycle);
+    then_times(line, out, layout, columns, period, cycle);
 }
 
-// Marks a cycle by its begin and its number, where it is the first of as many as stand between two marks.
-fn then_marked<O: Sink>(line: &mut Line, out: &mut O, layout: Layout, columns: u32, cycle: u32)
+// Marks a cycle by its begin, its number and its time, where it is the first of as many as stand between two marks.
+fn then_marked<O: Sink>(
+    line: &mut Line,
+    out: &mut O,
+    layout: Layout,
+    columns: u32,
+    period: Option<Period>,
+    cycle: u32,
+)
     requires every { 0 < layout.every }
     requires cycle { cycle < most_cycles }
     ensures { GathersTo (O.seen out.old) (O.seen out.new) line.old line.new
-        (flat_map element_text (mark_elements layout columns cycle)) }
+        (flat_map element_text (mark_elements layout columns period cycle)) }
 {
     if cycle % layout.every == 0 {
-        then_begun(line, out, layout, columns, cycle);
+        then_begun(line, out, layout, columns, period, cycle);
     }
 }
 
@@ -105,26 +173,39 @@ fn then_page<O: Sink>(line: &mut Line, out: &mut O, layout: Layout, run: &Run, c
 }
 
 // Draws what stands at a cycle.
-fn then_cycle<O: Sink>(line: &mut Line, out: &mut O, layout: Layout, run: &Run, cycle: u32)
+fn then_cycle<O: Sink>(
+    line: &mut Line,
+    out: &mut O,
+    layout: Layout,
+    run: &Run,
+    period: Option<Period>,
+    cycle: u32,
+)
     requires every { 0 < layout.every }
     requires page { 0 < layout.page }
     requires cycle { cycle < most_cycles }
     ensures { GathersTo (O.seen out.old) (O.seen out.new) line.old line.new
-        (flat_map element_text (cycle_elements layout run.now cycle)) }
+        (flat_map element_text (cycle_elements layout run.now period cycle)) }
 {
-    then_marked(line, out, layout, run.columns(), cycle);
+    then_marked(line, out, layout, run.columns(), period, cycle);
     then_page(line, out, layout, run, cycle);
 }
 
-/// Draws the cycles of a run.
-pub(crate) fn then_cycles<O: Sink>(line: &mut Line, out: &mut O, layout: Layout, run: &Run)
+/// Draws the cycles of a run, with their times where it is known how long a cycle takes.
+pub(crate) fn then_cycles<O: Sink>(
+    line: &mut Line,
+    out: &mut O,
+    layout: Layout,
+    run: &Run,
+    period: Option<Period>,
+)
     requires every { 0 < layout.every }
     requires page { 0 < layout.page }
     ensures { GathersTo (O.seen out.old) (O.seen out.new) line.old line.new
-        (flat_map element_text (cycles_elements layout run.now (length run.now.rows))) }
+        (flat_map element_text (cycles_elements layout run.now period (length run.now.rows))) }
 {
     'cycles: for cycle in 0..run.cycles() {
-        then_cycle(line, out, layout, run, cycle);
+        then_cycle(line, out, layout, run, period, cycle);
     }
 }
 

@@ -1,11 +1,12 @@
 //! The laws of runs and of their timing diagrams. The functions do nothing: they state laws.
 
-ghost use Rattle.std.specs.Prelude.{◌≡◌, ◌++◌, ℕ, List, Some, Ok, codes};
+ghost use Rattle.std.specs.Prelude.{◌≡◌, ◌++◌, ℕ, List, Option, Some, Ok, codes};
 ghost use Rattle.vcp_base.specs.Stops.{ToldStop};
 ghost use Rattle.run_report.specs.Lines.{end_text, stop_text, refused_text};
 ghost use Rattle.svg_text.specs.WellFormed.{IsDocument};
 ghost use Rattle.run_picture.specs.declared.ending.Mark.TheVariants as mark;
 ghost use Rattle.run_picture.specs.declared.layout.Layout.{Layout as LayoutOf};
+ghost use Rattle.run_picture.specs.declared.times.Period.{Period as PeriodOf};
 ghost use Rattle.run_picture.specs.Drawn.{lanes};
 ghost use Rattle.run_picture.specs.Elements.{waves_text};
 ghost use Rattle.run_picture.specs.Ending.{mark_of};
@@ -37,7 +38,7 @@ pub fn a_printed_run_is_read_back()
 /// Nothing else is drawn there, and nothing elsewhere.
 pub fn a_run_is_drawn_whole()
     ensures whole { (run : Recorded) → IsWhole run (lanes run) }
-    ensures well_formed { (l : LayoutOf) (run : Recorded) → IsDocument (waves_text l run) }
+    ensures well_formed { (l : LayoutOf) (run : Recorded) (period : Option PeriodOf) → IsDocument (waves_text l run period) }
 {
     // A document is well formed where no element has an attribute twice.
     pictures_are_well_formed();

@@ -1,14 +1,16 @@
 //! Where cycles are in a picture. Each has the same width, in which the texts of each stretch have room.
 
 ghost use Rattle.std.specs.Fmt.{signed_decimal};
-ghost use Rattle.std.specs.List.{AllByRecursion};
-ghost use Rattle.std.specs.Prelude.{◌≡◌, ◌≤◌, ◌<◌, ◌+◌, ◌*◌, ℕ, decimal, length};
+ghost use Rattle.std.specs.List.{AllByRecursion, concat};
+ghost use Rattle.std.specs.Prelude.{◌≡◌, ◌≤◌, ◌<◌, ◌+◌, ◌*◌, ℕ, IfSome, decimal, length};
 ghost use Rattle.vcp_base.specs.Limits.{most_cycles};
 ghost use Rattle.run_picture.specs.Drawn.{lane, lanes};
 ghost use Rattle.run_picture.specs.Elements.{start_of, top_of, character, text_width as text_width_of, need_of, HasRoom, HaveRoom};
+ghost use Rattle.run_picture.specs.Times.{time_pieces};
 
 use crate::run::Run;
 use crate::stretches::{Stretch, is_level, stretch_from};
+use crate::times::{Period, digits_of, time_characters};
 use itoa::Buffer;
 
 /// Where cycles are in a picture, in pixels.
@@ -62,17 +64,9 @@ fn characters_of(value: i64) -> usize
     Buffer::new().format(value).len()
 }
 
-// How many characters a number of cycles has.
-fn digits_of(cycles: u32) -> usize
-    ensures text { result ≡ length (decimal cycles) }
-    ensures few { result ≤ 20 }
-{
-    Buffer::new().format(cycles).len()
-}
-
 // The width of a text of so many characters, and of the 4 pixels before it.
 fn text_width(characters: usize) -> u32
-    requires { characters ≤ 20 }
+    requires { characters ≤ 30 }
     ensures { result ≡ 4 + characters * character }
 {
     4 + characters as u32 * CHARACTER as u32
@@ -167,21 +161,35 @@ fn round(cycles: u32) -> u32
     }
 }
 
-// How many cycles stand from one mark to the next, so that the number of each of so many has room.
-fn every(cycles: u32, cell: u32) -> u32
+// A number of characters that no number and no time of so many cycles passes.
+fn longest_mark(cycles: u32, period: Option<Period>) -> usize
+    requires { cycles ≤ most_cycles }
+    ensures numbers { length (decimal cycles) ≤ result }
+    ensures times { IfSome period (λ p. (cycle : ℕ) → cycle < cycles → length (concat (time_pieces p cycle)) ≤ result) }
+    ensures few { result ≤ 30 }
+{
+    let digits = digits_of(cycles as u64);
+    match period {
+        Some(period) => time_characters(period, cycles).max(digits),
+        None => digits,
+    }
+}
+
+// How many cycles stand from one mark to the next, so that the number and the time of each of so many have room.
+fn every(cycles: u32, cell: u32, period: Option<Period>) -> u32
     requires cycles { cycles ≤ most_cycles }
     requires cell { 4 ≤ cell }
     ensures some { 0 < result }
     ensures numbers { (cycle : ℕ) → cycle < cycles → text_width_of (decimal cycle) ≤ result * cell }
+    ensures times { IfSome period (λ p. (cycle : ℕ) → cycle < cycles → text_width_of (concat (time_pieces p cycle)) ≤ result * cell) }
 {
-    let digits = digits_of(cycles);
-    let wide = text_width(digits);
+    let wide = text_width(longest_mark(cycles, period));
     round(wide / cell + 1)
 }
 
-/// A layout in which values and numbers of cycles have room, and names and the last line, as far as they are not too long.
-pub(crate) fn layout_for(run: &Run) -> Layout
-    ensures room { HaveRoom run.now result }
+/// A layout in which values and numbers and times of cycles have room, and names and the last line, as far as they are not too long.
+pub(crate) fn layout_for(run: &Run, period: Option<Period>) -> Layout
+    ensures room { HaveRoom run.now period result }
     ensures every { 0 < result.every }
     ensures page { 0 < result.page }
 {
@@ -192,7 +200,7 @@ pub(crate) fn layout_for(run: &Run) -> Layout
         left: 16 + width_of(longest_name(run), 60),
         cell: cell as u16,
         room: 16 + width_of(run.ending().text.len(), 200),
-        every: every(cycles, cell),
+        every: every(cycles, cell, period),
         page: PAGE / cell,
     }
 }

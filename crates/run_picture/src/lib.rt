@@ -17,6 +17,7 @@ mod picture;
 mod row_table;
 mod run;
 mod stretches;
+mod times;
 mod values;
 
 pub use ending::{Ending, Mark};
@@ -25,3 +26,4 @@ pub use laws::{a_printed_run_is_read_back, a_run_is_drawn_whole, last_lines_are_
 pub use layout::Layout;
 pub use picture::write_waves;
 pub use run::{Run, read_run};
+pub use times::{Period, Unit, period_named};

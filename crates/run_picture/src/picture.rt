@@ -1,27 +1,44 @@
 //! The timing diagram of a run.
 
-ghost use Rattle.std.specs.Prelude.{◌≡◌, ◌<◌, ℕ, List};
+ghost use Rattle.std.specs.Prelude.{◌≡◌, ◌<◌, ◌≤◌, ℕ, List};
 ghost use Rattle.vcp_outside.specs.Written.{WritesTo};
-ghost use Rattle.run_picture.specs.Elements.{waves_text, IsPictureOf};
+ghost use Rattle.run_picture.specs.Elements.{waves_text, height_below as height_below_of, IsPictureOf};
 
 use crate::cycles::{then_bases, then_cycles, then_ending, then_names, then_style};
 use crate::lanes::then_lanes;
 use crate::layout::{Layout, layout_for, start, top};
 use crate::run::Run;
+use crate::times::Period;
 use svg_text::{begin_picture, end_picture};
 use vcp_outside::{Failed, Sink};
 
+// The height below the columns.
+fn height_below(period: Option<Period>) -> u64
+    ensures height { result ≡ height_below_of period }
+    ensures low { result ≤ 38 }
+{
+    match period {
+        Some(_) => 38,
+        None => 24,
+    }
+}
+
 // Writes the timing diagram of a run in a layout.
-fn write_in<O: Sink>(out: &mut O, layout: Layout, run: &Run) -> Result<(), Failed>
+fn write_in<O: Sink>(
+    out: &mut O,
+    layout: Layout,
+    run: &Run,
+    period: Option<Period>,
+) -> Result<(), Failed>
     requires every { 0 < layout.every }
     requires page { 0 < layout.page }
-    ensures { WritesTo (O.seen out.old) (O.seen out.new) (waves_text layout run.now) result }
+    ensures { WritesTo (O.seen out.old) (O.seen out.new) (waves_text layout run.now period) result }
 {
     let width = start(layout, run.cycles()) + layout.room as u64;
-    let height = top(run.columns()) + 24;
+    let height = top(run.columns()) + height_below(period);
     let mut line = begin_picture(out, width, height);
     then_style(&mut line, out);
-    then_cycles(&mut line, out, layout, run);
+    then_cycles(&mut line, out, layout, run, period);
     then_names(&mut line, out, run, b"name", 8, 23);
     then_bases(&mut line, out, layout, run);
     then_lanes(&mut line, out, layout, run);
@@ -31,12 +48,12 @@ fn write_in<O: Sink>(out: &mut O, layout: Layout, run: &Run) -> Result<(), Faile
 
 /// Writes the timing diagram of a run: each value once, in its column and its cycle, columns of 0 and 1 as levels over
 /// a base line, a number as a box where it holds, and as a ramp where it changes by the same amount three times or more;
-/// the columns' names, at the left and again at each page's width; the cycles, as far as their numbers have room; and the
-/// end, with the words of the last line. It takes no memory. After `Failed` a part of the picture is written. The layout
+/// the columns' names, at the left and again at each page's width; the cycles, as far as their numbers have room, and when they
+/// begin where it is known how long one takes; and the end, with the words of the last line. It takes no memory. After `Failed` a part of the picture is written. The layout
 /// is free; each cycle is as wide as the values need.
-pub fn write_waves<O: Sink>(out: &mut O, run: &Run) -> Result<(), Failed>
-    ensures { (text : List ℕ) × IsPictureOf run.now text
+pub fn write_waves<O: Sink>(out: &mut O, run: &Run, period: Option<Period>) -> Result<(), Failed>
+    ensures { (text : List ℕ) × IsPictureOf run.now period text
         × WritesTo (O.seen out.old) (O.seen out.new) text result }
 {
-    write_in(out, layout_for(run), run)
+    write_in(out, layout_for(run, period), run, period)
 }

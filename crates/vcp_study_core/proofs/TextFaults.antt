@@ -1,10 +1,11 @@
 -- TextFaults: a text isn't taken that was read.
-use Rattle.std.proofs.Common.{◌≡◌, ℕ, All, List, length, Result, Ok, Err, IfOk, IfErr, refl, ap}
+use Rattle.std.proofs.Common.{◌≡◌, ℕ, All, List, length, Option, Result, Ok, Err, IfOk, IfErr, refl, ap}
 use Rattle.vcp_outside.specs.Seen.{SinkSeen}
 use Rattle.op_graph.specs.Lists.{Lists}
 use Rattle.fault_script.specs.declared.act.Fault.{Fault as FaultOf}
 use Rattle.fault_injector.specs.declared.verdict.Verdict.{Verdict}
 use Rattle.fault_injector.specs.Names.{Names}
+use Rattle.run_picture.specs.declared.times.Period.{Period}
 use Rattle.verdict_tables.specs.Reading.{verdicts_in}
 use Rattle.vcp_study_core.specs.CarriedOut.{WritesSo}
 use Rattle.vcp_study_core.specs.FromFiles.{fault_answer, as_found, own_answer}
@@ -18,13 +19,13 @@ use Rattle.vcp_study_core.proofs.Facts.{appends-nothing}
 use Rattle.vcp_study_core.proofs.Carrying.{no_memory, refused}
 
 -- it is no run, and nothing is drawn
-pub unrun : (name text : List ℕ) (old : SinkSeen) (e : Fault) → IsNoRun name text e
-    → WritesSo (Waves name text) old old (fault_answer e).err (fault_answer e).status
-unrun name text old (fault.Refused n (why.Run f)) (same, not_memory, is) =
-    refused (Waves name text) old old (own_answer n.now (why.Run f)) (no_run f not_memory is (ap (λ m. own_answer m (why.Run f)) same)) refl refl
+pub unrun : (period : Option Period) (name text : List ℕ) (old : SinkSeen) (e : Fault) → IsNoRun name text e
+    → WritesSo (Waves period name text) old old (fault_answer e).err (fault_answer e).status
+unrun period name text old (fault.Refused n (why.Run f)) (same, not_memory, is) =
+    refused (Waves period name text) old old (own_answer n.now (why.Run f)) (no_run f not_memory is (ap (λ m. own_answer m (why.Run f)) same)) refl refl
     (appends-nothing old.written)
-unrun name text old fault.Memory h = no_memory (Waves name text) old old (appends-nothing old.written)
-unrun name text old _ h = absurd h
+unrun period name text old fault.Memory h = no_memory (Waves period name text) old old (appends-nothing old.written)
+unrun period name text old _ h = absurd h
 
 -- what the text tells of verdicts
 untold : (g : Lists) (groups : List (List FaultOf)) (name text : List ℕ) (e : Fault) → IsUntold g groups name text e

@@ -13,6 +13,8 @@ use Rattle.fault_sites.specs.RunSites.{run_class_of}
 use Rattle.fault_sites.specs.SiteText.{classes_of}
 use Rattle.fault_sites.specs.declared.scripts.chosen.Chosen.{Chosen}
 use Rattle.fault_sites.specs.declared.scripts.chosen.Chosen.TheVariants as chosen
+use Rattle.run_picture.specs.declared.times.Period.{Period}
+use Rattle.run_picture.specs.Times.{period_of}
 use Rattle.vcp_study_core.specs.declared.command.StudyCommand.{StudyCommand}
 use Rattle.vcp_study_core.specs.declared.command.StudyCommand.TheVariants as command
 use Rattle.vcp_study_core.specs.declared.command.ImageStudy.{ImageStudy}
@@ -39,9 +41,9 @@ pub data Study : Type 0 where
   faults : PartNames → Study
   script_named : List ℕ → Study
 
--- a command with its words: FILE, or M with what is done with it
+-- a command with its words: FILE and TIME, where it is said; or M with what is done with it
 pub data Form : Type 0 where
-  waves : List ℕ → Form
+  waves : List ℕ → Option Period → Form
   on : List ℕ → Study → Form
 
 -- ---- words behind M
@@ -190,10 +192,19 @@ study_of w words =
     (cond (bytes_eq w (codes "faults")) (faults_form words)
     (cond (bytes_eq w (codes "script")) (script_form words) None)))))))
 
+-- of `waves`, behind FILE: `--cycle-time` and TIME may be said
+abbrev pub timed_form : List ℕ → List (List ℕ) → Option Form
+timed_form file [] = None
+timed_form file (w ∷ rest) = option_and_then (λ period. cond (is_end rest) (Some (waves file (Some period))) None) (period_of w)
+
+abbrev pub waves_form : List ℕ → List (List ℕ) → Option Form
+waves_form file [] = Some (waves file None)
+waves_form file (w ∷ rest) = cond (bytes_eq w (codes "--cycle-time")) (timed_form file rest) None
+
 -- the command that a name, a file's name and the words behind it say
 abbrev pub named_form : List ℕ → List ℕ → List (List ℕ) → Option Form
 named_form w m words =
-    cond (bytes_eq w (codes "waves")) (cond (is_end words) (Some (waves m)) None) (option_map (on m) (study_of w words))
+    cond (bytes_eq w (codes "waves")) (waves_form m words) (option_map (on m) (study_of w words))
 
 -- the command that words say
 abbrev pub form_of : List (List ℕ) → Option Form
@@ -221,7 +232,7 @@ study (image.Faults names) = faults (as_names names)
 study (image.Script named) = script_named named.now
 
 abbrev pub form : StudyCommand → Form
-form (command.Waves file) = waves file.now
+form (command.Waves file period) = waves file.now period
 form (command.On m s) = on m.now (study s)
 
 -- a horizon, and the numbers of cycles and of parts, are within their limits
@@ -236,9 +247,9 @@ IsSoundStudy (sum_apart names rows) = AreFew rows × (length names ≤ most_part
 IsSoundStudy _ = Unit {0}
 
 abbrev pub IsSound : Form → Type 0
-IsSound (waves file) = Unit {0}
+IsSound (waves file period) = Unit {0}
 IsSound (on m s) = IsSoundStudy s
 
 -- the usage line
 abbrev pub usage_text : List ℕ
-usage_text = codes "usage: vcp_study graph M HORIZON, dot M HORIZON, waves FILE, ranges M, ranges M --all, ranges M --inputs FILE, ranges M --all --inputs FILE, cover M HORIZON CLASS, sites M CYCLES CLASS, sites M CYCLES CLASS FROM COUNT, sites M CYCLES CLASS --count, sites M ROWS flips, sites M ROWS flips FROM COUNT, sites M ROWS flips --count, sites M ROWS late, sites M ROWS late FROM COUNT, sites M ROWS late --count, sum M SCRIPT VERDICTS .., sum M SCRIPT VERDICTS .. ROWS, faults M SCRIPT VERDICTS or script M NAMED\n"
+usage_text = codes "usage: vcp_study graph M HORIZON, dot M HORIZON, waves FILE, waves FILE --cycle-time TIME, ranges M, ranges M --all, ranges M --inputs FILE, ranges M --all --inputs FILE, cover M HORIZON CLASS, sites M CYCLES CLASS, sites M CYCLES CLASS FROM COUNT, sites M CYCLES CLASS --count, sites M ROWS flips, sites M ROWS flips FROM COUNT, sites M ROWS flips --count, sites M ROWS late, sites M ROWS late FROM COUNT, sites M ROWS late --count, sum M SCRIPT VERDICTS .., sum M SCRIPT VERDICTS .. ROWS, faults M SCRIPT VERDICTS or script M NAMED\n"

@@ -66,8 +66,8 @@ StudyOf (script_named name) m i held b n x = Onward (BytesFrom name most_named_b
 
 -- ---- all commands
 
--- `waves FILE` writes the timing diagram of the run that FILE has. All others end where M is lacking or no image, with its line; then, for want of the
+-- `waves FILE` writes the timing diagram of the run that FILE has, and with `--cycle-time TIME` when its cycles begin. All others end where M is lacking or no image, with its line; then, for want of the
 -- first of their other files of which there is nothing.
 abbrev pub TaskOf : Form → Held → ℕ → ℕ → Answer → Type 0
-TaskOf (waves file) held b n x = Onward (BytesFrom file most_rows_bytes held) (λ text k n. Waves file text) b n x
+TaskOf (waves file period) held b n x = Onward (BytesFrom file most_rows_bytes held) (λ text k n. Waves period file text) b n x
 TaskOf (on m study) held b n x = Onward (ImageFrom m held) (λ i. StudyOf study m i held) b n x

@@ -1,5 +1,5 @@
 -- Texts: what commands on an image write, by what they read.
-use Rattle.std.specs.Prelude.{ℕ, zero, suc, ◌≡◌, ◌≢◌, ◌<◌, ◌≤◌, Bool, true, false, List, [], ◌++◌, codes, decimal, length, Ok, Err}
+use Rattle.std.specs.Prelude.{ℕ, zero, suc, ◌≡◌, ◌≢◌, ◌<◌, ◌≤◌, Bool, true, false, Option, List, [], ◌++◌, codes, decimal, length, Ok, Err}
 use Rattle.vcp_base.specs.Limits.{most_source_bytes}
 use Rattle.op_graph.specs.Lists.{Lists}
 use Rattle.weight_audit.specs.Audit.{most_weights, weights_up_to}
@@ -12,6 +12,7 @@ use Rattle.run_picture.specs.Elements.{IsPictureOf}
 use Rattle.run_picture.specs.RunOf.{Recorded, run_of}
 use Rattle.run_picture.specs.declared.fault.RunTextFault.{RunTextFault}
 use Rattle.run_picture.specs.declared.fault.RunTextFault.TheVariants as run_fault
+use Rattle.run_picture.specs.declared.times.Period.{Period}
 use Rattle.fault_script.specs.ScriptOf.{most_faults}
 use Rattle.fault_sites.specs.Part.{kept}
 use Rattle.fault_sites.specs.Script.{IsScript}
@@ -54,10 +55,10 @@ pub data Weighed (horizon : ℕ) (m : List ℕ) (i : Image) (Is : List ℕ → B
 
 -- ---- runs
 
--- the timing diagram of the run that the text of FILE has, or its first fault as one
-pub data Waves (name text : List ℕ) (x : Answer) : Type 0 where
-  no_run : (f : RunTextFault) → f ≢ run_fault.Memory → run_of text ≡ Err f → x ≡ own_answer name (why.Run f) → Waves name text x
-  waves : (recorded : Recorded) → run_of text ≡ Ok recorded → WritesOne (Draws (IsPictureOf recorded)) x → Waves name text x
+-- the timing diagram of the run that the text of FILE has, of which a cycle takes so long where that is said; or its first fault as a run
+pub data Waves (period : Option Period) (name text : List ℕ) (x : Answer) : Type 0 where
+  no_run : (f : RunTextFault) → f ≢ run_fault.Memory → run_of text ≡ Err f → x ≡ own_answer name (why.Run f) → Waves period name text x
+  waves : (recorded : Recorded) → run_of text ≡ Ok recorded → WritesOne (Draws (IsPictureOf recorded period)) x → Waves period name text x
 
 -- ---- ranges
 

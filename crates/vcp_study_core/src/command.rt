@@ -3,16 +3,19 @@
 use crate::part_words::{Named, PartWords};
 use fault_cover::CoverClasses;
 use fault_sites::{Chosen, Classes, RunClass};
+use run_picture::Period;
 use vcp_base::Text;
 use vcp_words::RowsWord;
 
 /// A command, with its own words. A name of a file isn't empty and doesn't begin with `-`.
 #[derive(Clone, Copy)]
 pub enum StudyCommand<'a> {
-    /// `waves FILE`: the timing diagram of a run that was printed.
+    /// `waves FILE`, with `--cycle-time TIME` behind it or without: the timing diagram of a run that was printed.
     Waves {
         /// The name of the file.
         file: &'a Text,
+        /// How long a cycle takes, TIME.
+        period: Option<Period>,
     },
     /// A study of an image.
     On {

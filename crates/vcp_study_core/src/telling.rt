@@ -21,8 +21,8 @@ pub(crate) fn tell_usage<E: Sink>(err: &mut E) -> Result<(), Failed>
 {
     write_all(
         err,
-        b"usage: vcp_study graph M HORIZON, dot M HORIZON, waves FILE, ranges M, ranges M --all, \
-          ranges M --inputs FILE, ranges M --all --inputs FILE, \
+        b"usage: vcp_study graph M HORIZON, dot M HORIZON, waves FILE, waves FILE --cycle-time TIME, ranges M, \
+          ranges M --all, ranges M --inputs FILE, ranges M --all --inputs FILE, \
           cover M HORIZON CLASS, sites M CYCLES CLASS, sites M CYCLES CLASS FROM COUNT, sites M CYCLES CLASS --count, \
           sites M ROWS flips, sites M ROWS flips FROM COUNT, sites M ROWS flips --count, \
           sites M ROWS late, sites M ROWS late FROM COUNT, sites M ROWS late --count, \

@@ -93,7 +93,7 @@ fn perform<'a, F: Files, O: Sink>(
         (told_line result) (told_status result) }
 {
     match command {
-        StudyCommand::Waves { file } => waves_command(alloc, file, files, out),
+        StudyCommand::Waves { file, period } => waves_command(alloc, file, *period, files, out),
         StudyCommand::On { image, study } => image_command(alloc, image, study, files, out),
     }
 }

@@ -3,7 +3,7 @@
 ghost use Rattle.std.specs.Prelude.{ℕ, List, ◌≡◌, ◌≤◌, IfSome, drop, length};
 ghost use Rattle.std.specs.Option.{option_map};
 ghost use Rattle.vcp_base.specs.Limits.{most_cycles, most_horizon};
-ghost use Rattle.vcp_study_core.specs.Forms.{form, form_of, study, study_of, graph, dot, horizon_form, ranges_form, all_form, inputs_form, cover_form, IsSound, IsSoundStudy};
+ghost use Rattle.vcp_study_core.specs.Forms.{form, form_of, waves_form, timed_form, study, study_of, graph, dot, horizon_form, ranges_form, all_form, inputs_form, cover_form, IsSound, IsSoundStudy};
 ghost use Rattle.vcp_study_core.specs.Forms.{class_word as class_word_of, faults_form, sites_form, behind_form, class_form, cycles_in as cycles_in_of, run_sites, names_of, next_of, behind_of, sum_with, sum_form, script_form, chosen_of, number_word, part_of};
 ghost use Rattle.vcp_study_core.specs.SumSteps.{as_next, as_behind, ended_of, IsFew, FewBehind};
 ghost use Rattle.verdict_tables.specs.Parts.{most_parts};
@@ -13,6 +13,7 @@ use crate::command::{ImageStudy, StudyCommand};
 use crate::part_words::{Named, PartWords};
 use fault_cover::classes_named as cover_classes_named;
 use fault_sites::{Chosen, Part, RunClass, classes_named, run_class_named};
+use run_picture::period_named;
 use vcp_base::{MOST_CYCLES, MOST_HORIZON, Text, Words, numeral};
 use vcp_words::{CommandWords, RowsWord};
 use verdict_tables::MOST_PARTS;
@@ -26,14 +27,38 @@ pub fn command_of(words: &Words) -> Option<StudyCommand<'_>>
     let command = left.next()?.bytes();
     let name = left.name()?;
     if command == b"waves".as_slice() {
-        return if left.is_end() {
-            Some(StudyCommand::Waves { file: name })
-        } else {
-            None
-        };
+        return waves_words(name, &mut left);
     }
     let study = study_words(words, command, &mut left)?;
     Some(StudyCommand::On { image: name, study })
+}
+
+/// Behind FILE, of `waves`.
+fn waves_words<'a>(file: &'a Text, words: &mut CommandWords<'a>) -> Option<StudyCommand<'a>>
+    ensures { option_map form result ≡ waves_form file.now words.old }
+{
+    match words.next() {
+        Some(word) => if word.bytes() == b"--cycle-time".as_slice() {
+            timed_words(file, words)
+        } else {
+            None
+        },
+        None => Some(StudyCommand::Waves { file, period: None }),
+    }
+}
+
+/// Behind `--cycle-time`.
+fn timed_words<'a>(file: &'a Text, words: &mut CommandWords<'a>) -> Option<StudyCommand<'a>>
+    ensures { option_map form result ≡ timed_form file.now words.old }
+{
+    let period = period_named(words.next()?.bytes())?;
+    if !words.is_end() {
+        return None;
+    }
+    Some(StudyCommand::Waves {
+        file,
+        period: Some(period),
+    })
 }
 
 /// What is done with an image, by a command's name and, of all words, those behind the image's name.

@@ -10,4 +10,4 @@ returns g c =
     let run = c.args.run.now in
     let marked = rw c.columns.ensures.count at c.then_marked.ensures in
     same (and_then marked c.then_page.ensures)
-    (flat_map-append element_text (mark_elements c.args.layout (length run.names) c.args.cycle) (page_elements c.args.layout run c.args.cycle))
+    (flat_map-append element_text (mark_elements c.args.layout (length run.names) c.args.period c.args.cycle) (page_elements c.args.layout run c.args.cycle))

@@ -7,7 +7,7 @@ pub cycles-init : goal.cycles-init
 cycles-init g c = unmoved
 
 pub cycles-preserved : goal.cycles-preserved
-cycles-preserved g c = same (and_then c.cycles.invariant c.then_cycle.ensures) (text_more (cycle_elements c.args.layout c.args.run.now) c.cycles.cycle)
+cycles-preserved g c = same (and_then c.cycles.invariant c.then_cycle.ensures) (text_more (cycle_elements c.args.layout c.args.run.now c.args.period) c.cycles.cycle)
 
 pub returns : goal.returns
 returns g c =

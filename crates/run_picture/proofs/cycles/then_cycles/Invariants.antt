@@ -6,4 +6,4 @@ use Rattle.run_picture.proofs.cycles.then_cycles.Given as goal
 
 abbrev pub invariant-cycles : goal.invariant-cycles
 invariant-cycles g l = GathersTo (g.O.Sink.seen l.fn.out) (g.O.Sink.seen l.out)
-    l.fn.line l.line (flat_map element_text (cycles_elements l.layout l.run l.cycle))
+    l.fn.line l.line (flat_map element_text (cycles_elements l.layout l.run l.period l.cycle))

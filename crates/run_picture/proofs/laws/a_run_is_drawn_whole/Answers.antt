@@ -7,4 +7,5 @@ pub returns-clause-whole : goal.returns-clause-whole
 returns-clause-whole c = whole
 
 pub returns-clause-well_formed : goal.returns-clause-well_formed
-returns-clause-well_formed c = λ l run. c.pictures_are_well_formed.ensures (width_of l run) (height_of run) (waves_elements l run) (each_once l run)
+returns-clause-well_formed c = λ l run period.
+    c.pictures_are_well_formed.ensures (width_of l run) (height_of run period) (waves_elements l run period) (each_once l run period)

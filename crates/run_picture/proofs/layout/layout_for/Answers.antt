@@ -1,5 +1,6 @@
 use Rattle.std.proofs.Common.{◌<◌, ◌≤◌, ◌*◌, arith}
 use Rattle.std.proofs.Math.Nat.{div-mul-le_self, le-div_iff_mul-le}
+use Rattle.run_picture.proofs.Timed.{if_there}
 use Rattle.run_picture.proofs.layout.layout_for.Goals as goal
 
 pub returns : goal.returns
@@ -13,6 +14,7 @@ returns c =
         values = c.widest-widest.ensures.room cell (omega (arith, c.max-cell.ensures));
         marked = c.every.ensures.some;
         numbers = λ cycle less. c.every.ensures.numbers cycle (omega (arith, less, c.cycles-cycles.ensures.count));
+        times = if_there c.args.period (λ period short cycle less. short cycle (omega (arith, less, c.cycles-cycles.ensures.count))) c.every.ensures.times;
         paged = omega (arith, page);
         names = div-mul-le_self 1000 cell;
       };

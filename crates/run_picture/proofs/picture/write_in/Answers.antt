@@ -9,11 +9,12 @@ pub returns : goal.returns
 returns g c =
     let run = c.args.run.now in
     let l = c.args.layout in
+    let period = c.args.period in
     let columns = length run.names in
     let cycles = length run.rows in
-    let begun = rw (c.start.ensures.begin, c.cycles.ensures.count, c.top-height.ensures, c.columns.ensures.count) at c.begin_picture-line.ensures in
+    let begun = rw (c.start.ensures.begin, c.cycles.ensures.count, c.top.ensures, c.columns.ensures.count, c.height_below.ensures.height) at c.begin_picture-line.ensures in
     let named = c.then_names.ensures _ _ _ (c.then_cycles.ensures _ _ _ (c.then_style.ensures _ _ _ begun)) in
     let all = c.then_ending.ensures _ _ _ (c.then_lanes.ensures _ _ _ (c.then_bases.ensures _ _ _ named)) in
-    rw (parts (beginning (width_of l run) (height_of run)) ending style (cycles_elements l run cycles)
+    rw (parts (beginning (width_of l run) (height_of run period)) ending style (cycles_elements l run period cycles)
     (names_elements run (codes "name") 8 23 columns) (bases_elements l run columns)
     (flat_map (stretch_elements l) (lanes run)) (ending_elements l columns cycles run.ending)) (c.end_picture.ensures _ _ _ all)
