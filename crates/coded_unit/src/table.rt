@@ -14,6 +14,13 @@ use crate::call::{Answer, Call};
 use crate::word::{ShortParts, Word, narrow_remainder, wide_remainder};
 use vcp_base::{Kind, Profile, Residue, StopKind, multiplier, outcome, short_outcome};
 
+/// Names the narrow code to the compiler, which makes what is called with it once for each code: so it is a part of its
+/// caller, where the call is at hand and its constant known.
+struct InNarrow;
+
+/// The same of the wide code.
+struct InWide;
+
 /// The right answer to a call.
 ///
 /// `Operand` where an operand is outside its type, else `DivZero` where the divisor is 0, else
@@ -62,7 +69,7 @@ fn narrow_answer(call: &Call) -> Answer
     let Some(third) = call.c.short_split(Profile::Narrow) else {
         return answer_of_copy(call);
     };
-    answer_from(Profile::Narrow, call, first, second, third)
+    answer_from::<InNarrow>(Profile::Narrow, call, first, second, third)
 }
 
 /// The same for a call in the wide code.
@@ -81,12 +88,12 @@ fn wide_answer(call: &Call) -> Answer
     let Some(third) = call.c.short_split(Profile::Wide) else {
         return answer_of_copy(call);
     };
-    answer_from(Profile::Wide, call, first, second, third)
+    answer_from::<InWide>(Profile::Wide, call, first, second, third)
 }
 
 /// The right answer, from the parts of the operands.
 #[inline(always)]
-fn answer_from(
+fn answer_from<C>(
     profile: Profile,
     call: &Call,
     first: ShortParts,
@@ -115,7 +122,7 @@ fn answer_from(
         call.corr,
         call.stamp,
     );
-    told(
+    told::<C>(
         profile,
         call,
         carried,
@@ -127,7 +134,7 @@ fn answer_from(
 
 /// The answer that tells what the kind gives, with this residue.
 #[inline(always)]
-fn told(
+fn told<C>(
     profile: Profile,
     call: &Call,
     residue: Residue,
