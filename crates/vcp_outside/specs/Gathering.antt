@@ -1,5 +1,5 @@
 -- A line that is gathered in a buffer on its way to a sink.
-use Rattle.std.specs.Prelude.{◌≡◌, ℕ, List, ◌++◌, Option, Result}
+use Rattle.std.specs.Prelude.{◌≡◌, ℕ, List, ◌++◌, length, Option, Result}
 use Rattle.vcp_outside.specs.declared.failed.Failed.{Failed}
 use Rattle.vcp_outside.specs.Seen.{SinkSeen}
 use Rattle.vcp_outside.specs.Written.{Writes}
@@ -25,3 +25,9 @@ Gathers old new faults_old faults_new line_old line_new bytes =
 -- the same of a sink as it is seen before and after the call
 abbrev pub GathersTo : SinkSeen → SinkSeen → Gathered → Gathered → List ℕ → Type 0
 GathersTo old new line_old line_new bytes = Gathers old.written new.written old.faults new.faults line_old line_new bytes
+
+-- the bytes are so many, and then this piece
+pub record EndsAt (bytes : List ℕ) (at : ℕ) (piece : List ℕ) : Type 0 where
+  pub front : List ℕ
+  pub place : length front ≡ at
+  pub joined : bytes ≡ front ++ piece

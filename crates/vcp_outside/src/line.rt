@@ -1,9 +1,9 @@
 //! A line on its way to a sink.
 
-ghost use Rattle.std.specs.Prelude.{◌≡◌, ◌+◌, ◌≤◌, ℕ, List, [], ◌++◌, Option, length, decimal, codes, IsErr, OnErr};
+ghost use Rattle.std.specs.Prelude.{◌≡◌, ◌+◌, ◌≤◌, true, ℕ, List, [], ◌++◌, Option, length, decimal, codes, IsErr, OnErr};
 ghost use Rattle.std.specs.Fmt.{signed_decimal};
 ghost use Rattle.vcp_outside.specs.Written.{Writes};
-ghost use Rattle.vcp_outside.specs.Gathering.{IsGathered, GathersTo};
+ghost use Rattle.vcp_outside.specs.Gathering.{IsGathered, GathersTo, EndsAt};
 
 use crate::{Failed, Sink, write_all};
 use arrayvec::ArrayVec;
@@ -77,13 +77,35 @@ impl Line {
         ensures after_failure { OnErr self.old.so_far (out.new ≡ out.old) }
         ensures stays_failed { IsErr self.old.so_far → IsErr self.new.so_far }
     {
+        let at = self.pending.len();
         if self.pending.try_extend_from_slice(bytes).is_ok() {
+            self.look_again(at, bytes);
             return;
         }
         self.flush(out);
         if self.pending.try_extend_from_slice(bytes).is_err() {
             self.so_far = then(out, self.so_far, bytes);
         }
+    }
+
+    // Looks once more at a number, whose digits stand from this place on: what differs counts as a write that failed, so that
+    // nothing more of the line goes out. It never differs, says the proof; where the processor erred, it may.
+    fn look_again(&mut self, at: usize, digits: &[u8])
+        requires place { at ≤ ROOM }
+        requires digits { at + length digits.now ≤ ROOM → EndsAt self.old.pending at digits.now }
+        ensures { self.new ≡ self.old }
+    {
+        if at + digits.len() <= ROOM && !self.ends_at(at, digits) {
+            self.so_far = Err(Failed);
+        }
+    }
+
+    // Whether what is pending are bytes up to this place, and then these.
+    fn ends_at(&self, at: usize, piece: &[u8]) -> bool
+        requires place { at + length piece.now ≤ ROOM }
+        ensures { EndsAt self.now.pending at piece.now → result ≡ true }
+    {
+        self.pending.len() == at + piece.len() && self.pending.as_slice().ends_with(piece)
     }
 
     /// Goes on with a number in decimal digits.
@@ -94,7 +116,9 @@ impl Line {
         ensures after_failure { OnErr self.old.so_far (out.new ≡ out.old) }
         ensures stays_failed { IsErr self.old.so_far → IsErr self.new.so_far }
     {
+        let at = self.pending.len();
         self.text(out, Buffer::new().format(n).as_bytes());
+        self.look_again(at, Buffer::new().format(n).as_bytes());
     }
 
     /// Goes on with a number in decimal digits, after `-` where it is negative.
@@ -106,7 +130,9 @@ impl Line {
         ensures after_failure { OnErr self.old.so_far (out.new ≡ out.old) }
         ensures stays_failed { IsErr self.old.so_far → IsErr self.new.so_far }
     {
+        let at = self.pending.len();
         self.text(out, Buffer::new().format(v).as_bytes());
+        self.look_again(at, Buffer::new().format(v).as_bytes());
     }
 
     /// Goes on with a number of 128 bits in decimal digits, after `-` where it is negative.
