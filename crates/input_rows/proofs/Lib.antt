@@ -1,3 +1,4 @@
+pub mod Again
 pub mod Flat
 pub mod Fuel
 pub mod Headers
