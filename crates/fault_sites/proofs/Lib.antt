@@ -1,11 +1,19 @@
 mod Below
 mod Bits
+mod Cells
 mod Counting
 mod Ended
+mod Gathering
 mod Going
+mod GroupsFit
+mod GroupsGoing
+mod GroupsRead
+mod GroupsShort
+mod LateOnce
 mod OneBit
 mod Parts
 mod ReadBack
+mod Rising
 mod RunFit
 mod RunGoing
 mod RunOnce
@@ -15,6 +23,7 @@ mod SitesFit
 mod SitesHave
 mod SitesOnce
 mod Spelled
+mod Spending
 mod Worked
 pub mod Lists
 pub mod Plain

@@ -74,7 +74,7 @@ before_parts : (line : List ℕ) (parts : List (List ℕ)) → 0 < length parts 
 before_parts line [] some = absurd (omega arith)
 before_parts line (part ∷ parts) some = refl
 
-line_first : (line rest : List ℕ) → list_all plain line ≡ true → lines (line ++ 10 ∷ rest) ≡ line ∷ lines rest
+pub line_first : (line rest : List ℕ) → list_all plain line ≡ true → lines (line ++ 10 ∷ rest) ≡ line ∷ lines rest
 line_first line rest h =
     let feed : ℕ → Bool = λ b. b == 10 in
     let some : 0 < length (slice_split feed rest) = omega (arith, length-slice_split feed rest) in
@@ -271,7 +271,7 @@ item_is g before number s room few l fit =
 pub there_few : (g : Lists) (k : ℕ) (op : Op) → slice_get g.operations k ≡ Some op → length g.operations ≤ 2 ^ 32 → k < 2 ^ 32
 there_few g k op there few = let within : k < length g.operations = slice_get_within g.operations k op there in omega arith
 
-abbrev Groups : Type 0
+abbrev pub Groups : Type 0
 Groups = Result (List (List Fault)) ScriptFault
 
 -- the line of a site, before any text
@@ -327,15 +327,21 @@ plain_name (classes.One class.From) = refl
 plain_name (classes.One class.Operator) = refl
 plain_name classes.All = refl
 
--- the lines of sites that fit, behind a remark
+-- a text behind a remark
+pub remark_back : (name digest : List ℕ) (g : Lists) (text : List ℕ) → list_all plain name ≡ true → All (λ b. 32 ≤ b) digest
+    → script_of g (named_remark name digest ++ text) ≡ groups_of (items_of g 0 (read_lines 2 (lines text))) None
+remark_back name digest g text named digits =
+    let front : List ℕ = codes "# sites " ++ (name ++ (codes " of " ++ digest)) in
+    let cut : lines (named_remark name digest ++ text) ≡ front ∷ lines text =
+    ap lines (regroup name digest text) ∙ line_first front text (plain_remark name digest named (plain_all digest digits)) in
+    ap (λ (ls : List (List ℕ)). groups_of (items_of g 0 (read_lines 1 ls)) None) cut
+
+-- the lines of sites that fit
 pub lines_read_back : (name digest : List ℕ) (g : Lists) (xs : List Site) → list_all plain name ≡ true → All (λ b. 32 ≤ b) digest
     → length g.operations ≤ 2 ^ 32 → length xs ≤ most_faults → All (λ s. Fits g (as_fault 0 s)) xs
     → script_of g (named_remark name digest ++ site_lines xs) ≡ Ok (said_from 2 xs)
 lines_read_back name digest g xs named digits ops room fit =
-    let front : List ℕ = codes "# sites " ++ (name ++ (codes " of " ++ digest)) in
-    let cut : lines (named_remark name digest ++ site_lines xs) ≡ front ∷ lines (site_lines xs) =
-    ap lines (regroup name digest (site_lines xs)) ∙ line_first front (site_lines xs) (plain_remark name digest named (plain_all digest digits)) in
-    ap (λ (ls : List (List ℕ)). groups_of (items_of g 0 (read_lines 1 ls)) None) cut ∙ come_back g xs 2 0 ops (omega (arith, room)) fit
+    remark_back name digest g (site_lines xs) named digits ∙ come_back g xs 2 0 ops (omega (arith, room)) fit
 
 pub read_back : (c : Classes) (digest : List ℕ) (g : Lists) (cycles : ℕ) (p : Part) → All (λ b. 32 ≤ b) digest → cycles ≤ most_cycles
     → length g.operations ≤ 2 ^ 32 → length (kept p (sites c g cycles)) ≤ most_faults

@@ -49,7 +49,7 @@ results_fit kind k n w =
     all_below (ActFits kind k n) (λ b. act.ResultAdd (flip w b) ∷ []) flipped_bits
     (λ b l. all_one (ActFits kind k n) (act.ResultAdd (flip w b)) (record { sited = refl; timely = refl; alike = refl; moderate = either_is (bit_of w b) b l }))
 
-there_is : {X : Type 0} (xs : List X) (k : ℕ) → k < length xs → (x : X) × (slice_get xs k ≡ Some x)
+pub there_is : {X : Type 0} (xs : List X) (k : ℕ) → k < length xs → (x : X) × (slice_get xs k ≡ Some x)
 there_is [] k within = absurd (omega (arith, within))
 there_is (x ∷ xs) zero within = (x, refl)
 there_is (x ∷ xs) (suc k) within = there_is xs k (omega (arith, within))

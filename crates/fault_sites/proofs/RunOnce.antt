@@ -1,5 +1,5 @@
--- RunOnce: each flip stands once.
-use Rattle.std.proofs.Common.{◌≡◌, ℕ, zero, suc, ◌+◌, ◌^◌, ◌<◌, ◌==◌, ℤ, pos, neg_ℤ, unsigned_abs, Bool, true, false, cond, nat_lt, List, [], ◌∷◌, length, Option, Some, None, All, refl, arith}
+-- RunOnce: each site that a run decides stands once.
+use Rattle.std.proofs.Common.{◌≡◌, ℕ, zero, suc, ◌+◌, ◌^◌, ◌<◌, ◌≤◌, ◌==◌, ℤ, pos, neg_ℤ, unsigned_abs, Bool, true, false, cond, nat_lt, List, [], ◌∷◌, length, Option, Some, None, All, refl, arith}
 use Rattle.std.proofs.lemmas.List.Elements.{All-nil, All-append, All-weaker}
 use Rattle.vcp_base.specs.declared.kind.StopKind.{StopKind}
 use Rattle.vcp_base.specs.Values.{at}
@@ -8,13 +8,14 @@ use Rattle.op_graph.specs.GraphRun.{Cycle, cycle}
 use Rattle.signature_table.specs.Signatures.{Numbers}
 use Rattle.fault_script.specs.declared.act.Act.{Act}
 use Rattle.fault_script.specs.declared.act.Act.TheVariants as act
+use Rattle.fault_sites.specs.declared.run_class.RunClass.{RunClass}
 use Rattle.fault_sites.specs.declared.run_class.RunClass.TheVariants as run
 use Rattle.fault_sites.specs.declared.site.Site.{Site}
 use Rattle.fault_sites.specs.Flips.{bit_of, flip, flips_in, flips_of, flipped_bits}
 use Rattle.fault_sites.specs.Laws.{Distinct}
 use Rattle.fault_sites.specs.Run.{Moment, after, begun}
 use Rattle.fault_sites.specs.RunCycle.{RunCycle, expected_word}
-use Rattle.fault_sites.specs.RunSites.{cycle_of, run_sites, run_sites_from, unless_stopped}
+use Rattle.fault_sites.specs.RunSites.{cycle_of, in_cycle, run_sites, run_sites_from, unless_stopped}
 use Rattle.fault_sites.specs.Sites.{sited}
 use Rattle.fault_sites.proofs.Below.{all_below, all_one, tested_below, passed, distinct_append, distinct_one, apart_by, distinct_below}
 use Rattle.fault_sites.proofs.SitesOnce.{same, each_sited, any_act, sited_once}
@@ -45,51 +46,59 @@ bits_once w =
     distinct_below bit_key (λ b. act.ResultAdd (flip w b) ∷ []) flipped_bits (λ b l. distinct_one (act.ResultAdd (flip w b)))
     (λ b l. all_one (λ a. bit_key a ≡ b) (act.ResultAdd (flip w b)) (key_is (bit_of w b) b l))
 
--- ---- in a cycle, and cycle by cycle
+-- ---- flips in a cycle
 
-in_once : (c : RunCycle) → Distinct (flips_in c)
-in_once c =
+flips_once : (c : RunCycle) → Distinct (flips_in c)
+flips_once c =
     distinct_below (λ s. s.op) (λ k. sited c.cycle k (flips_of (expected_word c.table c.cycle k (at c.values k)))) (length c.graph.operations)
     (λ k l. sited_once c.cycle k (flips_of (expected_word c.table c.cycle k (at c.values k))) (bits_once (expected_word c.table c.cycle k (at c.values k))))
     (λ k l. each_sited (λ s. s.op ≡ k) c.cycle k (flips_of (expected_word c.table c.cycle k (at c.values k)))
     (any_act (λ a. k ≡ k) (flips_of (expected_word c.table c.cycle k (at c.values k))) (λ a. refl)))
 
-in_cycle : (c : RunCycle) → All (λ s. s.cycle ≡ c.cycle) (flips_in c)
-in_cycle c =
+flips_there : (c : RunCycle) → All (λ s. s.cycle ≡ c.cycle) (flips_in c)
+flips_there c =
     all_below (λ s. s.cycle ≡ c.cycle) (λ k. sited c.cycle k (flips_of (expected_word c.table c.cycle k (at c.values k)))) (length c.graph.operations)
     (λ k l. each_sited (λ s. s.cycle ≡ c.cycle) c.cycle k (flips_of (expected_word c.table c.cycle k (at c.values k)))
     (any_act (λ a. c.cycle ≡ c.cycle) (flips_of (expected_word c.table c.cycle k (at c.values k))) (λ a. refl)))
 
-module _ (t : Numbers) where
+-- ---- cycle by cycle
+
+module _ (class : RunClass) (t : Numbers) (g : Lists) (most : ℕ)
+    (in_once : (n : ℕ) (now : Moment) (values : List ℤ) → now.graph ≡ g → n < most → Distinct (in_cycle class (cycle_of t n now values)))
+    (in_there : (n : ℕ) (now : Moment) (values : List ℤ) → All (λ s. s.cycle ≡ n) (in_cycle class (cycle_of t n now values))) where
   -- past a cycle
-  late_then : (m n : ℕ) → m < n → (now : Moment) (next : Moment → List Site) (c : Cycle) (stop : Option StopKind)
-      → ((later : Moment) → All (λ s. m < s.cycle) (next later)) → All (λ s. m < s.cycle) (unless_stopped (flips_in (cycle_of t n now c.values)) next now c stop)
-  late_then m n l now next c None h =
-      All-append (λ s. m < s.cycle) (flips_in (cycle_of t n now c.values)) (next (after now c))
-      (All-weaker (λ s. s.cycle ≡ n) (λ s. m < s.cycle) (λ s e. omega (arith, l, e)) (flips_in (cycle_of t n now c.values)) (in_cycle (cycle_of t n now c.values)))
+  later_then : (m n : ℕ) → m < n → (now : Moment) (next : Moment → List Site) (c : Cycle) (stop : Option StopKind)
+      → ((later : Moment) → All (λ s. m < s.cycle) (next later))
+      → All (λ s. m < s.cycle) (unless_stopped (in_cycle class (cycle_of t n now c.values)) next now c stop)
+  later_then m n l now next c None h =
+      All-append (λ s. m < s.cycle) (in_cycle class (cycle_of t n now c.values)) (next (after now c))
+      (All-weaker (λ s. s.cycle ≡ n) (λ s. m < s.cycle) (λ s e. omega (arith, l, e)) (in_cycle class (cycle_of t n now c.values)) (in_there n now c.values))
       (h (after now c))
-  late_then m n l now next c (Some why) h = All-nil (λ s. m < s.cycle)
+  later_then m n l now next c (Some why) h = All-nil (λ s. m < s.cycle)
 
-  late : (m n : ℕ) (now : Moment) (rows : List (List ℤ)) → m < n → All (λ s. m < s.cycle) (run_sites_from run.Flips t now n rows)
-  late m n now [] l = All-nil (λ s. m < s.cycle)
-  late m n now (row ∷ rows) l =
-      late_then m n l now (λ next. run_sites_from run.Flips t next (n + 1) rows) (cycle now.graph now.cells row) (cycle now.graph now.cells row).stop
-      (λ next. late m (n + 1) next rows (omega (arith, l)))
+  later : (m n : ℕ) (now : Moment) (rows : List (List ℤ)) → m < n → All (λ s. m < s.cycle) (run_sites_from class t now n rows)
+  later m n now [] l = All-nil (λ s. m < s.cycle)
+  later m n now (row ∷ rows) l =
+      later_then m n l now (λ next. run_sites_from class t next (n + 1) rows) (cycle now.graph now.cells row) (cycle now.graph now.cells row).stop
+      (λ next. later m (n + 1) next rows (omega (arith, l)))
 
-  once_then : (n : ℕ) (now : Moment) (next : Moment → List Site) (c : Cycle) (stop : Option StopKind)
-      → ((later : Moment) → All (λ s. n < s.cycle) (next later)) → ((later : Moment) → Distinct (next later))
-      → Distinct (unless_stopped (flips_in (cycle_of t n now c.values)) next now c stop)
-  once_then n now next c None behind once =
-      distinct_append (flips_in (cycle_of t n now c.values)) (next (after now c)) (in_once (cycle_of t n now c.values)) (once (after now c))
-      (apart_by (λ s. s.cycle) (λ m. m ≡ n) (λ m. n < m) (flips_in (cycle_of t n now c.values)) (next (after now c))
-      (λ m k here there e. omega (arith, here, there, e)) (in_cycle (cycle_of t n now c.values)) (behind (after now c)))
-  once_then n now next c (Some why) behind once = tt
+  once_then : (n : ℕ) (now : Moment) (next : Moment → List Site) (c : Cycle) (stop : Option StopKind) → now.graph ≡ g → n < most
+      → ((m : Moment) → All (λ s. n < s.cycle) (next m)) → Distinct (next (after now c))
+      → Distinct (unless_stopped (in_cycle class (cycle_of t n now c.values)) next now c stop)
+  once_then n now next c None is few behind once =
+      distinct_append (in_cycle class (cycle_of t n now c.values)) (next (after now c)) (in_once n now c.values is few) once
+      (apart_by (λ s. s.cycle) (λ m. m ≡ n) (λ m. n < m) (in_cycle class (cycle_of t n now c.values)) (next (after now c))
+      (λ m k here there e. omega (arith, here, there, e)) (in_there n now c.values) (behind (after now c)))
+  once_then n now next c (Some why) is few behind once = tt
 
-  from_once : (n : ℕ) (now : Moment) (rows : List (List ℤ)) → Distinct (run_sites_from run.Flips t now n rows)
-  from_once n now [] = tt
-  from_once n now (row ∷ rows) =
-      once_then n now (λ next. run_sites_from run.Flips t next (n + 1) rows) (cycle now.graph now.cells row) (cycle now.graph now.cells row).stop
-      (λ next. late n (n + 1) next rows (omega arith)) (λ next. from_once (n + 1) next rows)
+  pub from_once : (n : ℕ) (now : Moment) (rows : List (List ℤ)) → now.graph ≡ g → n + length rows ≤ most → Distinct (run_sites_from class t now n rows)
+  from_once n now [] is few = tt
+  from_once n now (row ∷ rows) is few =
+      once_then n now (λ next. run_sites_from class t next (n + 1) rows) (cycle now.graph now.cells row) (cycle now.graph now.cells row).stop is
+      (omega (arith, few)) (λ next. later n (n + 1) next rows (omega arith))
+      (from_once (n + 1) (after now (cycle now.graph now.cells row)) rows is (omega (arith, few)))
 
 pub each_flip_once : (t : Numbers) (g : Lists) (rows : List (List ℤ)) → Distinct (run_sites run.Flips t g rows)
-each_flip_once t g rows = from_once t 0 (begun g) rows
+each_flip_once t g rows =
+    from_once run.Flips t g (length rows) (λ n now values is few. flips_once (cycle_of t n now values)) (λ n now values. flips_there (cycle_of t n now values)) 0
+    (begun g) rows refl (omega arith)

@@ -57,7 +57,7 @@ line_short n k a h l m =
     behind_number n (codes " " ++ (decimal k ++ rest a)) 69 h (omega (arith, behind)) in
     omega (arith, length-append (verb a) (decimal n ++ (codes " " ++ (decimal k ++ rest a))), verb_short a, more)
 
-lines_short : (g : Lists) (xs : List Site) → length g.operations ≤ 2 ^ 32 → All (λ s. Fits g (as_fault 0 s)) xs → length (site_lines xs) ≤ length xs * 99
+pub lines_short : (g : Lists) (xs : List Site) → length g.operations ≤ 2 ^ 32 → All (λ s. Fits g (as_fault 0 s)) xs → length (site_lines xs) ≤ length xs * 99
 lines_short g [] few fit = omega arith
 lines_short g (s ∷ xs) few fit =
     let here : Fits g (as_fault 0 s) = All-head (λ s. Fits g (as_fault 0 s)) s xs fit in

@@ -39,7 +39,7 @@ or_false false h = absurd cc
 addends_are : tested_below (λ v. is_addend (addend v)) addend_count ≡ true
 addends_are = refl
 
-is_one : (v : ℕ) → v < addend_count → is_addend (addend v) ≡ true
+pub is_one : (v : ℕ) → v < addend_count → is_addend (addend v) ≡ true
 is_one v l = passed (λ v. is_addend (addend v)) addend_count v addends_are l
 
 results_fit : (kind : Kind) (k n : ℕ) → All (ActFits kind k n) (bits_at None)

@@ -1,9 +1,10 @@
 -- Laws: what holds of the sites of all graphs.
-use Rattle.std.specs.Prelude.{◌≡◌, ◌≢◌, ℕ, ℤ, ◌+ℤ◌, ◌+◌, ◌^◌, ◌<◌, ◌≤◌, ◌==◌, not, cond, List, [], ◌∷◌, ◌++◌, length, All, Ok}
+use Rattle.std.specs.Prelude.{◌≡◌, ◌≢◌, ℕ, ℤ, ◌+ℤ◌, ◌+◌, ◌^◌, ◌<◌, ◌≤◌, ◌==◌, Bool, not, cond, List, [], ◌∷◌, ◌++◌, length, All, Ok}
 use Rattle.std.specs.Str.Lines.{lines}
-use Rattle.vcp_base.specs.Limits.{most_cycles, most_source_bytes}
+use Rattle.vcp_base.specs.Limits.{most_cycles, most_operations, most_source_bytes}
 use Rattle.op_graph.specs.Lists.{Lists}
-use Rattle.signature_table.specs.Signatures.{Numbers}
+use Rattle.op_graph.specs.Rules.{IsPart}
+use Rattle.signature_table.specs.Signatures.{IsTable, Numbers}
 use Rattle.script_text.specs.Lines.{read_lines}
 use Rattle.fault_script.specs.Fits.{Fits}
 use Rattle.fault_script.specs.ScriptOf.{says, items_of, most_faults, script_of}
@@ -14,6 +15,7 @@ use Rattle.fault_sites.specs.declared.run_class.RunClass.TheVariants as run
 use Rattle.fault_sites.specs.declared.site.Site.{Site}
 use Rattle.fault_sites.specs.Flips.{bit_of, flip}
 use Rattle.fault_sites.specs.Part.{kept}
+use Rattle.fault_sites.specs.Readings.{IsReadBy, readings_within}
 use Rattle.fault_sites.specs.RunSites.{run_sites, run_text}
 use Rattle.fault_sites.specs.Sites.{as_fault, sites}
 use Rattle.fault_sites.specs.SiteText.{said_from, site_text, sites_text}
@@ -65,6 +67,16 @@ TurnsOneBit = (w : ℤ) (b c : ℕ) → bit_of (w +ℤ flip w b) c ≡ cond (c =
 -- each flip stands once
 abbrev pub EachFlipOnce : Type 0
 EachFlipOnce = (t : Numbers) (g : Lists) (rows : List (List ℤ)) → Distinct (run_sites run.Flips t g rows)
+
+-- each site that a run decides stands once, in the code of a table
+abbrev pub EachRunSiteOnce : Type 0
+EachRunSiteOnce =
+    (c : RunClass) (t : Numbers) (g : Lists) (rows : List (List ℤ)) → IsTable t → length rows ≤ most_cycles → length g.operations ≤ most_operations
+    → Distinct (run_sites c t g rows)
+
+-- each reading of a word is by an operation that is there, in the cycle or by the LOAD of its cell in the next
+abbrev pub EachReading : Type 0
+EachReading = (g : Lists) (more : Bool) (k : ℕ) → IsPart g → All (IsReadBy g (cond more 1 0)) (readings_within g more k)
 
 -- the same of the sites that a run decides: each fits the graph, and their script is read back
 abbrev pub EachRunSiteFits : Type 0

@@ -1,7 +1,11 @@
 //! Laws of sites. Each function does nothing: it states a law.
 
-ghost use Rattle.fault_sites.specs.Laws.{EachFits, EachFlipOnce, EachOnce, EachRunSiteFits, IsLineRead, IsReadBack, IsShort, PartsAreWhole, RunIsReadBack, RunIsShort, TurnsOneBit};
+ghost use Rattle.fault_sites.specs.Laws.{EachFits, EachFlipOnce, EachOnce, EachReading, EachRunSiteFits, EachRunSiteOnce, IsLineRead, IsReadBack, IsShort, PartsAreWhole, RunIsReadBack, RunIsShort, TurnsOneBit};
 ghost use Rattle.fault_sites.specs.Members.{HasEach};
+
+use coded_unit::words_split_in_one_way;
+use op_graph::entries_keep_their_rules;
+use signature_table::{expected_residues_are_residues, signatures_are_distinct};
 
 /// Each site fits the graph, in the sense of scripts of faults, whatever line it is in.
 pub fn each_site_fits()
@@ -49,6 +53,22 @@ pub fn a_flip_turns_one_bit()
 pub fn each_flip_stands_once()
     ensures { EachFlipOnce }
 {}
+
+/// No site that a run decides comes twice, in the code of a table: other operations have other words, so that other numbers are added for them.
+pub fn each_run_site_stands_once()
+    ensures { EachRunSiteOnce }
+{
+    signatures_are_distinct();
+    expected_residues_are_residues();
+    words_split_in_one_way();
+}
+
+/// What reads a word is an operation that is there: in the cycle, as one of its operands, or in the next one, as the LOAD of a cell.
+pub fn each_reading_is_there()
+    ensures { EachReading }
+{
+    entries_keep_their_rules();
+}
 
 /// Each site that a run decides fits the graph, and the script of a part of at most 10,000 of these is read back as their faults, in the same way.
 pub fn a_script_of_a_run_is_read_back()

@@ -5,6 +5,7 @@
 #![tactic(auto)]
 
 mod acts;
+mod budget;
 mod class;
 mod counts;
 mod cycle_values;
@@ -14,13 +15,17 @@ mod graph_values;
 mod late;
 mod laws;
 mod lines;
+mod nowhere;
 mod part;
+mod reading;
+mod rests;
 mod run_class;
 mod run_sites;
 mod scripts;
 mod site;
 mod telling;
 mod values;
+mod words_read;
 mod writing;
 
 pub use class::{Class, Classes};
@@ -31,12 +36,17 @@ pub use late::{may_be_late, store_of};
 pub use laws::{
     a_flip_turns_one_bit, a_line_is_read_back, a_script_is_read_back,
     a_script_of_a_run_is_read_back, each_fault_of_a_class_has_a_site, each_flip_stands_once,
-    each_site_fits, each_site_stands_once, parts_are_the_whole,
+    each_reading_is_there, each_run_site_stands_once, each_site_fits, each_site_stands_once,
+    parts_are_the_whole,
 };
 pub use lines::{classes_name, classes_named, then_site};
 pub use part::Part;
+pub use reading::Reading;
 pub use run_class::RunClass;
 pub use run_sites::{count_run_sites, run_class_named, write_run_sites};
-pub use scripts::{Chosen, Unwritten, write_chosen_run_sites, write_chosen_sites};
+pub use scripts::{
+    Chosen, Unwritten, write_chosen_rests, write_chosen_run_sites, write_chosen_sites,
+};
 pub use site::Site;
+pub use words_read::{WordReadings, readings};
 pub use writing::write_sites;
