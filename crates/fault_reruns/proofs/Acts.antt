@@ -1,5 +1,5 @@
 -- Acts: the act of the first fault at an operation in a cycle.
-use Rattle.std.proofs.Common.{◌≡◌, ℕ, ◌+◌, ◌==◌, ◌&&◌, Bool, true, false, cond, List, [], ◌∷◌, ◌++◌, append_assoc, drop, slice_get, Option, Some, ap, sym, refl, ◌∙◌}
+use Rattle.std.proofs.Common.{◌≡◌, ℕ, ◌+◌, ◌==◌, ◌&&◌, Bool, true, false, cond, List, [], ◌∷◌, ◌++◌, append_assoc, drop, length, slice_get, Option, Some, None, arith, ap, sym, refl, ◌∙◌}
 use Rattle.fault_script.specs.declared.act.Act.{Act}
 use Rattle.fault_script.specs.declared.act.Fault.{Fault}
 use Rattle.fault_script.specs.Changes.{acts_of}
@@ -23,6 +23,21 @@ pub acts_passed : (faults : List Fault) (i n : ℕ) (f : Fault) (b : Bool) → s
     → acts_of (drop i faults) n k ≡ acts_of (drop (i + 1) faults) n k
 acts_passed faults i n f b there is was k =
     acts_behind faults i n k f (f.cycle == n && f.op == k) there refl (ap (λ (c : Bool). c && f.op == k) (sym is ∙ was))
+
+no_place : (a b : Bool) → false ≡ b → a && b ≡ false
+no_place true b h = sym h
+no_place false b h = refl
+
+-- and so is one at another operation
+pub acts_beside : (faults : List Fault) (i n k : ℕ) (f : Fault) → slice_get faults i ≡ Some f → false ≡ (f.op == k)
+    → acts_of (drop i faults) n k ≡ acts_of (drop (i + 1) faults) n k
+acts_beside faults i n k f there beside =
+    acts_behind faults i n k f (f.cycle == n && f.op == k) there refl (no_place (f.cycle == n) (f.op == k) beside)
+
+-- no fault has no act
+pub none_of : (faults : List Fault) (n k : ℕ) → length faults ≡ 0 → acts_of faults n k ≡ None
+none_of [] n k none = refl
+none_of (f ∷ faults) n k none = absurd (omega (arith, none))
 
 -- ---- the faults of one cycle
 

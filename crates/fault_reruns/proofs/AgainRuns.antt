@@ -1,13 +1,19 @@
 -- AgainRuns: the rerun of a cycle, call by call, and of a run, cycle by cycle.
-use Rattle.std.proofs.Common.{◌≡◌, ℕ, zero, suc, ◌+◌, ◌≤◌, Bool, true, false, List, [], ◌∷◌, ◌++◌, length, drop, slice_get, Option, Some, None, refl, sym, ap, ◌∙◌, arith}
-use Rattle.std.proofs.lemmas.List.{append_assoc, append-nil}
+use Rattle.std.proofs.Common.{◌≡◌, ℕ, zero, suc, ◌+◌, ◌<◌, ◌≤◌, Bool, true, false, cond, List, [], ◌∷◌, ◌++◌, length, drop, get_or, slice_get, Option, Some, None, ℤ, refl, sym, ap, ◌∙◌, arith}
+use Rattle.std.proofs.lemmas.List.{append_assoc, append-nil, length-append}
+use Rattle.vcp_base.specs.declared.kind.StopKind.{StopKind}
 use Rattle.coded_unit.specs.declared.call.Answer.{Answer}
+use Rattle.coded_unit.specs.declared.call.Answer.TheVariants as answer
 use Rattle.coded_unit.specs.Log.{Entry, GrowsBy}
 use Rattle.op_graph.specs.declared.op.Op.{Op}
-use Rattle.coded_machine.specs.Calls.{AllRight, AllWords, Carried, is_word}
+use Rattle.coded_machine.specs.Calls.{AllRight, AllWords, Carried, call_of, is_word}
+use Rattle.coded_machine.specs.Honest.{stop_answer}
+use Rattle.fault_runs.specs.RunLaw.{taken}
 use Rattle.fault_runs.specs.Scripts.{handed_by}
-use Rattle.fault_reruns.specs.Begun.{Comes, RanAgain}
-use Rattle.fault_reruns.specs.Reruns.{CycleAgain, Source, has, asks, ended, Part, source, done, after_answer, go_on, again}
+use Rattle.fault_reruns.specs.Begun.{Comes, GoesOver, RanAgain}
+use Rattle.fault_reruns.specs.References.{words_answered}
+use Rattle.fault_reruns.specs.Reruns.{CycleAgain, Source, has, asks, ended, Part, source, source_of, source_touched, done, after_answer, go_on, again}
+use Rattle.fault_reruns.specs.Touched.{mark}
 
 -- ---- what was carried, one part after another
 
@@ -201,3 +207,41 @@ completes c k own x y i j all m = record {
 pub words_more : (own : List Answer) (a : Answer) → AllWords own → is_word a ≡ true → AllWords (own ++ a ∷ [])
 words_more [] a all word = (word, tt)
 words_more (o ∷ own) a all word = (all.0, words_more own a all.1 word)
+
+-- ---- operations that have an answer without a call
+
+one_more : {X : Type 0} (xs : List X) (x : X) → length xs + 1 ≡ length (xs ++ x ∷ [])
+one_more xs x = let more = length-append xs (x ∷ []) in omega (arith, more)
+
+pub over_none : (c : CycleAgain) (own : List Answer) → GoesOver c own own
+over_none c own = λ more. refl
+
+pub over_word : (c : CycleAgain) (before own : List Answer) (op : Op) (w : ℤ) → slice_get c.setting.graph.operations (length own) ≡ Some op
+    → mark c.touched (length own) ≡ false → slice_get c.other (length own) ≡ Some (answer.Word w) → GoesOver c before own
+    → GoesOver c before (own ++ answer.Word w ∷ [])
+over_word c before own op w there untouched other over = λ more.
+    let ops = c.setting.graph.operations in
+    let k = length own in
+    let rest = drop (k + 1) ops in
+    let asked = source_touched (c.acts k) (taken c.past own op (c.acts k)) (call_of c.setting op own) in
+    let is : source c own op ≡ has (answer.Word w) =
+    ap (λ (b : Bool). cond b asked (source_of (slice_get c.other k))) untouched ∙ ap source_of other in
+    over more
+    ∙ (ap (λ (left : List Op). again c own left more) (drop_op ops k op there)
+    ∙ (ap (λ (s : Source). go_on own s (next_by c own rest) more) is
+    ∙ ap (λ (n : ℕ). again c (own ++ answer.Word w ∷ []) (drop n ops) more) (one_more own (answer.Word w))))
+
+pub moves_over : (c : CycleAgain) (before own : List Answer) (x y : Option (List Entry)) (i j : ℕ) → Midway c (length before) before x y i j
+    → GoesOver c before own → Midway c (length own) own x y i j
+moves_over c before own x y i j m over = record {
+  given = m.given;
+  entries = m.entries;
+  so_far = λ more. m.so_far more ∙ ap (after_calls m.entries) (over more);
+  carried = m.carried;
+}
+
+pub word_there : (words : List ℤ) (stop : Option StopKind) (k : ℕ) (w : ℤ) → k < length words
+    → slice_get (words_answered words ++ stop_answer stop) k ≡ Some (answer.Word (get_or words k w))
+word_there [] stop k w within = absurd (omega (arith, within))
+word_there (x ∷ words) stop zero w within = refl
+word_there (x ∷ words) stop (suc k) w within = word_there words stop k w (omega (arith, within))

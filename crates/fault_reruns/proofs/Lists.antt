@@ -1,5 +1,7 @@
 -- Lists: what stands at a place of a list, and behind it.
-use Rattle.std.proofs.Common.{◌≡◌, ℕ, zero, suc, ◌+◌, ◌<◌, ◌≤◌, List, [], ◌∷◌, length, get_or, drop, slice_get, Some, refl, sym, ap, ◌∙◌, arith}
+use Rattle.std.proofs.Common.{◌≡◌, ℕ, zero, suc, ◌+◌, ◌<◌, ◌≤◌, Bool, true, false, List, [], ◌∷◌, length, get_or, drop, slice_get, Some, refl, sym, ap, ◌∙◌, arith}
+use Rattle.std.proofs.Math.Bool.{beq}
+use lib.Pointwise.{pointwise}
 
 pub there_is : {X : Type 0} (xs : List X) (k : ℕ) → k < length xs → (x : X) × (slice_get xs k ≡ Some x)
 there_is [] k within = absurd (omega (arith, within))
@@ -25,3 +27,12 @@ drop_read (x ∷ xs) zero within = refl
 drop_read (x ∷ xs) (suc k) within =
     let on : suc k + 1 ≡ suc (k + 1) = omega arith in
     drop_read xs k (omega (arith, within)) ∙ ap (λ (n : ℕ). get_or xs k 0 ∷ drop n (x ∷ xs)) (sym on)
+
+pub same_bools : (xs ys : List Bool) → pointwise beq xs ys ≡ true → xs ≡ ys
+same_bools [] [] same = refl
+same_bools [] (y ∷ ys) same = absurd cc
+same_bools (x ∷ xs) [] same = absurd cc
+same_bools (true ∷ xs) (true ∷ ys) same = ap (λ (zs : List Bool). true ∷ zs) (same_bools xs ys same)
+same_bools (true ∷ xs) (false ∷ ys) same = absurd cc
+same_bools (false ∷ xs) (true ∷ ys) same = absurd cc
+same_bools (false ∷ xs) (false ∷ ys) same = ap (λ (zs : List Bool). false ∷ zs) (same_bools xs ys same)

@@ -1,8 +1,9 @@
 -- Untouched: where nothing is touched, no call is made again, and the answers and the verdict are those of the run without the faults.
-use Rattle.std.proofs.Common.{◌≡◌, ℕ, zero, suc, ◌+◌, ◌-◌, ◌<◌, ◌≤◌, ◌==◌, ◌&&◌, ◌||◌, Bool, true, false, cond, nat_lt, List, [], ◌∷◌, ◌++◌, length, map, slice_get, Option, Some, None, ℤ, unsigned_abs, refl, sym, ap, subst, ◌∙◌, arith}
+use Rattle.std.proofs.Common.{◌≡◌, ℕ, zero, suc, ◌+◌, ◌-◌, ◌<◌, ◌≤◌, ◌==◌, ◌&&◌, ◌||◌, Bool, true, false, cond, nat_lt, List, [], ◌∷◌, ◌++◌, length, map, drop, slice_get, Option, Some, None, ℤ, unsigned_abs, refl, sym, ap, subst, ◌∙◌, arith}
 use Rattle.std.specs.Option.{is_some}
 use Rattle.std.proofs.lemmas.Bool.{eq-eqb}
-use Rattle.std.proofs.lemmas.List.{append_assoc, append-nil}
+use Rattle.std.proofs.lemmas.Bool.Decides.{nat_tests}
+use Rattle.std.proofs.lemmas.List.{append_assoc, append-nil, length-append}
 use Rattle.vcp_base.specs.declared.kind.Kind.{Kind}
 use Rattle.vcp_base.specs.declared.kind.Kind.TheVariants as kind
 use Rattle.vcp_base.specs.declared.kind.StopKind.{StopKind}
@@ -26,7 +27,8 @@ use Rattle.fault_injector.specs.declared.verdict.Verdict.TheVariants as verdict
 use Rattle.fault_injector.specs.Verdicts.{judged}
 use Rattle.fault_reruns.specs.Laws.{NoneRefused, AsksNoMore, NothingTouched}
 use Rattle.fault_reruns.specs.Reruns.{Again, CycleAgain, Part, after_answer, again, and_later, cycle_again, done, go_on, read_cycle, refusal_in, runs_again, source_of, source_touched, stop_in, unless_judged}
-use Rattle.fault_reruns.specs.Touched.{Marks, cycle_marks, given_marks, held_marks, mark, operand_touched, past_touched_stop, reads_touched_as, touched_at}
+use Rattle.fault_reruns.specs.Touched.{BeginMarks, Marks, StaysMarked, cycle_marks, given_marks, held_marks, mark, operand_touched, past_touched_stop, reads_touched_as, touched_at}
+use Rattle.fault_reruns.proofs.Lists.{drop_there}
 use Rattle.fault_reruns.proofs.RowsBeside.{same_self}
 
 -- ---- marks
@@ -75,6 +77,50 @@ none_given other acts held before k [] none h b = b
 none_given other acts held before k (op ∷ ops) none h b =
     none_given other acts held (before ++ touched_at other acts (record { held = held; given = before }) k op ∷ []) (k + 1) ops none h
     (no_mark_more before _ b (untouched_at other acts (record { held = held; given = before }) k op (none k) h b))
+
+-- the marks of the first operations, at which no fault is, where no cell is marked
+pub front_more : (g : Lists) (acts : ℕ → Option Act) (held before : List Bool) (op : Op) → slice_get g.operations (length before) ≡ Some op
+    → acts (length before) ≡ None → NoMark held → NoMark before → BeginMarks g acts held before → BeginMarks g acts held (before ++ false ∷ [])
+front_more g acts held before op there none h b begin = λ other.
+    let k = length before in
+    let rest = drop (k + 1) g.operations in
+    let more = length-append before (false ∷ []) in
+    let next : k + 1 ≡ length (before ++ false ∷ []) = omega (arith, more) in
+    begin other
+    ∙ (ap (λ (ops : List Op). given_marks other acts held before k ops) (drop_there g.operations k op there)
+    ∙ (ap (λ (m : Bool). given_marks other acts held (before ++ m ∷ []) (k + 1) rest)
+    (untouched_at other acts (record { held = held; given = before }) k op none h b)
+    ∙ ap (λ (n : ℕ). given_marks other acts held (before ++ false ∷ []) n (drop n g.operations)) next))
+
+pub none_more : (before : List Bool) → NoMark before → NoMark (before ++ false ∷ [])
+none_more before none = no_mark_more before false none refl
+
+below_stop : (b x : Bool) → b ≡ true → cond b false x ≡ false
+below_stop true x h = refl
+below_stop false x h = absurd cc
+
+within_cycle : (other : List Answer) (given : List Bool) (k : ℕ) → k < length other → past_touched_stop other given k ≡ false
+within_cycle other given k below = below_stop (nat_lt k (length other)) (mark given (length other - 1)) (grind (arith, nat_tests))
+
+-- in whole cycles without a fault the marks are the same
+steady_from : (other also : List Answer) (acts more : ℕ → Option Act) (held before : List Bool) (k : ℕ) (ops : List Op) → k + length ops ≤ length other
+    → k + length ops ≤ length also → ((i : ℕ) → acts i ≡ None) → ((i : ℕ) → more i ≡ None)
+    → given_marks other acts held before k ops ≡ given_marks also more held before k ops
+steady_from other also acts more held before k [] few fewer none nor = refl
+steady_from other also acts more held before k (op ∷ ops) few fewer none nor =
+    let m : Marks = record { held = held; given = before } in
+    let same : touched_at other acts m k op ≡ touched_at also more m k op =
+    ap (λ (a : Option Act). is_some a || operand_touched m op 0 || operand_touched m op 1 || operand_touched m op 2 || past_touched_stop other before k)
+    (none k ∙ sym (nor k))
+    ∙ ap (λ (s : Bool). is_some (more k) || operand_touched m op 0 || operand_touched m op 1 || operand_touched m op 2 || s)
+    (within_cycle other before k (omega (arith, few)) ∙ sym (within_cycle also before k (omega (arith, fewer)))) in
+    ap (λ (b : Bool). given_marks other acts held (before ++ b ∷ []) (k + 1) ops) same
+    ∙ steady_from other also acts more held (before ++ touched_at also more m k op ∷ []) (k + 1) ops (omega (arith, few)) (omega (arith, fewer)) none nor
+
+pub stays_marked : (g : Lists) (other : List Answer) (acts : ℕ → Option Act) (held marks : List Bool) → length g.operations ≤ length other
+    → ((k : ℕ) → acts k ≡ None) → marks ≡ (cycle_marks g other acts held).given → StaysMarked g held marks
+stays_marked g other acts held marks whole none are = λ also more enough nor.
+    steady_from also other more acts held [] 0 g.operations (omega (arith, enough)) (omega (arith, whole)) nor none ∙ sym are
 
 pub none_touched : (g : Lists) (other : List Answer) (acts : ℕ → Option Act) (cell_marks : List Bool) → NothingTouched acts cell_marks
     → NoMark (cycle_marks g other acts cell_marks).given

@@ -1,5 +1,5 @@
 -- Begun: what the rerun of a cycle begins with, as the code has it; and what a call of it leaves of a unit.
-use Rattle.std.specs.Prelude.{ℕ, ◌≡◌, List, [], ◌∷◌, ◌++◌, Option, Some, None, false}
+use Rattle.std.specs.Prelude.{ℕ, ◌≡◌, List, [], ◌∷◌, ◌++◌, drop, length, Option, Some, None, false}
 use Rattle.coded_unit.specs.declared.call.Answer.{Answer}
 use Rattle.coded_unit.specs.Log.{Entry}
 use Rattle.coded_machine.specs.Calls.{Carried}
@@ -32,6 +32,11 @@ Comes (has a) result x y i j = (result ≡ Some a) × Carried [] x y i j
 Comes (asks call act word) result x y i j =
     (given : Answer) × (result ≡ Some (handed_by act word given)) × Carried ((call, given) ∷ []) x y i j
 Comes ended result x y i j = (result ≡ None) × Carried [] x y i j
+
+-- a rerun with these answers before goes on, whatever more the unit gives, as with these answers, between which no call is made
+abbrev pub GoesOver : CycleAgain → List Answer → List Answer → Type 0
+GoesOver c before own = (more : List Answer) →
+    again c before (drop (length before) c.setting.graph.operations) more ≡ again c own (drop (length own) c.setting.graph.operations) more
 
 -- What the rerun of a cycle left of a unit: there are answers, of which the rerun has these own ones, whatever more there are; and its calls with these
 -- answers were carried.

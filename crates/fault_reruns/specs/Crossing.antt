@@ -1,5 +1,5 @@
 -- Crossing: what a rerun works on, from cycle to cycle.
-use Rattle.std.specs.Prelude.{ℕ, ◌≡◌, ◌≤◌, List, length, Option, ℤ, vec_capacity}
+use Rattle.std.specs.Prelude.{ℕ, ◌≡◌, ◌≤◌, List, length, Option, ℤ, true, vec_capacity}
 use Rattle.coded_unit.specs.declared.call.Answer.{Answer}
 use Rattle.coded_unit.specs.Log.{Entry}
 use Rattle.op_graph.specs.Lists.{Lists}
@@ -12,15 +12,18 @@ use Rattle.fault_reruns.specs.declared.rerun.Work.{Work}
 use Rattle.fault_reruns.specs.Begun.{RanAgain}
 use Rattle.fault_reruns.specs.References.{KeptRun}
 use Rattle.fault_reruns.specs.Reruns.{cycle_again, read_cycle}
-use Rattle.fault_reruns.specs.Touched.{cycle_marks, held_marks}
+use Rattle.fault_reruns.specs.Touched.{StaysMarked, cycle_marks, held_marks}
 
--- there is room for the answers and the marks of a cycle, and for the words and marks of the cells
+-- There is room for the answers and the marks of a cycle, and for the words and marks of the cells; and the marks of operations that are said to be steady
+-- are so.
 pub record Room (g : Lists) (w : Work) : Type 0 where
   pub own : length g.operations ≤ vec_capacity w.own
   pub past : length g.operations ≤ vec_capacity w.past
   pub touched : length g.operations ≤ vec_capacity w.touched
   pub past_held : length g.stores ≤ vec_capacity w.past_held
   pub cell_marks : length g.stores ≤ vec_capacity w.cell_marks
+  pub marked_by : length g.stores ≤ vec_capacity w.marked_by
+  pub steady : w.steady ≡ true → StaysMarked g w.marked_by.items w.touched.items
   pub held : length w.held.items ≡ length g.stores
   pub inputs : length w.inputs ≡ length g.inputs
 

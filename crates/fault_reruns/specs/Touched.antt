@@ -1,5 +1,5 @@
 -- Touched: which operations a group of faults reaches, and in which cycles. It goes by what operations read, never by values.
-use Rattle.std.specs.Prelude.{ℕ, zero, suc, ◌+◌, ◌-◌, Bool, false, cond, ◌&&◌, ◌||◌, nat_lt, List, [], ◌∷◌, ◌++◌, length, map, slice_index_or, Option, unsigned_abs}
+use Rattle.std.specs.Prelude.{ℕ, ◌≡◌, ◌≤◌, zero, suc, ◌+◌, ◌-◌, Bool, false, cond, ◌&&◌, ◌||◌, nat_lt, List, [], ◌∷◌, ◌++◌, drop, length, map, slice_index_or, Option, None, unsigned_abs}
 use Rattle.std.specs.Option.{is_some}
 use Rattle.vcp_base.specs.declared.kind.Kind.{Kind}
 use Rattle.vcp_base.specs.declared.kind.Kind.TheVariants as kind
@@ -45,9 +45,19 @@ given_marks other acts held before k [] = before
 given_marks other acts held before k (op ∷ ops) =
     given_marks other acts held (before ++ touched_at other acts (record { held = held; given = before }) k op ∷ []) (k + 1) ops
 
+-- these marks are those of the first operations of a cycle that begins with these marks of cells
+abbrev pub BeginMarks : Lists → (ℕ → Option Act) → List Bool → List Bool → Type 0
+BeginMarks g acts held marks = (other : List Answer) →
+    given_marks other acts held [] 0 g.operations ≡ given_marks other acts held marks (length marks) (drop (length marks) g.operations)
+
 -- the marks of a cycle that begins with these marks of cells
 abbrev pub cycle_marks : Lists → List Answer → (ℕ → Option Act) → List Bool → Marks
 cycle_marks g other acts held = record { held = held; given = given_marks other acts held [] 0 g.operations }
+
+-- in each whole cycle without a fault that begins with these marks of cells, these are the marks of the operations
+abbrev pub StaysMarked : Lists → List Bool → List Bool → Type 0
+StaysMarked g held marks = (other : List Answer) (acts : ℕ → Option Act) → length g.operations ≤ length other → ((k : ℕ) → acts k ≡ None) →
+    (cycle_marks g other acts held).given ≡ marks
 
 -- the marks of the cells after a cycle: those of their STOREs
 abbrev pub held_marks : Lists → List Bool → List Bool

@@ -7,7 +7,7 @@ ghost use Rattle.op_graph.specs.declared.op.Op.{Op as Operation};
 ghost use Rattle.signature_table.specs.Signatures.{IsTableOf};
 ghost use Rattle.coded_machine.specs.Calls.{AllWords, call_of};
 ghost use Rattle.coded_machine.specs.Honest.{stop_answer};
-ghost use Rattle.fault_reruns.specs.Begun.{Comes, RanAgain, answers_in, begun};
+ghost use Rattle.fault_reruns.specs.Begun.{Comes, GoesOver, RanAgain, answers_in, begun};
 ghost use Rattle.fault_reruns.specs.Reruns.{source, source_touched};
 ghost use Rattle.fault_reruns.specs.Standing.{IsStanding};
 ghost use Rattle.fault_reruns.specs.Touched.{mark as mark_of};
@@ -162,6 +162,26 @@ pub(crate) fn append(own: &mut Vec<Answer>, answer: &Answer)
     }
 }
 
+/// Appends the words of the run without the faults at the operations that come next, up to one that is touched or that has no word there.
+fn copy_untouched(b: &Begun<'_>, own: &mut Vec<Answer>)
+    requires few { length own.old.items ≤ length b.now.graph.now.operations }
+    requires room { length b.now.graph.now.operations ≤ vec_capacity own.old }
+    ensures over { GoesOver (begun b.now) own.old.items own.new.items }
+    ensures words { AllWords own.old.items → AllWords own.new.items }
+    ensures few { length own.new.items ≤ length b.now.graph.now.operations }
+    ensures longer { length own.old.items ≤ length own.new.items }
+    ensures capacity { vec_capacity own.old ≤ vec_capacity own.new }
+{
+    let from = own.len();
+    let to = b.other.words.len().min(b.graph.len() as usize);
+    'words: for k in from..to {
+        if mark(b.touched, k as u64) {
+            return;
+        }
+        append(own, &Answer::Word(b.other.words[k]));
+    }
+}
+
 /// Reruns a cycle, up to a stop, and answers whether one came.
 pub(crate) fn rerun_cycle<U: Unit>(b: &Begun<'_>, unit: &mut U, own: &mut Vec<Answer>) -> bool
     requires empty { own.old.items ≡ [] }
@@ -178,8 +198,9 @@ pub(crate) fn rerun_cycle<U: Unit>(b: &Begun<'_>, unit: &mut U, own: &mut Vec<An
 {
     // No call is carried at first.
     cycles_by_hand_are_whole();
-    let count = b.graph.len();
-    'operations: for k in 0..count {
+    let count = b.graph.len() as usize;
+    copy_untouched(b, own);
+    'operations: while own.len() < count {
         let Some(answer) = answer_again(b, unit, own) else {
             return false;
         };
@@ -187,6 +208,7 @@ pub(crate) fn rerun_cycle<U: Unit>(b: &Begun<'_>, unit: &mut U, own: &mut Vec<An
         if !is_word(&answer) {
             return true;
         }
+        copy_untouched(b, own);
     }
     false
 }

@@ -85,7 +85,7 @@ fn keep_words(machine: &Machine<'_>, words: &mut Vec<Word>) -> bool
 }
 
 /// Appends a word where there is room.
-fn append(words: &mut Vec<Word>, word: Word)
+pub(crate) fn append(words: &mut Vec<Word>, word: Word)
     requires { length words.old.items < vec_capacity words.old }
     ensures items { words.new.items ≡ words.old.items ++ word ∷ [] }
     ensures capacity { vec_capacity words.old ≤ vec_capacity words.new }

@@ -1,14 +1,15 @@
 //! Which operations and cells a group of faults touches.
 
-ghost use Rattle.std.specs.Prelude.{◌≡◌, ◌<◌, ◌≤◌, ◌++◌, ◌∷◌, [], length, vec_capacity};
+ghost use Rattle.std.specs.Prelude.{◌≡◌, ℕ, false, None, ◌<◌, ◌≤◌, ◌++◌, ◌∷◌, [], length, vec_capacity};
 ghost use Rattle.fault_script.specs.Changes.{acts_of};
 ghost use Rattle.fault_reruns.specs.Begun.{answers_in};
 ghost use Rattle.fault_reruns.specs.Standing.{IsStanding};
-ghost use Rattle.fault_reruns.specs.Touched.{cycle_marks, held_marks, operand_touched as operand_touched_of, past_touched_stop as past_touched_stop_of, touched_at};
+ghost use Rattle.fault_reruns.specs.Touched.{BeginMarks, cycle_marks, held_marks, mark as mark_of, operand_touched as operand_touched_of, past_touched_stop as past_touched_stop_of, touched_at};
 
 use crate::again::mark;
+use crate::passing::none_marked;
 use crate::reference::CycleAnswers;
-use crate::standing::{Standing, act_at};
+use crate::standing::{Standing, act_at, first_place};
 use fault_runs::named;
 use op_graph::{Graph, Op};
 use vcp_base::{Kind, operands};
@@ -78,6 +79,36 @@ fn append(marks: &mut Vec<bool>, marked: bool)
     }
 }
 
+/// How many operations at the front are surely not touched in a cycle that begins with these marks of cells: those before the first one that has a
+/// fault, where no cell is marked.
+fn untouched_front(standing: &Standing<'_>, cells: &[bool], count: u32) -> u32
+    requires { IsStanding standing.now }
+    ensures within { result ≤ count }
+    ensures cells { 0 < result → (i : ℕ) → mark_of cells.now i ≡ false }
+    ensures faults { (k : ℕ) → k < result → acts_of standing.now.group.now standing.now.cycle k ≡ None }
+{
+    if !none_marked(cells) {
+        return 0;
+    }
+    first_place(standing, count)
+}
+
+/// Sets the marks of the operations at the front that are surely not touched, and answers how many there are.
+fn mark_front(graph: &Graph, standing: &Standing<'_>, cells: &[bool], marks: &mut Vec<bool>) -> u32
+    requires standing { IsStanding standing.now }
+    requires room { length graph.now.operations ≤ vec_capacity marks.old }
+    ensures begin { BeginMarks graph.now (acts_of standing.now.group.now standing.now.cycle) cells.now marks.new.items }
+    ensures count { result ≡ length marks.new.items }
+    ensures capacity { vec_capacity marks.old ≤ vec_capacity marks.new }
+{
+    let front = untouched_front(standing, cells, graph.len());
+    marks.clear();
+    'front: for _k in 0..front {
+        append(marks, false);
+    }
+    front
+}
+
 /// Marks the operations that are touched in a cycle that begins with these marks of cells.
 pub(crate) fn mark_operations(
     graph: &Graph,
@@ -91,9 +122,9 @@ pub(crate) fn mark_operations(
     ensures marks { marks.new.items ≡ (cycle_marks graph.now (answers_in other.now) (acts_of standing.now.group.now standing.now.cycle) cells.now).given }
     ensures capacity { vec_capacity marks.old ≤ vec_capacity marks.new }
 {
-    marks.clear();
     let count = graph.len();
-    'operations: for k in 0..count {
+    let front = mark_front(graph, standing, cells, marks);
+    'operations: for k in front..count {
         let op = graph.operation(k);
         let marked = touched(standing, other, cells, marks, &op, k);
         append(marks, marked);

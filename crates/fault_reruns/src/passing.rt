@@ -1,6 +1,7 @@
 //! Cycles in which nothing is touched, which a rerun passes over.
 
 ghost use Rattle.std.specs.Prelude.{◌≡◌, ◌==◌, ◌<◌, ◌≤◌, ◌-◌, ℕ, [], true, false, None, length, slice_index_or, vec_capacity};
+ghost use Rattle.coded_machine.specs.CycleEnds.{stored_words};
 ghost use Rattle.fault_script.specs.Changes.{acts_of};
 ghost use Rattle.fault_reruns.specs.Begun.{answers_in};
 ghost use Rattle.fault_reruns.specs.Crossing.{Room};
@@ -9,12 +10,15 @@ ghost use Rattle.fault_reruns.specs.PassedOver.{Advanced, LastStands, held_at, l
 ghost use Rattle.fault_reruns.specs.Touched.{held_marks, mark as mark_of};
 
 use crate::again::{answer_for, append};
+use crate::kept;
 use crate::marks::mark_cells;
+use crate::reading::other_word;
 use crate::reference::{CycleAnswers, Reference};
-use crate::rerun::{Work, copy_words};
+use crate::rerun::Work;
 use coded_machine::{CycleEnd, store_words};
-use coded_unit::Answer;
+use coded_unit::{Answer, Word};
 use fault_script::{Fault, Group};
+use op_graph::Graph;
 
 /// The earlier one of cycle `next` and of that of a fault, where the fault is in cycle `n` or later.
 fn earlier(fault: &Fault, n: u32, next: u32) -> u32
@@ -46,7 +50,7 @@ fn next_fault(group: &Group, n: u32, last: u32) -> u32
 }
 
 /// Whether none of these marks is set.
-fn none_marked(marks: &[bool]) -> bool
+pub(crate) fn none_marked(marks: &[bool]) -> bool
     ensures { result ≡ true → (i : ℕ) → mark_of marks.now i ≡ false }
 {
     'marks: for i in 0..marks.len() {
@@ -124,6 +128,30 @@ fn copy_cycle(reference: &Reference<'_>, n: u32, to: &mut Vec<Answer>)
     copy_answers(&answers, to);
 }
 
+/// The words that the STOREs of the cells answered in a cycle of the run without the faults, where there is room for them.
+fn store_answers(graph: &Graph, from: &CycleAnswers<'_>, held: &mut Vec<Word>)
+    requires { length graph.now.stores ≤ vec_capacity held.old }
+    ensures items { held.new.items ≡ stored_words graph.now (answers_in from.now) }
+    ensures capacity { vec_capacity held.old ≤ vec_capacity held.new }
+{
+    held.clear();
+    let stores = graph.stores();
+    'cells: for i in 0..stores.len() {
+        kept::append(held, other_word(from, stores[i]));
+    }
+}
+
+/// The words of the cells behind cycle `n` of the run without the faults.
+fn store_cycle(reference: &Reference<'_>, n: u32, held: &mut Vec<Word>)
+    requires there { n < length reference.now.answers }
+    requires room { length reference.now.graph.stores ≤ vec_capacity held.old }
+    ensures items { held.new.items ≡ stored_words reference.now.graph (slice_index_or reference.now.answers n []) }
+    ensures capacity { vec_capacity held.old ≤ vec_capacity held.new }
+{
+    let answers = reference.cycle(n);
+    store_answers(reference.graph(), &answers, held);
+}
+
 /// Sets the work to what the run without the faults left before cycle `n`.
 fn copy_state(reference: &Reference<'_>, n: u32, work: &mut Work)
     requires there { n < length reference.now.answers }
@@ -136,9 +164,7 @@ fn copy_state(reference: &Reference<'_>, n: u32, work: &mut Work)
     ensures cell_marks { work.new.cell_marks.items ≡ held_marks reference.now.graph [] }
 {
     let graph = reference.graph();
-    copy_cycle(reference, n - 2, &mut work.own);
-    store_words(graph, &work.own, &mut work.held);
-    copy_words(&work.held, &mut work.past_held);
+    store_cycle(reference, n - 2, &mut work.past_held);
     copy_cycle(reference, n - 1, &mut work.past);
     store_words(graph, &work.past, &mut work.held);
     mark_cells(graph, &[], &mut work.cell_marks);

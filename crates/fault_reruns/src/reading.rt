@@ -27,7 +27,7 @@ fn value_of(graph: &Graph, word: Word) -> i64
 }
 
 /// The word that operation `k` answered in the run without the faults, and 0 where it answered none.
-fn other_word(other: &CycleAnswers<'_>, k: u32) -> Word
+pub(crate) fn other_word(other: &CycleAnswers<'_>, k: u32) -> Word
     ensures { result ≡ word_at_of (answers_in other.now) k }
 {
     match other.words.get(k as usize) {

@@ -1,22 +1,25 @@
 //! The rerun of a group of faults, and its verdict.
 
-ghost use Rattle.std.specs.Prelude.{◌≡◌, ◌<◌, ◌≤◌, [], ℕ, ℤ, List, Some, All, IfOk, OnErr, length, slice_get, vec_capacity};
+ghost use Rattle.std.specs.Prelude.{◌≡◌, ◌<◌, ◌≤◌, [], true, ℕ, ℤ, List, None, Some, All, IfOk, OnErr, length, slice_get, vec_capacity};
 ghost use Rattle.vcp_base.specs.Limits.{most_cycles};
 ghost use Rattle.coded_unit.specs.declared.call.Answer.{Answer as AnswerGiven};
 ghost use Rattle.coded_unit.specs.Seen.{StaysHonest};
 ghost use Rattle.signature_table.specs.Signatures.{IsTableOf};
 ghost use Rattle.coded_machine.specs.CycleEnds.{initial_words, stored_words};
+ghost use Rattle.fault_script.specs.Changes.{acts_of};
 ghost use Rattle.fault_script.specs.Groups.{GroupFits};
 ghost use Rattle.fault_runs.specs.Accepted.{EndsAreRead, OutputsAreRead};
 ghost use Rattle.fault_runs.specs.FaultRun.{OneFaultRuns};
 ghost use Rattle.fault_runs.specs.RunLaw.{GroupStands, RunsKept};
 ghost use Rattle.fault_injector.specs.Names.{Names};
 ghost use Rattle.fault_injector.specs.Verdicts.{verdict_of};
+ghost use Rattle.fault_reruns.specs.Begun.{answers_in};
 ghost use Rattle.fault_reruns.specs.Crossing.{CycleRan, Room};
 ghost use Rattle.fault_reruns.specs.Groups.{JudgedAlone, JudgedNot};
 ghost use Rattle.fault_reruns.specs.Laws.{AsksAtTouched, RerunsAreRight, TouchedLaws};
 ghost use Rattle.fault_reruns.specs.Reruns.{InCycles, IsReference, Reran};
-ghost use Rattle.fault_reruns.specs.Touched.{held_marks};
+ghost use Rattle.fault_reruns.specs.Standing.{IsStanding};
+ghost use Rattle.fault_reruns.specs.Touched.{cycle_marks, held_marks};
 
 use crate::again::{Begun, rerun_cycle};
 use crate::laws::{
@@ -27,7 +30,7 @@ use crate::laws::{
 use crate::marks::{mark_cells, mark_operations};
 use crate::passing::{advance, ends_same, next_touched};
 use crate::reading::read;
-use crate::reference::Reference;
+use crate::reference::{CycleAnswers, Reference};
 use crate::standing::{Standing, gather};
 use coded_machine::{cycles_by_hand_are_whole, end_of_answers, first_words, store_words};
 use coded_unit::{Answer, Unit, Word};
@@ -59,6 +62,10 @@ pub(crate) struct Work {
     pub touched: Vec<bool>,
     /// Which cells are.
     pub cell_marks: Vec<bool>,
+    /// The marks of cells by which `touched` was found.
+    pub marked_by: Vec<bool>,
+    /// Whether `touched` stays so in a whole cycle without faults that begins with those marks of cells.
+    pub steady: bool,
     /// The values of the inputs.
     pub inputs: Row,
 }
@@ -84,13 +91,15 @@ impl Work {
             past_held: Vec::with_capacity(alloc, cells)?,
             touched: Vec::with_capacity(alloc, operations)?,
             cell_marks: Vec::with_capacity(alloc, cells)?,
+            marked_by: Vec::with_capacity(alloc, cells)?,
+            steady: false,
             inputs: Row::zeros(alloc, graph.inputs())?,
         })
     }
 }
 
 /// Copies words to where there is room for them.
-pub(crate) fn copy_words(from: &[Word], to: &mut Vec<Word>)
+fn copy_words(from: &[Word], to: &mut Vec<Word>)
     requires { length from.now ≤ vec_capacity to.old }
     ensures items { to.new.items ≡ from.now }
     ensures capacity { vec_capacity to.old ≤ vec_capacity to.new }
@@ -101,6 +110,55 @@ pub(crate) fn copy_words(from: &[Word], to: &mut Vec<Word>)
             unreachable!()
         }
     }
+}
+
+/// Whether two lists of marks are the same.
+fn same_marks(marks: &[bool], others: &[bool]) -> bool
+    ensures { result ≡ true → marks.now ≡ others.now }
+{
+    marks == others
+}
+
+/// Whether a cycle has no fault of a group, and every operation answered in it in the run without the faults.
+fn is_plain(graph: &Graph, standing: &Standing<'_>, other: &CycleAnswers<'_>) -> bool
+    requires { IsStanding standing.now }
+    ensures whole { result ≡ true → length graph.now.operations ≤ length (answers_in other.now) }
+    ensures none { result ≡ true → (k : ℕ) → acts_of standing.now.group.now standing.now.cycle k ≡ None }
+{
+    if standing.faults.len() > 0 {
+        return false;
+    }
+    graph.len() as usize <= other.words.len()
+}
+
+/// Whether the marks of the operations, if they are steady, are those of a cycle, which is a plain one or not.
+fn still_marked(work: &Work, plain: bool) -> bool
+    ensures plain { result ≡ true → plain ≡ true }
+    ensures steady { result ≡ true → work.now.steady ≡ true }
+    ensures same { result ≡ true → work.now.cell_marks.items ≡ work.now.marked_by.items }
+{
+    plain && work.steady && same_marks(&work.cell_marks, &work.marked_by)
+}
+
+/// Marks the operations that are touched in a cycle, unless they are so marked already. The marks of the cells are used up.
+fn mark_again(graph: &Graph, standing: &Standing<'_>, other: &CycleAnswers<'_>, work: &mut Work)
+    requires standing { IsStanding standing.now }
+    requires room { Room graph.now work.old }
+    ensures room { Room graph.now work.new }
+    ensures marks { work.new.touched.items
+        ≡ (cycle_marks graph.now (answers_in other.now) (acts_of standing.now.group.now standing.now.cycle) work.old.cell_marks.items).given }
+    ensures past { work.new.past.items ≡ work.old.past.items }
+    ensures held { work.new.held.items ≡ work.old.held.items }
+    ensures past_held { work.new.past_held.items ≡ work.old.past_held.items }
+    ensures inputs { work.new.inputs ≡ work.old.inputs }
+{
+    let plain = is_plain(graph, standing, other);
+    if still_marked(work, plain) {
+        return;
+    }
+    mark_operations(graph, standing, other, &work.cell_marks, &mut work.touched);
+    swap(&mut work.cell_marks, &mut work.marked_by);
+    work.steady = plain;
 }
 
 /// Reruns cycle `n`, and answers its verdict, if it has one.
@@ -133,13 +191,7 @@ fn rerun_one<U: Unit>(
         cycle: n,
         faults,
     };
-    mark_operations(
-        graph,
-        &standing,
-        &other,
-        &work.cell_marks,
-        &mut work.touched,
-    );
+    mark_again(graph, &standing, &other, work);
     work.own.clear();
     let begun = Begun {
         graph,

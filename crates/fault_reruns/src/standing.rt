@@ -1,6 +1,6 @@
 //! The faults of a group that are in one cycle.
 
-ghost use Rattle.std.specs.Prelude.{◌≡◌, ◌<◌, ◌≤◌, ◌==◌, ◌&&◌, ◌++◌, ◌∷◌, ◌+◌, [], Some, cond, length, slice_get, vec_capacity};
+ghost use Rattle.std.specs.Prelude.{◌≡◌, ◌<◌, ◌≤◌, ◌==◌, ◌&&◌, ◌++◌, ◌∷◌, ◌+◌, [], ℕ, false, None, Some, cond, length, slice_get, vec_capacity};
 ghost use Rattle.fault_script.specs.Changes.{acts_of};
 ghost use Rattle.fault_reruns.specs.Standing.{IsStanding, faults_in};
 
@@ -78,4 +78,26 @@ pub(crate) fn act_at(standing: &Standing<'_>, op: u32) -> Option<Act>
     ensures { result ≡ acts_of standing.now.group.now standing.now.cycle op }
 {
     first_act(standing.faults, standing.cycle, op)
+}
+
+/// The least of this operation and that of a fault.
+fn earlier_op(fault: &Fault, before: u32) -> u32
+    ensures within { result ≤ before }
+    ensures passed { (k : ℕ) → k < result → false ≡ (fault.now.op == k) }
+{
+    before.min(fault.op)
+}
+
+/// The first operation at which there is a fault in the cycle, or `count` where that is less.
+pub(crate) fn first_place(standing: &Standing<'_>, count: u32) -> u32
+    requires { IsStanding standing.now }
+    ensures within { result ≤ count }
+    ensures none { (k : ℕ) → k < result → acts_of standing.now.group.now standing.now.cycle k ≡ None }
+{
+    let mut first = count;
+    'faults: for i in 0..standing.faults.len() {
+        let fault = fault_at(standing.faults, i);
+        first = earlier_op(&fault, first);
+    }
+    first
 }

@@ -1,4 +1,4 @@
-use Rattle.std.proofs.Common.{◌≡◌, ◌+◌, ◌++◌, ◌∷◌, [], Bool, List, sym, ap, ◌∙◌, arith, drop, length}
+use Rattle.std.proofs.Common.{◌≡◌, ◌+◌, ◌++◌, ◌∷◌, [], Bool, List, ℕ, sym, subst, ap, ◌∙◌, arith, drop, length}
 use Rattle.std.proofs.lemmas.List.{length-append}
 use Rattle.op_graph.specs.declared.op.Op.{Op}
 use Rattle.fault_script.specs.Changes.{acts_of}
@@ -6,6 +6,23 @@ use Rattle.fault_reruns.specs.Begun.{answers_in}
 use Rattle.fault_reruns.specs.Touched.{given_marks, touched_at}
 use Rattle.fault_reruns.proofs.Lists.{drop_there, drop_behind}
 use Rattle.fault_reruns.proofs.marks.mark_operations.Goals as goal
+
+pub operations-init : goal.operations-init
+operations-init c =
+    let other = answers_in c.args.other.now in
+    let acts = acts_of c.args.standing.now.group.now c.args.standing.now.cycle in
+    let cells = c.args.cells.now in
+    let ops = c.args.graph.now.operations in
+    let marks = c.mark_front-front.new.marks.items in
+    let begun = c.mark_front-front.ensures in
+    record {
+      marks =
+          subst (λ (n : ℕ). given_marks other acts cells [] 0 ops ≡ given_marks other acts cells marks n (drop n ops)) (sym begun.count)
+          (begun.begin other);
+      marked = sym begun.count;
+      room = begun.capacity;
+      all = c.len-count.ensures.count;
+    }
 
 pub operations-preserved : goal.operations-preserved
 operations-preserved c =
