@@ -11,6 +11,7 @@ from vcp_tools.ask.cycles import Relation, bits_of
 from vcp_tools.ask.operations import Graph, graph_of, read_listing
 from vcp_tools.needs import find_module
 from vcp_tools.program import Program, find_program
+from vcp_tools.program_text import ProgramText
 from vcp_tools.read.fault_line import StopLine, read_ending
 from vcp_tools.read.image import Operation, read_image
 from vcp_tools.read.range_lines import MayStop, read_ranges, read_ranges_of_all
@@ -45,7 +46,7 @@ class Operations(InFolder):
 
     def graph(self, file: Path) -> Graph:
         """The graph of a source."""
-        return graph_of(Program.found(), Program.found("vcp_study"), file, str(file))
+        return graph_of(Program.found(), Program.found("vcp_study"), ProgramText.read(file), str(file))
 
     @needs_program
     def test_a_listing_has_the_operations_of_the_image(self) -> None:

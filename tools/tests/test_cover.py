@@ -143,7 +143,7 @@ class Parts(InFolder):
         self.write("late.csv", "a,b\n1,2\n3,4\n")
         told = self.report("late.st", "late.csv", status=9)["cover"][1]
         self.assertIn("<code>runs-on</code>", told)
-        self.assertRegex(told, r"operation \d+ DIV at 3:8")
+        self.assertRegex(told, r"operation \d+ DIV at 3:8 for c</a><code class=\"line\">c := a / b;</code>")
 
     @needs_program
     def test_without_the_program_the_summary_says_so(self) -> None:

@@ -1,6 +1,7 @@
 """What people look at: kinds and their looks, bars, the graph in their colours, marks beside the source, cycles of faults, and pages that hold them."""
 from __future__ import annotations
 
+import hashlib
 import re
 import shutil
 import unittest
@@ -14,7 +15,7 @@ from tests.test_report import Balanced
 from vcp_tools.campaign.page import campaign_page
 from vcp_tools.pictures import filtered, graph, kinds, lines
 from vcp_tools.pictures.looks import looked_at
-from vcp_tools.pictures.markup import section, table
+from vcp_tools.pictures.markup import STYLE, section, table
 from vcp_tools.pictures.report import sections_of
 from vcp_tools.pictures.waves import Fault, waves
 from vcp_tools.program import TOP, Outcome, Program
@@ -183,7 +184,18 @@ class Pages(InFolder):
         self.write("crossing.img", self.program("compile", "crossing.st"))
         words = ("crossing.img", "crossing.csv", "crossing.faults", "--source", "crossing.st", "--page", "c.html", "--quiet")
         self.assertIn("the page of the campaign", self.tool("campaign", *words, status=9))
-        self.look_at((self.folder / "c.html").read_text(encoding="utf-8"))
+        page = (self.folder / "c.html").read_text(encoding="utf-8")
+        self.look_at(page)
+        for name in ("crossing.img", "crossing.csv", "crossing.faults"):
+            digest = hashlib.sha256((self.folder / name).read_bytes()).hexdigest()
+            self.assertIn(f'<code class="line">{name}</code></td><td><code>{digest}</code>', sections_of(page)["files"][1])
+
+    def test_lines_of_the_source_break_where_there_is_no_room(self) -> None:
+        for style in (".scroll td code.line, .scroll td code.wrap { white-space: pre-wrap; }", "pre { margin: 0; white-space: pre-wrap; }"):
+            self.assertIn(style, STYLE)
+        self.assertNotIn("nowrap", lines.STYLE)
+        marked = lines.marked(Source(b"a := 1;\nb := 2;\n"), image_of([2]), {0: {"shows": 1}}, (), kinds.COVER_KINDS)
+        self.assertEqual(re.sub("<[^>]*>", "", marked), "   1  a := 1;\nshows   2  b := 2;\n")
 
 
 if __name__ == "__main__":

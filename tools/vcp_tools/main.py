@@ -67,7 +67,7 @@ def parser(wanted: str) -> argparse.ArgumentParser:
 
 def _are_words_of_vcp(words: list[str]) -> bool:
     """Whether the words behind `explain` are a call of vcp that begins with an option, which isn't one of `explain`."""
-    kept = ("-h", "--help", "--all", "--source", "--from") if words[:1] == ["explain"] else ("-h", "--help")
+    kept = ("-h", "--help", "--all", "--source", "--from", "--il") if words[:1] == ["explain"] else ("-h", "--help")
     return words[:1] in (["explain"], ["campaign"]) and len(words) > 1 and words[1].startswith("-") and words[1] not in kept
 
 

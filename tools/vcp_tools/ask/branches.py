@@ -6,6 +6,8 @@ from dataclasses import dataclass
 from vcp_tools.ask.question import Copy
 from vcp_tools.read.source import Token
 
+_NONE = "no branch of"
+
 
 @dataclass(frozen=True)
 class Goal:
@@ -89,7 +91,7 @@ class _Branches:
         """The end of a statement: where IF or CASE has no ELSE, what takes none of its branches is one, too."""
         closed = self.open.pop()
         if closed.word != "FOR" and not closed.has_else:
-            self._goal(closed.start, f"no branch of {self._shown(closed)}", token.start, " ELSE @ := TRUE; ")
+            self._goal(closed.start, f"{_NONE} {self._shown(closed)}", token.start, " ELSE @ := TRUE; ")
 
     def _begins_label(self, at: int) -> bool:
         """Whether a token is the first of the labels of a branch of CASE."""
@@ -116,7 +118,15 @@ class _Branches:
     def _goal(self, start: int, told: str, at: int, text: str) -> None:
         """Adds a goal at a place, which a text that is put in tells."""
         line, column = self.source.place(start)
+        if self.copy.subject.text.is_list:
+            told = f"{self._instruction(line, column)} where the result is {'FALSE' if told.startswith(_NONE) else 'TRUE'}"
         self.goals.append(Goal(line, column, told, self.copy.mark([(at, text)])))
+
+    def _instruction(self, line: int, column: int) -> str:
+        """The instruction of a list, S or R with its operand, in whose place a statement stands."""
+        source = self.copy.subject.text.source
+        at = source.index_at(source.offset(line, column))
+        return " ".join(it.text for it in source.tokens[at : at + 2])
 
     def _index(self, at: int, *ends: str) -> int:
         """The index of the next one of these words or symbols."""

@@ -16,6 +16,7 @@ from vcp_tools.ask.unrolled import Deadline
 from vcp_tools.pictures.observe import chosen, observe
 from vcp_tools.pictures.table import table_lines
 from vcp_tools.program import Program
+from vcp_tools.program_text import ProgramText, add_form_word
 from vcp_tools.refusal import FINE, FOUND, OPEN, Refusal
 from vcp_tools.wording import listed
 
@@ -30,6 +31,7 @@ def add_search_words(parser: argparse.ArgumentParser) -> None:
     parser.add_argument("--cycles", type=int, default=CYCLES, metavar="K", help=f"look through K cycles, {CYCLES} where it isn't given")
     parser.add_argument("--seconds", type=float, default=SECONDS, metavar="S", help=f"look no longer than S seconds, {SECONDS:.0f} where it isn't given")
     parser.add_argument("--inputs", metavar="FILE", help="a table `input,least,greatest`: of these runs alone, where it isn't proved for all")
+    add_form_word(parser)
 
 
 def begin(given: argparse.Namespace) -> None:
@@ -41,7 +43,7 @@ def begin(given: argparse.Namespace) -> None:
 
 def add_words(parser: argparse.ArgumentParser) -> None:
     """The words of `never`."""
-    parser.add_argument("program", metavar="P", help="the source")
+    parser.add_argument("program", metavar="P", help="the source, or an instruction list")
     parser.add_argument("condition", metavar="EXPR", help="a Boolean expression of the language over inputs, outputs and variables; was(x) is x a cycle before")
     parser.add_argument("--assume", metavar="EXPR", help="of runs alone in each of whose cycles this holds, where it isn't proved for all")
     parser.add_argument("-o", dest="output", metavar="FILE", help="where rows are written, STEM.never.csv where it isn't given")
@@ -52,16 +54,16 @@ def run(given: argparse.Namespace) -> int:
     """Prints the answer: the status is 0 where it never comes, 9 where it comes, 10 where that stays open."""
     begin(given)
     begun = time.monotonic()
-    question = Question(given.program, given.condition, given.assume)
+    question = Question(given.program, given.condition, given.assume, given.as_list)
     with Compiled(question.vcp, question.copy) as compiled:
-        graph = question.operations(compiled.file)
+        graph = question.operations(compiled.text)
         if question.is_never(graph):
             question.must_not_stop(graph)
             print(f"never: proved by ranges, for every run{_beyond(given)} ({time.monotonic() - begun:.1f} s)")
             return FINE
         bounds = read_inputs(given.inputs, graph.inputs) if given.inputs else {}
         if bounds:
-            graph = question.operations(compiled.file, inputs_table(bounds, graph.inputs))
+            graph = question.operations(compiled.text, inputs_table(bounds, graph.inputs))
         question.must_not_stop(graph)
         if question.is_never(graph):
             print(f"never: proved by ranges; inputs as in {given.inputs} ({time.monotonic() - begun:.1f} s)")
@@ -78,18 +80,18 @@ def _beyond(given: argparse.Namespace) -> str:
 class Question:
     """A condition of a program, and what is assumed of its runs."""
 
-    def __init__(self, file: str, condition: str, assumed: str | None) -> None:
+    def __init__(self, file: str, condition: str, assumed: str | None, as_list: bool = False) -> None:
         self.vcp = Program.found()
         self.study = Program.found("vcp_study")
-        self.subject = Subject(file)
+        self.subject = Subject(file, as_list)
         self.copy = Copy(self.subject)
         self.condition = condition
         self.asked = self.copy.ask(condition)
         self.assumed = None if assumed is None else self.copy.ask(assumed)
 
-    def operations(self, file: Path, inputs: str | None = None) -> Graph:
+    def operations(self, copy: ProgramText, inputs: str | None = None) -> Graph:
         """The operations of the copy, of runs within a table of inputs where one is given."""
-        return graph_of(self.vcp, self.study, file, self.subject.file, inputs)
+        return graph_of(self.vcp, self.study, copy, self.subject.file, inputs)
 
     def is_never(self, graph: Graph) -> bool:
         """What was asked is false in each cycle, by the ranges."""
@@ -153,8 +155,8 @@ def _comes(given: argparse.Namespace, question: Question, compiled: Compiled, an
     copy = replay.of_copy(compiled.file)
     if not copy.is_whole or copy.rows != answer.outputs or not copy.columns[copy.names.index(question.asked)][-1]:
         raise replay.fault("what was asked isn't so in the last cycle of the copy that has it as an output")
-    print(f"comes in cycle {answer.cycle}: {replay.told}, replayed by `vcp run` ({time.monotonic() - begun:.1f} s)")
-    found = observe(question.vcp, given.program, replay.words)
+    print(f"comes in cycle {answer.cycle}: {replay.told}, replayed by {replay.by} ({time.monotonic() - begun:.1f} s)")
+    found = observe(question.vcp, question.subject.text, replay.words)
     shown = {it.name for it in chosen(found, [])} | set(named_in([given.condition, given.assume or ""], question.subject))
     for line in table_lines(found, [it for it in found.columns if it.name in shown], False, None, None):
         print(line)

@@ -12,6 +12,7 @@ from typing import Mapping
 
 from vcp_tools.files import write_bytes
 from vcp_tools.program import Program
+from vcp_tools.program_text import ProgramText
 from vcp_tools.read.image import Cell, Operation, Slot, read_image
 from vcp_tools.read.range_lines import MayStop, RangesOfAll, read_ranges_of_all
 from vcp_tools.refusal import Refusal
@@ -52,10 +53,10 @@ def read_listing(text: str) -> list[Operation]:
     return found
 
 
-def graph_of(vcp: Program, study: Program, source: Path, shown: str, inputs: str | None = None) -> Graph:
-    """The operations that a source is compiled to, and what is proved of their values, of rows within a table of inputs where one is given; a refusal, with the
-    name that is shown, where it isn't compiled."""
-    image = vcp.must("compile", source, shown=("compile", shown)).output
+def graph_of(vcp: Program, study: Program, text: ProgramText, shown: str, inputs: str | None = None) -> Graph:
+    """The operations of the image of a text, and what is proved of their values, of rows within a table of inputs where one is given; a refusal, with the
+    name that is shown, where the text isn't accepted."""
+    image = text.image(vcp, shown=shown)
     with tempfile.TemporaryDirectory() as folder:
         at = Path(folder) / "image"
         write_bytes(at, image)

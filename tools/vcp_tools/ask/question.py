@@ -1,7 +1,7 @@
 """Copies of a program with more outputs: what is asked of it, in its own language.
 
 A question becomes an output of the copy, which is computed behind the program's last statement; a variable keeps what `was(x)` speaks of. So `vcp` alone reads
-and compiles what is asked. The lines of the program keep their numbers in the copy.
+and compiles what is asked. The lines of the program keep their numbers in the copy. Of an instruction list the copy is in Structured Text, too, line by line.
 """
 from __future__ import annotations
 
@@ -10,13 +10,18 @@ from dataclasses import dataclass, field
 from pathlib import Path
 from typing import Iterable, Sequence
 
+from vcp_tools.compare.diff import Comparison
 from vcp_tools.explain.hints_source import source_hint
 from vcp_tools.files import read_bytes, write_bytes
 from vcp_tools.needs import find_module
 from vcp_tools.program import Program
+from vcp_tools.program_text import ProgramText
 from vcp_tools.read.declarations import head_of_program
 from vcp_tools.read.fault_line import FaultLine, read_fault
-from vcp_tools.read.image import MAGIC
+from vcp_tools.read.given import Given
+from vcp_tools.read.image import MAGIC, read_image
+from vcp_tools.read.instruction_list import parse_list
+from vcp_tools.read.list_text import list_text
 from vcp_tools.read.source import Source, Token
 from vcp_tools.read.syntax import ARGUMENTS, Declaration
 from vcp_tools.refusal import Refusal
@@ -27,15 +32,15 @@ _SYMBOLS = ("(", ")", ",", "+", "-", "*", "/", "=", "<>", "<", ">", "<=", ">=", 
 
 
 class Subject:
-    """The program of which something is asked: its file, its source, and what it declares."""
+    """The program of which something is asked: its text, its source in Structured Text, and what it declares."""
 
-    def __init__(self, file: str) -> None:
-        data = read_bytes(file)
-        if data.startswith(MAGIC):
+    def __init__(self, file: str, as_list: bool = False) -> None:
+        if read_bytes(file).startswith(MAGIC):
             raise Refusal(f"{file}: this is an image, and the source is wanted")
         self.file = file
-        self.source = Source(data)
-        self.name, self.declarations = head_of_program(self.source, file)
+        self.text = ProgramText.read(file, as_list)
+        self.source = _structured(Program.found(), self.text) if self.text.is_list else self.text.source
+        self.name, self.declarations = head_of_program(self.text.source, file)
         self.declared = {it.name.upper(): it for it in self.declarations}
         ends = [token for token in self.source.tokens if token.is_word("END_VAR")]
         self.head_end = (ends[-1] if ends else self.source.tokens[1]).end
@@ -146,6 +151,21 @@ class Copy:
             raise Refusal(f"`{text}`: {_unknown(token.text, self.subject, 'no input, output, variable or function')}")
 
 
+def _structured(vcp: Program, text: ProgramText) -> Source:
+    """An instruction list as a program in Structured Text, line by line; a refusal where the list isn't accepted, or where the images of both don't have the
+    same operations, outputs and kept values."""
+    image = text.image(vcp)
+    source = Source(list_text(text.source, parse_list(text.source)))
+    with tempfile.TemporaryDirectory() as folder:
+        at = Path(folder) / "list.st"
+        write_bytes(at, source.data)
+        made = vcp.must("compile", at, shown=("compile", text.file)).output
+    of_list, of_text = (Given(text.file, read_image(data, text.file), data, None) for data in (image, made))
+    if any(Comparison(of_list, of_text).differences()):
+        raise Refusal(f"{text.file}: the image of this list hasn't the operations of the same in Structured Text, of which is asked: nothing is said of it")
+    return source
+
+
 def _unknown(name: str, subject: Subject, what: str) -> str:
     """What is said of a name that nothing has."""
     names = [it.name for it in subject.declarations]
@@ -161,7 +181,8 @@ class Compiled:
         self.copy = copy
         self._folder = tempfile.TemporaryDirectory()
         self.file = Path(self._folder.name) / "copy.st"
-        write_bytes(self.file, copy.text())
+        self.text = ProgramText(str(self.file), Source(copy.text()))
+        write_bytes(self.file, self.text.source.data)
 
     def __enter__(self) -> "Compiled":
         try:
@@ -177,7 +198,7 @@ class Compiled:
     def _accepted(self) -> None:
         """Refuses what `vcp` refuses: the program, with its own line, or a question, with the place in it."""
         subject = self.copy.subject
-        self.vcp.must("check", subject.file)
+        subject.text.must_be_accepted(self.vcp)
         outcome = self.vcp.call("check", self.file)
         fault = read_fault(outcome.fault)
         if outcome.status == 0:

@@ -18,6 +18,7 @@ from vcp_tools.ask.replay import Replay
 from vcp_tools.ask.search import Comes, Never, Search
 from vcp_tools.ask.unrolled import Deadline, OutOfTime, Unrolled
 from vcp_tools.program import Program
+from vcp_tools.program_text import ProgramText
 from vcp_tools.refusal import FINE, FOUND, OPEN
 
 TRY = 2.0
@@ -35,7 +36,7 @@ class Run:
 
 def add_words(parser: argparse.ArgumentParser) -> None:
     """The words of `rows reach`."""
-    parser.add_argument("program", metavar="P", help="the source")
+    parser.add_argument("program", metavar="P", help="the source, or an instruction list")
     parser.add_argument("-o", dest="output", metavar="FILE", help="where rows are written, STEM.reach.csv where it isn't given")
     parser.add_argument("--all", action="store_true", help="name what is reached, too, each with its first cycle")
     add_search_words(parser)
@@ -50,14 +51,14 @@ def run(given: argparse.Namespace) -> int:
 def _run(given: argparse.Namespace) -> int:
     """The same, where z3 is loaded."""
     vcp, study = Program.found(), Program.found("vcp_study")
-    vcp.must("check", given.program)
-    copy = Copy(Subject(given.program))
+    ProgramText.read(given.program, given.as_list).must_be_accepted(vcp)
+    copy = Copy(Subject(given.program, given.as_list))
     goals = goals_of(copy)
     if not goals:
         print(f"{given.program}: there is no branch, and no BOOL output")
         return FINE
     with Compiled(vcp, copy) as compiled:
-        graph = graph_of(vcp, study, compiled.file, given.program)
+        graph = graph_of(vcp, study, compiled.text, given.program)
         bounds = read_inputs(given.inputs, graph.inputs) if given.inputs else {}
         search = Reaching(graph, bounds, given.cycles, given.seconds)
         runs = search.runs([it.output for it in goals])
@@ -181,8 +182,9 @@ def _replayed(given: argparse.Namespace, vcp: Program, copy: Copy, compiled: Com
 def _told(given: argparse.Namespace, goals: Sequence[Goal], runs: Sequence[Run], files: Sequence[str], search: Reaching) -> int:
     """Prints what is reached, and what isn't."""
     reached = {name: (number, cycle) for number, it in enumerate(runs) for name, cycle in it.reached.items()}
+    by = ProgramText.read(given.program, given.as_list).run_words([])[0]
     for file, it in zip(files, runs):
-        print(f"{file}: {len(it.rows)} cycles, {len(it.reached)} of {len(goals)} reached, replayed by `vcp run`")
+        print(f"{file}: {len(it.rows)} cycles, {len(it.reached)} of {len(goals)} reached, replayed by `vcp {by}`")
     status = FINE
     for goal in goals:
         begun = time.monotonic()

@@ -30,14 +30,19 @@ class Replay:
 
     def run(self) -> PrintedRun:
         """The run of the program itself."""
-        return read_run(self.vcp.must("run", self.subject.file, *self.words, statuses=(0, 2, 3)).text)
+        return read_run(self.vcp.must(*self.subject.text.run_words(self.words), statuses=(0, 2, 3)).text)
+
+    @property
+    def by(self) -> str:
+        """What runs it."""
+        return f"`vcp {self.subject.text.run_words(self.words)[0]}`"
 
     def released(self, outputs: Sequence[Sequence[int]]) -> PrintedRun:
         """The run of the program itself: it has to release these values of its outputs, cycle by cycle, to the end of the rows."""
         run = self.run()
         wanted = [list(row[: len(run.names)]) for row in outputs]
         if not run.is_whole or run.rows != wanted:
-            raise self.fault(f"`vcp run` ends with `{run.ending}`, or releases other values")
+            raise self.fault(f"{self.by} ends with `{run.ending}`, or releases other values")
         return run
 
     def of_copy(self, copy: Path) -> PrintedRun:

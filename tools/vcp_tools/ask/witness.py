@@ -28,7 +28,7 @@ STEADY = 40_000
 
 def add_words(parser: argparse.ArgumentParser) -> None:
     """The words of `witness`."""
-    parser.add_argument("program", metavar="P", help="the source")
+    parser.add_argument("program", metavar="P", help="the source, or an instruction list")
     parser.add_argument("-o", dest="output", metavar="FOLDER", default=".", help="where rows are written, here where it isn't given")
     add_search_words(parser)
 
@@ -41,9 +41,9 @@ def run(given: argparse.Namespace) -> int:
 
 def _run(given: argparse.Namespace) -> int:
     """The same, where z3 is loaded."""
-    subject = Subject(given.program)
     vcp = Program.found()
-    graph = graph_of(vcp, Program.found("vcp_study"), Path(given.program), given.program)
+    subject = Subject(given.program, given.as_list)
+    graph = graph_of(vcp, Program.found("vcp_study"), subject.text, given.program)
     bounds = read_inputs(given.inputs, graph.inputs) if given.inputs else {}
     if not graph.may_stop:
         print(f"{given.program}: no operation may stop, whatever the rows: proved by ranges")
@@ -110,8 +110,8 @@ class Witness:
         run = replay.run()
         end = read_ending(run.ending)
         if not _is_at(end, stop) or run.cycles != len(rows) - 1 or outputs is not None and run.rows != outputs[:-1]:
-            raise replay.fault(f"`vcp run` ends with `{run.ending}`, or releases other values")
-        return f"stops in cycle {run.cycles}: {replay.told}, replayed by `vcp run`"
+            raise replay.fault(f"{replay.by} ends with `{run.ending}`, or releases other values")
+        return f"stops in cycle {run.cycles}: {replay.told}, replayed by {replay.by}"
 
 
 def _is_at(end: object, stop: MayStop) -> bool:

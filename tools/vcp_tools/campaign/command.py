@@ -26,6 +26,7 @@ from vcp_tools.campaign.traced import BITS, TOLD_BY_WORDS, faults_of
 from vcp_tools.campaign.words import USAGE, Words, check_words, read_words
 from vcp_tools.files import read_bytes, write_bytes
 from vcp_tools.program import Program
+from vcp_tools.proved import PROGRAMS, told_of
 from vcp_tools.read import script as script_form
 from vcp_tools.read.assigned import Assigned
 from vcp_tools.read.given import source_of
@@ -82,10 +83,24 @@ def run(given: argparse.Namespace) -> int:
 
 def _write_page(words: Words, programs: tuple[Program, Program], done: "Done") -> None:
     """Writes the page of a campaign."""
-    source = source_of(programs[0], words.source, read_image(done.image, words.image)) if words.source else None
-    page = campaign_page(f"Campaign: {words.faults} over {words.image}", done.tables, done.image, source, programs[1])
+    source = source_of(programs[0], words.source, read_image(done.image, words.image), words.as_list) if words.source else None
+    page = campaign_page(f"Campaign: {words.faults} over {words.image}", done.tables, done.image, source, programs[1], _files(words, programs, done))
     write_bytes(words.page, page.encode("utf-8"))
     print(f"{words.page}: {len(page.encode())} bytes, the page of the campaign")
+
+
+def _files(words: Words, programs: tuple[Program, Program], done: "Done") -> list[tuple[str, str, str]]:
+    """What was judged, and by what, as the folder of the campaign has it: what it is, its name, and its SHA-256."""
+    manifest = done.folder.manifest()
+    digests = {} if manifest is None else {name: said[0] for name, said in manifest.copies.items()}
+    drawn = f", {words.draw} drawn with seed {words.seed}" if words.draw is not None else ""
+    bits = f", bits {words.bits[0]}..{words.bits[1]}" if words.faults == "flips" else ""
+    return [
+        ("image", words.image, digests.get("image", "")),
+        ("rows", words.rows[0] if words.rows else f"--cycles {words.cycles}", digests.get("rows", "")),
+        ("class of faults" if words.faults in CLASSES else "script of faults", words.faults + bits + drawn, digest(done.script)),
+        *((name, told_of(it.file), digests.get(key, "")) for name, key, it in zip(PROGRAMS, ("vcp", "study"), programs)),
+    ]
 
 
 def _pairs(words: Words, first: "Done") -> "Done":
@@ -110,7 +125,7 @@ def _pairs(words: Words, first: "Done") -> "Done":
 
 def assigned_of(words: Words, vcp: Program) -> Assigned | None:
     """What stands at each place of the source, where it is given; a refusal where it isn't that of the image."""
-    return Assigned(source_of(vcp, words.source, read_image(read_bytes(words.image), words.image))) if words.source else None
+    return Assigned(source_of(vcp, words.source, read_image(read_bytes(words.image), words.image), words.as_list)) if words.source else None
 
 
 def _most_cycles(vcp: Program, words: Words) -> int:

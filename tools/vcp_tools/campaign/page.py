@@ -10,7 +10,7 @@ from vcp_tools.files import write_bytes
 from vcp_tools.pictures import graph, kinds, lines
 from vcp_tools.pictures.filtered import filtered
 from vcp_tools.pictures.looks import looked_at
-from vcp_tools.pictures.markup import code, element, section, table, text
+from vcp_tools.pictures.markup import code, element, line, section, table, text
 from vcp_tools.program import Program
 from vcp_tools.read.image import Image, read_image
 from vcp_tools.read.source import Source
@@ -27,12 +27,15 @@ _MEANT = (("wrong", "a wrong value is released"), ("ran-on", "the run goes on wh
           ("stopped", "the run stops"), ("refused", "an output is refused"))
 
 
-def campaign_page(title: str, tables: str, image_bytes: bytes, source: Source | None, study: Program) -> str:
-    """The page of what `vcp_study sum` told."""
+def campaign_page(
+    title: str, tables: str, image_bytes: bytes, source: Source | None, study: Program, files: Sequence[tuple[str, str, str]] = ()
+) -> str:
+    """The page of what `vcp_study sum` told; `files` has what was judged and by what: what it is, its name, and its SHA-256, empty where it is no file."""
     found, image = read_sum(tables), read_image(image_bytes, "the image")
     counts = {int(match[1]): named(numbers) for name, numbers in found.tables.get(_PLACES, {}).items() if (match := _OPERATION.match(name))}
     parts = [
         section("summary", "Verdicts", _summary(found)),
+        section("files", "Files", table(("what", "name", "SHA-256"), [(text(what), line(name), code(it)) for what, name, it in files])) if files else "",
         _graph(image, image_bytes, counts, study),
         section("unseen", "Faults that aren't seen", _unseen(found)),
         section("operations", "Operations", _operations(found)),
@@ -72,7 +75,7 @@ def _unseen(found: Sum) -> str:
     """The faults that are wrong or ran on."""
     if not found.unseen:
         return element("p", "None: each fault is refused, stops the run, or leaves it the same.", class_="good")
-    rows = [(str(line), code(rest), "<br>".join(code(it.strip()) for it in more)) for line, rest, more in found.unseen[:MOST_NAMED]]
+    rows = [(str(number), code(rest), "".join(line(it.strip()) for it in more)) for number, rest, more in found.unseen[:MOST_NAMED]]
     left = element("p", f"{len(found.unseen) - MOST_NAMED} more aren't named here.", class_="dim") if len(found.unseen) > MOST_NAMED else ""
     return filtered("unseen", table(("line", "verdict", "faults"), rows, (0,))) + left
 

@@ -25,11 +25,15 @@ judges each fault of a class, or of a script of any length, over the image M and
   --page FILE     write a page to look at: bars, the graph, the source with --source, and a table of operations
   --store FILE    keep each fault with its verdict in a database of SQLite
   --sum           have `vcp_study sum` count all parts together, too, which is proved, and compare: by one processor, and at most 10,000 parts
-  --source P      the source of M, by which operations are named with the variables of their statements
+  --source P      the source of M, by which operations are named with the variables of their statements; --il, where P is an instruction list, and its text
+                  doesn't tell that
   --quiet         say nothing of progress
   other options, and what follows them, go to GNU parallel
 statuses: 0 all faults were judged and each is seen, 9 one isn't (wrong or ran-on), 2 a part wasn't judged, or the words or a file can't be used"""
 _VALUED = ("--bits", "--rows", "--cycles", "--draw", "--seed", "--then", "--jobs", "-j", "--hosts", "--out", "--page", "--store", "--source")
+
+_ALONE = {"--quiet": "quiet", "--sum": "sum", "--il": "as_list"}
+"""The options that no word follows, each with what is set by it."""
 
 
 @dataclass
@@ -51,6 +55,7 @@ class Words:
     source: str = ""
     sum: bool = False
     quiet: bool = False
+    as_list: bool = False
     parallel: list[str] = field(default_factory=list)
 
 
@@ -66,8 +71,8 @@ def read_words(words: Sequence[str]) -> Words:
                 raise Refusal(f"campaign: a word is missing behind `{word}`")
             _take(found, word, value)
             at += 2
-        elif word in ("--quiet", "--sum"):
-            setattr(found, word[2:], True)
+        elif word in _ALONE:
+            setattr(found, _ALONE[word], True)
             at += 1
         elif word.startswith("-"):
             found.parallel += words[at:]

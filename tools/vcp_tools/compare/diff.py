@@ -13,6 +13,7 @@ from vcp_tools.wording import article
 from vcp_tools.read.image import Cell, Image, Operation, Slot
 from vcp_tools.read.range_lines import ranges_of
 from vcp_tools.program import Program, find_program
+from vcp_tools.program_text import add_form_word
 from vcp_tools.read.given import Given, load
 from vcp_tools.refusal import FINE, FOUND
 
@@ -24,14 +25,15 @@ MOST = 20
 
 def add_words(parser: argparse.ArgumentParser) -> None:
     """The words of `diff`."""
-    parser.add_argument("first", metavar="A", help="a source or an image")
-    parser.add_argument("second", metavar="B", help="a source or an image")
+    parser.add_argument("first", metavar="A", help="a source, an instruction list or an image")
+    parser.add_argument("second", metavar="B", help="a source, an instruction list or an image")
+    add_form_word(parser)
 
 
 def run(given: argparse.Namespace) -> int:
     """Prints whether both have the same operations; the status is 9 where they haven't."""
     program = Program.found()
-    comparison = Comparison(load(program, given.first), load(program, given.second))
+    comparison = Comparison(*(load(program, file, (), given.as_list) for file in (given.first, given.second)))
     differences = list(comparison.differences())
     for note in comparison.notes():
         print(note)

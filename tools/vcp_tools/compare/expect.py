@@ -11,7 +11,7 @@ from vcp_tools.files import read_bytes
 from vcp_tools.program import Program
 from vcp_tools.refusal import FINE, FOUND, Refusal
 from vcp_tools.read.rows_file import Record, cell_value, read_rows
-from vcp_tools.pictures.table import add_run_words, period_of
+from vcp_tools.pictures.table import add_run_words, period_of, text_of
 
 _ENDINGS = ("end ", "stop ", "refused ")
 
@@ -45,7 +45,7 @@ def run(given: argparse.Namespace) -> int:
     if len(rest) != 1:
         raise Refusal("WANTED is missing: a file of wanted rows" if not rest else f"`{rest[1]}` is left over behind WANTED")
     period = period_of(given)
-    found = observe(Program.found(), given.program, rows, given.trace)
+    found = observe(Program.found(), text_of(given), rows, given.trace)
     for line in warnings(rows):
         print(line, file=sys.stderr)
     file = rest[0]

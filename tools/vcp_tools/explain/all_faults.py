@@ -41,13 +41,15 @@ class Patched:
 
     def change(self, repair: Repair) -> None:
         """Puts a text in the place of some bytes."""
-        if repair.behind is not None:
-            self.change(repair.behind)
-        put = repair.text.encode("latin-1")
-        origin = self.origins[repair.start]
-        self.data = self.data[: repair.start] + put + self.data[repair.end :]
-        self.origins[repair.start : repair.end] = [origin] * len(put)
-        self.made[repair.start : repair.end] = b"\1" * len(put)
+        changes = [repair]
+        while changes[-1].behind is not None:
+            changes.append(changes[-1].behind)
+        for it in reversed(changes):
+            put = it.text.encode("latin-1")
+            origin = self.origins[it.start]
+            self.data = self.data[: it.start] + put + self.data[it.end :]
+            self.origins[it.start : it.end] = [origin] * len(put)
+            self.made[it.start : it.end] = b"\1" * len(put)
 
     def origin(self, at: int) -> int:
         """Where a byte of the present text stands in the first one."""
@@ -94,7 +96,7 @@ class _Rounds:
             if hint.repair is not None:
                 self.patched.change(hint.repair)
         for _ in range(MOST_ROUNDS):
-            fault = _next_fault(self.program, self.patched.data)
+            fault = next_fault(self.program, self.patched.data)
             if fault is None:
                 self.found.left_out = ""
                 break
@@ -109,7 +111,7 @@ class _Rounds:
         hint = source_hint(source, fault.code, at)
         if not self.tell(fault, source, hint) and fault.code[0] == "T":
             hint = replace(hint, repair=step_over(Typed(source, parse(source)), at) or hint.repair)
-        _doubt(self.doubtful, source, fault, hint, self.first)
+        doubt(self.doubtful, source, fault, hint, self.first)
         if hint.repair is None or (hint.repair.text.encode("latin-1") == self.patched.data[hint.repair.start : hint.repair.end]):
             place = self.first.told(self.patched.origin(at))
             self.found.left_out = f"no way round the fault at {place} is known, and behind it only what the profile lacks was looked for"
@@ -153,7 +155,7 @@ class _Rounds:
             for it in reversed(unsure):
                 if not source.tokens[it + 1].is_symbol(":="):
                     other.change(Repair(source.tokens[it].start, source.tokens[it].end, value))
-            found = _next_fault(self.program, other.data)
+            found = next_fault(self.program, other.data)
             if found is None or found.code != fault.code:
                 return False
             changed = Source(other.data)
@@ -169,14 +171,14 @@ def _without(message: str, words: set[str]) -> str:
     return re.sub("|".join(rf"(?<![\w#]){re.escape(word)}(?![\w#])" for word in words) or "(?!)", "@", message)
 
 
-def _next_fault(program: Program, data: bytes) -> FaultLine | None:
-    """The program's fault of a text; None where it is a program, or where something else than a fault came."""
+def next_fault(program: Program, data: bytes, as_list: bool = False) -> FaultLine | None:
+    """The program's fault of a text, which is an instruction list with `as_list`; None where there is none, or where something else than a fault came."""
     with tempfile.TemporaryDirectory() as folder:
         at = Path(folder) / "source.st"
         write_bytes(at, data)
-        outcome = program.call("check", at)
+        outcome = program.call("il", at, "--cycles", "0") if as_list else program.call("check", at)
     fault = read_fault(outcome.fault) if outcome.fault else None
-    return fault if fault is not None and fault.code[0] in "STL" else None
+    return fault if fault is not None and fault.code[0] in "STLQ" and fault.code != "L4" else None
 
 
 def _quoted(source: Source, code: str, hint: Hint) -> tuple[int, int]:
@@ -201,7 +203,7 @@ def _parts(token: Token) -> bool:
     return token.is_symbol(";") or token.kind == "end" or token.is_word("THEN", "ELSE", "DO", "OF", "END_VAR", "IF", "ELSIF", "CASE", "FOR")
 
 
-def _doubt(doubtful: set[str], source: Source, fault: FaultLine, hint: Hint, first: Source) -> None:
+def doubt(doubtful: set[str], source: Source, fault: FaultLine, hint: Hint, first: Source) -> None:
     """Notes names of which nothing sure can be said any more: those of a changed declaration, those that are declared twice or nowhere, and those
     that a change makes and that the text hasn't."""
     if fault.code in ("T1", "T2"):

@@ -10,18 +10,20 @@ from pathlib import Path
 from typing import Sequence
 
 from vcp_tools.explain.all_faults import all_hints
+from vcp_tools.explain.all_list_faults import all_list_hints
 from vcp_tools.read.fault_line import Disagreement, FaultLine, RefusedOutput, StopLine, meanings, read_ending, read_fault
 from vcp_tools.explain.hint import Hint
 from vcp_tools.explain.hints_files import FORMS, group_hint, image_hint, reading_hint, script_hint, wire_hint, words_hint
 from vcp_tools.explain.hints_il import il_hint
 from vcp_tools.read.assigned import Assigned
 from vcp_tools.read.declarations import inputs_of
-from vcp_tools.read.instruction_list import declarations_of, head_of
+from vcp_tools.read.instruction_list import declarations_of, head_of, lines_of
 from vcp_tools.explain.hints_rows import RowsHint, cell_hint, encoding_of, form_hint, header_hint, silent_faults, width_hint
 from vcp_tools.explain.hints_source import source_hint
 from vcp_tools.read.given import Given, source_of
 from vcp_tools.read.image import MAGIC, Image, read_image
 from vcp_tools.program import Program
+from vcp_tools.program_text import add_form_word, tells_list
 from vcp_tools.read.verdict_lines import faults_of_group, never_reached, read_verdicts
 from vcp_tools.refusal import FINE, FOUND, REFUSED, Refusal
 from vcp_tools.read.rows_file import line_of, record_of
@@ -140,7 +142,10 @@ class Explainer:
     def _source(self, fault: FaultLine) -> Explanation:
         """S1 to S5, T1 to T8, L2 and L3, of a program or of the head of an instruction list; Q1 to Q6."""
         source = Source(_bytes(fault.file))
-        listed = fault.code[0] == "Q" or self.words[:1] == ["il"]
+        is_list = bool(tells_list(source))
+        listed = fault.code[0] == "Q" or self.words[:1] == ["il"] or is_list and not self.words
+        if is_list and not listed:
+            return of_source(fault.file, source, _is_list(source, fault.file))
         if listed and (fault.code in ("S4", "S5") or fault.code[0] == "T"):
             source = head_of(source)
         at = source.offset(fault.first or 1, fault.second or 1)
@@ -205,12 +210,12 @@ class Explainer:
                 found.append(Explanation(f"{self.words[-1]}:{verdict.line}:1", message, verdict.line, line, 0, len(line)))
         return found
 
-    def unseen(self, printed: str, source: str | None) -> list[Explanation]:
+    def unseen(self, printed: str, source: str | None, as_list: bool) -> list[Explanation]:
         """The groups of an accepted campaign that aren't seen, each with its operations in words; where the source is known, with their variables."""
         if self.words[:1] != ["inject"] or len(self.words) < 4:
             return []
         image = _image(self.words[1])
-        given = Given(self.words[1], image, b"", None if source is None else source_of(Program.found(), source, image))
+        given = Given(self.words[1], image, b"", None if source is None else source_of(Program.found(), source, image, as_list))
         script = _bytes(self.words[-1]).decode("utf-8", "replace").split("\n")
         unseen = [it for it in read_verdicts(printed)[0] if it.verdict in ("wrong", "ran-on")]
         found = []
@@ -260,8 +265,8 @@ class Explainer:
             return Explanation(ending.name, message)
         file = self.words[1] if len(self.words) > 1 else "source"
         data = b"" if len(self.words) < 2 else _bytes(file)
-        source = Source(data) if data and not data.startswith(MAGIC) else None
-        assigned = Assigned(source).at(ending.line, ending.column) if source is not None and self.words[0] != "il" else ""
+        source = Source(data, self.words[0] == "il") if data and not data.startswith(MAGIC) else None
+        assigned = Assigned(source).at(ending.line, ending.column) if source is not None else ""
         where = (f" (in the turn {ending.turns})" if ending.turns else "") + (f", {assigned}" if assigned else "")
         what = {
             "RANGE": "the value is outside its type, and nothing wraps round",
@@ -274,7 +279,7 @@ class Explainer:
         token = source.tokens[source.index_at(source.offset(ending.line, ending.column))]
         guard = {"RANGE": "Limit the operands before, as by MIN, MAX or LIMIT, or take a wider type.",
                  "DIVZERO": "Put the division into `IF divisor <> 0 THEN .. END_IF`."}.get(ending.kind, "")
-        if self.words[0] == "il":
+        if source.is_list:
             guard = {"RANGE": "Load a value of a wider type first: the result is as wide as the wider side."}.get(ending.kind, "")
         return of_source(file, source, Hint(message, token.start, token.end, (guard,) if guard else ()))
 
@@ -282,6 +287,14 @@ class Explainer:
 def _begins_program(data: bytes) -> bool:
     """Whether a text begins with PROGRAM, behind blanks and comments."""
     return Source(data[:4000]).tokens[0].is_word("PROGRAM")
+
+
+def _is_list(source: Source, file: str) -> Hint:
+    """Said where a list is given to a command that takes Structured Text."""
+    token = lines_of(source)[0][0]
+    message = ("this is an instruction list, and the command takes Structured Text: `il` runs a list, and `vcp_study image` makes an image of it "
+               f"(`vcp_tools explain --all il {file} --cycles 0` names its faults)")
+    return Hint(message, token.start, token.end)
 
 
 def _limit(fault: FaultLine) -> str:
@@ -312,9 +325,9 @@ def said_by_program(line: str, code: str) -> list[str]:
     return [f"vcp:  {line}", *wrapped]
 
 
-def explain_call(words: Sequence[str], of: str | None = None, origin: Origin | None = None) -> int:
+def explain_call(words: Sequence[str], of: str | None = None, origin: Origin | None = None, as_list: bool = False) -> int:
     """Runs the program with these words, and explains what it says; `of` is the source of the image, and `origin` the text from which the program was
-    written, where they are given. The status is the program's own."""
+    written, where they are given; `as_list` says that a source that can't be told is a list. The status is the program's own."""
     outcome = Program.found().call(*words)
     explainer = Explainer(words)
     fault = read_fault(outcome.fault) if outcome.fault else None
@@ -326,7 +339,7 @@ def explain_call(words: Sequence[str], of: str | None = None, origin: Origin | N
     elif ending is not None and outcome.status in (2, 3):
         _print(_with_origin(explainer.ending(ending).lines(), origin) + [f"vcp:  {ending.text}"])
     else:
-        accepted = [*explainer.unreached(outcome.text), *explainer.unseen(outcome.text, of)] if outcome.status == 0 else []
+        accepted = [*explainer.unreached(outcome.text), *explainer.unseen(outcome.text, of, as_list)] if outcome.status == 0 else []
         for warning in [*explainer.silent_rows(), *accepted]:
             _print(warning.lines())
         sys.stdout.flush()
@@ -363,9 +376,9 @@ def explain_all(words: Sequence[str]) -> int:
     if len(words) < 2:
         raise Refusal("explain --all: it looks at a source: give words as `check P`")
     file = words[1]
-    if words[0] == "il":
+    if words[0] != "il" and tells_list(Source(_bytes(file))):
         return explain_call(words)
-    found = all_hints(Program.found(), file)
+    found = all_list_hints(Program.found(), file) if words[0] == "il" else all_hints(Program.found(), file)
     told: set[str] = set()
     for line, source, hint in sorted(found.hints, key=lambda it: it[2].start):
         lines = of_source(file, source, hint).lines()
@@ -374,7 +387,7 @@ def explain_all(words: Sequence[str]) -> int:
         told.add(kind)
     if not found.hints:
         return explain_call(words)
-    if any(not line and "REAL" not in hint.message for line, _, hint in found.hints):
+    if words[0] != "il" and any(not line and "REAL" not in hint.message for line, _, hint in found.hints):
         print(f"{file}: `vcp_tools lower` writes a program for much of what the profile lacks, as timers, blocks and arrays (docs/TOOLS.md, 'lower')")
     tail = f"; {found.left_out}" if found.left_out else ""
     left = f"; {found.suspected} more may follow from these" if found.suspected else ""
@@ -394,9 +407,10 @@ def _print(lines: Sequence[str]) -> None:
 
 def add_words(parser: argparse.ArgumentParser) -> None:
     """The words of `explain`."""
-    parser.add_argument("--all", action="store_true", help="go on behind each fault of a source that can be stepped over, but of none of an instruction list")
+    parser.add_argument("--all", action="store_true", help="go on behind each fault of a source or an instruction list that can be stepped over")
     parser.add_argument("--source", metavar="P", help="the source of the image, by which faults that are missed are named with their variables")
     parser.add_argument("--from", dest="original", metavar="ORIGINAL", help=WORDS)
+    add_form_word(parser)
     parser.add_argument("words", nargs=argparse.REMAINDER, help="words of vcp, as `check P`; without any, lines of error are read from standard input")
 
 
@@ -407,4 +421,4 @@ def run(given: argparse.Namespace) -> int:
         return explain_lines()
     if given.all:
         return explain_all(words)
-    return explain_call(words, given.source, None if given.original is None or len(words) < 2 else Origin(words[1], given.original))
+    return explain_call(words, given.source, None if given.original is None or len(words) < 2 else Origin(words[1], given.original), given.as_list)

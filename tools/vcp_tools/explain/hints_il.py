@@ -20,7 +20,7 @@ def il_hint(source: Source, code: str, at: int) -> Hint:
     """What is said of the fault `code` at the byte `at` of an instruction list."""
     token = source.tokens[source.index_at(at)]
     declared = {it.name.upper(): it for it in declarations_of(source)}
-    line = _line(source, token)
+    line = line_at(source, token)
     if code == "Q1":
         return _instruction(source, token, line, declared)
     if code == "Q2":
@@ -39,12 +39,17 @@ def _on(token: Token, message: str) -> Hint:
     return Hint(message, token.start, token.end)
 
 
-def _line(source: Source, token: Token) -> list[Token]:
+def line_at(source: Source, token: Token) -> list[Token]:
     """The tokens behind the head that begin in the line of a token, or this one alone."""
     number, _ = source.place(token.start)
     head = head_end(source)
     found = [it for it in source.tokens if it.kind != "end" and it.start >= head and source.place(it.start)[0] == number]
     return found or [token]
+
+
+def has_label(line: list[Token]) -> bool:
+    """Whether a line begins with a label."""
+    return len(line) > 1 and line[1].is_symbol(":")
 
 
 def _instruction(source: Source, token: Token, line: list[Token], declared: dict[str, Declaration]) -> Hint:
@@ -59,9 +64,9 @@ def _instruction(source: Source, token: Token, line: list[Token], declared: dict
         return _on(last, "END_PROGRAM is alone in its line")
     if token.is_word("VAR", "VAR_INPUT", "VAR_OUTPUT"):
         return _on(token, "END_VAR is missing behind these declarations")
-    if len(line) > 1 and line[1].is_symbol(":", ":="):
-        if line[1].text == ":":
-            return _on(token, "there are no labels, since there are no jumps")
+    if has_label(line):
+        return _on(token, "there are no labels, since there are no jumps")
+    if len(line) > 1 and line[1].is_symbol(":="):
         return _on(token, "this is Structured Text: an instruction is an operator and its operand, as `ST y`")
     if any(it.is_symbol("(", ")") for it in line):
         return _on(next(it for it in line if it.is_symbol("(", ")")), "there are no brackets: keep what is in them in a variable, by ST, and take that")

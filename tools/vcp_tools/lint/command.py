@@ -2,13 +2,15 @@
 from __future__ import annotations
 
 import argparse
-from typing import Iterator
+from typing import Iterable, Iterator
 
 from vcp_tools.wording import listed
 from vcp_tools.read.image import Image, Operation
+from vcp_tools.lint.list_findings import list_findings
 from vcp_tools.lint.step import step_told
 from vcp_tools.lint.tree_findings import Finding, tree_findings
 from vcp_tools.program import Program
+from vcp_tools.program_text import add_form_word
 from vcp_tools.read.given import Given, load
 from vcp_tools.refusal import FINE, FOUND, Refusal
 from vcp_tools.read.origin import WORDS, Origin
@@ -29,9 +31,10 @@ _SPELLED = {"AND": ("AND", "&"), "OR": ("OR",), "SEL": ("SEL",)}
 
 def add_words(parser: argparse.ArgumentParser) -> None:
     """The words of `lint`."""
-    parser.add_argument("program", metavar="P", help="the source")
+    parser.add_argument("program", metavar="P", help="the source, or an instruction list")
     parser.add_argument("--from", dest="original", metavar="ORIGINAL", help=WORDS)
     parser.add_argument("--seed", type=int, metavar="N", help="the seed with which the least step is looked for, as `vcp compile` has it")
+    add_form_word(parser)
     parser.add_argument("--allow", action="append", default=[], metavar="KIND", help=f"leave findings of this kind out; the kinds are {', '.join(KINDS)}")
 
 
@@ -40,7 +43,7 @@ def run(given: argparse.Namespace) -> int:
     unknown = [kind for kind in given.allow if kind not in KINDS]
     if unknown:
         raise Refusal(f"--allow: `{unknown[0]}` is no kind: there are {listed(KINDS)}")
-    loaded = load(Program.found(), given.program, () if given.seed is None else ("--seed", str(given.seed)))
+    loaded = load(Program.found(), given.program, () if given.seed is None else ("--seed", str(given.seed)), given.as_list)
     if loaded.source is None:
         raise Refusal(f"{given.program}: this is an image, and the source is wanted")
     found = [finding for finding in findings(loaded, loaded.source) if finding.kind not in given.allow]
@@ -58,8 +61,8 @@ def run(given: argparse.Namespace) -> int:
 
 def findings(given: Given, source: Source, without_tree: bool = False) -> list[Finding]:
     """All findings of a program, in the order of their places, each once; those of the operations alone where no grammar is to be read."""
-    tree = [] if without_tree else tree_findings(source, parse(source))
-    both = [*tree, *_same_sides(given.image, source)]
+    read: Iterable[Finding] = [] if without_tree else list_findings(source) if source.is_list else tree_findings(source, parse(source))
+    both = [*read, *_same_sides(given.image, source)]
     return sorted(set(both), key=lambda finding: (finding.at, finding.kind))
 
 

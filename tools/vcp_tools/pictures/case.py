@@ -15,6 +15,7 @@ from vcp_tools.needs import find_module
 from vcp_tools.cycle_time import CycleTime
 from vcp_tools.pictures.observe import Observation
 from vcp_tools.program import Outcome, Program, find_program
+from vcp_tools.program_text import ProgramText
 from vcp_tools.read.assigned import Assigned
 from vcp_tools.read.audit_lines import Audited, read_audit
 from vcp_tools.read.cover_lines import CLASSES, Cover, cover_of
@@ -40,11 +41,10 @@ class Case:
     """What a report tells: the files, the graph, the run, and every command by which that was found out, as a reader may repeat it."""
 
     program: Program
-    file: str
+    text: ProgramText
     rows: list[str]
     horizon: int
     faults: str | None
-    source: Source
     image_bytes: bytes
     image: Image
     run: Observation
@@ -53,6 +53,16 @@ class Case:
     code: list[str] = field(default_factory=list)
     found_something: bool = False
     commands: list[str] = field(default_factory=list)
+
+    @property
+    def file(self) -> str:
+        """The file of the source."""
+        return self.text.file
+
+    @property
+    def source(self) -> Source:
+        """The source."""
+        return self.text.source
 
     @property
     def image_name(self) -> str:
@@ -69,14 +79,13 @@ class Case:
             try:
                 return self.program.must(*given, statuses=statuses, shown=words)
             except Refusal as refusal:
-                made = f"; `vcp compile {self.file} >{self.image_name}` makes that image" if self.image_name in words else ""
+                made = f"; `{self.image_command}` makes that image" if self.image_name in words else ""
                 raise Refusal(f"{refusal}{made}") from None
 
-    def made(self, command: str, file: str, statuses: Sequence[int] = (0, 2, 3)) -> bytes:
-        """What a command printed that was made beside the run, over the rows; the command is noted."""
-        words = (command, file, *self.rows, *(self.code if command == "run" else ()))
+    def made(self, call: str, words: Sequence[str], statuses: Sequence[int] = (0, 2, 3)) -> bytes:
+        """What a call printed that was made beside the run, with these words; it is noted."""
         self.note(*words)
-        return self.program.taken(self.run.outcomes[command], words, statuses).output
+        return self.program.taken(self.run.outcomes[call], words, statuses).output
 
     @cached_property
     def assigned(self) -> Assigned:
@@ -117,6 +126,11 @@ class Case:
         self.commands.append(f"vcp_study ranges {shlex.quote(self.image_name)}")
         return ranges_of(self.image_bytes)
 
-    def note(self, *words: str, into: str = "") -> None:
-        """Notes a command that was carried out."""
-        self.commands.append("vcp " + shlex.join(words) + (f" >{shlex.quote(into)}" if into else ""))
+    @property
+    def image_command(self) -> str:
+        """The command that writes the image."""
+        return f"{shlex.join(self.text.image_words(self.code))} >{shlex.quote(self.image_name)}"
+
+    def note(self, *words: str) -> None:
+        """Notes a call of `vcp` that was made."""
+        self.commands.append("vcp " + shlex.join(words))

@@ -3,7 +3,7 @@ from __future__ import annotations
 
 from vcp_tools.pictures.case import MOST_PAIRED, PAIRED, Case
 from vcp_tools.pictures.kinds import cover_bars
-from vcp_tools.pictures.markup import code, element, section, table, text
+from vcp_tools.pictures.markup import code, element, line, section, table, text
 from vcp_tools.read.cover_lines import BY_CLASS, BY_DELAY, TOLD, Cover
 
 MOST_SHOWN = 500
@@ -75,8 +75,8 @@ def _left(case: Case, found: Cover) -> str:
 
 
 def _operation(case: Case, number: int, told: str) -> str:
-    """An operation as it is told, with a link to it, and the line of the source."""
+    """An operation as it is told, with the variable that is assigned there and a link to it, and the line of the source."""
     operation = case.image.operations[number]
     words = told or f"operation {number} {operation.kind} {case.image.name_of(operation)}".rstrip() + f" at {operation.place}"
-    line = case.source.line(operation.line).decode("utf-8", "replace").strip() if operation.line else ""
-    return element("a", text(words), href=f"#O{number}", class_="m") + (" " + code(line) if line else "")
+    said = case.source.line(operation.line).decode("utf-8", "replace").strip() if operation.line else ""
+    return element("a", text(case.assigned.named(words)), href=f"#O{number}", class_="m") + (line(said) if said else "")

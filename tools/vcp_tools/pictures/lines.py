@@ -9,7 +9,8 @@ from vcp_tools.read.image import Image
 from vcp_tools.read.source import Source
 
 STYLE = """
-.source { overflow-x: auto; white-space: pre; } .source .l { color: var(--dim); user-select: none; }
+.source > span { display: block; padding-left: calc(14ch + 6px); text-indent: calc(-14ch - 6px); overflow-wrap: anywhere; } .source .mark { text-indent: 0; }
+.source .l { color: var(--dim); user-select: none; }
 """
 """How the source looks."""
 _SAID = {SEEN: "seen"}
@@ -29,8 +30,8 @@ def marked(
     for number in range(1, count + 1):
         content = text(source.line(number).decode("utf-8", "replace"))
         mark = "" if counts is None else _mark(at.get(number, []), counts, hidden, kinds, none)
-        written.append(f'<span id="L{number}">{mark}<span class="l">{number:>4}</span>  {content}</span>')
-    return element("pre", "\n".join(written), class_="source", tabindex="0")
+        written.append(f'<span id="L{number}">{mark}<span class="l">{number:>4}</span>  {content}\n</span>')
+    return element("pre", "".join(written), class_="source")
 
 
 def _mark(operations: Sequence[int], counts: Mapping[int, Mapping[str, int]], blind: set[int], kinds: Sequence[str], none: str) -> str:

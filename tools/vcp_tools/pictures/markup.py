@@ -17,7 +17,8 @@ h1 { font-size: 1.5em; } h2 { font-size: 1.15em; margin-top: 2em; border-bottom:
 table { border-collapse: collapse; margin: .6em 0; } th, td { text-align: left; padding: 2px 10px 2px 0; vertical-align: top; }
 th { border-bottom: 1px solid var(--line); font-weight: 600; } td.n, th.n { text-align: right; }
 code, pre, .m { font: 13px/1.4 ui-monospace, Consolas, monospace; } pre { margin: 0; white-space: pre-wrap; } code { overflow-wrap: anywhere; }
-.scroll td code { white-space: nowrap; }
+.scroll td code { white-space: nowrap; } .scroll td code.line, .scroll td code.wrap { white-space: pre-wrap; }
+.line, .remark { display: block; min-width: 20ch; }
 .good { color: var(--good); } .bad { color: var(--bad-text); font-weight: 600; } .dim { color: var(--dim); }
 .scroll { overflow-x: auto; }
 .scroll td:first-child, .scroll th:first-child { position: sticky; left: 0; background: var(--bg); }
@@ -42,6 +43,11 @@ def element(name: str, inside: str, **attributes: str) -> str:
 def code(words: object) -> str:
     """Text as code."""
     return element("code", text(words))
+
+
+def line(words: object) -> str:
+    """Text as code in a line of its own, which breaks where there is no room for it."""
+    return element("code", text(words), class_="line")
 
 
 def table(head: Sequence[str], rows: Iterable[Sequence[str]], numbers: Sequence[int] = ()) -> str:

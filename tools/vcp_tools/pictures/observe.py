@@ -1,8 +1,8 @@
 """A run with its inputs, its outputs and its variables, cycle by cycle.
 
-The outputs are those of `run`. A variable is seen by a run of the same text in which each VAR is a VAR_OUTPUT: the meaning of a program is the same
-for both, and the second run has to release the same outputs and come to the same end. An image shows a variable only where it has a cell, and so
-`trace` can't show each; what it shows is compared, where that is wanted.
+The outputs are those of `run`, or of `il` where the text is an instruction list. A variable is seen by a run of the same text in which each VAR is a
+VAR_OUTPUT: the meaning of a program is the same for both, and the second run has to release the same outputs and come to the same end. An image shows a
+variable only where it has a cell, and so `trace` can't show each; what it shows is compared, where that is wanted.
 """
 from __future__ import annotations
 
@@ -19,6 +19,7 @@ from vcp_tools.read.image import Image, read_image
 from vcp_tools.files import read_bytes, write_bytes
 from vcp_tools.pictures.runs import side_by_side
 from vcp_tools.program import Outcome, Program
+from vcp_tools.program_text import ProgramText
 from vcp_tools.refusal import Refusal
 from vcp_tools.read.rows_file import Record, cell_value, stream_rows
 from vcp_tools.read.origin import Origin
@@ -66,21 +67,21 @@ class Observation:
 
 
 def observe(
-    program: Program, file: str, rows: Sequence[str], traced: bool = False, also: Mapping[str, Sequence[str]] | None = None, code: Sequence[str] = ()
+    program: Program, text: ProgramText, rows: Sequence[str], traced: bool = False, also: Mapping[str, Sequence[str]] | None = None, code: Sequence[str] = ()
 ) -> Observation:
-    """The run of a source on rows, which are a file or `--cycles` and a number; all inputs, outputs and variables, as declared. `also` has more calls that
+    """The run of a text on rows, which are a file or `--cycles` and a number; all inputs, outputs and variables, as declared. `also` has more calls that
     are made beside it, each with a name; `code` the words of seed and step."""
-    source = Source(read_bytes(file))
     with tempfile.TemporaryDirectory() as folder:
         at = Path(folder) / "opened.st"
-        write_bytes(at, opened(source))
-        calls: dict[str, Sequence[str]] = {"run": ("run", file, *rows, *code), "run with variables": ("run", str(at), *rows), **(also or {})}
+        write_bytes(at, opened(text.source))
+        of_opened = text.copied(at, opened(text.source)).run_words(rows)
+        calls: dict[str, Sequence[str]] = {"run": text.run_words(rows, code), "run with variables": of_opened, **(also or {})}
         outcomes = side_by_side(program, calls, rows)
         run = read_run(program.taken(outcomes["run"], calls["run"], (0, 2, 3)).text)
         seen = outcomes.pop("run with variables")
         if seen.status not in (0, 2, 3):
             raise Refusal(f"the run with each VAR as a VAR_OUTPUT, by which variables are seen, isn't made: {_without_file(seen.fault, at)}")
-    name, declarations = head_of_program(source, file)
+    name, declarations = head_of_program(text.source, text.file)
     shown = _same_run(run, read_run(seen.text))
     inputs = _inputs(declarations, rows, run.cycles)
     columns = []
@@ -91,7 +92,7 @@ def observe(
             columns.append(Column(declaration, shown.columns[shown.names.index(declaration.name)]))
     found = Observation(name, columns, run.cycles, run.ending, run.is_whole, outcomes)
     if traced:
-        _compare_with_trace(program, file, rows, found, code)
+        _compare_with_trace(program, text, rows, found, code)
     return found
 
 
@@ -146,24 +147,24 @@ def _inputs(declarations: Sequence[Declaration], rows: Sequence[str], cycles: in
     return {name: values for name, (values, _, _) in zip(names, columns)}
 
 
-def _compare_with_trace(program: Program, file: str, rows: Sequence[str], found: Observation, code: Sequence[str]) -> None:
+def _compare_with_trace(program: Program, text: ProgramText, rows: Sequence[str], found: Observation, code: Sequence[str]) -> None:
     """Refuses where a value that the image has an operation for is another one in `trace`, or a residue isn't the expected one."""
     if found.cycles > MOST_TRACED:
         raise Refusal(f"--trace: {found.cycles} cycles are more than {MOST_TRACED}: take fewer rows")
     with tempfile.TemporaryDirectory() as folder:
         at = Path(folder) / "image"
-        compiled = program.must("compile", file, *code).output
-        write_bytes(at, compiled)
-        seen = _seen(read_image(compiled, str(at)))
-        columns = {column.name: column for column in found.columns}
+        made = text.image(program, code)
+        write_bytes(at, made)
+        seen = _seen(read_image(made, str(at)))
+        columns = {column.name: column.values for column in found.columns}
         for cycle in range(found.cycles):
             words, _ = read_trace(program.must("trace", at, *rows, str(cycle)).text)
             for word in words:
-                name = seen.get(word.operation)
+                name = seen.get(word.operation, "")
                 if word.residue != word.expected:
                     raise Refusal(f"trace: cycle {cycle}, operation {word.operation}: the residue is {word.residue} and not {word.expected}")
-                if name is not None and columns[name].values[cycle] != word.value:
-                    raise Refusal(f"trace: cycle {cycle}: `{name}` is {word.value}, and {columns[name].values[cycle]} in the run")
+                if name in columns and columns[name][cycle] != word.value:
+                    raise Refusal(f"trace: cycle {cycle}: `{name}` is {word.value}, and {columns[name][cycle]} in the run")
 
 
 def _seen(image: Image) -> dict[int, str]:

@@ -14,11 +14,11 @@ from vcp_tools.pictures.looks import looked_at
 from vcp_tools.pictures.observe import observe, of_origin, rows_words
 from vcp_tools.files import read_bytes, write_bytes
 from vcp_tools.program import Program
+from vcp_tools.program_text import ProgramText
 from vcp_tools.read.image import read_image
 from vcp_tools.refusal import FINE, FOUND, Refusal
 from vcp_tools.pictures.report_parts import SECTIONS
-from vcp_tools.read.source import Source
-from vcp_tools.pictures.table import add_run_words, period_of
+from vcp_tools.pictures.table import add_run_words, period_of, text_of
 
 HORIZON = 2
 """The cycle borders of the audit, where none are given."""
@@ -42,7 +42,7 @@ def run(given: argparse.Namespace) -> int:
     if rest:
         raise Refusal(f"`{rest[0]}` is left over behind ROWS")
     code = [word for name in ("seed", "step") if getattr(given, name) is not None for word in (f"--{name}", str(getattr(given, name)))]
-    made, found_something = make(given.program, rows, given.horizon, given.faults, given.trace, period_of(given), given.original, code)
+    made, found_something = make(text_of(given), rows, given.horizon, given.faults, given.trace, period_of(given), given.original, code)
     if given.check:
         return check(given.check, read_bytes(given.check).decode("utf-8", "replace"), made)
     if given.output:
@@ -54,21 +54,22 @@ def run(given: argparse.Namespace) -> int:
 
 
 def make(
-    file: str, rows: list[str], horizon: int, faults: str | None, traced: bool = False, period: CycleTime | None = None, original: str | None = None,
-    code: Sequence[str] = ()
+    source: ProgramText, rows: list[str], horizon: int, faults: str | None, traced: bool = False, period: CycleTime | None = None,
+    original: str | None = None, code: Sequence[str] = ()
 ) -> tuple[str, bool]:
     """The report, as one document, and whether it found something. `code` has the words of seed and step."""
     program = Program.found()
-    source = Source(read_bytes(file))
-    image_bytes = program.must("compile", file, *code).output
+    image_bytes = source.image(program, code)
     with tempfile.TemporaryDirectory() as folder:
         image = Path(folder) / "image"
         write_bytes(image, image_bytes)
-        found = observe(program, file, rows, traced, {"plain": ("plain", file, *rows), "exec": ("exec", str(image), *rows)}, code)
-    found = of_origin(found, file, original)
-    case = Case(program, file, rows, horizon, faults, source, image_bytes, read_image(image_bytes, file), found, period, original, list(code))
-    case.note("check", file)
-    case.note("compile", file, *code, into=case.image_name)
+        plain = source.plain_words(rows)
+        found = observe(program, source, rows, traced, {**({"plain": plain} if plain else {}), "exec": ("exec", str(image), *rows)}, code)
+    found = of_origin(found, source.file, original)
+    case = Case(program, source, rows, horizon, faults, image_bytes, read_image(image_bytes, source.file), found, period, original, list(code))
+    if not source.is_list:
+        case.note("check", source.file)
+    case.commands.append(case.image_command)
     parts = [part(case) for part in SECTIONS]
     return looked_at(f"{found.name}: program, run and audit", [part for part in parts if part]), case.found_something
 

@@ -8,15 +8,16 @@ from typing import Callable
 from vcp_tools.read.audit_lines import Audited, reached_from
 from vcp_tools.pictures.case import Case
 from vcp_tools.read.image import Operation
+from vcp_tools.read.instruction_list import lines_of
 from vcp_tools.cycle_time import CycleTime
-from vcp_tools.pictures.markup import code, element, section, table, text
+from vcp_tools.pictures.markup import code, element, line, section, table, text
 from vcp_tools.files import read_bytes
 from vcp_tools.needs import find_module
 from vcp_tools.pictures.cover_part import cover_section, cover_told
 from vcp_tools.pictures.filtered import filtered
 from vcp_tools.pictures.looks import faults_in, graph_section, kinds_in, marked_source, told_of_kinds, verdict_bars
-from vcp_tools.program import present_toolchain, promised_toolchain
-from vcp_tools.proved import digest, told_of
+from vcp_tools.program import find_program, present_toolchain, promised_toolchain
+from vcp_tools.proved import PROGRAMS, digest, told_of
 from vcp_tools.read.verdict_lines import Verdict, faults_of_group, never_reached
 from vcp_tools.pictures.waves import waves
 
@@ -48,25 +49,30 @@ def toolchain_told(promised: str | None, present: str | None) -> str:
 
 def _verdict_on(case: Case) -> str:
     """What is told first: whether all agrees, and the counts of what follows."""
-    size = case.program.must("check", case.file).text.strip()
-    plain = case.made("plain", case.file, statuses=(0, 2))
-    coded = case.made("run", case.file)
-    image = case.made("exec", case.image_name)
-    agree = plain == coded == image
+    calls = {"plain": case.text.plain_words(case.rows), "run": case.text.run_words(case.rows, case.code), "exec": ("exec", case.image_name, *case.rows)}
+    printed = {words[0]: case.made(call, words, (0, 2) if call == "plain" else (0, 2, 3)) for call, words in calls.items() if words}
+    agree = len(set(printed.values())) == 1
     same = element("span", "the same, byte for byte", class_="good") if agree else element("span", "DIFFERENT", class_="bad")
     rows = [
-        ("Size", text(size.removeprefix("ok "))),
+        _size(case),
         ("operations", text(len(case.image.operations))),
         ("code", text(f"{'narrow' if case.image.version == 1 else 'wide'}, seed {case.image.seed}, step {case.image.step}")),
         ("cycles", text(case.run.cycles)),
         *_times(case.period, case.run.cycles),
         ("end of the run", element("span", text(case.run.ending), class_="good" if case.run.is_whole else "bad")),
-        ("plain, run and exec", same),
+        (" and ".join([", ".join(list(printed)[:-1]), list(printed)[-1]]), same),
         *_found(case),
-        ("program", text(program_told(case.program.file))),
+        *((name, text(program_told(file))) for name in PROGRAMS if (file := find_program(name)) is not None),
     ]
     case.found_something = case.found_something or not agree or not case.run.is_whole
     return section("summary", "Summary", table(("what", "found"), rows))
+
+
+def _size(case: Case) -> tuple[str, str]:
+    """How large the program is: its Size, or how many instructions it has."""
+    if case.text.is_list:
+        return "instructions", text(len(lines_of(case.source)) - 1)
+    return "Size", text(case.program.must("check", case.file).text.strip().removeprefix("ok "))
 
 
 def _times(period: CycleTime | None, cycles: int) -> list[tuple[str, str]]:
@@ -105,26 +111,28 @@ def _counted(case: Case, number: int, none: str) -> str:
 
 def _files(case: Case) -> str:
     """The files with their digests."""
-    given = [("source", case.file, case.source.data)]
+    given = [(case.text.what, case.file, case.source.data)]
     if case.original is not None:
         given.append(("text from which the source was written", case.original, read_bytes(case.original)))
     if case.rows[0] != "--cycles":
         given.append(("rows", case.rows[0], read_bytes(case.rows[0])))
     if case.faults:
         given.append(("script of faults", case.faults, read_bytes(case.faults)))
-    given.append(("image, made of the source", case.image_name, case.image_bytes))
+    given.append((f"image, made of the {case.text.what}", case.image_name, case.image_bytes))
     rows = [(text(what), code(Path(name).name), text(len(data)), code(digest(data))) for what, name, data in given]
     return section("files", "Files", table(("what", "file", "bytes", "SHA-256"), rows, (2,)))
 
 
 def _tool(case: Case) -> str:
     """The program and the tools."""
+    study = find_program("vcp_study")
     rows = [
         ("program vcp", code(digest(read_bytes(case.program.file)))),
+        *([("program vcp_study", code(digest(read_bytes(study))))] if study is not None else []),
         ("vcp_tools, all files", code(tools_digest())),
         ("toolchain of the proof", toolchain_told(promised_toolchain(), present_toolchain())),
     ]
-    built = f"Whether the program is proved, its record says, which {code('./vcp')} and the gate write; these tools are tested."
+    built = f"Whether a program is proved, its record says, which {code('./vcp')}, {code('./vcp_study')} and the gate write; these tools are tested."
     note = element("p", built, class_="dim")
     return section("tool", "Tool", table(("what", "SHA-256, or version"), rows) + note)
 
@@ -162,7 +170,7 @@ def _place(operation: Operation) -> str:
 
 
 def _line(case: Case, operation: Operation) -> str:
-    return code(case.source.line(operation.line).decode("utf-8", "replace").strip()) if operation.line else ""
+    return line(case.source.line(operation.line).decode("utf-8", "replace").strip()) if operation.line else ""
 
 
 def _reference(case: Case, operation: Operation) -> str:
@@ -176,8 +184,8 @@ def _listing(case: Case) -> str:
     listed = case.call("list", case.image_name).text.split("\n")
     rows = []
     counts = kinds_in(case)
-    for operation, line in zip(case.image.operations, listed):
-        signature = re.search(r" sig (\d+) ", line)
+    for operation, told in zip(case.image.operations, listed):
+        signature = re.search(r" sig (\d+) ", told)
         reads = ", ".join(_reference(case, case.image.operations[it]) for it in operation.operands)
         number = element("span", str(operation.number), id=f"O{operation.number}")
         types = operation.type if operation.type == operation.operand_type else f"{operation.operand_type} to {operation.type}"
@@ -241,10 +249,11 @@ def _campaign(case: Case) -> str:
     for it in verdicts:
         mark = "good" if it.verdict in ("refused", "stopped", "same") else "bad"
         group = faults_of_group(script, it.line)
-        faults = code("; ".join(group))
+        faults = line("; ".join(group))
         details = _details(case, it) or code(_unreached_note(case, script, it.line))
         where = "; ".join(_where(case, fault) for fault in group)
-        rows.append((str(it.line), faults, where, element("span", it.verdict, class_=mark), details, text(_remark(script, it.line))))
+        rows.append((str(it.line), faults, where, element("span", it.verdict, class_=mark), details,
+                     element("span", text(_remark(script, it.line)), class_="remark")))
     meanings = "; ".join(f"<b>{name}</b>: {said}" for name, said in _MEANINGS.items())
     told = filtered("campaign", table(("line", "fault", "operation", "verdict", "details", "remark above it"), rows, (0,)))
     return section("campaign", "Faults and their verdicts", verdict_bars(case) + told + element("p", code(totals)) + element("p", meanings + ".", class_="dim"))
@@ -256,7 +265,7 @@ def _details(case: Case, verdict: Verdict) -> str:
     place = re.fullmatch(r"(\d+):(\d+)", words[3]) if verdict.verdict == "stopped" and len(words) > 3 else None
     assigned = case.assigned.at(int(place[1]), int(place[2])) if place else ""
     time = case.period.told(int(words[0])) if case.period and words else ""
-    return code(verdict.rest) * bool(words) + "".join(f", {text(it)}" for it in (assigned, time) if it)
+    return element("code", text(verdict.rest), class_="wrap") * bool(words) + "".join(f", {text(it)}" for it in (assigned, time) if it)
 
 
 def _where(case: Case, fault: str) -> str:
@@ -269,25 +278,25 @@ def _where(case: Case, fault: str) -> str:
     return " ".join(it for it in (code(operation.kind), code(name) if name else "", _place(operation)) if it)
 
 
-def _unreached_note(case: Case, script: list[str], line: int) -> str:
+def _unreached_note(case: Case, script: list[str], number: int) -> str:
     """Said of a group that no cycle of the run comes to; else empty."""
-    return "never reached: the run ends before" if never_reached(faults_of_group(script, line), case.run.cycles + (not case.run.is_whole)) else ""
+    return "never reached: the run ends before" if never_reached(faults_of_group(script, number), case.run.cycles + (not case.run.is_whole)) else ""
 
 
 def _may_stop(case: Case) -> str:
     """The operations that may stop with any rows, each with the ranges of what it reads; no section where there is none, or where they weren't looked for."""
     if case.ranges is None or not case.ranges.may_stop:
         return ""
-    rows = [(*_operation_cells(case, case.image.operations[it.operation]), code(it.cause), code(it.reads)) for it in case.ranges.may_stop]
+    rows = [(*_operation_cells(case, case.image.operations[it.operation]), code(it.cause), line(it.reads)) for it in case.ranges.may_stop]
     searched = "" if case.ranges.searched else " The image has too many operations to be searched closer."
     note = element("p", f"As far as the ranges of all values show: that an operation is named doesn't say that it can stop.{searched}", class_="dim")
     return section("ranges", "What may stop, whatever the rows", note + table(("no.", "kind", "name", "place", "line", "stop", "reads"), rows, (0,)))
 
 
-def _remark(script: list[str], line: int) -> str:
+def _remark(script: list[str], number: int) -> str:
     """The remark that stands directly above a fault of a script, or above the `begin` before it."""
     words: list[str] = []
-    for above in reversed(script[: line - 1]):
+    for above in reversed(script[: number - 1]):
         if above.strip() == "begin" and not words:
             continue
         if not above.startswith("#"):
@@ -313,7 +322,7 @@ def _source(case: Case) -> str:
 
 def _commands(case: Case) -> str:
     """Every command by which the report was made."""
-    note = "In this order, with the files named above. Variables come from one more run, of the source with each VAR as a VAR_OUTPUT."
+    note = f"In this order, with the files named above. Variables come from one more run, of the {case.text.what} with each VAR as a VAR_OUTPUT."
     return section("commands", "Commands", element("p", note, class_="dim") + element("pre", text("\n".join(case.commands))))
 
 

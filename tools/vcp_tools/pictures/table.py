@@ -8,18 +8,25 @@ from typing import Iterator, Sequence
 from vcp_tools.cycle_time import CycleTime, read_cycle_time
 from vcp_tools.pictures.observe import Column, Observation, chosen, observe, of_origin, rows_words, warnings
 from vcp_tools.program import Program
+from vcp_tools.program_text import ProgramText, add_form_word
 from vcp_tools.read.origin import WORDS
 from vcp_tools.refusal import FINE, FOUND
 
 
 def add_run_words(parser: argparse.ArgumentParser, rest: str) -> None:
     """The words that name a run: P, ROWS or `--cycles N`, and what stands behind."""
-    parser.add_argument("program", metavar="P", help="the source")
+    parser.add_argument("program", metavar="P", help="the source, or an instruction list")
     parser.add_argument("rest", metavar="ROWS", nargs="*", help=rest)
     parser.add_argument("--cycles", type=int, metavar="N", help="so many cycles, in the place of ROWS, for a program without inputs")
     parser.add_argument("--trace", action="store_true", help="compare each value that the image has an operation for with `trace`, cycle by cycle")
     parser.add_argument("--cycle-time", metavar="TIME", help="how long a cycle takes, as 500ms or 20us: times are shown in s or ms, too")
     parser.add_argument("--from", dest="original", metavar="ORIGINAL", help=WORDS)
+    add_form_word(parser)
+
+
+def text_of(given: argparse.Namespace) -> ProgramText:
+    """The text of the program that is given."""
+    return ProgramText.read(given.program, given.as_list)
 
 
 def period_of(given: argparse.Namespace) -> CycleTime | None:
@@ -40,7 +47,7 @@ def run(given: argparse.Namespace) -> int:
     """Prints the table; the status is 9 where the run ends early."""
     rows, names = rows_words(given.rest, given.cycles)
     period = period_of(given)
-    found = of_origin(observe(Program.found(), given.program, rows, given.trace), given.program, given.original)
+    found = of_origin(observe(Program.found(), text_of(given), rows, given.trace), given.program, given.original)
     for line in warnings(rows):
         print(line, file=sys.stderr)
     columns = found.columns if given.all and not names else chosen(found, names)

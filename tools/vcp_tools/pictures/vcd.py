@@ -9,7 +9,7 @@ from vcp_tools.cycle_time import CycleTime
 from vcp_tools.pictures.observe import Column, Observation, chosen, observe, of_origin, rows_words, warnings
 from vcp_tools.program import Program
 from vcp_tools.refusal import FINE, FOUND
-from vcp_tools.pictures.table import add_run_words, period_of
+from vcp_tools.pictures.table import add_run_words, period_of, text_of
 
 BITS = {"BOOL": 1, "INT": 16, "DINT": 32, "LINT": 64}
 USUAL = CycleTime(1, "ms")
@@ -25,7 +25,7 @@ def run(given: argparse.Namespace) -> int:
     """Prints the dump; the status is 9 where the run ends early."""
     rows, names = rows_words(given.rest, given.cycles)
     period = period_of(given) or USUAL
-    found = of_origin(observe(Program.found(), given.program, rows, given.trace), given.program, given.original)
+    found = of_origin(observe(Program.found(), text_of(given), rows, given.trace), given.program, given.original)
     for line in warnings(rows):
         print(line, file=sys.stderr)
     columns = chosen(found, names) if names else found.columns

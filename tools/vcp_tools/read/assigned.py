@@ -1,4 +1,5 @@
-"""What the statement at an operation's place assigns, by the source's tokens alone: its variable, or those that stand under its condition."""
+"""What the statement at an operation's place assigns, by the source's tokens alone: its variable, or those that stand under its condition; of an instruction
+what its result is stored in."""
 from __future__ import annotations
 
 import re
@@ -6,6 +7,7 @@ from bisect import bisect_right
 from dataclasses import dataclass, field
 
 from vcp_tools.read.image import Operation
+from vcp_tools.read.instruction_list import LOADS, STORES, lines_of
 from vcp_tools.read.source import Source, Token
 
 MOST_NAMES = 3
@@ -40,10 +42,10 @@ class Assigned:
         self.source = source
         self.spans: list[_Span] = []
         self._open: list[_Open] = []
-        last = max((at for at, token in enumerate(source.tokens) if token.is_word("END_VAR")), default=0)
-        at = last + 1
-        while at < len(source.tokens):
-            at = self._statement(source.tokens, at)
+        if source.is_list:
+            self._instructions(lines_of(source))
+        else:
+            self._statements(source.tokens)
         self.spans.sort(key=lambda it: it.start)
         self._starts = [it.start for it in self.spans]
 
@@ -56,10 +58,9 @@ class Assigned:
         if index < 0 or offset >= self.spans[index].end:
             return ""
         span = self.spans[index]
-        if not span.is_condition:
-            return f"for {span.names[0]}"
         more = f" and {len(span.names) - MOST_NAMES} more" if len(span.names) > MOST_NAMES else ""
-        return f"in the condition for {', '.join(span.names[:MOST_NAMES])}{more}" if span.names else ""
+        where = "in the condition for" if span.is_condition else "for"
+        return f"{where} {', '.join(span.names[:MOST_NAMES])}{more}" if span.names else ""
 
     def of(self, operation: Operation) -> str:
         """The same of an operation that has no name or value of its own; else empty."""
@@ -72,6 +73,26 @@ class Assigned:
             return match[0] + (f" {said}" if said else "")
 
         return _PLACE.sub(told, text)
+
+    def _instructions(self, lines: list[list[Token]]) -> None:
+        """Takes the lines of a list: each instruction from a load on is for what the result is stored in next, in one variable or in several."""
+        waiting: list[_Span] = []
+        is_stored = False
+        for line in lines:
+            operator = line[0].upper
+            if operator in LOADS or is_stored and operator not in STORES:
+                waiting = []
+            is_stored = operator in STORES
+            self.spans.append(_Span(line[0].start, line[-1].end, False))
+            waiting.append(self.spans[-1])
+            for span in waiting if is_stored and len(line) > 1 else ():
+                span.names.append(line[1].text)
+
+    def _statements(self, tokens: list[Token]) -> None:
+        """Takes all statements, behind the declarations."""
+        at = max((at for at, token in enumerate(tokens) if token.is_word("END_VAR")), default=0) + 1
+        while at < len(tokens):
+            at = self._statement(tokens, at)
 
     def _statement(self, tokens: list[Token], at: int) -> int:
         """Takes what begins at a token, and gives the index behind it."""

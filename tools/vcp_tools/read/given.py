@@ -9,6 +9,7 @@ from vcp_tools.read.assigned import Assigned
 from vcp_tools.read.image import MAGIC, Image, Operation, read_image
 from vcp_tools.files import read_bytes
 from vcp_tools.program import Program
+from vcp_tools.program_text import ProgramText
 from vcp_tools.read.source import Source
 from vcp_tools.refusal import Refusal
 
@@ -52,19 +53,21 @@ class Given:
         return self.source.line(operation.line).decode("utf-8", "replace").strip()
 
 
-def source_of(program: Program, file: str, image: Image) -> Source:
+def source_of(program: Program, file: str, image: Image, as_list: bool = False) -> Source:
     """The source of an image; a refusal where another image is made of this file. Seed, step and code are left aside."""
-    made = read_image(program.must("compile", file).output, file)
+    given = ProgramText.read(file, as_list)
+    made = read_image(given.image(program), file)
     if [replace(it, correction=0) for it in made.operations] != [replace(it, correction=0) for it in image.operations]:
         raise Refusal(f"{file} isn't the source of this image: other operations are made of it")
-    return Source(read_bytes(file))
+    return given.source
 
 
-def load(program: Program, file: str, code: Sequence[str] = ()) -> Given:
-    """The graph of an image, or of a source, which is compiled, with the words of seed and step; a refusal where the file is neither."""
+def load(program: Program, file: str, code: Sequence[str] = (), as_list: bool = False) -> Given:
+    """The graph of an image, or of a source, of which an image is made, with the words of seed and step; a refusal where the file is neither."""
     data = read_bytes(file)
     if data.startswith(MAGIC):
         program.must("list", file)
         return Given(file, read_image(data, file), data, None)
-    compiled = program.must("compile", file, *code).output
-    return Given(file, read_image(compiled, file), compiled, Source(data))
+    given = ProgramText.read(file, as_list)
+    made = given.image(program, code)
+    return Given(file, read_image(made, file), made, given.source)

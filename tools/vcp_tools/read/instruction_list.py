@@ -4,15 +4,16 @@ from __future__ import annotations
 from dataclasses import dataclass
 from typing import Any, Iterable, Iterator, Sequence
 
-from vcp_tools.read.source import RESERVED, Source
+from vcp_tools.read.source import RESERVED, Source, Token
 from vcp_tools.read.structured_text import Builder, SyntaxFault, parse, parsed
 from vcp_tools.read.syntax import Declaration
 
+LOADS = ("LD", "LDN")
 STORES = ("ST", "STN", "S", "R")
 LOGIC = ("AND", "ANDN", "&", "OR", "ORN", "XOR", "XORN")
 ARITHMETIC = ("ADD", "SUB", "MUL", "DIV", "MOD")
 COMPARISONS = ("GT", "GE", "EQ", "NE", "LE", "LT")
-OPERATORS = ("LD", "LDN", *STORES, *LOGIC, "NOT", *ARITHMETIC, *COMPARISONS)
+OPERATORS = (*LOADS, *STORES, *LOGIC, "NOT", *ARITHMETIC, *COMPARISONS)
 """The operators; all but NOT have one operand."""
 _END = " END_PROGRAM"
 
@@ -41,6 +42,22 @@ def head_end(source: Source) -> int:
     ends = [i for i, token in enumerate(tokens) if token.is_word("END_VAR")]
     last = ends[-1] if ends else min(1, len(tokens) - 1)
     return tokens[last].end if tokens else len(source.data)
+
+
+def lines_of(source: Source) -> list[list[Token]]:
+    """The tokens behind the head, those that begin in one line together."""
+    head = head_end(source)
+    found: list[list[Token]] = []
+    before = 0
+    for token in source.tokens[:-1]:
+        if token.start < head:
+            continue
+        number, _ = source.place(token.start)
+        if number != before:
+            found.append([])
+        found[-1].append(token)
+        before = number
+    return found
 
 
 def head_of(source: Source) -> Source:

@@ -60,10 +60,11 @@ class Token:
 
 
 class Source:
-    """A source text: its lines, its tokens, and the places of both."""
+    """A source text: its lines, its tokens, and the places of both; and whether it is an instruction list."""
 
-    def __init__(self, data: bytes) -> None:
+    def __init__(self, data: bytes, is_list: bool = False) -> None:
         self.data = data
+        self.is_list = is_list
         self.text = data.decode("latin-1")
         self.starts = [0] + [at + 1 for at, byte in enumerate(data) if byte == 10]
         self.tokens = _tokens(self.text)

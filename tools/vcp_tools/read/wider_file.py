@@ -4,6 +4,7 @@ from __future__ import annotations
 from pathlib import Path
 
 from vcp_tools.files import read_bytes
+from vcp_tools.program_text import tells_list
 from vcp_tools.read.plcopen import is_xml, text_of_xml
 from vcp_tools.read.source import Source
 from vcp_tools.read.structured_text import SyntaxFault
@@ -21,4 +22,6 @@ def source_and_tree(file: str | Path) -> tuple[Source, File]:
     try:
         return source, parse_wider(source.text)
     except SyntaxFault as fault:
+        if tells_list(source):
+            raise Refusal(f"{file}: this is an instruction list, and Structured Text is wanted") from None
         raise Refusal(f"{file}:{source.told(fault.at)}: {told_word(source, fault)}") from None

@@ -12,6 +12,7 @@ from vcp_tools.ask.reach import add_words as add_reach_words, run as run_reach
 from vcp_tools.explain.hints_rows import Looked, encoding_of
 from vcp_tools.files import read_bytes
 from vcp_tools.cycle_time import CycleTime, read_cycle_time
+from vcp_tools.program_text import add_form_word
 from vcp_tools.refusal import FINE, FOUND, Refusal
 from vcp_tools.read.declarations import inputs_of
 from vcp_tools.read.image import Slot
@@ -28,13 +29,15 @@ def add_words(parser: argparse.ArgumentParser) -> None:
     below = parser.add_subparsers(dest="what", required=True, metavar="WHAT")
     make = below.add_parser("make", help="the rows file of stimuli, on standard output")
     make.add_argument("stimuli", help="lines as `6 approach=1`: for six cycles, from the first on with approach 1")
-    make.add_argument("program", nargs="?", help="the source whose inputs these are: their order, names and types are kept to")
+    make.add_argument("program", nargs="?", help="the source or the instruction list whose inputs these are: their order, names and types are kept to")
+    add_form_word(make)
     make.add_argument("--cycle-time", metavar="TIME", help="how long a cycle takes, as 500ms, where lines have times, as `3s approach=1`")
     back = below.add_parser("stimuli", help="the stimuli of a rows file, on standard output")
     back.add_argument("rows", help="a rows file")
     check = below.add_parser("check", help="what is wrong in a rows file, or accepted without warning")
     check.add_argument("rows", help="a rows file")
-    check.add_argument("program", nargs="?", help="the source whose inputs these are: names and cells are looked at, too")
+    check.add_argument("program", nargs="?", help="the source or the instruction list whose inputs these are: names and cells are looked at, too")
+    add_form_word(check)
     check.add_argument("--inputs", metavar="FILE", help="a table `input,least,greatest`, as `vcp_study ranges` takes it: the rows that break it are named")
     reach = below.add_parser("reach", help="rows by which each branch and label is taken, and each BOOL output turns; and what no row reaches")
     add_reach_words(reach)
