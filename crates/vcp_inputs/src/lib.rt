@@ -13,12 +13,12 @@ mod whole;
 mod wires;
 
 pub use images::{Image, load_image};
-pub use listings::load_il;
+pub use listings::{listed_program, load_il};
 pub use reading::read_file;
 pub use refusal::{NoInput, Refusal};
 pub use rows::{RowsSource, load_rows};
 pub use scripts::load_script;
-pub use sources::{load_program, load_typed, typed_of};
+pub use sources::{load_program, load_typed, program_of, typed_of};
 pub use telling::{input_status, tell_input, tell_of, tell_place, tell_refusal};
 pub use whole::{graph_columns, whole_rows};
 pub use wires::load_wire;

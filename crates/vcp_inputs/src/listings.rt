@@ -21,7 +21,7 @@ use vcp_outside::Files;
 use vcp_typed::Typed;
 
 /// The typed program of a text of instructions, or why there is none.
-fn listed_program(alloc: Global, text: &[u8]) -> Result<Typed, NoInput>
+pub fn listed_program(alloc: Global, text: &[u8]) -> Result<Typed, NoInput>
     requires short { length text.now ≤ most_il_bytes }
     ensures ok { IfOk result (IsTypedIl text.now) }
     ensures err { IfErr result (Untaken (NotListing text.now)) }

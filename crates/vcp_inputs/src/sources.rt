@@ -25,7 +25,7 @@ use vcp_outside::Files;
 use vcp_typed::Typed;
 
 /// The program of a source, taken through the refusals of the lexer and the parser.
-fn program_of(alloc: Global, source: &[u8]) -> Result<Program, NoInput>
+pub fn program_of(alloc: Global, source: &[u8]) -> Result<Program, NoInput>
     requires short { length source.now ≤ most_source_bytes }
     ensures ok { IfOk result (λ p. IsProgram source.now (program_tree p)) }
     ensures err { IfErr result (Untaken (NoProgram source.now)) }
