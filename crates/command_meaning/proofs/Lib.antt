@@ -1,2 +1,4 @@
 mod Causing
+mod ListsTold
+mod Reduced
 pub mod Worked

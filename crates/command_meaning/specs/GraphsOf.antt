@@ -1,5 +1,5 @@
 -- GraphsOf: which graphs may be run for a subject, and which have the image that may be written for a program.
-use Rattle.std.specs.Prelude.{◌≡◌, ◌≤◌, length}
+use Rattle.std.specs.Prelude.{◌≡◌, ◌≤◌, ℕ, List, length}
 use Rattle.op_graph.specs.Lists.{Lists}
 use Rattle.op_graph.specs.Rules.{IsGraph}
 use Rattle.graph_passes.specs.Reduced.{IsReduced}
@@ -34,3 +34,7 @@ pub record MayCompile (p : Program) (code : Code) (g : Lists) : Type 0 where
 -- the answer where the image of a graph is written, with the numbers of a code
 abbrev pub image_answer : Code → Lists → Answer
 image_answer code g = printed (image_of g code.seed code.step)
+
+-- bytes are the image of a graph that may stand for the program
+abbrev pub IsImageFor : Program → Code → List ℕ → Type 0
+IsImageFor p code bytes = (g : Lists) × MayCompile p code g × (bytes ≡ image_of g code.seed code.step)

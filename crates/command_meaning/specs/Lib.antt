@@ -7,6 +7,7 @@ pub mod Endings
 pub mod FileTasks
 pub mod GraphsOf
 pub mod Kinds
+pub mod ListRuns
 pub mod PairKind
 pub mod Performing
 pub mod Printing

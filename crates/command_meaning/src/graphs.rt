@@ -1,0 +1,22 @@
+//! The graph that represents a program.
+
+ghost use Rattle.std.specs.Prelude.{IfOk};
+ghost use Rattle.command_meaning.specs.GraphsOf.{StandsFor};
+
+use flat_stmt::flatten;
+use graph_passes::reduce;
+use op_graph::Graph;
+use std::alloc::Global;
+use vcp_base::Memory;
+use vcp_typed::Typed;
+
+/// The graph that is run for a program, and whose image is written: its flattening, folded, shared and
+/// pruned. Want of memory is the only refusal.
+pub fn graph_of(alloc: Global, program: &Typed) -> Result<Graph, Memory>
+    ensures { IfOk result (StandsFor program.now) }
+{
+    let flat = flatten(alloc, program)?;
+    let graph = reduce(alloc, flat)?;
+    let _rules = graph.len();
+    Ok(graph)
+}
