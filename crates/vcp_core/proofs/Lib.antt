@@ -21,7 +21,6 @@ pub mod PlainNames
 pub mod PlainTurns
 pub mod PlainWorked
 pub mod PrintedRun
-pub mod Reduced
 pub mod ScriptsTold
 pub mod Sized
 pub mod StaleShown

@@ -1,29 +1,14 @@
--- ListedRuns: the typed program of an instruction list has its columns and its run; and what `il` comes to, from what loading P and ROWS gives.
-use Rattle.std.proofs.Common.{ℕ, ℤ, ◌≡◌, ◌≤◌, refl, sym, ap, subst, ◌∙◌, Bool, true, false, cond, List, [], ◌∷◌, ◌++◌, length, map, Option, Some, None, Result, Ok, Err}
-use Rattle.std.specs.Prelude.{pos, ◌+ℤ◌, ◌-ℤ◌, ◌*ℤ◌, int_div, int_rem}
-use Rattle.vcp_base.specs.Stops.{ToldStop, told_stop}
+-- ListedRuns: the typed program of an instruction list stands as the list; and what `il` comes to, from what loading P and ROWS gives.
+use Rattle.std.proofs.Common.{ℕ, ◌≡◌, ◌≤◌, refl, sym, ap, subst, ◌∙◌, List, length, map, Some}
 use Rattle.vcp_base.specs.declared.columns.Column.{Column}
-use Rattle.vcp_base.specs.declared.kind.StopKind.TheVariants as why
-use Rattle.vcp_base.specs.declared.spot.Spot.{Spot}
-use Rattle.vcp_base.specs.declared.ty.Ty.{Ty}
-use Rattle.vcp_base.specs.Kinds.{same}
-use Rattle.vcp_base.specs.Types.{fits}
 use Rattle.vcp_outside.specs.Held.{Held}
-use Rattle.st_tree.specs.declared.expr.BinOp.{BinOp}
-use Rattle.st_tree.specs.declared.expr.BinOp.TheVariants as bin
-use Rattle.vcp_typed.specs.declared.slot.Slot.{Slot}
-use Rattle.vcp_typed.specs.Fitting.{input_columns, output_columns}
-use Rattle.vcp_typed.specs.Meaning.{Stop, and_then, in_range, operate, stop, unless_zero}
-use Rattle.vcp_typed.specs.SourceRun.{Program, Run, after_cycle, is_input, is_output, source_run, with_inputs}
-use Rattle.flat_expr.specs.Told.{Told, names_of, source_end, told_source}
+use Rattle.vcp_typed.specs.Fitting.{input_columns}
+use Rattle.vcp_typed.specs.SourceRun.{Program}
 use Rattle.input_rows.specs.RowsOf.{RowsLeft}
-use Rattle.il_front.specs.declared.instruction.Action.TheVariants as action
-use Rattle.il_front.specs.declared.instruction.Action.{Action}
-use Rattle.il_front.specs.declared.instruction.Instruction.{Instruction}
-use Rattle.il_front.specs.Accumulator.{Il, Now, acc_cycle, acc_from, acc_run, acted, begun, combined, does, does_all}
+use Rattle.il_front.specs.Accumulator.{Il}
 use Rattle.il_front.specs.Answers.{IsIl, most_il_bytes}
-use Rattle.il_front.specs.Outcomes.{AccumulatorRuns, IsTypedIl}
-use Rattle.il_front.specs.TypedForm.{all_types, hidden_of, hidden_slot, hidden_slots, typed_il, used_by}
+use Rattle.il_front.specs.Outcomes.{IsTypedIl}
+use Rattle.il_front.specs.TypedForm.{typed_il}
 use Rattle.vcp_words.specs.Forms.{Code, Rows, il}
 use Rattle.vcp_words.specs.Tables.{rows_name}
 use Rattle.vcp_inputs.specs.Listings.{NotListing}
@@ -31,138 +16,18 @@ use Rattle.vcp_inputs.specs.RowsOutcome.{RowsOutcome, lacking, opened, refused, 
 use Rattle.command_meaning.specs.Answer.{listed}
 use Rattle.command_meaning.specs.FileTasks.{OnRows, TakenFile, TakenRows, missing, taken, untaken}
 use Rattle.command_meaning.specs.Kinds.{Task, runs}
-use Rattle.command_meaning.specs.Reports.{told_listed}
+use Rattle.command_meaning.specs.ListRuns.{HasListColumns, ListsAreTold}
 use Rattle.vcp_core.specs.MachineRun.{StandsAs}
 use Rattle.vcp_core.specs.Tasks.{rows_job, TaskOf}
 
--- ---- hidden variables are neither inputs nor outputs
-
-hides_input : (used : Bool) (t : Ty) (slots : List Slot) → input_columns slots ≡ [] → input_columns (cond used (hidden_slot t ∷ slots) slots) ≡ []
-hides_input true t slots none = none
-hides_input false t slots none = none
-
-no_inputs : (used : Ty → Bool) (ts : List Ty) → input_columns (hidden_slots used ts) ≡ []
-no_inputs used [] = refl
-no_inputs used (t ∷ ts) = hides_input (used t) t (hidden_slots used ts) (no_inputs used ts)
-
-front_inputs : (slots more : List Slot) → input_columns more ≡ [] → input_columns (slots ++ more) ≡ input_columns slots
-front_inputs [] more none = none
-front_inputs (s ∷ slots) more none =
-    ap (λ (l : List Column). cond (is_input s.section) (record { name = s.name; ty = s.ty } ∷ l) l) (front_inputs slots more none)
-
-hides_output : (used : Bool) (t : Ty) (slots : List Slot) → output_columns slots ≡ [] → output_columns (cond used (hidden_slot t ∷ slots) slots) ≡ []
-hides_output true t slots none = none
-hides_output false t slots none = none
-
-no_outputs : (used : Ty → Bool) (ts : List Ty) → output_columns (hidden_slots used ts) ≡ []
-no_outputs used [] = refl
-no_outputs used (t ∷ ts) = hides_output (used t) t (hidden_slots used ts) (no_outputs used ts)
-
-front_outputs : (slots more : List Slot) → output_columns more ≡ [] → output_columns (slots ++ more) ≡ output_columns slots
-front_outputs [] more none = none
-front_outputs (s ∷ slots) more none =
-    ap (λ (l : List Column). cond (is_output s.section) (record { name = s.name; ty = s.ty } ∷ l) l) (front_outputs slots more none)
-
-pub inputs_are : (i : Il) → input_columns (typed_il i).slots ≡ input_columns i.slots
-inputs_are i = front_inputs i.slots (hidden_of i) (no_inputs (used_by i.code) all_types)
-
-outputs_are : (i : Il) → output_columns (typed_il i).slots ≡ output_columns i.slots
-outputs_are i = front_outputs i.slots (hidden_of i) (no_outputs (used_by i.code) all_types)
-
--- ---- a stop of the accumulator is in no turn of a loop
-
-abbrev Free : {A : Type 0} → Result A Stop → Type 0
-Free (Ok x) = Unit {0}
-Free (Err s) = s.turns ≡ []
-
-either_free : {A : Type 0} (b : Bool) (x y : Result A Stop) → Free x → Free y → Free (cond b x y)
-either_free true x y one other = one
-either_free false x y one other = other
-
-then_free : {A B : Type 0} (r : Result A Stop) (next : A → Result B Stop) → Free r → ((x : A) → Free (next x)) → Free (and_then r next)
-then_free (Ok x) next free later = later x
-then_free (Err s) next free later = free
-
-range_free : (t : Ty) (spot : Spot) (v : ℤ) → Free (in_range t spot [] v)
-range_free t spot v = either_free (fits t v) (Ok v) (stop why.Range spot []) tt refl
-
-zero_free : (b : ℤ) (spot : Spot) (r : Result ℤ Stop) → Free r → Free (unless_zero b spot [] r)
-zero_free b spot r free = either_free (same b (pos 0)) (stop why.DivZero spot []) r refl free
-
-operate_free : (op : BinOp) (t : Ty) (spot : Spot) (a b : ℤ) → Free (operate op t spot [] a b)
-operate_free bin.Mul t spot a b = range_free t spot (a *ℤ b)
-operate_free bin.Div t spot a b = zero_free b spot (in_range t spot [] (int_div a b)) (range_free t spot (int_div a b))
-operate_free bin.Mod t spot a b = zero_free b spot (in_range t spot [] (int_rem a b)) (range_free t spot (int_rem a b))
-operate_free bin.Add t spot a b = range_free t spot (a +ℤ b)
-operate_free bin.Sub t spot a b = range_free t spot (a -ℤ b)
-operate_free bin.Lt t spot a b = tt
-operate_free bin.Gt t spot a b = tt
-operate_free bin.Le t spot a b = tt
-operate_free bin.Ge t spot a b = tt
-operate_free bin.Eq t spot a b = tt
-operate_free bin.Ne t spot a b = tt
-operate_free bin.And t spot a b = tt
-operate_free bin.Xor t spot a b = tt
-operate_free bin.Or t spot a b = tt
-
-combined_free : (op : BinOp) (spot : Spot) (y : ℤ) (t : Option Ty) (now : Now) → Free (combined op spot y t now)
-combined_free op spot y None now = tt
-combined_free op spot y (Some t) now = then_free (operate op t spot [] now.value y) _ (operate_free op t spot now.value y) (λ v. tt)
-
-acted_free : (spot : Spot) (a : Action) (now : Now) → Free (acted spot a now)
-acted_free spot (action.Load negated o) now = tt
-acted_free spot (action.Store negated slot t) now = tt
-acted_free spot (action.Put to slot t) now = tt
-acted_free spot action.Complement now = tt
-acted_free spot (action.Combine op negated o) now = combined_free op spot _ _ now
-
-does_free : (is : List Instruction) (now : Now) → Free (does_all is now)
-does_free [] now = tt
-does_free (i ∷ is) now = then_free (does i now) (λ next. does_all is next) (acted_free i.spot i.action now) (λ next. does_free is next)
-
-cycle_free : (i : Il) (vars row : List ℤ) → Free (acc_cycle i vars row)
-cycle_free i vars row = then_free (does_all i.code (begun (with_inputs i.slots row vars))) _ (does_free i.code _) (λ now. tt)
-
-abbrev EndFree : Option Stop → Type 0
-EndFree None = Unit {0}
-EndFree (Some s) = s.turns ≡ []
-
-after_free : (slots : List Slot) (r : Result (List ℤ) Stop) (next : List ℤ → Run) → Free r → ((m : List ℤ) → EndFree (next m).end)
-    → EndFree (after_cycle slots next r).end
-after_free slots (Ok m) next free later = later m
-after_free slots (Err s) next free later = free
-
-run_free : (i : Il) (vars : List ℤ) (rows : List (List ℤ)) → EndFree (acc_from i vars rows).end
-run_free i vars [] = tt
-run_free i vars (row ∷ rows) =
-    after_free i.slots (acc_cycle i vars row) (λ next. acc_from i next rows) (cycle_free i vars row) (λ m. run_free i m rows)
-
--- so it is told alike by whatever names
-alike : (names other : List (List ℕ)) (e : Option Stop) → EndFree e → source_end names e ≡ source_end other e
-alike names other None free = refl
-alike names other (Some s) free =
-    ap (λ ts. Some (told_stop names s.kind s.spot ts)) free ∙ sym (ap (λ ts. Some (told_stop other s.kind s.spot ts)) free)
-
--- ---- the run
-
-abbrev told_by : List (List ℕ) → Run → Told
-told_by names r = record { rows = r.rows; end = source_end names r.end }
-
-told_same : (i : Il) (rows : List (List ℤ)) → source_run (typed_il i) rows ≡ acc_run i rows → told_source (typed_il i) rows ≡ told_listed i rows
-told_same i rows law =
-    let names : List (List ℕ) = names_of (typed_il i).slots in
-    let by_names : told_source (typed_il i) rows ≡ told_by names (acc_run i rows) = ap (told_by names) law in
-    let ends : source_end names (acc_run i rows).end ≡ source_end (names_of i.slots) (acc_run i rows).end =
-    alike names (names_of i.slots) (acc_run i rows).end (run_free i _ rows) in
-    by_names ∙ ap (λ (o : Option ToldStop). record { rows = (acc_run i rows).rows; end = o }) ends
-
 -- the typed program of an instruction list stands as the list
-pub stands_listed : AccumulatorRuns → (text : List ℕ) (i : Il) (p : Program) (left : RowsLeft) → IsIl text i → p ≡ typed_il i → StandsAs p left (listed i)
-stands_listed law text i p left is same =
+pub stands_listed : HasListColumns → ListsAreTold → (text : List ℕ) (i : Il) (p : Program) (left : RowsLeft) → IsIl text i → p ≡ typed_il i
+    → StandsAs p left (listed i)
+stands_listed columns law text i p left is same =
     let typed : StandsAs (typed_il i) left (listed i) = record {
       may = λ g stands. stands;
-      names = ap (map (λ (c : Column). c.name)) (outputs_are i);
-      told = told_same i left.rows (law text i left.rows is);
+      names = ap (map (λ (c : Column). c.name)) (columns.outputs i);
+      told = law text i left.rows is;
     } in
     subst (λ (q : Program). StandsAs q left (listed i)) (sym same) typed
 
@@ -183,20 +48,21 @@ module _ (p : List ℕ) (rows : Rows) (code : Code) (held : Held) where
   held_list text i found is (refused r) task comes = comes
   held_list text i found is (opened left) task comes = comes text i found is
 
+module _ (columns : HasListColumns) (p : List ℕ) (rows : Rows) (code : Code) (held : Held) where
   -- where P was loaded, and ROWS come to this for the columns of its typed program
-  pub il_comes : (text : List ℕ) (i : Il) (t : Program) (columns : List Column) (o : RowsOutcome) (task : Task) → held p ≡ Some text
-      → length text ≤ most_il_bytes → IsIl text i → t ≡ typed_il i → columns ≡ input_columns t.slots → rows_outcome rows held columns ≡ o
-      → OnRows (rows_name rows) (RunsList i) o task → TaskOf (il p rows code) held task
-  il_comes text i t columns o task found few is same columns_are o_is comes =
-      let own : input_columns i.slots ≡ columns = sym (columns_are ∙ ap (λ (q : Program). input_columns q.slots) same ∙ inputs_are i) in
+  pub il_comes : (text : List ℕ) (i : Il) (t : Program) (found_columns : List Column) (o : RowsOutcome) (task : Task) → held p ≡ Some text
+      → length text ≤ most_il_bytes → IsIl text i → t ≡ typed_il i → found_columns ≡ input_columns t.slots → rows_outcome rows held found_columns ≡ o
+      → OnRows (rows_name rows) (RunsList p rows code held i) o task → TaskOf (il p rows code) held task
+  il_comes text i t found_columns o task found few is same columns_are o_is comes =
+      let own : input_columns i.slots ≡ found_columns = sym (columns_are ∙ ap (λ (q : Program). input_columns q.slots) same ∙ columns.inputs i) in
       let outcome : rows_outcome rows held (input_columns i.slots) ≡ o = ap (rows_outcome rows held) own ∙ o_is in
-      taken text i task found few is (subst (λ (x : RowsOutcome). OnRows (rows_name rows) (RunsList i) x task) (sym outcome) comes)
+      taken text i task found few is (subst (λ (x : RowsOutcome). OnRows (rows_name rows) (RunsList p rows code held i) x task) (sym outcome) comes)
 
   -- what the file comes to as a typed program is what it comes to as a list
-  pub il_by : (task : Task) → TakenFile IsTypedIl NotListing most_il_bytes (λ t. TakenRows RunsHeld rows held (input_columns t.slots)) p (held p) task
+  pub il_by : (task : Task) → TakenFile IsTypedIl NotListing most_il_bytes (λ t. TakenRows (RunsHeld p rows code held) rows held (input_columns t.slots)) p (held p) task
       → TaskOf (il p rows code) held task
   il_by _ (missing none) = missing none
   il_by _ (untaken text r found why) = untaken text r found why
   il_by task (taken text t _ found few (i, is, same) comes) =
       il_comes text i t (input_columns t.slots) (rows_outcome rows held (input_columns t.slots)) task found few is same refl refl
-      (held_list text i found is (rows_outcome rows held (input_columns t.slots)) task comes)
+      (held_list p rows code held text i found is (rows_outcome rows held (input_columns t.slots)) task comes)

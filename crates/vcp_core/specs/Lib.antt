@@ -1,5 +1,4 @@
 pub mod ChannelsRun
-pub mod Compile
 pub mod Demo
 pub mod EachTask
 pub mod EndLines

@@ -1,8 +1,7 @@
 //! The command `compile`, up to the line of its fault.
 
-ghost use Rattle.std.specs.Prelude.{IfOk, List, Option, ℕ};
+ghost use Rattle.std.specs.Prelude.{List, Option, ℕ};
 ghost use Rattle.vcp_words.specs.Forms.{compile, as_code, IsCode};
-ghost use Rattle.vcp_core.specs.Compile.{IsImageFor};
 ghost use Rattle.command_meaning.specs.Abouts.{about};
 ghost use Rattle.command_meaning.specs.Performing.{Performs};
 ghost use Rattle.coded_unit.specs.Seen.{UnitSeen};
@@ -12,25 +11,12 @@ ghost use Rattle.vcp_core.specs.Reach.{told_line, told_status};
 
 use crate::ending::Ending;
 use crate::fault::Fault;
-use crate::graphs::graph_of;
-use image_file::write_image;
-use signature_table::Table;
+use command_meaning::image_for;
 use std::alloc::Global;
-use vcp_base::{Memory, Text};
+use vcp_base::Text;
 use vcp_inputs::load_typed;
 use vcp_outside::{Files, Sink, write_all};
-use vcp_typed::Typed;
 use vcp_words::Code;
-
-/// The image of a graph that may represent a program, with the seed and the step of a code.
-fn image_for(alloc: Global, program: &Typed, code: Code) -> Result<Text, Memory>
-    requires code { IsCode (as_code code) }
-    ensures { IfOk result (IsImageFor program.now (as_code code)) }
-{
-    let graph = graph_of(alloc, program)?;
-    let table = Table::new(alloc, &graph, code.seed, code.step)?;
-    write_image(alloc, &graph, &table)
-}
 
 /// Does what the words `compile P CODE` say, and writes to `out` alone: P is read whole and
 /// checked, and then the image of its operations is written, with the numbers of the

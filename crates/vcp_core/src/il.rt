@@ -13,7 +13,7 @@ use crate::fault::Fault;
 use crate::loading::{input_columns, rows_name};
 use crate::printed::run_program;
 use coded_unit::Unit;
-use il_front::accumulator_runs;
+use command_meaning::lists_are_told;
 use std::alloc::Global;
 use vcp_base::Text;
 use vcp_inputs::{load_il, load_rows};
@@ -38,7 +38,7 @@ pub fn il_command<'a, F: Files, U: Unit, O: Sink>(
         (told_line result) (told_status result) }
 {
     // So what is run is the list on the accumulator.
-    accumulator_runs();
+    lists_are_told();
     let program = match load_il(alloc, files, source) {
         Ok(program) => program,
         Err(input) => {

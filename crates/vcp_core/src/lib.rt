@@ -11,7 +11,6 @@ mod every_row;
 mod exec;
 mod fault;
 mod format;
-mod graphs;
 mod il;
 mod inject;
 mod laws;

@@ -21,9 +21,9 @@ ghost use Rattle.vcp_core.specs.MachineRun.{CarriesOut, HasCauses, IsThere, Prin
 ghost use Rattle.vcp_core.specs.Shown.{Shows, job_of};
 
 use crate::ending::Ending;
-use crate::graphs::graph_of;
 use coded_machine::{CycleEnd, Machine};
 use coded_unit::Unit;
+use command_meaning::graph_of;
 use input_rows::Rows;
 use machine_run::{ReleasedRows, RunFault, rows_before_a_wrong_answer_follow_the_graph, run_rows};
 use op_graph::Graph;

@@ -39,7 +39,7 @@ returns-in-Err g c =
     let files = g.F.Files.seen c.args.files.now in
     let mid = g.F.Files.seen c.load_il.new.files in
     rw c.bytes.ensures
-    (performs_by (about f) _ (TaskOf (il p rows code)) (il_by p rows code) files mid _ _ _ _
+    (performs_by (about f) _ (TaskOf (il p rows code)) (il_by c.lists_are_told.ensures.columns p rows code) files mid _ _ _ _
     (quiet_lost (about f) IsTypedIl NotListing (λ h t. TakenRows (RunsHeld p rows code h) rows h (input_columns t.slots)) (listing_word p) files mid _
     c.in-Err.input (inl refl) (λ none. cc) (inr (inl refl)) c.load_il.ensures.held
     c.in-Err.ensures.loads (λ r is. c.in-Err.ensures.whole r (ap Err is)) (λ is. c.in-Err.ensures.left (ap Err is))
@@ -69,7 +69,7 @@ returns-in-Err-load_rows g c =
     let mid = g.F.Files.seen c.load_il.new.files in
     let later = g.F.Files.seen c.load_rows.new.files in
     rw c.rows_name-name.ensures
-    (performs_by (about f) _ (TaskOf (il p rows code)) (il_by p rows code) files later _ _ _ _
+    (performs_by (about f) _ (TaskOf (il p rows code)) (il_by c.lists_are_told.ensures.columns p rows code) files later _ _ _ _
     (rows_unloaded IsTypedIl NotListing (λ t. input_columns t.slots) (about f) (listing_word p) rows (λ none. cc) (inr (inl refl)) (λ w among. inr among)
     (λ n among. among) (λ h t. RunsHeld p rows code h)
     files mid later c.in-Ok.program c.in_ok-columns.columns
@@ -90,7 +90,7 @@ returns g c =
     let mid = g.F.Files.seen c.load_il.new.files in
     let later = g.F.Files.seen c.load_rows.new.files in
     rw c.rows_name-name.ensures
-    (performs_by (about f) _ (TaskOf (il p rows code)) (il_by p rows code) files later _ _ _ _
+    (performs_by (about f) _ (TaskOf (il p rows code)) (il_by c.lists_are_told.ensures.columns p rows code) files later _ _ _ _
     (rows_unopened IsTypedIl NotListing (λ t. input_columns t.slots) (about f) (listing_word p) rows (λ none. cc) (inr (inl refl)) (λ w among. inr among)
     (λ n among. among) (λ h t. RunsHeld p rows code h)
     files mid later c.in-Ok.program c.in_ok-columns.columns
@@ -121,13 +121,13 @@ returns-in-Ok-open g c =
     (if_some_both files.held mid.held _ _ _ c.load_il.ensures.held
     (λ h (text, found, few, (i, is, same)) outcome.
     ran (about f) files later before after (TaskOf (il p rows code) h) (rows_job (rows_name rows) code (listed i) left) c.run_program.result refl
-    (il_comes p rows code h text i c.in-Ok.program c.in_ok-columns.columns o (runs_to (rows_job (rows_name rows) code (listed i) left)) found few is same
+    (il_comes c.lists_are_told.ensures.columns p rows code h text i c.in-Ok.program c.in_ok-columns.columns o (runs_to (rows_job (rows_name rows) code (listed i) left)) found few is same
     c.in_ok-columns.ensures.columns outcome
     (subst (λ x. OnRows (rows_name rows) (λ l y. y ≡ runs_to (rows_job (rows_name rows) code (listed i) l)) x
     (runs_to (rows_job (rows_name rows) code (listed i) left))) (sym (c.in-Ok-open.ensures.opens 0 0)) refl))
     c.run_program.ensures.causes.write
     (c.run_program.ensures.ran (listed i) (rows_name rows) (every_row (subject_outputs (listed i))) no_words
-    (stands_listed c.accumulator_runs.ensures text i c.in-Ok.program left is same) (rows-shown _ _ (listed i) code left (rows_name rows))))
+    (stands_listed c.lists_are_told.ensures.columns c.lists_are_told.ensures.told text i c.in-Ok.program left is same) (rows-shown _ _ (listed i) code left (rows_name rows))))
     c.in-Ok.ensures.loads c.in-Ok-load_rows.ensures.loads)
     (c.in-Ok-load_rows.ensures.ended c.in-Ok.ensures.ended) (λ no. absurd cc) (λ calls. c.run_program.ensures.causes.stopped)
     c.run_program.ensures.causes.refused c.run_program.ensures.causes.write
