@@ -1,11 +1,15 @@
 mod Carrying
 mod ChosenSites
+mod Comparing
 mod Covers
 mod Facts
+mod ListFaults
+mod ListTexts
 mod NamedScripts
 mod PartsRead
 mod Ranged
 mod Rows
+mod SameGraphs
 mod SumWords
 mod Tables
 mod TextFaults

@@ -3,7 +3,7 @@ use Rattle.std.specs.Prelude.{ℕ, zero, suc, ◌≤◌, ◌==◌, Bool, true, f
 use Rattle.std.specs.Option.{option_and_then, option_map}
 use Rattle.vcp_base.specs.Limits.{most_cycles, most_horizon}
 use Rattle.vcp_base.specs.Numerals.{numeral_of}
-use Rattle.vcp_words.specs.Forms.{Rows, file as from_file, cycles as from_cycles, rows_of, AreFew, name_and_rest, number_and_rest, number_within, rows_and_rest, is_end}
+use Rattle.vcp_words.specs.Forms.{Rows, file as from_file, cycles as from_cycles, rows_of, AreFew, Code, IsCode, as_code, code_of, name_and_rest, number_and_rest, number_within, rows_and_rest, is_end}
 use Rattle.verdict_tables.specs.Parts.{most_parts}
 use Rattle.fault_cover.specs.declared.class.CoverClasses.{CoverClasses}
 use Rattle.fault_cover.specs.CoverText.{classes_in}
@@ -41,9 +41,11 @@ pub data Study : Type 0 where
   faults : PartNames → Study
   script_named : List ℕ → Study
 
--- a command with its words: FILE and TIME, where it is said; or M with what is done with it
+-- a command with its words: FILE and TIME, where it is said; P and CODE of an instruction list; or M with what is done with it
 pub data Form : Type 0 where
   waves : List ℕ → Option Period → Form
+  list_image : List ℕ → Code → Form
+  list_text : List ℕ → Form
   on : List ℕ → Study → Form
 
 -- ---- words behind M
@@ -204,7 +206,10 @@ waves_form file (w ∷ rest) = cond (bytes_eq w (codes "--cycle-time")) (timed_f
 -- the command that a name, a file's name and the words behind it say
 abbrev pub named_form : List ℕ → List ℕ → List (List ℕ) → Option Form
 named_form w m words =
-    cond (bytes_eq w (codes "waves")) (waves_form m words) (option_map (on m) (study_of w words))
+    cond (bytes_eq w (codes "waves")) (waves_form m words)
+    (cond (bytes_eq w (codes "image")) (option_map (list_image m) (code_of words))
+    (cond (bytes_eq w (codes "text")) (cond (is_end words) (Some (list_text m)) None)
+    (option_map (on m) (study_of w words))))
 
 -- the command that words say
 abbrev pub form_of : List (List ℕ) → Option Form
@@ -233,9 +238,11 @@ study (image.Script named) = script_named named.now
 
 abbrev pub form : StudyCommand → Form
 form (command.Waves file period) = waves file.now period
+form (command.ListImage source code) = list_image source.now (as_code code)
+form (command.ListText source) = list_text source.now
 form (command.On m s) = on m.now (study s)
 
--- a horizon, and the numbers of cycles and of parts, are within their limits
+-- a horizon, a code, and the numbers of cycles and of parts, are within their limits
 abbrev pub IsSoundStudy : Study → Type 0
 IsSoundStudy (graph horizon) = horizon ≤ most_horizon
 IsSoundStudy (dot horizon) = horizon ≤ most_horizon
@@ -248,8 +255,10 @@ IsSoundStudy _ = Unit {0}
 
 abbrev pub IsSound : Form → Type 0
 IsSound (waves file period) = Unit {0}
+IsSound (list_image p code) = IsCode code
+IsSound (list_text p) = Unit {0}
 IsSound (on m s) = IsSoundStudy s
 
 -- the usage line
 abbrev pub usage_text : List ℕ
-usage_text = codes "usage: vcp_study graph M HORIZON, dot M HORIZON, waves FILE, waves FILE --cycle-time TIME, ranges M, ranges M --all, ranges M --inputs FILE, ranges M --all --inputs FILE, cover M HORIZON CLASS, sites M CYCLES CLASS, sites M CYCLES CLASS FROM COUNT, sites M CYCLES CLASS --count, sites M ROWS flips, sites M ROWS flips FROM COUNT, sites M ROWS flips --count, sites M ROWS late, sites M ROWS late FROM COUNT, sites M ROWS late --count, sum M SCRIPT VERDICTS .., sum M SCRIPT VERDICTS .. ROWS, faults M SCRIPT VERDICTS or script M NAMED\n"
+usage_text = codes "usage: vcp_study graph M HORIZON, dot M HORIZON, waves FILE, waves FILE --cycle-time TIME, ranges M, ranges M --all, ranges M --inputs FILE, ranges M --all --inputs FILE, cover M HORIZON CLASS, sites M CYCLES CLASS, sites M CYCLES CLASS FROM COUNT, sites M CYCLES CLASS --count, sites M ROWS flips, sites M ROWS flips FROM COUNT, sites M ROWS flips --count, sites M ROWS late, sites M ROWS late FROM COUNT, sites M ROWS late --count, sum M SCRIPT VERDICTS .., sum M SCRIPT VERDICTS .. ROWS, faults M SCRIPT VERDICTS, script M NAMED, image P CODE or text P\n"

@@ -2,7 +2,10 @@ pub mod CarriedOut
 pub mod Forms
 pub mod FromFiles
 pub mod Lines
+pub mod ListTexts
+pub mod Lists
 pub mod Parts
+pub mod SameGraphs
 pub mod Studied
 pub mod SumSteps
 pub mod Tasks

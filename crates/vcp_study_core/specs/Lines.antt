@@ -51,4 +51,5 @@ own_text name (why.Run f) = run_text name f
 own_text name why.Sites = name ++ codes " L9 Sites\n"
 own_text name why.Image = name ++ codes ":1 U1 Image\n"
 own_text name (why.Verdicts f) = verdicts_text name f
+own_text name why.Text = name ++ codes " Q7 Text\n"
 own_text name (why.Named r) = refused_line_text name r.line r.why

@@ -14,9 +14,11 @@ use Rattle.verdict_tables.specs.SumText.{sum_text}
 use Rattle.vcp_inputs.specs.declared.images.Image.{Image}
 use Rattle.vcp_inputs.specs.Files.{FileRead, Loads}
 use Rattle.vcp_inputs.specs.Images.{ImageOf, NotImage}
+use Rattle.il_front.specs.Answers.{most_il_bytes}
 use Rattle.command_meaning.specs.Answer.{Answer}
-use Rattle.vcp_study_core.specs.Forms.{Form, waves, on, Study, graph, dot, ranges, cover, sites, run_sites, sum, sum_apart, faults, script_named}
+use Rattle.vcp_study_core.specs.Forms.{Form, waves, list_image, list_text, on, Study, graph, dot, ranges, cover, sites, run_sites, sum, sum_apart, faults, script_named}
 use Rattle.vcp_study_core.specs.FromFiles.{FromFiles, OfLoads, Onward}
+use Rattle.vcp_study_core.specs.Lists.{ListImage, ListText}
 use Rattle.vcp_study_core.specs.Parts.{PartFrom, PartsFrom, RowsFrom, RangesFrom}
 use Rattle.vcp_study_core.specs.Texts.{WritesOne, Draws, Weighed, Waves, IsRanged, IsCover, Chooses, NamedScript, ShowsPart, sums_up}
 
@@ -66,8 +68,12 @@ StudyOf (script_named name) m i held b n x = Onward (BytesFrom name most_named_b
 
 -- ---- all commands
 
--- `waves FILE` writes the timing diagram of the run that FILE has, and with `--cycle-time TIME` when its cycles begin. All others end where M is lacking or no image, with its line; then, for want of the
--- first of their other files of which there is nothing.
+-- `waves FILE` writes the timing diagram of the run that FILE has, and with `--cycle-time TIME` when its cycles begin. `image P CODE` writes the image of
+-- the instruction list P with the numbers of the code: that of a graph that stands for the list's typed program, whose run over all rows that fit is the
+-- list's on the accumulator. `text P` writes the list as a program in Structured Text that has, over all rows that fit, the list's run, but for the place of
+-- a stop. All others end where M is lacking or no image, with its line; then, for want of the first of their other files of which there is nothing.
 abbrev pub TaskOf : Form → Held → ℕ → ℕ → Answer → Type 0
 TaskOf (waves file period) held b n x = Onward (BytesFrom file most_rows_bytes held) (λ text k n. Waves period file text) b n x
+TaskOf (list_image p code) held b n x = Onward (BytesFrom p most_il_bytes held) (λ text k n. ListImage p text code) b n x
+TaskOf (list_text p) held b n x = Onward (BytesFrom p most_il_bytes held) (λ text k n. ListText p text) b n x
 TaskOf (on m study) held b n x = Onward (ImageFrom m held) (λ i. StudyOf study m i held) b n x

@@ -5,7 +5,7 @@ use fault_cover::CoverClasses;
 use fault_sites::{Chosen, Classes, RunClass};
 use run_picture::Period;
 use vcp_base::Text;
-use vcp_words::RowsWord;
+use vcp_words::{Code, RowsWord};
 
 /// A command, with its own words. A name of a file isn't empty and doesn't begin with `-`.
 #[derive(Clone, Copy)]
@@ -16,6 +16,18 @@ pub enum StudyCommand<'a> {
         file: &'a Text,
         /// How long a cycle takes, TIME.
         period: Option<Period>,
+    },
+    /// `image P CODE`: the image of an instruction list.
+    ListImage {
+        /// The name of the instruction list, P.
+        source: &'a Text,
+        /// The code, CODE.
+        code: Code,
+    },
+    /// `text P`: an instruction list as a program in Structured Text.
+    ListText {
+        /// The name of the instruction list, P.
+        source: &'a Text,
     },
     /// A study of an image.
     On {

@@ -43,6 +43,8 @@ pub enum StudyRefusal {
     Image,
     /// The text doesn't have the verdicts of the script.
     Verdicts(VerdictsFault),
+    /// No program in Structured Text is found that has the run of the instruction list.
+    Text,
     /// A line that names faults is refused.
     Named(Refused),
 }

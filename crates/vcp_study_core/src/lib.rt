@@ -1,4 +1,5 @@
-//! The commands that study an image or a run: pictures, which operations can stop, what becomes of faults in every run, and scripts of faults.
+//! The commands that study an image or a run: pictures, which operations can stop, what becomes of faults in every run, and scripts of faults; and those
+//! that translate instruction lists.
 //! And the top call.
 #![tactic(auto)]
 
@@ -6,10 +7,14 @@ mod command;
 mod cover;
 mod fault;
 mod graph;
+mod list_text;
+mod lists;
 mod loading;
 mod part_words;
 mod parts;
 mod ranges;
+mod rough_text;
+mod same_graphs;
 mod script;
 mod sites;
 mod studies;

@@ -26,8 +26,8 @@ pub(crate) fn tell_usage<E: Sink>(err: &mut E) -> Result<(), Failed>
           cover M HORIZON CLASS, sites M CYCLES CLASS, sites M CYCLES CLASS FROM COUNT, sites M CYCLES CLASS --count, \
           sites M ROWS flips, sites M ROWS flips FROM COUNT, sites M ROWS flips --count, \
           sites M ROWS late, sites M ROWS late FROM COUNT, sites M ROWS late --count, \
-          sum M SCRIPT VERDICTS .., sum M SCRIPT VERDICTS .. ROWS, faults M SCRIPT VERDICTS \
-          or script M NAMED\n",
+          sum M SCRIPT VERDICTS .., sum M SCRIPT VERDICTS .. ROWS, faults M SCRIPT VERDICTS, \
+          script M NAMED, image P CODE or text P\n",
     )
 }
 
@@ -51,6 +51,7 @@ fn tell_own<E: Sink>(err: &mut E, name: &[u8], why: &StudyRefusal) -> Result<(),
         StudyRefusal::Run(why) => tell_no_run(err, name, *why),
         StudyRefusal::Sites => tell_of(err, name, b" L9 Sites"),
         StudyRefusal::Image => tell_of(err, name, b":1 U1 Image"),
+        StudyRefusal::Text => tell_of(err, name, b" Q7 Text"),
         StudyRefusal::Verdicts(why) => tell_no_verdicts(err, name, *why),
         StudyRefusal::Named(refused) => tell_refused_line(err, name, refused.line, refused.why),
     }

@@ -1,13 +1,14 @@
 //! From words to a command.
 
-ghost use Rattle.std.specs.Prelude.{ℕ, List, ◌≡◌, ◌≤◌, IfSome, drop, length};
+ghost use Rattle.std.specs.Prelude.{ℕ, List, ◌≡◌, ◌≤◌, IfSome, Some, None, cond, drop, length};
 ghost use Rattle.std.specs.Option.{option_map};
 ghost use Rattle.vcp_base.specs.Limits.{most_cycles, most_horizon};
+ghost use Rattle.vcp_study_core.specs.Forms.{list_image, list_text};
 ghost use Rattle.vcp_study_core.specs.Forms.{form, form_of, waves_form, timed_form, study, study_of, graph, dot, horizon_form, ranges_form, all_form, inputs_form, cover_form, IsSound, IsSoundStudy};
 ghost use Rattle.vcp_study_core.specs.Forms.{class_word as class_word_of, faults_form, sites_form, behind_form, class_form, cycles_in as cycles_in_of, run_sites, names_of, next_of, behind_of, sum_with, sum_form, script_form, chosen_of, number_word, part_of};
 ghost use Rattle.vcp_study_core.specs.SumSteps.{as_next, as_behind, ended_of, IsFew, FewBehind};
 ghost use Rattle.verdict_tables.specs.Parts.{most_parts};
-ghost use Rattle.vcp_words.specs.Forms.{rows_of, AreFew};
+ghost use Rattle.vcp_words.specs.Forms.{rows_of, AreFew, code_of, is_end};
 
 use crate::command::{ImageStudy, StudyCommand};
 use crate::part_words::{Named, PartWords};
@@ -28,6 +29,12 @@ pub fn command_of(words: &Words) -> Option<StudyCommand<'_>>
     let name = left.name()?;
     if command == b"waves".as_slice() {
         return waves_words(name, &mut left);
+    }
+    if command == b"image".as_slice() {
+        return list_image_words(name, &mut left);
+    }
+    if command == b"text".as_slice() {
+        return list_text_words(name, &left);
     }
     let study = study_words(words, command, &mut left)?;
     Some(StudyCommand::On { image: name, study })
@@ -59,6 +66,27 @@ fn timed_words<'a>(file: &'a Text, words: &mut CommandWords<'a>) -> Option<Study
         file,
         period: Some(period),
     })
+}
+
+/// The words of `image`, behind the name of an instruction list.
+fn list_image_words<'a>(source: &'a Text, words: &mut CommandWords<'a>) -> Option<StudyCommand<'a>>
+    ensures form { option_map form result ≡ option_map (list_image source.now) (code_of words.old) }
+    ensures sound { IfSome result (λ command. IsSound (form command)) }
+{
+    let code = words.code()?;
+    Some(StudyCommand::ListImage { source, code })
+}
+
+/// The words of `text`, behind the name of an instruction list: none.
+fn list_text_words<'a>(source: &'a Text, words: &CommandWords<'a>) -> Option<StudyCommand<'a>>
+    ensures form { option_map form result ≡ cond (is_end words.now) (Some (list_text source.now)) None }
+    ensures sound { IfSome result (λ command. IsSound (form command)) }
+{
+    if words.is_end() {
+        Some(StudyCommand::ListText { source })
+    } else {
+        None
+    }
 }
 
 /// What is done with an image, by a command's name and, of all words, those behind the image's name.

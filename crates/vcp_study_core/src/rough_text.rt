@@ -1,0 +1,244 @@
+//! An instruction list's typed program, written as a program in Structured Text. Nothing is promised of the text here: it is read back before it is shown.
+
+ghost use Rattle.std.specs.Prelude.{◌≤◌, length};
+ghost use Rattle.il_front.specs.Answers.{most_il_bytes};
+
+use itoa::Buffer;
+use st_lexer::{LexFault, lex};
+use st_tree::{BinOp, Section, UnOp};
+use std::alloc::Global;
+use vcp_base::{Memory, Text, Ty, ty_name};
+use vcp_typed::{Slot, TArm, TExpr, TStmt, Typed};
+
+/// A text that grows at its end. After `Memory` it is given up.
+#[derive(Drop)]
+struct Growing {
+    bytes: Vec<u8>,
+}
+
+/// The program that a list with this text and this typed program is, a statement an instruction, under the name that the list has.
+pub(crate) fn rough_text(alloc: Global, list: &[u8], program: &Typed) -> Result<Text, Memory>
+    requires { length list.now ≤ most_il_bytes }
+{
+    let mut text = Growing {
+        bytes: Vec::new(alloc),
+    };
+    let slots = program.slots().items.as_slice();
+    text.put(b"PROGRAM ")?;
+    text.program_name(alloc, list)?;
+    text.put(b"\n")?;
+    text.blocks(slots)?;
+    for stmt in &program.body().items {
+        text.statement(slots, stmt)?;
+    }
+    text.put(b"END_PROGRAM\n")?;
+    Ok(Text::from_vec(text.bytes))
+}
+
+/// The word or sign of an operator, between blanks.
+fn operator_sign(op: BinOp) -> &'static [u8] {
+    match op {
+        BinOp::Mul => b" * ",
+        BinOp::Div => b" / ",
+        BinOp::Mod => b" MOD ",
+        BinOp::Add => b" + ",
+        BinOp::Sub => b" - ",
+        BinOp::Lt => b" < ",
+        BinOp::Gt => b" > ",
+        BinOp::Le => b" <= ",
+        BinOp::Ge => b" >= ",
+        BinOp::Eq => b" = ",
+        BinOp::Ne => b" <> ",
+        BinOp::And => b" AND ",
+        BinOp::Xor => b" XOR ",
+        BinOp::Or => b" OR ",
+    }
+}
+
+/// The words with which the block of a section begins.
+fn block_words(section: Section) -> &'static [u8] {
+    match section {
+        Section::Input => b"VAR_INPUT",
+        Section::Output => b"VAR_OUTPUT",
+        Section::Local => b"VAR",
+        Section::Retain => b"VAR RETAIN",
+        Section::Constant => b"VAR CONSTANT",
+    }
+}
+
+/// Whether a literal of the value that is written without a type has this one.
+fn has_plain_form(ty: Ty, value: i64) -> bool {
+    match ty {
+        Ty::Bool => false,
+        Ty::Int => true,
+        Ty::Dint => value < -32768 || value > 32767,
+        Ty::Lint => value < -2147483648 || value > 2147483647,
+    }
+}
+
+impl Growing {
+    fn put(&mut self, bytes: &[u8]) -> Result<(), Memory> {
+        self.bytes.extend_from_slice(bytes)?;
+        Ok(())
+    }
+
+    /// The name of the program whose text this is: its second word.
+    fn program_name(&mut self, alloc: Global, list: &[u8]) -> Result<(), Memory>
+        requires { length list.now ≤ most_il_bytes }
+    {
+        let tokens = match lex(alloc, list) {
+            Ok(tokens) => tokens,
+            Err(LexFault::Memory) => return Err(Memory),
+            Err(_) => return Ok(()),
+        };
+        if tokens.len() < 2 {
+            return Ok(());
+        }
+        let word = tokens.at(1);
+        match list.get(word.from as usize..word.to as usize) {
+            Some(bytes) => self.put(bytes),
+            None => Ok(()),
+        }
+    }
+
+    /// The declarations: a block for variables of one section that follow one another.
+    fn blocks(&mut self, slots: &[Slot]) -> Result<(), Memory> {
+        let mut open: &'static [u8] = b"";
+        for slot in slots {
+            let words = block_words(slot.section);
+            if words != open {
+                self.end_block(open)?;
+                self.put(words)?;
+                self.put(b"\n")?;
+                open = words;
+            }
+            self.declaration(slot)?;
+        }
+        self.end_block(open)
+    }
+
+    /// Ends a block, where one is open.
+    fn end_block(&mut self, open: &[u8]) -> Result<(), Memory> {
+        if open.is_empty() {
+            Ok(())
+        } else {
+            self.put(b"END_VAR\n")
+        }
+    }
+
+    /// A variable with its type and, where that isn't 0, its initial value.
+    fn declaration(&mut self, slot: &Slot) -> Result<(), Memory> {
+        self.put(slot.name.bytes())?;
+        self.put(b" : ")?;
+        self.put(ty_name(slot.ty))?;
+        if slot.init != 0 {
+            self.put(b" := ")?;
+            self.literal(slot.ty, slot.init, true)?;
+        }
+        self.put(b";\n")
+    }
+
+    /// A value; without its type where that is plain.
+    fn literal(&mut self, ty: Ty, value: i64, plain: bool) -> Result<(), Memory> {
+        if ty == Ty::Bool {
+            return self.put(if value == 0 { b"FALSE" } else { b"TRUE" });
+        }
+        if !plain {
+            self.put(ty_name(ty))?;
+            self.put(b"#")?;
+        }
+        self.put(Buffer::new().format(value).as_bytes())
+    }
+
+    /// A variable's name.
+    fn variable(&mut self, slots: &[Slot], slot: u32) -> Result<(), Memory> {
+        match slots.get(slot as usize) {
+            Some(slot) => self.put(slot.name.bytes()),
+            None => Ok(()),
+        }
+    }
+
+    /// A variable or a literal.
+    fn single(&mut self, slots: &[Slot], value: &TExpr) -> Result<(), Memory> {
+        match value {
+            TExpr::Lit { ty, value, .. } => self.literal(*ty, *value, has_plain_form(*ty, *value)),
+            TExpr::Get { slot, .. } => self.variable(slots, *slot),
+            _ => Ok(()),
+        }
+    }
+
+    /// One of them, behind a NOT where there is one.
+    fn turned(&mut self, slots: &[Slot], value: &TExpr) -> Result<(), Memory> {
+        match value {
+            TExpr::Unary {
+                op: UnOp::Not,
+                arg,
+                ..
+            } => {
+                self.put(b"NOT ")?;
+                self.single(slots, arg)
+            }
+            _ => self.single(slots, value),
+        }
+    }
+
+    /// An operand, which may be widened.
+    fn operand(&mut self, slots: &[Slot], value: &TExpr) -> Result<(), Memory> {
+        match value {
+            TExpr::Widen { arg, .. } => self.turned(slots, arg),
+            _ => self.turned(slots, value),
+        }
+    }
+
+    /// What is assigned: an operand, or an operator between two.
+    fn value(&mut self, slots: &[Slot], value: &TExpr) -> Result<(), Memory> {
+        match value {
+            TExpr::Binary {
+                op,
+                left,
+                right,
+                ..
+            } => {
+                self.operand(slots, left)?;
+                self.put(operator_sign(*op))?;
+                self.operand(slots, right)
+            }
+            _ => self.operand(slots, value),
+        }
+    }
+
+    /// An assignment.
+    fn assignment(&mut self, slots: &[Slot], stmt: &TStmt) -> Result<(), Memory> {
+        match stmt {
+            TStmt::Assign { slot, value, .. } => {
+                self.variable(slots, *slot)?;
+                self.put(b" := ")?;
+                self.value(slots, value)?;
+                self.put(b";\n")
+            }
+            _ => Ok(()),
+        }
+    }
+
+    /// IF with one condition, and assignments in its body.
+    fn conditional(&mut self, slots: &[Slot], arm: &TArm) -> Result<(), Memory> {
+        self.put(b"IF ")?;
+        self.value(slots, &arm.cond)?;
+        self.put(b" THEN\n")?;
+        for stmt in &arm.body.items {
+            self.assignment(slots, stmt)?;
+        }
+        self.put(b"END_IF;\n")
+    }
+
+    /// The statement of an instruction.
+    fn statement(&mut self, slots: &[Slot], stmt: &TStmt) -> Result<(), Memory> {
+        match stmt {
+            TStmt::If { arms, .. } => match arms.items.as_slice() {
+                [arm] => self.conditional(slots, arm),
+                _ => Ok(()),
+            },
+            _ => self.assignment(slots, stmt),
+        }
+    }
+}
