@@ -23,7 +23,7 @@ _vcp() {
 
 complete -o filenames -F _vcp vcp ./vcp
 
-_vcp_study_commands='graph dot waves ranges cover sites sum faults script'
+_vcp_study_commands='graph dot waves ranges cover sites sum faults script image text'
 
 _vcp_study() {
     local word=${COMP_WORDS[COMP_CWORD]}
@@ -48,6 +48,12 @@ _vcp_study() {
         ;;
     4:cover) mapfile -t COMPREPLY < <(compgen -W 'add rest stale skip from late operator all' -- "$word") ;;
     4:sites) mapfile -t COMPREPLY < <(compgen -W 'bits stale skip from operator all flips late' -- "$word") ;;
+    *:image)
+        case ${COMP_WORDS[COMP_CWORD - 1]} in
+        --seed | --step) return ;;
+        esac
+        mapfile -t COMPREPLY < <(compgen -W '--seed --step' -- "$word")
+        ;;
     *:sites) mapfile -t COMPREPLY < <(compgen -W '--count flips late' -- "$word") ;;
     esac
 }

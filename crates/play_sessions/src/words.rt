@@ -14,7 +14,7 @@ pub(crate) const STUDY_USAGE: &[u8] =
       cover M HORIZON CLASS, sites M CYCLES CLASS, sites M CYCLES CLASS FROM COUNT, \
       sites M CYCLES CLASS --count, sites M ROWS flips, sites M ROWS flips FROM COUNT, sites M ROWS flips --count, \
       sites M ROWS late, sites M ROWS late FROM COUNT, sites M ROWS late --count, sum M SCRIPT VERDICTS .., \
-      sum M SCRIPT VERDICTS .. ROWS, faults M SCRIPT VERDICTS or script M NAMED\n";
+      sum M SCRIPT VERDICTS .. ROWS, faults M SCRIPT VERDICTS, script M NAMED, image P CODE or text P\n";
 
 /// Adds a word, which is empty where it is written `''`; nothing where it isn't written at all.
 fn add_word(words: &mut Words, word: &str) -> Result<(), Memory> {
