@@ -47,7 +47,7 @@ _vcp_study() {
         esac
         ;;
     4:cover) mapfile -t COMPREPLY < <(compgen -W 'add rest stale skip from late operator all' -- "$word") ;;
-    4:sites) mapfile -t COMPREPLY < <(compgen -W 'bits stale skip from operator all flips late' -- "$word") ;;
+    4:sites) mapfile -t COMPREPLY < <(compgen -W 'bits stale skip from operator rest all flips late' -- "$word") ;;
     *:image)
         case ${COMP_WORDS[COMP_CWORD - 1]} in
         --seed | --step) return ;;

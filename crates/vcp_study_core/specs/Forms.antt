@@ -28,7 +28,7 @@ pub record PartNames : Type 0 where
   pub verdicts : List ℕ
 
 -- what is done with an image: HORIZON, whether all operations are reported and FILE, CLASS of faults, CYCLES, CLASS and which of the sites, ROWS, CLASS and
--- which of the sites, the names of SCRIPT and VERDICTS, and NAMED
+-- which of the sites, CYCLES and which groups of `rest`, the names of SCRIPT and VERDICTS, and NAMED
 pub data Study : Type 0 where
   graph : ℕ → Study
   dot : ℕ → Study
@@ -36,6 +36,7 @@ pub data Study : Type 0 where
   cover : ℕ → CoverClasses → Study
   sites : ℕ → Classes → Chosen → Study
   run_sites : Rows → RunClass → Chosen → Study
+  rest_sites : ℕ → Chosen → Study
   sum : List PartNames → Study
   sum_apart : List PartNames → Rows → Study
   faults : PartNames → Study
@@ -109,9 +110,13 @@ abbrev pub of_class : Rows → List ℕ → List (List ℕ) → Option RunClass 
 of_class rows w rest None = class_form rows w rest
 of_class rows w rest (Some c) = option_map (run_sites rows c) (chosen_of rest)
 
+-- CYCLES, `rest`, and which of the groups
+abbrev pub rest_form : Rows → List (List ℕ) → Option Study
+rest_form rows words = option_and_then (λ n. option_map (rest_sites n) (chosen_of words)) (cycles_in rows)
+
 abbrev pub behind_form : Rows → List (List ℕ) → Option Study
 behind_form rows [] = None
-behind_form rows (w ∷ rest) = of_class rows w rest (run_class_of w)
+behind_form rows (w ∷ words) = cond (bytes_eq w (codes "rest")) (rest_form rows words) (of_class rows w words (run_class_of w))
 
 abbrev pub sites_form : List (List ℕ) → Option Study
 sites_form words = option_and_then (λ r. behind_form r.0 r.1) (rows_and_rest words)
@@ -231,6 +236,7 @@ study (image.Ranges all inputs) = ranges all (option_map (λ f. f.now) inputs)
 study (image.Cover horizon classes) = cover horizon classes
 study (image.Sites cycles classes which) = sites cycles classes which
 study (image.RunSites rows class which) = run_sites (rows_of rows) class which
+study (image.RestSites cycles which) = rest_sites cycles which
 study (image.Sum parts) = sum (names_of parts)
 study (image.SumApart parts rows) = sum_apart (names_of parts) (rows_of rows)
 study (image.Faults names) = faults (as_names names)
@@ -249,6 +255,7 @@ IsSoundStudy (dot horizon) = horizon ≤ most_horizon
 IsSoundStudy (cover horizon classes) = horizon ≤ most_horizon
 IsSoundStudy (sites cycles classes which) = cycles ≤ most_cycles
 IsSoundStudy (run_sites rows class which) = AreFew rows
+IsSoundStudy (rest_sites cycles which) = cycles ≤ most_cycles
 IsSoundStudy (sum names) = length names ≤ most_parts
 IsSoundStudy (sum_apart names rows) = AreFew rows × (length names ≤ most_parts)
 IsSoundStudy _ = Unit {0}

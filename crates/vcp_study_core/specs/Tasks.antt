@@ -3,6 +3,7 @@ use Rattle.std.specs.Prelude.{ℕ, List, [], Some, None, ◌≡◌}
 use Rattle.vcp_base.specs.Limits.{most_image_bytes, most_rows_bytes}
 use Rattle.vcp_outside.specs.Held.{Held}
 use Rattle.fault_names.specs.Entries.{most_named_bytes}
+use Rattle.fault_sites.specs.Rests.{groups}
 use Rattle.fault_sites.specs.RunSites.{run_class_name, run_sites as run_sites_of}
 use Rattle.fault_sites.specs.Laws.{Distinct}
 use Rattle.fault_sites.specs.SiteText.{classes_name}
@@ -16,11 +17,11 @@ use Rattle.vcp_inputs.specs.Files.{FileRead, Loads}
 use Rattle.vcp_inputs.specs.Images.{ImageOf, NotImage}
 use Rattle.il_front.specs.Answers.{most_il_bytes}
 use Rattle.command_meaning.specs.Answer.{Answer}
-use Rattle.vcp_study_core.specs.Forms.{Form, waves, list_image, list_text, on, Study, graph, dot, ranges, cover, sites, run_sites, sum, sum_apart, faults, script_named}
+use Rattle.vcp_study_core.specs.Forms.{Form, waves, list_image, list_text, on, Study, graph, dot, ranges, cover, sites, run_sites, rest_sites, sum, sum_apart, faults, script_named}
 use Rattle.vcp_study_core.specs.FromFiles.{FromFiles, OfLoads, Onward}
 use Rattle.vcp_study_core.specs.Lists.{ListImage, ListText}
 use Rattle.vcp_study_core.specs.Parts.{PartFrom, PartsFrom, RowsFrom, RangesFrom}
-use Rattle.vcp_study_core.specs.Texts.{WritesOne, Draws, Weighed, Waves, IsRanged, IsCover, Chooses, NamedScript, ShowsPart, sums_up}
+use Rattle.vcp_study_core.specs.Texts.{WritesOne, Draws, Weighed, Waves, IsRanged, IsCover, Chooses, ChoosesGroups, NamedScript, ShowsPart, sums_up}
 
 -- the bytes of the file under a name
 abbrev pub BytesFrom : List ℕ → ℕ → Held → ℕ → ℕ → FromFiles (List ℕ) → Type 0
@@ -51,7 +52,12 @@ StudyOf (cover horizon classes) m i held b n x = Weighed horizon m i (IsCover i 
 StudyOf (sites cycles classes which) m i held b n x =
     Distinct (sites_of classes i.graph cycles) × Chooses m i (classes_name classes) (sites_of classes i.graph cycles) which x
 StudyOf (run_sites rows class which) m i held b n x =
-    Onward (RowsFrom rows i held) (λ list k n. Chooses m i (run_class_name class) (run_sites_of class i.table i.graph list) which) b n x
+    Onward (RowsFrom rows i held)
+    (λ list k n x. Distinct (run_sites_of class i.table i.graph list) × Chooses m i (run_class_name class) (run_sites_of class i.table i.graph list) which x) b n x
+-- `sites M CYCLES rest` writes, in the same way, the script of the groups in which a word of one of these cycles changes between two of its readings: one
+-- number is added in each of the later ones. A part counts groups, and the script ends before the group with which it would have more than 10,000
+-- faults. Read back, it is exactly these groups. M is refused where the first group alone has more.
+StudyOf (rest_sites cycles which) m i held b n x = ChoosesGroups m i (groups i.graph cycles) which x
 -- `sum M SCRIPT VERDICTS ..` writes the tables of the verdicts that each VERDICTS has of the groups of its SCRIPT over the image, one count over all groups
 -- of all these parts, in order, and finds whether one of the verdicts is `wrong` or `ran-on`, so that a fault is unseen. With ROWS there is one table more,
 -- in which the groups whose verdict is `same` are distinguished by their runs over all rows: never reached, died out, or in a cell at the end.

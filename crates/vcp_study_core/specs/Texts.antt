@@ -15,6 +15,8 @@ use Rattle.run_picture.specs.declared.fault.RunTextFault.TheVariants as run_faul
 use Rattle.run_picture.specs.declared.times.Period.{Period}
 use Rattle.fault_script.specs.ScriptOf.{most_faults}
 use Rattle.fault_sites.specs.Part.{kept}
+use Rattle.fault_sites.specs.RestScript.{IsGroupScript}
+use Rattle.fault_sites.specs.Rests.{first_fits, fitting, kept_groups}
 use Rattle.fault_sites.specs.Script.{IsScript}
 use Rattle.fault_sites.specs.declared.scripts.chosen.Chosen.{Chosen}
 use Rattle.fault_sites.specs.declared.scripts.chosen.Chosen.TheVariants as chosen
@@ -102,6 +104,17 @@ abbrev pub Chooses : List ℕ → Image → List ℕ → List Site → Chosen �
 Chooses m i name xs chosen.All x = SitesScript m i name xs x
 Chooses m i name xs (chosen.Part part) x = SitesScript m i name (kept part xs) x
 Chooses m i name xs chosen.Number x = x ≡ written (decimal (length xs) ++ codes "\n") false
+
+-- the script of the first of these groups of an image, M, up to the one with which it would have too many faults; M is refused where the first alone has
+pub data GroupsScript (m : List ℕ) (i : Image) (gs : List (List Site)) (x : Answer) : Type 0 where
+  too_long : first_fits most_faults gs ≡ false → x ≡ own_answer m why.Sites → GroupsScript m i gs x
+  groups_script : first_fits most_faults gs ≡ true → WritesOne (Draws (IsGroupScript i.graph i.table (fitting most_faults gs))) x → GroupsScript m i gs x
+
+-- of these groups what is chosen
+abbrev pub ChoosesGroups : List ℕ → Image → List (List Site) → Chosen → Answer → Type 0
+ChoosesGroups m i gs chosen.All x = GroupsScript m i gs x
+ChoosesGroups m i gs (chosen.Part part) x = GroupsScript m i (kept_groups part gs) x
+ChoosesGroups m i gs chosen.Number x = x ≡ written (decimal (length gs) ++ codes "\n") false
 
 -- A text is the script of the lines of another, all of which are taken over the image. Each has its faults there, and `inject` reads exactly these.
 pub record IsNamedScript (i : Image) (named text : List ℕ) : Type 0 where

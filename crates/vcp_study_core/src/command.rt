@@ -83,6 +83,13 @@ pub enum ImageStudy<'a> {
         /// What is written.
         chosen: Chosen,
     },
+    /// `sites M CYCLES rest`, in the same ways, where a part counts groups: the script of the groups in which a word changes between two of its readings.
+    RestSites {
+        /// How many cycles the faults are in, CYCLES, 1 to 1,000,000.
+        cycles: u32,
+        /// What is written.
+        chosen: Chosen,
+    },
     /// `sum M SCRIPT VERDICTS ..`: tables of the verdicts that were printed on scripts.
     Sum {
         /// The names of the scripts, and of what was printed on each.

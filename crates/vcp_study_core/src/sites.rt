@@ -8,6 +8,9 @@ ghost use Rattle.vcp_outside.specs.Held.{Held};
 ghost use Rattle.vcp_outside.specs.Seen.{SinkSeen};
 ghost use Rattle.signature_table.specs.Signatures.{table_of};
 ghost use Rattle.fault_sites.specs.RunSites.{run_class_name, run_sites as run_sites_of};
+ghost use Rattle.fault_sites.specs.Laws.{Distinct};
+ghost use Rattle.fault_sites.specs.RestScript.{WritesChosenGroups};
+ghost use Rattle.fault_sites.specs.Rests.{groups};
 ghost use Rattle.fault_sites.specs.Script.{WritesChosen};
 ghost use Rattle.fault_sites.specs.declared.scripts.chosen.Chosen.{Chosen as ChosenOf};
 ghost use Rattle.fault_sites.specs.declared.scripts.unwritten.Unwritten.TheVariants as unwritten;
@@ -15,15 +18,15 @@ ghost use Rattle.fault_sites.specs.declared.site.Site.{Site};
 ghost use Rattle.vcp_words.specs.Forms.{rows_of, AreFew};
 ghost use Rattle.vcp_inputs.specs.declared.images.Image.{Image as ImageOf};
 ghost use Rattle.vcp_study_core.specs.CarriedOut.{Studies, WritesSo, told_line, told_status};
-ghost use Rattle.vcp_study_core.specs.Forms.{run_sites, sites};
+ghost use Rattle.vcp_study_core.specs.Forms.{rest_sites, run_sites, sites};
 ghost use Rattle.vcp_study_core.specs.Tasks.{StudyOf};
-ghost use Rattle.vcp_study_core.specs.Texts.{Chooses};
+ghost use Rattle.vcp_study_core.specs.Texts.{Chooses, ChoosesGroups};
 
 use crate::fault::{Fault, StudyRefusal};
 use crate::loading::rows_for;
 use fault_sites::{
-    Chosen, Classes, RunClass, Unwritten, each_site_stands_once, write_chosen_run_sites,
-    write_chosen_sites,
+    Chosen, Classes, RunClass, Unwritten, each_run_site_stands_once, each_site_stands_once,
+    write_chosen_rests, write_chosen_run_sites, write_chosen_sites,
 };
 use input_rows::RowList;
 use std::alloc::Global;
@@ -34,10 +37,14 @@ use vcp_words::RowsWord;
 
 /// What a command comes to that wrote sites of an image, which has this name. It looks for nothing: `false`.
 fn chosen_of<'a>(name: &'a Text, wrote: Result<(), Unwritten>) -> Result<bool, Fault<'a>>
-    ensures { (i : ImageOf) (named : List ℕ) (xs : List Site) (which : ChosenOf) (old new : SinkSeen)
+    ensures sites { (i : ImageOf) (named : List ℕ) (xs : List Site) (which : ChosenOf) (old new : SinkSeen)
         → WritesChosen i.graph i.table named xs which old.written new.written wrote
         → (wrote ≡ Err unwritten.Failed → Rose old.faults new.faults)
         → WritesSo (Chooses name.now i named xs which) old new (told_line result) (told_status result) }
+    ensures groups { (i : ImageOf) (gs : List (List Site)) (which : ChosenOf) (old new : SinkSeen)
+        → WritesChosenGroups i.graph i.table gs which old.written new.written wrote
+        → (wrote ≡ Err unwritten.Failed → Rose old.faults new.faults)
+        → WritesSo (ChoosesGroups name.now i gs which) old new (told_line result) (told_status result) }
 {
     match wrote {
         Ok(()) => Ok(false),
@@ -78,6 +85,24 @@ pub(crate) fn write_sites<'a, O: Sink>(
     chosen_of(name, written)
 }
 
+/// Writes of the groups in which a word changes between two of its readings, in an image that has this name, what is chosen.
+pub(crate) fn write_rests<'a, O: Sink>(
+    alloc: Global,
+    name: &'a Text,
+    image: &Image,
+    cycles: u32,
+    chosen: &Chosen,
+    out: &mut O,
+) -> Result<bool, Fault<'a>>
+    requires table { image.now.table ≡ table_of image.now.table.seed image.now.table.step image.now.graph }
+    requires few { cycles ≤ most_cycles }
+    ensures { (h : Held) (b n : ℕ) → WritesSo (StudyOf (rest_sites cycles chosen.now) name.now image.now h b n)
+        (O.seen out.old) (O.seen out.new) (told_line result) (told_status result) }
+{
+    let written = write_chosen_rests(alloc, &image.graph, &image.table, cycles, chosen, out);
+    chosen_of(name, written)
+}
+
 /// Writes of the sites of a class in the run over these rows of an image's graph what is chosen; the image has this name.
 fn write_run_sites<'a, O: Sink>(
     alloc: Global,
@@ -91,9 +116,12 @@ fn write_run_sites<'a, O: Sink>(
     requires table { image.now.table ≡ table_of image.now.table.seed image.now.table.step image.now.graph }
     requires few { length rows.now ≤ most_cycles }
     requires width { All (λ r. length r ≡ length image.now.graph.inputs) rows.now }
-    ensures { WritesSo (Chooses name.now image.now (run_class_name class) (run_sites_of class image.now.table image.now.graph rows.now) chosen.now)
-        (O.seen out.old) (O.seen out.new) (told_line result) (told_status result) }
+    ensures { WritesSo (λ x. Distinct (run_sites_of class image.now.table image.now.graph rows.now)
+        × Chooses name.now image.now (run_class_name class) (run_sites_of class image.now.table image.now.graph rows.now) chosen.now x) (O.seen out.old) (O.seen out.new) (told_line result) (told_status result) }
 {
+    each_run_site_stands_once();
+    let _step = image.table.step();
+    let _operations = image.graph.len();
     let written = write_chosen_run_sites(
         alloc,
         &image.graph,

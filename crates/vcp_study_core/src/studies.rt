@@ -15,7 +15,7 @@ use crate::loading::image_under;
 use crate::parts::faults_of_image;
 use crate::ranges::ranges_of_image;
 use crate::script::script_of_image;
-use crate::sites::{run_sites_of_image, write_sites};
+use crate::sites::{run_sites_of_image, write_rests, write_sites};
 use crate::sum::{apart_of_image, sum_of_image};
 use std::alloc::Global;
 use vcp_base::Text;
@@ -55,6 +55,9 @@ fn study_image<'a, F: Files, O: Sink>(
             class,
             chosen,
         } => run_sites_of_image(alloc, name, image, *rows, *class, chosen, files, out),
+        ImageStudy::RestSites { cycles, chosen } => write_rests(
+            alloc, name, image, *cycles, chosen, out,
+        ),
         ImageStudy::Sum { parts } => sum_of_image(alloc, image, parts, files, out),
         ImageStudy::SumApart { parts, rows } => apart_of_image(
             alloc, image, *rows, parts, files, out,

@@ -5,7 +5,7 @@ ghost use Rattle.std.specs.Option.{option_map};
 ghost use Rattle.vcp_base.specs.Limits.{most_cycles, most_horizon};
 ghost use Rattle.vcp_study_core.specs.Forms.{list_image, list_text};
 ghost use Rattle.vcp_study_core.specs.Forms.{form, form_of, waves_form, timed_form, study, study_of, graph, dot, horizon_form, ranges_form, all_form, inputs_form, cover_form, IsSound, IsSoundStudy};
-ghost use Rattle.vcp_study_core.specs.Forms.{class_word as class_word_of, faults_form, sites_form, behind_form, class_form, cycles_in as cycles_in_of, run_sites, names_of, next_of, behind_of, sum_with, sum_form, script_form, chosen_of, number_word, part_of};
+ghost use Rattle.vcp_study_core.specs.Forms.{class_word as class_word_of, faults_form, sites_form, behind_form, class_form, cycles_in as cycles_in_of, rest_form, run_sites, names_of, next_of, behind_of, sum_with, sum_form, script_form, chosen_of, number_word, part_of};
 ghost use Rattle.vcp_study_core.specs.SumSteps.{as_next, as_behind, ended_of, IsFew, FewBehind};
 ghost use Rattle.verdict_tables.specs.Parts.{most_parts};
 ghost use Rattle.vcp_words.specs.Forms.{rows_of, AreFew, code_of, is_end};
@@ -317,6 +317,16 @@ fn run_words<'a>(
     })
 }
 
+/// CYCLES, and which of the groups of `rest`.
+fn rest_words<'a>(rows: RowsWord<'a>, words: &mut CommandWords<'a>) -> Option<ImageStudy<'a>>
+    ensures form { option_map study result ≡ rest_form (rows_of rows.entry) words.old }
+    ensures sound { IfSome result (λ s. IsSoundStudy (study s)) }
+{
+    let cycles = cycles_in(rows)?;
+    let chosen = chosen_words(words)?;
+    Some(ImageStudy::RestSites { cycles, chosen })
+}
+
 /// Of `sites`, what is behind ROWS, or behind CYCLES: CLASS, and which of the sites.
 fn behind_words<'a>(rows: RowsWord<'a>, words: &mut CommandWords<'a>) -> Option<ImageStudy<'a>>
     requires { AreFew (rows_of rows) }
@@ -324,6 +334,9 @@ fn behind_words<'a>(rows: RowsWord<'a>, words: &mut CommandWords<'a>) -> Option<
     ensures sound { IfSome result (λ s. IsSoundStudy (study s)) }
 {
     let word = words.next()?;
+    if word.bytes() == b"rest".as_slice() {
+        return rest_words(rows, words);
+    }
     match run_class_named(word.bytes()) {
         Some(class) => run_words(rows, class, words),
         None => class_words(rows, word, words),

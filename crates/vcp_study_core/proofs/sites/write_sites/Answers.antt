@@ -7,5 +7,5 @@ pub returns : goal.returns
 returns g c h b n =
     let i = c.args.image.now in
     with_fact (c.each_site_stands_once.ensures c.args.classes i.graph c.args.cycles)
-    (c.chosen_of.ensures i (classes_name c.args.classes) (sites c.args.classes i.graph c.args.cycles) c.args.chosen.now _ _ c.write_chosen_sites-written.ensures.writes
+    (c.chosen_of.ensures.sites i (classes_name c.args.classes) (sites c.args.classes i.graph c.args.cycles) c.args.chosen.now _ _ c.write_chosen_sites-written.ensures.writes
     c.write_chosen_sites-written.ensures.failed)

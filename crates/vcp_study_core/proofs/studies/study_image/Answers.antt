@@ -19,6 +19,9 @@ returns-in-Sites g c end = rw c.in-Sites.is (only_writes end c.write_sites.ensur
 pub returns-in-RunSites : goal.returns-in-RunSites
 returns-in-RunSites g c end = rw c.in-RunSites.is (c.run_sites_of_image.ensures end)
 
+pub returns-in-RestSites : goal.returns-in-RestSites
+returns-in-RestSites g c end = rw c.in-RestSites.is (only_writes end c.write_rests.ensures)
+
 pub returns-in-Sum : goal.returns-in-Sum
 returns-in-Sum g c end = rw c.in-Sum.is (c.sum_of_image.ensures end c.args.name.now)
 
