@@ -9,7 +9,7 @@ from dataclasses import dataclass, field
 from unittest import mock
 
 from vcp_tools.read.fault_line import meanings, read_ending, read_fault
-from vcp_tools.explain.hints_files import group_hint, reading_hint, wire_hint, words_hint
+from vcp_tools.explain.hints_files import OF_STUDY, group_hint, reading_hint, wire_hint, words_hint
 from vcp_tools.explain.hints_il import il_hint
 from vcp_tools.read.instruction_list import OPERATORS, declarations_of
 from vcp_tools.read.source import RESERVED, Source, literal_value
@@ -112,6 +112,7 @@ class Calls(InFolder):
         self.assertEqual(self.tool("explain", given="ok 11\n"), "ok 11\n")
         for line in ("q.st:5:3 S4 Syntax", "q.csv:5:3 R3 Cell", "f.txt:2 F1 Form", "q.img:2132 I6 Table stored 0 expected 2", "q.csv:1 R1 Header"):
             self.assertIn("the file isn't here", self.tool("explain", given=line + "\n", status=9))
+        self.assertIn("p.st: no program in Structured Text", self.tool("explain", given="p.st Q7 Text\n", status=9))
         for line in ("p.st:90:3 S1 Byte", "p.st:90:3 S4 Syntax", "p.st:90:3 S3 Number", "p.st:1:3 T3 Mismatch", "p.st:9 R2 Width", "p.st:90 F1 Form"):
             self.tool("explain", given=line + "\n", status=9)
 
@@ -248,6 +249,12 @@ class Readers(unittest.TestCase):
             self.assertEqual(tuple(getattr(ending, name) for name in ("cycle", "name", "first", "second")), wanted)
         stop = read_ending("stop 3 DIVZERO 8:14 i=2 j=3")
         self.assertEqual(getattr(stop, "turns", None), "i=2 j=3")
+
+    def test_commands_of_the_other_program(self) -> None:
+        text = (EXAMPLES.parent / "docs" / "FORMATS.md").read_text(encoding="utf-8")
+        self.assertLessEqual(set(re.findall(r"^\| `vcp_study (\w+) ", text, re.M)), set(OF_STUDY))
+        for name in OF_STUDY:
+            self.assertIn(f"`{name}` is a command of `vcp_study`", words_hint([name, "P"]))
 
     def test_which_word_is_not_in_its_place(self) -> None:
         for words, said in (("check", "a word is missing"), ("run p in --seed 0 --seed 1", "occurs twice"),

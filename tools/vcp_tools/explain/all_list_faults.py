@@ -6,7 +6,7 @@ from dataclasses import replace
 from vcp_tools.explain.all_faults import MOST_ROUNDS, VALUES, AllHints, Patched, doubt, next_fault
 from vcp_tools.explain.foreign import foreign, told
 from vcp_tools.explain.hint import Hint, Repair
-from vcp_tools.explain.hints_il import il_hint, line_at, has_label
+from vcp_tools.explain.hints_il import LEFT_OUT, has_label, il_hint, line_at
 from vcp_tools.explain.hints_source import source_hint
 from vcp_tools.files import read_bytes
 from vcp_tools.program import Program
@@ -169,11 +169,9 @@ class _Rounds:
                 return Repair(line[end - 1].end, line[-1].end, "")
             return Repair(first.start, line[-1].end, "") if operator in STORES else self.loaded(line, operator not in (*LOADS, *ARITHMETIC))
         near = nearest(first.text, OPERATORS) if first.kind == "name" and first.upper not in _declared(source) else None
-        if near is None or len(line) < 2:
+        if near in STORES or first.upper in LEFT_OUT and near is None or first.is_symbol(")"):
             return Repair(first.start, line[-1].end, "")
-        if near not in STORES:
-            return self.loaded(line, is_known=False)
-        return Repair(first.start, line[-1].end, "")
+        return self.loaded(line, is_known=False)
 
 
 def _value_of(source: Source, line: list[Token]) -> str:

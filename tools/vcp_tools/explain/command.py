@@ -37,6 +37,10 @@ MOST_UNSEEN = 20
 """So many faults that aren't seen are named at most."""
 MOST_SILENT = 3
 """So many things that `vcp` accepts without warning are reported at most of a rows file."""
+OF_THE_WHOLE = {
+    "Q7": "no program in Structured Text of at most 1,048,576 bytes was found that is shown to have this list's run; the list has a run and an image all the same",
+}
+"""What is said of a file as a whole."""
 STATUS_LINES = {
     "memory": "the machine had no memory left for this run: end other programs, or take fewer rows",
     "write": "standard output couldn't be written: the disk is full, or the reader of the pipe has ended",
@@ -116,6 +120,8 @@ class Explainer:
             return Explanation(fault.file, exchanged)
         if not Path(fault.file).is_file() and fault.file not in ("--cycles", "demo"):
             return Explanation(fault.text.rpartition(f" {fault.code}")[0], "the file isn't here, so that its line can't be shown")
+        if fault.code in OF_THE_WHOLE:
+            return Explanation(fault.file, OF_THE_WHOLE[fault.code])
         if fault.code[0] in "STQ" or fault.code in ("L2", "L3"):
             return self._source(fault)
         if fault.code[0] == "R" or fault.code == "L4":

@@ -17,6 +17,8 @@ FORMS: dict[str, tuple[str, ...]] = {
     "wire": ("F",), "demo": ("N",),
 }
 """The words behind each command; ROWS is a file or `--cycles N`, CODE `--seed N` and `--step N`, each at most once."""
+OF_STUDY = ("graph", "dot", "waves", "ranges", "cover", "sites", "script", "sum", "faults", "image", "text")
+"""The commands of `vcp_study`."""
 KINDS: dict[str, int] = {
     "INPUT": 0, "CONST": 0, "LOAD": 1, "STORE": 1, "OUT": 1, "CONV": 1, "NEG": 1, "NOT": 1, "ADD": 2, "SUB": 2, "MUL": 2, "DIV": 2, "MOD": 2,
     "EQ": 2, "LT": 2, "AND": 2, "OR": 2, "XOR": 2, "SEL": 3,
@@ -43,6 +45,8 @@ def words_hint(words: Sequence[str]) -> str:
     if command not in FORMS:
         if command.startswith("-"):
             return f"`{command}` is the first word: the command comes first, and options come at the end"
+        if command in OF_STUDY:
+            return f"`{command}` is a command of `vcp_study`: run that, and give its line of error to `vcp_tools explain` on standard input"
         near = nearest(command, FORMS)
         capitals = ", in small letters" if near and near.upper() == command.upper() else ""
         return f"`{command}` is no command" + (f": did you mean `{near}`{capitals}?" if near else f": there are {listed(FORMS)}")

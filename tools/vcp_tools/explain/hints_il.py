@@ -8,12 +8,13 @@ from vcp_tools.read.syntax import Declaration
 from vcp_tools.wording import article, nearest
 
 
-_LEFT_OUT = {
+LEFT_OUT = {
     **dict.fromkeys(("JMP", "JMPC", "JMPCN"), "there are no jumps: write the condition into the result, by AND and ANDN, or use S and R"),
     **dict.fromkeys(("CAL", "CALC", "CALCN"), "nothing is called: write out what the block does"),
     **dict.fromkeys(("RET", "RETC", "RETCN"), "there is no return: the list runs to its end"),
     "ANDNOT": "the operator is ANDN", "LDNOT": "the operator is LDN", "STNOT": "the operator is STN", "ORNOT": "the operator is ORN",
 }
+"""Operators that other lists have, each with what is said of it."""
 
 
 def il_hint(source: Source, code: str, at: int) -> Hint:
@@ -70,8 +71,8 @@ def _instruction(source: Source, token: Token, line: list[Token], declared: dict
         return _on(token, "this is Structured Text: an instruction is an operator and its operand, as `ST y`")
     if any(it.is_symbol("(", ")") for it in line):
         return _on(next(it for it in line if it.is_symbol("(", ")")), "there are no brackets: keep what is in them in a variable, by ST, and take that")
-    if token.upper in _LEFT_OUT:
-        return _on(token, _LEFT_OUT[token.upper])
+    if token.upper in LEFT_OUT:
+        return _on(token, LEFT_OUT[token.upper])
     if token.upper not in OPERATORS:
         near = nearest(token.text, OPERATORS)
         known = f"`{token.text}` is a variable, and an operator is wanted, as LD" if token.upper in declared else f"`{token.text}` is no operator"
