@@ -46,6 +46,7 @@ class Forms(unittest.TestCase):
             ("LD TRUE;\n", True), ("q := a;\n", False), ("LD := a;\n", False), ("q :=\nAND a;\n", False), ("IF a THEN q := b;\nAND b\nEND_IF;\n", False),
             (";\n", False), ("x = 1;\n", False), ("", False),
             ("LDX a\nLD b\nST q\n", True), ("t(IN := a);\n", False), ("LDX a\n", None), ("LDX a\nST q\nx := a;\n", None), ("LD\n", None),
+            ("(* a\nq := a;\n", False), ("LDX a\n?\n", False), ("LD a\n?\n", True),
         ):
             self.assertIs(tells_list(Source((HEAD + body + "END_PROGRAM\n").encode())), is_list, body)
         for text in ("", "PROGRAM", "LD a\nST q\n", "PROGRAM p END_PROGRAM", "a,b\n1,0\n", "VCPANBD\n"):

@@ -102,13 +102,15 @@ class ProgramText:
 
 def tells_list(source: Source) -> bool | None:
     """Whether a text is an instruction list, by what stands behind its declarations: by its first line there, else by all of them; None where that can't be
-    told. A text that isn't a program, or that has nothing there, is taken as Structured Text."""
+    told. A text that isn't a program, that has nothing there, or whose tokens have a fault, which comes first in both, is taken as Structured Text else."""
     lines = lines_of(source)
     if not source.tokens[0].is_word("PROGRAM") or not lines or lines[0][0].is_word("END_PROGRAM"):
         return False
     first = _tells(lines[0])
     told = {it for it in map(_tells, lines) if it is not None}
-    return first if first is not None else told.pop() if len(told) == 1 else None
+    if first is None and len(told) != 1:
+        return False if any(it.kind in ("bad", "open") for it in source.tokens) else None
+    return first if first is not None else told.pop()
 
 
 def _tells(line: Sequence[Token]) -> bool | None:

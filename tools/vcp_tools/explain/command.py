@@ -38,7 +38,7 @@ MOST_UNSEEN = 20
 MOST_SILENT = 3
 """So many things that `vcp` accepts without warning are reported at most of a rows file."""
 OF_THE_WHOLE = {
-    "Q7": "no program in Structured Text of at most 1,048,576 bytes was found that is shown to have this list's run; the list has a run and an image all the same",
+    "Q7": "no program in Structured Text of at most 1,048,576 bytes was found that is shown to have this list's run; it has a run and an image all the same",
 }
 """What is said of a file as a whole."""
 STATUS_LINES = {
