@@ -249,7 +249,7 @@ class AllFaults(InFolder):
             ("LD nowhere\nAND i\nST q\n", [(1, "isn't declared"), (2, "wants BOOL")], 0),
             ("LD i\nADD nowhere\nS q\nGT b\nST q\n", [(2, "isn't declared"), (3, "S wants"), (4, "compares two numbers")], 0),
             ("next: LD a\nAND b c\nST q x\n", [(1, "no labels"), (2, "one operand"), (3, "one operand")], 0),
-            ("LD a\nOR( b\nAND t\n)\nST q\n", [(2, "no brackets")], 1),
+            ("LD a\nOR( b\nAND t\n)\nST q\n", [(2, "no brackets")], 1), ("LD i\n@\nST q\n", [(2, "`@`")], 0),
             ("LD INT#40000\nST q\n", [(1, "from -32768"), (2, "ST wants")], 0),
         ):
             found, last = self.told(body)

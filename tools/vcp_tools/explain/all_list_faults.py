@@ -62,7 +62,13 @@ class _Rounds:
         at = read.offset(fault.first or 1, fault.second or 1)
         hint = il_hint(source, fault.code, at) if is_line else source_hint(read, fault.code, at)
         self.tell(fault, source, hint, at)
-        repair = self.repair(source, fault.code, at) if is_line else _within(hint.repair, head_end(source) if read is not source else len(source.data))
+        alone = line_at(source, source.tokens[source.index_at(at)])
+        if is_line:
+            repair = self.repair(source, fault.code, at)
+        elif fault.code == "S1" and at >= head_end(source) and len(alone) == 1:
+            repair = self.loaded(alone, is_known=False)
+        else:
+            repair = _within(hint.repair, head_end(source) if read is not source else len(source.data))
         if repair is None or repair.text.encode("latin-1") == self.patched.data[repair.start : repair.end]:
             if fault.code[0] != "L":
                 self.found.left_out = f"no way round the fault at {self.first.told(self.patched.origin(at))} is known, and what is behind it wasn't looked at"
