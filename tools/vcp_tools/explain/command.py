@@ -298,8 +298,8 @@ def _begins_program(data: bytes) -> bool:
 def _is_list(source: Source, file: str) -> Hint:
     """Said where a list is given to a command that takes Structured Text."""
     token = lines_of(source)[0][0]
-    message = ("this is an instruction list, and the command takes Structured Text: `il` runs a list, and `vcp_study image` makes an image of it "
-               f"(`vcp_tools explain --all il {file} --cycles 0` names its faults)")
+    message = ("this is an instruction list, and the command takes Structured Text: `il` runs a list, `vcp_study image` makes an image of it, and "
+               f"`vcp_study text` writes it in Structured Text (`vcp_tools explain --all il {file} --cycles 0` names its faults)")
     return Hint(message, token.start, token.end)
 
 

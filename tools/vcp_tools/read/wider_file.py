@@ -23,5 +23,5 @@ def source_and_tree(file: str | Path) -> tuple[Source, File]:
         return source, parse_wider(source.text)
     except SyntaxFault as fault:
         if tells_list(source):
-            raise Refusal(f"{file}: this is an instruction list, and Structured Text is wanted") from None
+            raise Refusal(f"{file}: this is an instruction list, and Structured Text is wanted: `vcp_study text {file}` writes it so") from None
         raise Refusal(f"{file}:{source.told(fault.at)}: {told_word(source, fault)}") from None
