@@ -110,18 +110,38 @@ copy_parts() {
     done
 }
 
-# Keeps the lines of a build in the log, and says on standard error how many crates are proved and left.
+# A line for each crate of a tree: its name, and what its proof costs, in functions: those that it has, and ten for reading what is below it.
+weights() {
+    for part in $(parts); do
+        echo "$part $(($(cat $(find "$1/crates/$part/src" -name '*.rt') | grep -c '^ *\(pub\((crate)\)\? \)\?\(const \)\?fn ') + 10))"
+    done
+}
+
+# Keeps the lines of a build in the log, and a line with its name for each crate that is proved.
 follow() {
-    began=$(date +%s)
-    proved=0
     while IFS= read -r line; do
         printf '%s\n' "$line" >>"$log"
         case $line in
-        "rt: "*" proved")
-            proved=$((proved + 1))
-            echo "$name: $proved crates proved, $((count - proved)) left, after $((($(date +%s) - began) / 60)) min" >&2
-            ;;
+        "rt: "*" proved" | "rt: "*" is kept: "*) echo "$line" | cut -d ' ' -f 2 >>"$1" ;;
         esac
+    done
+}
+
+# Says on standard error every half minute, or every SECONDS where VCP_TELLS=SECONDS is set, what a build is at: how many crates are proved, how much of the
+# work is left, by the weights of those that aren't, and which can be under way, since all below them are proved.
+tell_progress() {
+    began=$(date +%s)
+    while :; do
+        sleep "${VCP_TELLS:-30}" >/dev/null 2>&1 &
+        wait $!
+        awk -v name="$name" -v minutes=$((($(date +%s) - began) / 60)) '
+            FILENAME == ARGV[1] { done[$1]; next }
+            FILENAME == ARGV[2] { weight[$1] = $2; all += $2; count++; next }
+            { crate = $1; sub(/:.*/, "", crate); if (crate in done) { proved++; part += weight[crate]; next }
+              for (i = 2; i <= NF; i++) if ($i in weight && !($i in done)) next
+              going = going (going == "" ? "" : ", ") crate }
+            END { printf "%s: %d of %d crates proved, %d %% of the work left, after %d min; at %s\n", name, proved, count, 100 - 100 * part / all, minutes,
+                going == "" ? "the program" : going }' "$1" "$2" "$3" >&2
     done
 }
 
@@ -143,8 +163,15 @@ build() {
     tree=$(mktemp -d) || return 1
     count=$(parts | wc -l)
     echo "$name: proving and building $((count)) crates; docs/MEASURES.md has the time from nothing, memory and disk" >&2
-    mkdir -p "$out" && rm -f "$out/$name.proved" && : >"$log" && copy_parts "$tree" && sources=$(sources_in "$tree") &&
-        (cd "$tree" && rt ci 2>&1 </dev/null) | follow
+    done=$(mktemp -d) && : >"$done/proved" || return 1
+    mkdir -p "$out" && rm -f "$out/$name.proved" && : >"$log" && copy_parts "$tree" && sources=$(sources_in "$tree") && weights "$tree" >"$done/weights" && {
+        tell_progress "$done/proved" "$done/weights" "$tree/crates.txt" &
+        telling=$!
+        (cd "$tree" && rt ci 2>&1 </dev/null) | follow "$done/proved"
+        kill $telling
+        wait $telling 2>/dev/null
+    }
+    rm -rf "$done"
     if tail -n 1 "$log" | grep -q ' passed, 0 failed$' && cp "$tree/crates/$name/out/$name" "$out/$name.new" && mv "$out/$name.new" "$out/$name" &&
         record "$out" "$sources" "./$name, of these crates alone"; then
         rm -rf "$tree"

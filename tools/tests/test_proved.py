@@ -46,6 +46,12 @@ class Records(InFolder):
         self.made.top = self.folder / "copy"
         self.assertEqual(self.ran(1), first)
 
+    def test_what_a_build_is_at(self) -> None:
+        self.write("slow", "")
+        done = self.made.run("env", "VCP_TELLS=0.5", "./vcp", "check", "p")
+        self.assertEqual(done.returncode, 0, done.stderr)
+        self.assertRegex(done.stderr, r"vcp: 0 of 2 crates proved, 100 % of the work left, after 0 min; at base\n")
+
     def test_the_record(self) -> None:
         self.ran(1)
         found = standing("vcp", self.made.top)
