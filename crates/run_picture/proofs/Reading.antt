@@ -9,7 +9,7 @@ use Rattle.run_picture.specs.declared.fault.RunTextFault.TheVariants as fault
 use Rattle.run_picture.specs.declared.ending.Ending.{Ending}
 use Rattle.run_picture.specs.declared.lines.Line.TheVariants as line
 use Rattle.run_picture.specs.Values.{printed_value, values_of, behind}
-use Rattle.run_picture.specs.RunOf.{Told, line_of, last_of, told_from, names_of}
+use Rattle.run_picture.specs.RunOf.{ToldLines, line_of, last_of, told_from, names_of}
 
 -- ---- cells
 
@@ -99,22 +99,22 @@ empty_header (f ∷ fields) e = absurd (omega arith)
 -- ---- lines
 
 -- rows before what is told
-abbrev pub onto : List (List ℤ) → Told → Told
+abbrev pub onto : List (List ℤ) → ToldLines → ToldLines
 onto rows told = record { rows = rows ++ told.rows; behind = told.behind }
 
-pub row_told : (w c : ℕ) (rows : List (List ℤ)) (row : List ℤ) (cells : List (List ℕ)) (more : List (List (List ℕ))) (told : Told)
+pub row_told : (w c : ℕ) (rows : List (List ℤ)) (row : List ℤ) (cells : List (List ℕ)) (more : List (List (List ℕ))) (told : ToldLines)
     → told ≡ onto rows (told_from w c (cells ∷ more)) → line_of w c cells ≡ Ok (line.Row row) → told ≡ onto (rows ++ row ∷ []) (told_from w (c + 1) more)
 row_told w c rows row cells more told e is =
     e ∙ rw (is, append_assoc rows (row ∷ []) (told_from w (c + 1) more).rows) refl
 
-pub refused_told : (w c : ℕ) (rows : List (List ℤ)) (why : RunTextFault) (cells : List (List ℕ)) (more : List (List (List ℕ))) (told : Told)
+pub refused_told : (w c : ℕ) (rows : List (List ℤ)) (why : RunTextFault) (cells : List (List ℕ)) (more : List (List (List ℕ))) (told : ToldLines)
     → told ≡ onto rows (told_from w c (cells ∷ more)) → line_of w c cells ≡ Err why → told.behind ≡ Err why
-refused_told w c rows why cells more told e is = ap (λ (t : Told). t.behind) e ∙ rw is refl
+refused_told w c rows why cells more told e is = ap (λ (t : ToldLines). t.behind) e ∙ rw is refl
 
-pub last_told : (w c : ℕ) (rows : List (List ℤ)) (ending : Ending) (cells : List (List ℕ)) (more : List (List (List ℕ))) (told : Told)
+pub last_told : (w c : ℕ) (rows : List (List ℤ)) (ending : Ending) (cells : List (List ℕ)) (more : List (List (List ℕ))) (told : ToldLines)
     → told ≡ onto rows (told_from w c (cells ∷ more)) → line_of w c cells ≡ Ok (line.Last ending)
     → told ≡ record { rows = rows; behind = last_of (c + 2) ending more }
 last_told w c rows ending cells more told e is = e ∙ rw (is, append-nil rows) refl
 
-pub nothing_told : (w c : ℕ) (rows : List (List ℤ)) (told : Told) → told ≡ onto rows (told_from w c []) → told.behind ≡ Err fault.End
-nothing_told w c rows told e = ap (λ (t : Told). t.behind) e
+pub nothing_told : (w c : ℕ) (rows : List (List ℤ)) (told : ToldLines) → told ≡ onto rows (told_from w c []) → told.behind ≡ Err fault.End
+nothing_told w c rows told e = ap (λ (t : ToldLines). t.behind) e

@@ -4,8 +4,8 @@ use Rattle.std.specs.List.{concat}
 use Rattle.std.proofs.Math.Nat.{mul-le-mul_left}
 use Rattle.std.proofs.lemmas.Fmt.{length-decimal-le}
 use Rattle.std.proofs.lemmas.List.{length-append}
-use Rattle.run_picture.specs.declared.times.Unit.{Unit}
-use Rattle.run_picture.specs.declared.times.Unit.TheVariants as unit
+use Rattle.run_picture.specs.declared.times.TimeUnit.{TimeUnit}
+use Rattle.run_picture.specs.declared.times.TimeUnit.TheVariants as unit
 use Rattle.run_picture.specs.declared.times.Period.{Period}
 use Rattle.run_picture.specs.Times.{scale_of, drawn_in, thousandths_pieces, thousandths_at, time_pieces}
 use Rattle.run_picture.proofs.Numbers.{digits_grow}
@@ -18,7 +18,7 @@ if_there (Some x) f h = f x h
 digit : (n : ℕ) → n < 10 → length (decimal n) ≤ 1
 digit n h = length-decimal-le 1 n (omega arith) (omega (arith, h)) (omega (arith, h))
 
-short_name : (u : Unit) → length (drawn_in u) ≤ 3
+short_name : (u : TimeUnit) → length (drawn_in u) ≤ 3
 short_name unit.Seconds = omega arith
 short_name unit.Milliseconds = omega arith
 short_name unit.Microseconds = omega arith
@@ -34,7 +34,7 @@ parts a b c d e f =
       length-append f [],
     ) refl
 
-short : (n : ℕ) (u : Unit) → length (concat (thousandths_pieces n (drawn_in u))) ≤ length (decimal (n / 1000)) + 7
+short : (n : ℕ) (u : TimeUnit) → length (concat (thousandths_pieces n (drawn_in u))) ≤ length (decimal (n / 1000)) + 7
 short n u =
     let whole = parts (decimal (n / 1000)) (codes ".") (decimal (n % 1000 / 100)) (decimal (n % 100 / 10)) (decimal (n % 10)) (drawn_in u) in
     let a = digit (n % 1000 / 100) (omega arith) in

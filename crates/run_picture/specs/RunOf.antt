@@ -18,7 +18,7 @@ pub record Recorded : Type 0 where
   pub ending : Ending
 
 -- what the lines behind a header tell: the rows, and behind them how the run ended, or why the lines are refused
-pub record Told : Type 0 where
+pub record ToldLines : Type 0 where
   pub rows : List (List ℤ)
   pub behind : Result Ending RunTextFault
 
@@ -60,7 +60,7 @@ line_of width cycle (first ∷ cells) = cond (bytes_eq first (decimal cycle)) (r
 
 -- ---- all lines
 
-abbrev pub no_rows : Result Ending RunTextFault → Told
+abbrev pub no_rows : Result Ending RunTextFault → ToldLines
 no_rows behind = record { rows = []; behind = behind }
 
 -- nothing stands behind the last line
@@ -69,13 +69,13 @@ last_of number ending [] = Ok ending
 last_of number ending (cells ∷ records) = Err (fault.Rest (number + 1))
 
 -- a line before the records behind it, of which this is told
-abbrev pub told_with : ℕ → Result Line RunTextFault → List (List (List ℕ)) → Told → Told
+abbrev pub told_with : ℕ → Result Line RunTextFault → List (List (List ℕ)) → ToldLines → ToldLines
 told_with number (Ok (line.Row row)) records more = record more { rows = row ∷ more.rows }
 told_with number (Ok (line.Last ending)) records more = no_rows (last_of number ending records)
 told_with number (Err why) records more = no_rows (Err why)
 
 -- what records tell from a cycle on
-abbrev pub told_from : ℕ → ℕ → List (List (List ℕ)) → Told
+abbrev pub told_from : ℕ → ℕ → List (List (List ℕ)) → ToldLines
 told_from width cycle [] = no_rows (Err fault.End)
 told_from width cycle (cells ∷ records) = told_with (cycle + 2) (line_of width cycle cells) records (told_from width (cycle + 1) records)
 
@@ -91,7 +91,7 @@ abbrev pub run_by : List (List ℕ) → List (List ℤ) → Result Ending RunTex
 run_by names rows (Ok ending) = Ok (record { names = names; rows = rows; ending = ending })
 run_by names rows (Err why) = Err why
 
-abbrev pub run_with : List (List ℕ) → Told → Result Recorded RunTextFault
+abbrev pub run_with : List (List ℕ) → ToldLines → Result Recorded RunTextFault
 run_with names told = run_by names told.rows told.behind
 
 abbrev pub run_under : Result (List (List ℕ)) RunTextFault → List (List (List ℕ)) → Result Recorded RunTextFault

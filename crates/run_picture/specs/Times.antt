@@ -1,20 +1,20 @@
 -- Times: when the cycles of a run begin, where it is known how long a cycle takes.
 use Rattle.std.specs.Prelude.{ℕ, ◌*◌, ◌/◌, ◌%◌, ◌-◌, nat_le, ◌&&◌, cond, Option, Some, None, List, [], ◌∷◌, length, take, drop, bytes_eq, codes, decimal, option_and_then}
 use Rattle.vcp_base.specs.Numerals.{numeral_of}
-use Rattle.run_picture.specs.declared.times.Unit.{Unit}
-use Rattle.run_picture.specs.declared.times.Unit.TheVariants as unit
+use Rattle.run_picture.specs.declared.times.TimeUnit.{TimeUnit}
+use Rattle.run_picture.specs.declared.times.TimeUnit.TheVariants as unit
 use Rattle.run_picture.specs.declared.times.Period.{Period}
 
 -- ---- as it is drawn
 
 -- a time in s or ms has three digits behind the point: how many such thousandths a unit has
-abbrev pub scale_of : Unit → ℕ
+abbrev pub scale_of : TimeUnit → ℕ
 scale_of unit.Seconds = 1000
 scale_of unit.Milliseconds = 1
 scale_of unit.Microseconds = 1
 
 -- in what times are drawn: in ms where a cycle takes microseconds, else in s
-abbrev pub drawn_in : Unit → List ℕ
+abbrev pub drawn_in : TimeUnit → List ℕ
 drawn_in unit.Seconds = codes " s"
 drawn_in unit.Milliseconds = codes " s"
 drawn_in unit.Microseconds = codes " ms"
@@ -42,10 +42,10 @@ abbrev pub front_before : List ℕ → List ℕ → Option (List ℕ)
 front_before end text = cond (bytes_eq (drop (length text - length end) text) end) (Some (take (length text - length end) text)) None
 
 -- a number of a unit
-abbrev pub period_in : Unit → ℕ → Option Period
+abbrev pub period_in : TimeUnit → ℕ → Option Period
 period_in u n = cond (nat_le 1 n && nat_le n most_period) (Some (record { number = n; unit = u })) None
 
-abbrev pub numbered_in : Unit → List ℕ → Option Period
+abbrev pub numbered_in : TimeUnit → List ℕ → Option Period
 numbered_in u digits = option_and_then (period_in u) (numeral_of digits)
 
 -- what is said by the text before the end of a text, where it ends so, else by another way

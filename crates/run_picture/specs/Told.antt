@@ -5,10 +5,10 @@ use Rattle.run_picture.specs.declared.fault.RunTextFault.TheVariants as fault
 use Rattle.run_picture.specs.declared.ending.Ending.{Ending}
 use Rattle.run_picture.specs.declared.lines.Line.{Line}
 use Rattle.run_picture.specs.declared.lines.Line.TheVariants as line
-use Rattle.run_picture.specs.RunOf.{Told}
+use Rattle.run_picture.specs.RunOf.{ToldLines}
 
 -- the rows and the last line are those that are told, or the refusal is, or it is for want of memory
-abbrev pub Tells : Told → Result (List (List ℤ) × Ending) RunTextFault → Type 0
+abbrev pub Tells : ToldLines → Result (List (List ℤ) × Ending) RunTextFault → Type 0
 Tells told (Ok read) = told ≡ record { rows = read.0; behind = Ok read.1 }
 Tells told (Err why) = why ≢ fault.Memory → told.behind ≡ Err why
 

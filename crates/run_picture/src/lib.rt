@@ -26,4 +26,4 @@ pub use laws::{a_printed_run_is_read_back, a_run_is_drawn_whole, last_lines_are_
 pub use layout::Layout;
 pub use picture::write_waves;
 pub use run::{Run, read_run};
-pub use times::{Period, Unit, period_named};
+pub use times::{Period, TimeUnit, period_named};

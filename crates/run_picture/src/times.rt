@@ -10,7 +10,7 @@ use vcp_base::numeral;
 
 /// The unit in which it is said how long a cycle takes.
 #[derive(Clone, Copy)]
-pub enum Unit {
+pub enum TimeUnit {
     /// Seconds, `s`.
     Seconds,
     /// Milliseconds, `ms`.
@@ -25,30 +25,30 @@ pub struct Period {
     /// A number of the unit.
     pub number: u32,
     /// The unit.
-    pub unit: Unit,
+    pub unit: TimeUnit,
 }
 
 /// The greatest number of a unit that a cycle may take.
 const MOST_PERIOD: u64 = 999_999_999;
 
 // How many thousandths of what times are drawn in a unit has.
-fn scale(unit: Unit) -> u64
+fn scale(unit: TimeUnit) -> u64
     ensures scale { result ≡ scale_of unit }
     ensures few { result ≤ 1000 }
 {
     match unit {
-        Unit::Seconds => 1000,
-        Unit::Milliseconds | Unit::Microseconds => 1,
+        TimeUnit::Seconds => 1000,
+        TimeUnit::Milliseconds | TimeUnit::Microseconds => 1,
     }
 }
 
 /// In what times are drawn.
-pub(crate) fn drawn_in(unit: Unit) -> &'static [u8]
+pub(crate) fn drawn_in(unit: TimeUnit) -> &'static [u8]
     ensures { result.now ≡ drawn_in_of unit }
 {
     match unit {
-        Unit::Seconds | Unit::Milliseconds => b" s",
-        Unit::Microseconds => b" ms",
+        TimeUnit::Seconds | TimeUnit::Milliseconds => b" s",
+        TimeUnit::Microseconds => b" ms",
     }
 }
 
@@ -85,7 +85,7 @@ fn front_before<'a>(end: &[u8], text: &'a [u8]) -> Option<&'a [u8]>
 }
 
 // The number of a unit that digits say.
-fn numbered_in(unit: Unit, digits: &[u8]) -> Option<Period>
+fn numbered_in(unit: TimeUnit, digits: &[u8]) -> Option<Period>
     ensures { result ≡ numbered_in_of unit digits.now }
 {
     let number = numeral(digits)?;
@@ -105,11 +105,11 @@ pub fn period_named(text: &[u8]) -> Option<Period>
     ensures { result ≡ period_of text.now }
 {
     if let Some(digits) = front_before(b"ms", text) {
-        return numbered_in(Unit::Milliseconds, digits);
+        return numbered_in(TimeUnit::Milliseconds, digits);
     }
     if let Some(digits) = front_before(b"us", text) {
-        return numbered_in(Unit::Microseconds, digits);
+        return numbered_in(TimeUnit::Microseconds, digits);
     }
     let digits = front_before(b"s", text)?;
-    numbered_in(Unit::Seconds, digits)
+    numbered_in(TimeUnit::Seconds, digits)
 }
