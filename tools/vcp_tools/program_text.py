@@ -118,7 +118,12 @@ def _tells(line: Sequence[Token]) -> bool | None:
     first, behind = line[0], line[1] if len(line) > 1 else None
     if first.upper in OPERATORS and (_is_operand(behind) if behind is not None else first.upper == "NOT"):
         return True
-    return False if first.is_word(*_STATEMENTS) or any(it.is_symbol(":=", ";") for it in line) else None
+    return False if first.is_word(*_STATEMENTS) or any(it.is_symbol(":=", ";") for it in line) or _is_set(line) else None
+
+
+def _is_set(line: Sequence[Token]) -> bool:
+    """Whether a name is followed by `S=` or `R=`, which the standard's Structured Text has."""
+    return any(word.upper in ("S", "R") and sign.is_symbol("=") for word, sign in zip(line[1:], line[2:]))
 
 
 def _is_operand(token: Token) -> bool:
