@@ -1,11 +1,11 @@
 //! The lines of a run. Each call writes one line to a sink and takes no memory. It answers `Failed`
 //! only where the sink's count of faults rose, and then a part of the line is written.
 
-ghost use Rattle.std.specs.Prelude.{map, flat_map};
+ghost use Rattle.std.specs.Prelude.{◌≡◌, ◌<◌, ◌+◌, ℤ, Some, Ok, true, length, slice_get, map, flat_map};
 ghost use Rattle.vcp_base.specs.Stops.{told_stop, told_turn};
 ghost use Rattle.vcp_outside.specs.Written.{WritesTo};
 ghost use Rattle.vcp_outside.specs.Gathering.{IsGathered, GathersTo};
-ghost use Rattle.run_report.specs.Lines.{header_text, row_text, end_text, cause_text, stop_front, stop_text, refused_front, refused_text, place_text, turn_text, AreNamed};
+ghost use Rattle.run_report.specs.Lines.{header_text, row_text, end_text, cause_text, stop_front, stop_text, refused_front, refused_text, place_text, turn_text, value_cell, AreNamed};
 
 use vcp_base::{Columns, Residue, Row, Spot, StopKind, Text, Turns, Words, stop_name};
 use vcp_outside::{Failed, Line, Sink, begin};
@@ -30,12 +30,48 @@ pub fn header_line<O: Sink>(out: &mut O, names: &Columns) -> Result<(), Failed>
 pub fn row_line<O: Sink>(out: &mut O, cycle: u32, row: &Row) -> Result<(), Failed>
     ensures { WritesTo (O.seen out.old) (O.seen out.new) (row_text cycle row.now) result }
 {
-    let mut line = begin(out, b"", cycle);
+    let mut line = Line::new();
+    line.count(out, cycle as u64);
+    let mut told = 0;
     'cells: for i in 0..row.len() {
-        line.text(out, b",");
-        line.value(out, row.at(i));
+        told = then_cell(&mut line, out, row, i, told)?;
+    }
+    if !are_all(row, told) {
+        return Err(Failed);
     }
     line.end(out)
+}
+
+// Goes on with the value at a place of a row, and answers how many values are told then. They are counted apart from the
+// places, in a function of its own, since a compiler makes one of two counters that go together. The two never differ, says
+// the proof; where the processor erred, they may, and then the line fails as one that can't be written.
+#[inline(never)]
+fn then_cell<O: Sink>(
+    line: &mut Line,
+    out: &mut O,
+    row: &Row,
+    i: usize,
+    told: usize,
+) -> Result<usize, Failed>
+    requires place { i < length row.now }
+    requires told { told ≡ i }
+    ensures gathers { (value : ℤ) → slice_get row.now i ≡ Some value → GathersTo (O.seen out.old) (O.seen out.new) line.old line.new (value_cell value) }
+    ensures told { result ≡ Ok (i + 1) }
+{
+    if told != i || i >= row.len() {
+        return Err(Failed);
+    }
+    line.mark(out, b',');
+    line.value(out, row.at(i));
+    Ok(told + 1)
+}
+
+// Whether so many values are all of a row, whose length is looked at anew.
+#[inline(never)]
+fn are_all(row: &Row, told: usize) -> bool
+    ensures { told ≡ length row.now → result ≡ true }
+{
+    told == row.len()
 }
 
 /// Writes the end of a run over all its rows, with their number. After `Failed` a part of the line is

@@ -1,6 +1,6 @@
 //! A line on its way to a sink.
 
-ghost use Rattle.std.specs.Prelude.{◌≡◌, ◌+◌, ◌≤◌, true, ℕ, List, [], ◌++◌, Option, length, decimal, codes, IsErr, OnErr};
+ghost use Rattle.std.specs.Prelude.{◌≡◌, ◌+◌, ◌≤◌, true, ℕ, List, [], ◌∷◌, ◌++◌, Option, length, decimal, codes, IsErr, OnErr};
 ghost use Rattle.std.specs.Fmt.{signed_decimal};
 ghost use Rattle.vcp_outside.specs.Written.{Writes};
 ghost use Rattle.vcp_outside.specs.Gathering.{IsGathered, GathersTo, EndsAt};
@@ -88,14 +88,15 @@ impl Line {
         }
     }
 
-    // Looks once more at a number, whose digits stand from this place on: what differs counts as a write that failed, so that
-    // nothing more of the line goes out. It never differs, says the proof; where the processor erred, it may.
-    fn look_again(&mut self, at: usize, digits: &[u8])
+    // Looks once more at a piece, which stands from this place on: what differs counts as a write that failed, so that nothing
+    // more of the line goes out. It never differs, says the proof; where the processor erred, it may. Numbers and marks are made
+    // anew for it.
+    fn look_again(&mut self, at: usize, piece: &[u8])
         requires place { at ≤ ROOM }
-        requires digits { at + length digits.now ≤ ROOM → EndsAt self.old.pending at digits.now }
+        requires piece { at + length piece.now ≤ ROOM → EndsAt self.old.pending at piece.now }
         ensures { self.new ≡ self.old }
     {
-        if at + digits.len() <= ROOM && !self.ends_at(at, digits) {
+        if at + piece.len() <= ROOM && !self.ends_at(at, piece) {
             self.so_far = Err(Failed);
         }
     }
@@ -106,6 +107,19 @@ impl Line {
         ensures { EndsAt self.now.pending at piece.now → result ≡ true }
     {
         self.pending.len() == at + piece.len() && self.pending.as_slice().ends_with(piece)
+    }
+
+    /// Goes on with one byte.
+    pub fn mark<O: Sink>(&mut self, out: &mut O, byte: u8)
+        ensures gathers { GathersTo (O.seen out.old) (O.seen out.new) self.old self.new (byte ∷ []) }
+        ensures unwritten { length self.old.pending + 1 ≤ ROOM → out.new ≡ out.old }
+        ensures kept { length self.old.pending + 1 ≤ ROOM → self.new ≡ record self.old { pending = self.old.pending ++ byte ∷ [] } }
+        ensures after_failure { OnErr self.old.so_far (out.new ≡ out.old) }
+        ensures stays_failed { IsErr self.old.so_far → IsErr self.new.so_far }
+    {
+        let at = self.pending.len();
+        self.text(out, &[byte]);
+        self.look_again(at, &[byte]);
     }
 
     /// Goes on with a number in decimal digits.
@@ -155,7 +169,7 @@ impl Line {
         ensures after_failure { OnErr self.so_far (out.new ≡ out.old) }
         ensures stays_failed { IsErr self.so_far → IsErr result }
     {
-        self.text(out, b"\n");
+        self.mark(out, b'\n');
         self.flush(out);
         self.so_far
     }

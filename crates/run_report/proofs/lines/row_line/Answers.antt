@@ -1,23 +1,31 @@
-use Rattle.std.proofs.Common.{◌≡◌, rules, arith, append_assoc, decimal, take, w64}
-use mir.Val.{SFits}
-use Rattle.std.proofs.Math.Facts.{to_z-of_z}
+use Rattle.std.proofs.Common.{◌≡◌, ◌<◌, arith, append_assoc, decimal, take, refl, length, pos, ℕ, ◌+◌, ◌∙◌, sym, Result, Ok}
 use Rattle.std.proofs.lemmas.List.{append-nil, take_all}
+use Rattle.std.proofs.lemmas.Option.{slice_get-get_or}
 use Rattle.run_report.specs.Lines.{value_cell}
 use Rattle.run_report.proofs.Texts.{flat_map-next}
 use Rattle.run_report.proofs.lines.row_line.Goals as goal
 
 pub cells-init : goal.cells-init
-cells-init g c = rw append-nil c.begin-line.ensures
+cells-init g c = record {
+  told = refl;
+  gathered = rw append-nil (c.count.ensures.gathers _ _ _ (c.new-line.ensures.begun _ _));
+}
+
+same_count : {E : Type 0} (r : Result ℕ E) (a b : ℕ) → r ≡ Ok a → r ≡ Ok b → a ≡ b
+same_count r a b first second = let both : Ok a ≡ Ok b = sym first ∙ second in cc
 
 pub cells-preserved : goal.cells-preserved
 cells-preserved g c =
-    let fits : SFits w64 c.at.result = search rules in
-    let is = c.value.ensures.gathers _ _ _ (c.text.ensures.gathers _ _ _ c.cells.invariant) in
-    rw (flat_map-next value_cell (decimal c.args.cycle) c.args.row.now c.cells.i c.at.result c.at.ensures)
-    (simp append_assoc (simp append_assoc at (rw (to_z-of_z {w = w64} {z = c.at.result} fits) at is)))
+    let inside : c.cells.i < length c.args.row.now = omega arith in
+    let there = slice_get-get_or c.args.row.now c.cells.i (pos 0) inside in
+    record {
+      told = same_count c.then_cell.result c.in_ok-told.told (c.cells.i + 1) c.in_ok-told.was c.then_cell.ensures.told;
+      gathered = rw (flat_map-next value_cell (decimal c.args.cycle) c.args.row.now c.cells.i _ there)
+          (c.in_ok-told.ensures.gathers _ there _ _ _ c.cells.invariant.gathered);
+    }
 
 pub returns : goal.returns
 returns g c =
     let whole : take c.cells.i c.args.row.now ≡ c.args.row.now = take_all c.cells.i c.args.row.now (omega arith) in
-    let all = rw whole at c.cells.invariant in
+    let all = rw whole at c.cells.invariant.gathered in
     rw append_assoc at (c.end.ensures.writes _ _ _ all)
