@@ -39,7 +39,9 @@ impl<'a> Model for Table<'a> {
     ghost invariant = { λ t. (length t.row ≡ length t.layout.types) × (t.cycle ≤ most_cycles) };
 }
 
-// Reads the row of a cycle, and answers whether there is one.
+// Reads the row of a cycle, and answers whether there is one. It stands apart, so that the addresses of the caller's row and answer
+// are not held in registers while it reads.
+#[inline(never)]
 fn read_row(
     layout: &Layout<'_>,
     records: &mut Records<'_>,
@@ -55,6 +57,7 @@ fn read_row(
     ensures more { IfOk result (λ found. found ≡ true → cycle < most_cycles) }
     ensures end { IfOk result (λ found. found ≡ false
         → (left_from layout.now cycle records.old.left ≡ no_rows layout.now.types None) × (records.new.left ≡ records.old.left)) }
+    ensures ended { IfOk result (λ found. found ≡ false → records.new.ended ≡ true) }
     ensures refusal { IfErr result (λ f. f ≢ RowFault.Memory → left_from layout.now cycle records.old.left ≡ no_rows layout.now.types (Some f)) }
     ensures width { length row.new ≡ length row.old }
 {
@@ -123,7 +126,9 @@ impl<'a> Table<'a> {
                 self.cycle += 1;
                 Ok(true)
             }
-            Ok(false) => Ok(false),
+            // That no row is left is looked at twice. The two agree, says the proof; where the processor erred, they may not.
+            Ok(false) if self.records.ended() => Ok(false),
+            Ok(false) => Err(RowFault::Memory),
             Err(fault) => Err(fault),
         }
     }
