@@ -1,13 +1,13 @@
 //! The call of one operation, from the answers to the earlier ones.
 
-ghost use Rattle.std.specs.Prelude.{◌≡◌, ◌<◌, ◌≤◌, Some, length, slice_get, unsigned_abs};
+ghost use Rattle.std.specs.Prelude.{◌≡◌, ◌<◌, ◌≤◌, Some, true, length, slice_get, unsigned_abs};
 ghost use Rattle.vcp_base.specs.Limits.{most_operations, most_cycles};
 ghost use Rattle.vcp_base.specs.Values.{at};
 ghost use Rattle.coded_unit.specs.Asked.{Asked};
 ghost use Rattle.op_graph.specs.declared.op.Op.{Op as Operation};
 ghost use Rattle.signature_table.specs.Signatures.{IsTableOf};
 ghost use Rattle.coded_machine.specs.Calls.{is_word as is_word_of, word_of as word_of_answer, word_at as word_at_of, operand_word, own_number as own_number_of};
-ghost use Rattle.coded_machine.specs.Calls.{operation_call as call_of_operation, call_of};
+ghost use Rattle.coded_machine.specs.Calls.{operation_call as call_of_operation, call_of, HasOwnNumber};
 ghost use Rattle.coded_machine.specs.Runs.{setting_at};
 
 use coded_unit::{Answer, Call, Word};
@@ -131,6 +131,21 @@ fn own_number(op: &Op, input: i64) -> i64
     match op.kind {
         Kind::Input => input,
         _ => op.imm,
+    }
+}
+
+/// Whether the call of an INPUT or a CONST has its number, which is read anew. It has, says the proof; where the
+/// processor erred, it may not.
+#[inline(always)]
+pub(crate) fn has_own_number(graph: &Graph, row: &Row, call: &Call) -> bool
+    requires { HasOwnNumber graph.now row.now call.now }
+    ensures { result ≡ true }
+{
+    let op = graph.operation(call.op);
+    match op.kind {
+        Kind::Input => call.imm == input_at(row, op.imm.unsigned_abs()),
+        Kind::Const => call.imm == op.imm,
+        _ => true,
     }
 }
 

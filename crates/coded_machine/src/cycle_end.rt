@@ -36,6 +36,13 @@ pub enum CycleEnd {
     },
 }
 
+/// The end where the processor is seen to have erred: a refusal. No cycle ends so, says the proof.
+pub(crate) const ERRED: CycleEnd = CycleEnd::Refused {
+    output: 0,
+    found: 0,
+    expected: 0,
+};
+
 /// How a cycle with these answers ends. Where it isn't halted all are words. With `call_after`, `first_words`
 /// and `store_words` a cycle can be carried without a machine.
 pub fn end_of_answers(

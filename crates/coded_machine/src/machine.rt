@@ -1,22 +1,22 @@
 //! The machine: its registers, its coded memory and its checker.
 
-ghost use Rattle.std.specs.Prelude.{◌≡◌, ◌≢◌, ◌<◌, ◌≤◌, ◌+◌, ◌↔◌, ◌++◌, ◌∷◌, ◌-◌, ◌^◌, [], false, cond, None, Some, IsNone, IsSome, IfSome, IfOk, length};
+ghost use Rattle.std.specs.Prelude.{◌≡◌, ◌≢◌, ◌<◌, ◌≤◌, ◌+◌, ◌↔◌, ◌++◌, ◌∷◌, ◌-◌, ◌^◌, [], true, false, cond, None, Some, IsNone, IsSome, IfSome, IfOk, length};
 ghost use Rattle.std.specs.Prelude.{slice_get, vec_capacity};
 ghost use Rattle.vcp_base.specs.Limits.{most_cycles};
 ghost use Rattle.coded_unit.specs.Asked.{Asked};
 ghost use Rattle.op_graph.specs.GraphRun.{initial};
 ghost use Rattle.signature_table.specs.Signatures.{stamp_before, IsTableOf};
-ghost use Rattle.coded_machine.specs.Calls.{call_of, CallsNextOperation, Next, Whole};
-ghost use Rattle.coded_machine.specs.CycleEnds.{end_of, end_or, first_outside, Accepted, Cause};
+ghost use Rattle.coded_machine.specs.Calls.{call_of, CallsNextOperation, HasOwnNumber, Next, Whole};
+ghost use Rattle.coded_machine.specs.CycleEnds.{end_of, end_or, first_outside, outputs_of, Accepted, Cause};
 ghost use Rattle.coded_machine.specs.Honest.{CellsHold, FollowsFromCells};
 ghost use Rattle.coded_machine.specs.Runs.{CarriedCycle, Turn};
 ghost use Rattle.coded_machine.specs.State.{fresh, given as given_of, setting, Awaits, Finished, with_answer, with_answers, after_end, row_after, word_in};
 ghost use Rattle.coded_machine.specs.declared.cycle_end.CycleEnd.TheVariants.{Released};
 
-use crate::calling::{Setting, call_after, is_word};
-use crate::cycle_end::{CycleEnd, end_of_answers, is_released};
+use crate::calling::{Setting, call_after, has_own_number, is_word};
+use crate::cycle_end::{CycleEnd, ERRED, end_of_answers, is_released};
 use crate::laws::right_answers_stand_for_values;
-use crate::releasing::{first_words, set_outputs, store_words};
+use crate::releasing::{first_words, has_outputs, set_outputs, store_words};
 use coded_unit::{Answer, Call, Unit, Word};
 use op_graph::{Graph, Op};
 use signature_table::Table;
@@ -144,6 +144,7 @@ impl<'a> Machine<'a> {
         ensures next { IfSome result (λ call. Next (setting self.now row.now) (given_of self.now) call) }
         ensures call { IfSome result (λ call. CallsNextOperation (setting self.now row.now) (given_of self.now) call) }
         ensures asked { IfSome result (λ call. Asked call) }
+        ensures own { IfSome result (λ call. HasOwnNumber self.now.graph row.now call) }
     {
         match self.pending() {
             Some(op) => Some(self.call(row, &op)),
@@ -226,9 +227,24 @@ impl<'a> Machine<'a> {
         ensures cycles { self.new.cycles ≤ self.old.cycles + 1 }
         ensures width { length out.new ≡ length out.old }
     {
-        match self.ended {
+        // A field is read, so that the proof knows what holds of every machine.
+        let _answers = &self.answers;
+        match self.repeated() {
             Some(end) => end,
             None => self.conclude(out),
+        }
+    }
+
+    /// The end that is repeated, if there is one. It is no release, says the proof; where the processor erred,
+    /// one may be read here, and it is refused, since nothing was set for it.
+    #[inline(always)]
+    fn repeated(&self) -> Option<CycleEnd>
+        ensures end { result ≡ self.now.ended }
+        ensures closed { IfSome result (λ e. (e ≢ Released) × (self.now.under_way ≡ false)) }
+    {
+        match self.ended {
+            Some(CycleEnd::Released) => Some(ERRED),
+            ended => ended,
         }
     }
 
@@ -244,29 +260,44 @@ impl<'a> Machine<'a> {
     {
         let given = given(self.under_way, &self.answers);
         let end = end_of_answers(self.graph, self.table, self.cycles, given, self.halted);
-        if is_released(&end) {
-            self.release(out);
-        } else {
+        if !is_released(&end) {
             self.close(&end);
+        } else if !self.release(out) {
+            return ERRED;
         }
         end
     }
 
-    /// Releases the outputs, stores the cells and counts the cycle.
-    fn release(&mut self, out: &mut Row)
+    /// Releases the outputs, stores the cells and counts the cycle. It answers whether the row has the values of the outputs'
+    /// words, which are looked at once more. It has, says the proof; where the processor erred, it may not.
+    fn release(&mut self, out: &mut Row) -> bool
         requires cycle { self.old.cycles < most_cycles }
         requires going { self.old.ended ≡ None }
         requires inside { first_outside self.old.graph.profile (given_of self.old) self.old.graph.outputs ≡ None }
         requires out { length out.old ≡ length self.old.graph.outputs }
+        ensures sure { result ≡ true }
         ensures machine { self.new ≡ after_end self.old Released }
         ensures out { out.new ≡ row_after self.old Released out.old }
     {
-        let given = given(self.under_way, &self.answers);
-        set_outputs(self.graph, given, out);
-        store_words(self.graph, given, &mut self.held);
+        set_outputs(self.graph, given(self.under_way, &self.answers), out);
+        if !self.has_set(out) {
+            return false;
+        }
+        let stored = given(self.under_way, &self.answers);
+        store_words(self.graph, stored, &mut self.held);
         self.cycles += 1;
         self.under_way = false;
         self.halted = false;
+        true
+    }
+
+    /// Whether the row has the values of the outputs. Answers and words are looked for anew, in a function of its own.
+    #[inline(never)]
+    fn has_set(&self, out: &Row) -> bool
+        requires { out.now ≡ outputs_of self.now.graph (given_of self.now) }
+        ensures { result ≡ true }
+    {
+        has_outputs(self.graph, given(self.under_way, &self.answers), out)
     }
 
     /// Keeps an end that is no release, which is repeated from then on.
@@ -315,19 +346,25 @@ impl<'a> Machine<'a> {
         ensures honest { self.old.ended ≡ None → (U.seen unit.new).wrong ≡ (U.seen unit.old).wrong → (U.seen unit.old).wrong < 2 ^ 64 - 1
             → FollowsFromCells self.old self.new row.now result out.new }
     {
-        if let Some(end) = self.ended {
+        // A field is read, so that the proof knows what holds of every machine.
+        let _answers = &self.answers;
+        if let Some(end) = self.repeated() {
             return end;
         }
         right_answers_stand_for_values();
-        self.carry(unit, row);
+        if !self.carry(unit, row) {
+            return ERRED;
+        }
         self.end(out)
     }
 
-    /// Carries the calls of a cycle through a unit, up to the first answer that is no word.
-    fn carry<U: Unit>(&mut self, unit: &mut U, row: &Row)
+    /// Carries the calls of a cycle through a unit, up to the first answer that is no word. It answers whether each
+    /// call of an INPUT or a CONST had its number. Each has, says the proof; where the processor erred, it may not.
+    fn carry<U: Unit>(&mut self, unit: &mut U, row: &Row) -> bool
         requires cycle { self.old.cycles < most_cycles }
         requires between { self.old.under_way ≡ false }
         requires going { self.old.ended ≡ None }
+        ensures sure { result ≡ true }
         ensures given { given_of self.new ≡ self.new.answers }
         ensures whole { Whole self.old.graph.operations self.new.answers }
         ensures carried { CarriedCycle self.old self.new row.now (U.seen unit.old).log (U.seen unit.new).log (U.seen unit.old).wrong (U.seen unit.new).wrong }
@@ -335,10 +372,15 @@ impl<'a> Machine<'a> {
     {
         // A field is read, so that the proof knows what holds of every machine.
         let _answers = &self.answers;
+        let graph = self.graph();
         'calls: while let Some(call) = self.next_call(row) {
             let answer = unit.perform(&call);
             self.put(answer);
+            if !has_own_number(graph, row, &call) {
+                return false;
+            }
         }
+        true
     }
 }
 

@@ -1,6 +1,6 @@
 //! What a release sets: the row of outputs and the words of the cells.
 
-ghost use Rattle.std.specs.Prelude.{◌≡◌, ◌<◌, ◌≤◌, ◌++◌, ◌∷◌, None, IfOk, length, slice_set, FitsSigned};
+ghost use Rattle.std.specs.Prelude.{◌≡◌, ◌<◌, ◌≤◌, ◌++◌, ◌∷◌, None, true, IfOk, length, slice_set, FitsSigned};
 ghost use Rattle.std.specs.Int.{w64};
 ghost use Rattle.coded_unit.specs.Words.{value_part, coded};
 ghost use Rattle.op_graph.specs.Rules.{IsGraph};
@@ -12,7 +12,7 @@ use coded_unit::{Answer, Word};
 use op_graph::{Cell, Graph, entries_keep_their_rules};
 use signature_table::Table;
 use std::alloc::Global;
-use vcp_base::{Memory, Row};
+use vcp_base::{Memory, Profile, Row};
 
 /// Sets the row to the values of the outputs, which are in their types.
 pub(crate) fn set_outputs(graph: &Graph, answers: &[Answer], out: &mut Row)
@@ -33,6 +33,32 @@ fn set_output(graph: &Graph, out: &mut Row, i: u32, word: Word)
     ensures { out.new ≡ slice_set out.old i (value_part graph.now.profile word) }
 {
     out.set(i, word.split(graph.profile()).0 as i64);
+}
+
+/// Whether a word has this value.
+#[inline(always)]
+fn has_value(profile: Profile, word: Word, value: i64) -> bool
+    ensures { value ≡ value_part profile word → result ≡ true }
+{
+    word.split(profile).0 == value as i128
+}
+
+/// Whether the row has the values of the outputs' words, which are split anew.
+pub(crate) fn has_outputs(graph: &Graph, answers: &[Answer], out: &Row) -> bool
+    requires { out.now ≡ outputs_of graph.now answers.now }
+    ensures { result ≡ true }
+{
+    'outputs: for i in 0..graph.outputs() {
+        let outlet = graph.output(i);
+        if !has_value(
+            graph.profile(),
+            word_at(answers, outlet.op),
+            out.at(i as usize),
+        ) {
+            return false;
+        }
+    }
+    true
 }
 
 /// Sets the words of the cells to those that their STOREs answered.

@@ -28,7 +28,7 @@ pub release-requires-clause-inside : goal.release-requires-clause-inside
 release-requires-clause-inside c =
     let answers = c.given-given.result.now in
     let none = scans_none c.self.inside.graph.now c.self.inside.table.now c.self.inside.cycles answers
-    (sym c.end_of_answers-end.ensures ∙ c.is_released.ensures.yes c.if-is_released.true) in
+    (sym c.end_of_answers-end.ensures ∙ c.is_released.ensures.yes c.if-not-is_released.false) in
     let same : answers ≡ cond c.self.inside.under_way c.self.inside.answers.items [] = c.given-given.ensures
     ∙ ap (λ xs. cond c.self.inside.under_way xs []) c.deref.ensures.value in
     subst (λ (m : State). first_outside m.graph.profile (given m) m.graph.outputs ≡ None) c.self.view_is

@@ -12,7 +12,7 @@ use Rattle.coded_machine.proofs.machine.Machine.end.Goals as goal
 pub returns-in-None-clause-accepted : goal.returns-in-None-clause-accepted
 returns-in-None-clause-accepted c =
     let m : State = c.args.self.now in
-    let going : m.ended ≡ None = sym (ap (λ (s : State). s.ended) c.self.view_is) ∙ c.in-None.is in
+    let going : m.ended ≡ None = sym c.repeated.ensures.end ∙ c.in-None.is in
     let is = c.conclude.ensures.end in (
       λ e. (going, released_is_accepted m.graph m.table m.cycles (given m) (finished_whole m going c.requires.finished) (sym is ∙ e)),
       λ h. is ∙ accepted_is_released m.graph m.table m.cycles (given m) h.1,
