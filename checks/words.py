@@ -15,7 +15,7 @@ TOP = Path(__file__).resolve().parent.parent
 MADE = "CLAUSES.md"
 
 PHRASES = {
-    r"stands": 40, r"(?:is|are|was|were|be) told": 2, r"comes to (?!rest\b|the end\b)": 0, r"through (?:all )?its refusals": 0,
+    r"stands": 40, r"(?:is|are|was|were|be) told": 0, r"comes to (?!rest\b|the end\b)": 0, r"through (?:all )?its refusals": 0,
     r"shows there, but for": 0, r"nothing is driven": 0, r"writes none but the rows": 0, r"[Nn]ot seen is whatever": 0, r"comes to something": 0,
     r"carried at all is by reading": 0, r"lack of a new line": 0, r"[Ww]hat stands of": 0, r"in silence": 0,
 }

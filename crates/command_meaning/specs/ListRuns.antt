@@ -1,4 +1,4 @@
--- ListRuns: what is told of an instruction list: its run on the accumulator, by its typed program and by the image that is written for it.
+-- ListRuns: the run of an instruction list on the accumulator, by its typed program and by the image that is written for it.
 use Rattle.std.specs.Prelude.{◌≡◌, ℕ, ℤ, List, map}
 use Rattle.op_graph.specs.Lists.{Lists, column, output_column}
 use Rattle.flat_expr.specs.Told.{told_graph, told_source}
@@ -17,11 +17,11 @@ pub record HasListColumns : Type 0 where
   pub outputs : (i : Il) → output_columns (typed_il i).slots ≡ output_columns i.slots
   pub types : (i : Il) → input_types (typed_il i).slots ≡ input_types i.slots
 
--- the typed program of a list is told as the list on the accumulator
+-- the run of a list's typed program gives what the list gives on the accumulator
 abbrev pub ListsAreTold : Type 0
 ListsAreTold = (text : List ℕ) (i : Il) (rows : List (List ℤ)) → IsIl text i → told_source (typed_il i) rows ≡ told_listed i rows
 
--- a graph has the list's inputs and outputs, and over all rows that fit its run is told as that of the list on the accumulator
+-- a graph has the list's inputs and outputs, and over all rows that fit its run gives what the list gives on the accumulator
 pub record RunsAsList (i : Il) (g : Lists) : Type 0 where
   pub inputs : map (column g.names) g.inputs ≡ input_columns i.slots
   pub outputs : map (output_column g.names) g.outputs ≡ output_columns i.slots

@@ -15,8 +15,8 @@ pub fn endings_have_causes()
     ensures given_up { GivingUpHasCauses }
 {}
 
-/// The typed program of an instruction list has the list's inputs and outputs, and its run is told as the list's on the
-/// accumulator. So is, over all rows that fit, the run of the graph of each image that is written for it. It does nothing: it states laws.
+/// The typed program of an instruction list has the list's inputs and outputs, and its run gives what the list gives on the
+/// accumulator. So does, over all rows that fit, the run of the graph of each image that is written for it. It does nothing: it states laws.
 pub fn lists_are_told()
     ensures columns { HasListColumns }
     ensures told { ListsAreTold }
