@@ -16,7 +16,7 @@ use Rattle.op_graph.specs.declared.op.Op.{Op}
 use Rattle.op_graph.specs.Rules.{Each, Operates, PlaceFits, Admitted, operand_fits, turn_fits}
 use Rattle.op_graph.specs.declared.rules.Entry.{Entry}
 use Rattle.image_file.proofs.Entries.{each_more, eqb_self}
-use Rattle.image_file.specs.Image.{Said, op_by, op_piece, corrected}
+use Rattle.image_file.specs.Image.{Said, op_by, op_piece, corrected, op_number, op_operands}
 use Rattle.image_file.specs.Codes.{correction_width}
 use Rattle.image_file.proofs.Kept.{each_with_all}
 
@@ -52,7 +52,7 @@ Sized p op = PlaceFits op.spot × FitsSigned w64 op.imm × Admitted p op
 
 pub operations_fit : (s : Said) (ops : List Op) → length ops ≤ most_operations → s.turn_nodes ≤ most_turn_nodes → All (Sized s.profile) ops
     → Each (Operates s.scope s.turn_nodes) [] ops → Each (λ b. (op_piece s b).fits) [] ops
-unfolding op_by corrected
+unfolding op_by op_operands op_number corrected
 operations_fit s ops few turns sized h =
     each_more (λ b o. Operates s.scope s.turn_nodes b o × Sized s.profile o) (λ b. (op_piece s b).fits) (length ops) [] ops (omega arith) (λ b o lt r.
     let f = r.0 in

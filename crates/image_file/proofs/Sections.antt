@@ -27,7 +27,7 @@ use Rattle.image_file.specs.declared.fields.fault.FieldFault.TheVariants.{Versio
 use Rattle.image_file.specs.Codes.{version_code, version_of, correction_width, type_of, kind_of}
 use Rattle.image_file.specs.Fields.{Anything, Is16, Is32, number16, number32, number, signed, type_field, kind_field, operand, residue, version_field}
 use Rattle.image_file.specs.Entries.{rises, name_fits, name_by, lower, name_piece, input_piece, output_piece, cell_piece, turn_piece}
-use Rattle.image_file.specs.Image.{Head, counts_piece, head_piece, Said, op_of, correction_of, corrected, op_by, op_piece, said, head_with, head_of, parts_with, image_piece}
+use Rattle.image_file.specs.Image.{Head, counts_piece, head_piece, Said, op_of, correction_of, corrected, op_by, op_piece, said, head_with, head_of, parts_with, image_piece, entry_counts, later_counts, magic_end, op_number, op_operands, later_lists}
 use Rattle.image_file.proofs.PieceLaws.{Lawful, before_law, whole_law, fixed_law, byte_law, field_law, text_law, listed_law, Codes, IsWide, wide16, wide32, wide64}
 
 kind_stands : (n : ℕ) (a : Kind) → kind_of n ≡ Some a → kind_code a ≡ n
@@ -300,7 +300,7 @@ head_is p p' step step' seed seed' names names' inputs inputs' outputs outputs' 
     ∙ ap (λ x. head_with p' step' seed' names' inputs' outputs' cells' turn_nodes' x) e8
 
 counts_law : Lawful Anything counts_piece
-unfolding counts_piece
+unfolding counts_piece entry_counts later_counts
 counts_law =
     before_law Anything _ (λ h. h.profile) _ version_law (λ p hp.
     before_law _ _ _ _ (law16 (λ n. nat_le 1 n && nat_le n most_step) (λ left n. Field left)) (λ step hstep.
@@ -321,7 +321,7 @@ counts_law =
     meant.0.0.0.0.0.1 meant.0.0.0.0.1 meant.0.0.0.1 meant.0.0.1 meant.0.1 meant.1))))))))))
 
 pub head_law : Lawful Anything head_piece
-unfolding head_piece
+unfolding head_piece magic_end
 head_law = fixed_law _ _ _
     (fixed_law _ _ _ (fixed_law _ _ _ (fixed_law _ _ _ (fixed_law _ _ _ (fixed_law _ _ _ (fixed_law _ _ _ (fixed_law _ _ _ counts_law)))))))
 
@@ -339,7 +339,7 @@ op_is k k' from from' to to' a a' b b' c c' imm imm' line line' col col' turn tu
     ∙ ap (λ x. op_with k' from' to' a' b' c' imm' line' x turn) e8 ∙ ap (λ x. op_with k' from' to' a' b' c' imm' line' col' x) e9
 
 op_by_law : (p : Place) (s : Said) (earlier : List Op) → Lawful Anything (op_by p s earlier)
-unfolding op_by corrected
+unfolding op_by op_operands op_number corrected
 op_by_law p s earlier =
     before_law Anything _ _ _ (kind_law (kind_fits p)) (λ k hk.
     before_law _ _ _ _ (type_law s.profile (from_fits (entry_of p k) k)) (λ from hfrom.
@@ -380,7 +380,7 @@ parts_is p p' step step' seed seed' names names' inputs inputs' outputs outputs'
     ∙ ap (λ x. parts_with p' step' seed' names' inputs' outputs' cs' turn_nodes' x) e8
 
 pub image_law : Lawful Anything image_piece
-unfolding image_piece
+unfolding image_piece later_lists
 image_law =
     before_law Anything _ head_of _ head_law (λ h hh.
     before_law _ _ _ _ (listed_law h.names name_piece name_law) (λ ns hns.

@@ -49,22 +49,36 @@ head_with p step seed names inputs outputs cells turn_nodes operations = record 
   operations = operations;
 }
 
+-- cells, turn nodes and operations, of which there are at least as many as inputs, outputs and cells need
+unfoldable pub later_counts : Profile → ℕ → ℕ → ℕ → ℕ → ℕ → FormatPiece Head
+later_counts p step seed names inputs outputs =
+    before (number (λ n. nat_le n most_cells)) (λ h. h.cells) (λ cells.
+    before (number (λ n. nat_le n most_turn_nodes)) (λ h. h.turn_nodes) (λ turn_nodes.
+    before (number (λ n. nat_le (inputs + outputs + 2 * cells) n && nat_le n most_operations)) (λ h. h.operations) (λ operations.
+    whole (head_with p step seed names inputs outputs cells turn_nodes operations))))
+
+-- names, inputs and outputs, and then the others
+unfoldable pub entry_counts : Profile → ℕ → ℕ → FormatPiece Head
+entry_counts p step seed =
+    before (number (λ n. nat_le n most_names)) (λ h. h.names) (λ names.
+    before (number (λ n. nat_le n most_names)) (λ h. h.inputs) (λ inputs.
+    before (number (λ n. nat_le n most_names)) (λ h. h.outputs) (λ outputs.
+    later_counts p step seed names inputs outputs)))
+
 unfoldable pub counts_piece : FormatPiece Head
 counts_piece =
     before version_field (λ h. h.profile) (λ p.
     before (number16 (λ n. nat_le 1 n && nat_le n most_step) (λ left n. Field left)) (λ h. h.step) (λ step.
     before (number (λ n. nat_lt n seeds)) (λ h. h.seed) (λ seed.
-    before (number (λ n. nat_le n most_names)) (λ h. h.names) (λ names.
-    before (number (λ n. nat_le n most_names)) (λ h. h.inputs) (λ inputs.
-    before (number (λ n. nat_le n most_names)) (λ h. h.outputs) (λ outputs.
-    before (number (λ n. nat_le n most_cells)) (λ h. h.cells) (λ cells.
-    before (number (λ n. nat_le n most_turn_nodes)) (λ h. h.turn_nodes) (λ turn_nodes.
-    before (number (λ n. nat_le (inputs + outputs + 2 * cells) n && nat_le n most_operations)) (λ h. h.operations) (λ operations.
-    whole (head_with p step seed names inputs outputs cells turn_nodes operations))))))))))
+    entry_counts p step seed)))
+
+-- `NBD` and a line feed, and the rest of the head
+unfoldable pub magic_end : FormatPiece Head
+magic_end = fixed 78 (fixed 66 (fixed 68 (fixed 10 counts_piece)))
 
 -- `VCPANBD` and a line feed, and the rest of the head
 unfoldable pub head_piece : FormatPiece Head
-head_piece = fixed 86 (fixed 67 (fixed 80 (fixed 65 (fixed 78 (fixed 66 (fixed 68 (fixed 10 counts_piece)))))))
+head_piece = fixed 86 (fixed 67 (fixed 80 (fixed 65 magic_end)))
 
 -- ---- operations
 
@@ -91,19 +105,29 @@ correction_of s earlier op = correction s.profile s.seed s.step (length earlier)
 unfoldable pub corrected : Said → List Op → Op → FormatPiece Op
 corrected s earlier op = before (residue s.profile (correction_of s earlier op)) (λ o. correction_of s earlier o) (λ n. whole op)
 
+-- the number, the place and the turn of an operation
+unfoldable pub op_number : Place → Said → List Op → Kind → Ty → Ty → ℕ → ℕ → ℕ → FormatPiece Op
+op_number p s earlier k from to a b c =
+    before (signed (imm_fits (entry_of p k) k to)) (λ o. o.imm) (λ imm.
+    before (number (λ n. true)) (λ o. o.spot.line) (λ line.
+    before (number (λ n. true)) (λ o. o.spot.col) (λ col.
+    before (number (turn_fits (entry_of p k) s.turn_nodes)) (λ o. o.turn) (λ turn.
+    corrected s earlier (op_of k from to a b c imm line col turn)))))
+
+-- its operands, and then these
+unfoldable pub op_operands : Place → Said → List Op → Kind → Ty → Ty → FormatPiece Op
+op_operands p s earlier k from to =
+    before (operand (operand_fits earlier (reads_as k from 0))) (λ o. o.a) (λ a.
+    before (operand (operand_fits earlier (reads_as k from 1))) (λ o. o.b) (λ b.
+    before (operand (operand_fits earlier (reads_as k from 2))) (λ o. o.c) (λ c.
+    op_number p s earlier k from to a b c)))
+
 unfoldable pub op_by : Place → Said → List Op → FormatPiece Op
 op_by p s earlier =
     before (kind_field (kind_fits p)) (λ o. o.kind) (λ k.
     before (type_field s.profile (from_fits (entry_of p k) k)) (λ o. o.from) (λ from.
     before (type_field s.profile (ty_fits k from)) (λ o. o.ty) (λ to.
-    before (operand (operand_fits earlier (reads_as k from 0))) (λ o. o.a) (λ a.
-    before (operand (operand_fits earlier (reads_as k from 1))) (λ o. o.b) (λ b.
-    before (operand (operand_fits earlier (reads_as k from 2))) (λ o. o.c) (λ c.
-    before (signed (imm_fits (entry_of p k) k to)) (λ o. o.imm) (λ imm.
-    before (number (λ n. true)) (λ o. o.spot.line) (λ line.
-    before (number (λ n. true)) (λ o. o.spot.col) (λ col.
-    before (number (turn_fits (entry_of p k) s.turn_nodes)) (λ o. o.turn) (λ turn.
-    corrected s earlier (op_of k from to a b c imm line col turn)))))))))))
+    op_operands p s earlier k from to)))
 
 -- an operation after others, which is this by the other lists
 abbrev pub op_piece : Said → List Op → FormatPiece Op
@@ -164,16 +188,21 @@ parts_with p step seed names inputs outputs cs turn_nodes operations = record {
   operations = operations;
 }
 
+-- outputs, cells, turn nodes and operations, behind names and inputs
+unfoldable pub later_lists : Head → List (List ℕ) → List Var → FormatPiece Parts
+later_lists h names inputs =
+    before (listed h.outputs (output_piece h.profile h.names h.operations)) (λ p. p.outputs) (λ outputs.
+    before (listed h.cells (cell_piece h.profile h.names h.operations)) (λ p. p.cells) (λ cs.
+    before (listed h.turn_nodes (turn_piece h.names)) (λ p. p.turn_nodes) (λ turn_nodes.
+    before (listed h.operations (op_piece (said h.profile h.seed h.step inputs outputs cs h.turn_nodes))) (λ p. p.operations) (λ operations.
+    whole (parts_with h.profile h.step h.seed names inputs outputs cs turn_nodes operations)))))
+
 unfoldable pub image_piece : FormatPiece Parts
 image_piece =
     before head_piece head_of (λ h.
     before (listed h.names name_piece) (λ p. p.names) (λ names.
     before (listed h.inputs (input_piece h.profile h.names)) (λ p. p.inputs) (λ inputs.
-    before (listed h.outputs (output_piece h.profile h.names h.operations)) (λ p. p.outputs) (λ outputs.
-    before (listed h.cells (cell_piece h.profile h.names h.operations)) (λ p. p.cells) (λ cs.
-    before (listed h.turn_nodes (turn_piece h.names)) (λ p. p.turn_nodes) (λ turn_nodes.
-    before (listed h.operations (op_piece (said h.profile h.seed h.step inputs outputs cs h.turn_nodes))) (λ p. p.operations) (λ operations.
-    whole (parts_with h.profile h.step h.seed names inputs outputs cs turn_nodes operations))))))))
+    later_lists h names inputs)))
 
 -- what a graph, a seed and a step have in an image
 abbrev pub parts_of : Lists → ℕ → ℕ → Parts

@@ -4,9 +4,9 @@ ghost use Rattle.std.specs.Prelude.{◌≡◌, ◌≤◌, ◌==◌, ◌&&◌, �
 ghost use Rattle.image_file.specs.declared.fields.fault.FieldFault.TheVariants as fault;
 ghost use Rattle.image_file.specs.Pieces.{GivesExactly, byte_field};
 ghost use Rattle.image_file.specs.Fields.{number, number16, version_field, IsByte};
-ghost use Rattle.image_file.specs.Image.{head_piece, counts_piece};
+ghost use Rattle.image_file.specs.Image.{head_piece, magic_end, counts_piece, entry_counts, later_counts};
 ghost use Rattle.image_file.specs.Codes.{version_of};
-ghost use Rattle.vcp_base.specs.Limits.{most_step, most_operations, most_turn_nodes};
+ghost use Rattle.vcp_base.specs.Limits.{most_step, most_names, most_operations, most_turn_nodes};
 ghost use Rattle.image_file.specs.Views.{head as head_of};
 
 use crate::fields::{FieldFault, at_most_here, below_here, u8_at, u16_at, u32_at};
@@ -90,18 +90,23 @@ fn operations_here(low: u32, bytes: &[u8]) -> Result<(u32, &[u8]), FieldFault>
     }
 }
 
-#[tactic(auto, unfolding(crate::specs::Image::counts_piece))]
-fn counts_here(bytes: &[u8]) -> Result<(Counts, &[u8]), FieldFault>
-    ensures is { GivesExactly (λ x. (head_of x.0, x.1.now)) result (counts_piece.read bytes.now) }
-    ensures below { IfOk result (λ x. (x.0.step ≤ most_step) × (x.0.turn_nodes ≤ most_turn_nodes) × (x.0.operations ≤ most_operations)) }
+/// The numbers of cells, turn nodes and operations at the front, behind the others.
+#[tactic(auto, unfolding(crate::specs::Image::later_counts))]
+fn later_counts_here(
+    profile: Profile,
+    step: u16,
+    seed: u32,
+    names: u32,
+    inputs: u32,
+    outputs: u32,
+    bytes: &[u8],
+) -> Result<(Counts, &[u8]), FieldFault>
+    requires inputs { inputs ≤ most_names }
+    requires outputs { outputs ≤ most_names }
+    ensures is { GivesExactly (λ x. (head_of x.0, x.1.now)) result ((later_counts profile step seed names inputs outputs).read bytes.now) }
+    ensures below { IfOk result (λ x. (x.0.step ≡ step) × (x.0.turn_nodes ≤ most_turn_nodes) × (x.0.operations ≤ most_operations)) }
 {
-    let (profile, rest) = version_here(bytes)?;
-    let (step, rest) = step_here(rest)?;
-    let (seed, rest) = below_here(SEEDS, rest)?;
-    let (names, rest) = at_most_here(MOST_NAMES, rest)?;
-    let (inputs, rest) = at_most_here(MOST_NAMES, rest)?;
-    let (outputs, rest) = at_most_here(MOST_NAMES, rest)?;
-    let (cells, rest) = at_most_here(MOST_CELLS, rest)?;
+    let (cells, rest) = at_most_here(MOST_CELLS, bytes)?;
     let (turn_nodes, rest) = at_most_here(MOST_TURN_NODES, rest)?;
     let (operations, rest) = operations_here(inputs + outputs + 2 * cells, rest)?;
     Ok((
@@ -120,6 +125,47 @@ fn counts_here(bytes: &[u8]) -> Result<(Counts, &[u8]), FieldFault>
     ))
 }
 
+/// The numbers of names, inputs and outputs at the front, and the others.
+#[tactic(auto, unfolding(crate::specs::Image::entry_counts))]
+fn entry_counts_here(
+    profile: Profile,
+    step: u16,
+    seed: u32,
+    bytes: &[u8],
+) -> Result<(Counts, &[u8]), FieldFault>
+    ensures is { GivesExactly (λ x. (head_of x.0, x.1.now)) result ((entry_counts profile step seed).read bytes.now) }
+    ensures below { IfOk result (λ x. (x.0.step ≡ step) × (x.0.turn_nodes ≤ most_turn_nodes) × (x.0.operations ≤ most_operations)) }
+{
+    let (names, rest) = at_most_here(MOST_NAMES, bytes)?;
+    let (inputs, rest) = at_most_here(MOST_NAMES, rest)?;
+    let (outputs, rest) = at_most_here(MOST_NAMES, rest)?;
+    later_counts_here(profile, step, seed, names, inputs, outputs, rest)
+}
+
+#[tactic(auto, unfolding(crate::specs::Image::counts_piece))]
+fn counts_here(bytes: &[u8]) -> Result<(Counts, &[u8]), FieldFault>
+    ensures is { GivesExactly (λ x. (head_of x.0, x.1.now)) result (counts_piece.read bytes.now) }
+    ensures below { IfOk result (λ x. (x.0.step ≤ most_step) × (x.0.turn_nodes ≤ most_turn_nodes) × (x.0.operations ≤ most_operations)) }
+{
+    let (profile, rest) = version_here(bytes)?;
+    let (step, rest) = step_here(rest)?;
+    let (seed, rest) = below_here(SEEDS, rest)?;
+    entry_counts_here(profile, step, seed, rest)
+}
+
+/// The last bytes of the magic at the front, and the rest of the head.
+#[tactic(auto, unfolding(crate::specs::Image::magic_end))]
+fn magic_end_here(bytes: &[u8]) -> Result<(Counts, &[u8]), FieldFault>
+    ensures is { GivesExactly (λ x. (head_of x.0, x.1.now)) result (magic_end.read bytes.now) }
+    ensures below { IfOk result (λ x. (x.0.step ≤ most_step) × (x.0.turn_nodes ≤ most_turn_nodes) × (x.0.operations ≤ most_operations)) }
+{
+    let (_n, rest) = magic_here(78, bytes)?;
+    let (_b, rest) = magic_here(66, rest)?;
+    let (_d, rest) = magic_here(68, rest)?;
+    let (_end, rest) = magic_here(10, rest)?;
+    counts_here(rest)
+}
+
 /// The head at the front.
 #[tactic(auto, unfolding(crate::specs::Image::head_piece))]
 pub(crate) fn head_here(bytes: &[u8]) -> Result<(Counts, &[u8]), FieldFault>
@@ -130,9 +176,5 @@ pub(crate) fn head_here(bytes: &[u8]) -> Result<(Counts, &[u8]), FieldFault>
     let (_c, rest) = magic_here(67, rest)?;
     let (_p, rest) = magic_here(80, rest)?;
     let (_a, rest) = magic_here(65, rest)?;
-    let (_n, rest) = magic_here(78, rest)?;
-    let (_b, rest) = magic_here(66, rest)?;
-    let (_d, rest) = magic_here(68, rest)?;
-    let (_end, rest) = magic_here(10, rest)?;
-    counts_here(rest)
+    magic_end_here(rest)
 }

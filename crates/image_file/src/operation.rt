@@ -7,7 +7,7 @@ ghost use Rattle.signature_table.specs.Signatures.{store_of as store_of_cell};
 ghost use Rattle.image_file.specs.declared.fields.fault.FieldFault.TheVariants as fault;
 ghost use Rattle.image_file.specs.Pieces.{Gives, GivesExactly, listed};
 ghost use Rattle.image_file.specs.Fields.{kind_field, type_field, signed, number, operand};
-ghost use Rattle.image_file.specs.Image.{corrected, op_by, op_piece, correction_of};
+ghost use Rattle.image_file.specs.Image.{corrected, op_by, op_operands, op_number, op_piece, correction_of};
 ghost use Rattle.image_file.specs.Views.{scope_of, said_of, Rising};
 
 use crate::fields::{
@@ -184,6 +184,78 @@ fn corrected_here<'a>(
     }
 }
 
+/// An operation's kind, types and operands.
+#[derive(Clone, Copy)]
+struct Operands {
+    kind: Kind,
+    from: Ty,
+    ty: Ty,
+    a: u32,
+    b: u32,
+    c: u32,
+}
+
+/// The operation with these operands, where its own number, its place, its turn and its correction are at the front.
+#[tactic(auto, unfolding(crate::specs::Image::op_number))]
+fn op_with<'a>(
+    s: &Scope<'_>,
+    p: &Place,
+    earlier: &[Op],
+    of: Operands,
+    bytes: &'a [u8],
+) -> Result<(Op, &'a [u8]), FieldFault>
+    requires step { s.now.step ≤ most_step }
+    requires few { length earlier.now ≤ most_operations }
+    ensures { GivesExactly (λ x. (x.0, x.1.now)) result
+        ((op_number p.now (said_of s.now) earlier.now of.kind of.from of.ty of.a of.b of.c).read bytes.now) }
+{
+    let (imm, rest) = imm_here(p, of.kind, of.ty, bytes)?;
+    let (line, rest) = any_number_here(rest)?;
+    let (col, rest) = any_number_here(rest)?;
+    let (turn, rest) = turn_here(p, of.kind, s.turn_nodes, rest)?;
+    let op = Op {
+        kind: of.kind,
+        from: of.from,
+        ty: of.ty,
+        a: of.a,
+        b: of.b,
+        c: of.c,
+        imm,
+        spot: Spot { line, col },
+        turn,
+    };
+    corrected_here(s, earlier, op, rest)
+}
+
+/// The operation of a kind and types, where its operands and what follows them are at the front.
+#[tactic(auto, unfolding(crate::specs::Image::op_operands))]
+fn op_of_kind<'a>(
+    s: &Scope<'_>,
+    p: &Place,
+    earlier: &[Op],
+    kind: Kind,
+    from: Ty,
+    ty: Ty,
+    bytes: &'a [u8],
+) -> Result<(Op, &'a [u8]), FieldFault>
+    requires step { s.now.step ≤ most_step }
+    requires few { length earlier.now ≤ most_operations }
+    ensures { GivesExactly (λ x. (x.0, x.1.now)) result ((op_operands p.now (said_of s.now) earlier.now kind from ty).read bytes.now) }
+{
+    let (a, rest) = operand_here(earlier, kind, from, 0, bytes)?;
+    let (b, rest) = operand_here(earlier, kind, from, 1, rest)?;
+    let (c, rest) = operand_here(earlier, kind, from, 2, rest)?;
+    let of = Operands {
+        kind,
+        from,
+        ty,
+        a,
+        b,
+        c,
+    };
+    op_with(s, p, earlier, of, rest)
+}
+
 /// The operation at the front, after others, which is this by the other lists.
 #[tactic(auto, unfolding(crate::specs::Image::op_by))]
 fn op_of<'a>(
@@ -199,25 +271,7 @@ fn op_of<'a>(
     let (kind, rest) = kind_here(p, bytes)?;
     let (from, rest) = from_here(s.profile, p, kind, rest)?;
     let (ty, rest) = ty_here(s.profile, kind, from, rest)?;
-    let (a, rest) = operand_here(earlier, kind, from, 0, rest)?;
-    let (b, rest) = operand_here(earlier, kind, from, 1, rest)?;
-    let (c, rest) = operand_here(earlier, kind, from, 2, rest)?;
-    let (imm, rest) = imm_here(p, kind, ty, rest)?;
-    let (line, rest) = any_number_here(rest)?;
-    let (col, rest) = any_number_here(rest)?;
-    let (turn, rest) = turn_here(p, kind, s.turn_nodes, rest)?;
-    let op = Op {
-        kind,
-        from,
-        ty,
-        a,
-        b,
-        c,
-        imm,
-        spot: Spot { line, col },
-        turn,
-    };
-    corrected_here(s, earlier, op, rest)
+    op_of_kind(s, p, earlier, kind, from, ty, rest)
 }
 
 /// That many operations.

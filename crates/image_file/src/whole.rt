@@ -1,10 +1,10 @@
 //! A whole image, read.
 
 ghost use Rattle.std.specs.Prelude.{◌≡◌, ◌≤◌, map, Ok, Err, IfOk};
-ghost use Rattle.vcp_base.specs.Limits.{most_step, most_operations};
+ghost use Rattle.vcp_base.specs.Limits.{most_step, most_operations, most_turn_nodes};
 ghost use Rattle.image_file.specs.Pieces.{Gives, read_all, FaultOf};
-ghost use Rattle.image_file.specs.Image.{load_of, store_of, image_piece};
-ghost use Rattle.image_file.specs.Views.{parts, operations_piece, Rising};
+ghost use Rattle.image_file.specs.Image.{load_of, store_of, image_piece, later_lists};
+ghost use Rattle.image_file.specs.Views.{parts, head as head_of, operations_piece, Rising};
 
 use crate::fields::{FieldFault, ReadError};
 use crate::head::{Counts, head_here};
@@ -87,20 +87,27 @@ fn operations_after<'a>(
     Ok((operations, rest))
 }
 
-#[tactic(auto, unfolding(crate::specs::Image::image_piece))]
-fn whole_of(alloc: Global, bytes: &[u8]) -> Result<(Whole, &[u8]), ReadError>
-    ensures { Gives (λ x. (parts x.0, x.1.now)) result (image_piece.read bytes.now) }
+/// What an image says, with its outputs, cells, turn nodes and operations at the front.
+#[tactic(auto, unfolding(crate::specs::Image::later_lists))]
+fn later_lists_of<'a>(
+    alloc: Global,
+    counts: &Counts,
+    names: Vec<Text>,
+    inputs: Vec<Var>,
+    bytes: &'a [u8],
+) -> Result<(Whole, &'a [u8]), ReadError>
+    requires step { counts.now.step ≤ most_step }
+    requires turn_nodes { counts.now.turn_nodes ≤ most_turn_nodes }
+    requires few { counts.now.operations ≤ most_operations }
+    ensures { Gives (λ x. (parts x.0, x.1.now)) result ((later_lists (head_of counts.now) names.items inputs.items).read bytes.now) }
 {
-    let (counts, rest) = head_here(bytes)?;
-    let (names, rest) = names_of(alloc, counts.names, rest)?;
-    let (inputs, rest) = inputs_of(alloc, counts.profile, counts.names, counts.inputs, rest)?;
     let (outputs, rest) = outputs_of(
         alloc,
         counts.profile,
         counts.names,
         counts.operations,
         counts.outputs,
-        rest,
+        bytes,
     )?;
     let (cells, rest) = cells_of(
         alloc,
@@ -111,7 +118,7 @@ fn whole_of(alloc: Global, bytes: &[u8]) -> Result<(Whole, &[u8]), ReadError>
         rest,
     )?;
     let (turn_nodes, rest) = turns_of(alloc, counts.names, counts.turn_nodes, rest)?;
-    let (operations, rest) = operations_after(alloc, &counts, &inputs, &outputs, &cells, rest)?;
+    let (operations, rest) = operations_after(alloc, counts, &inputs, &outputs, &cells, rest)?;
     Ok((
         Whole {
             profile: counts.profile,
@@ -126,6 +133,16 @@ fn whole_of(alloc: Global, bytes: &[u8]) -> Result<(Whole, &[u8]), ReadError>
         },
         rest,
     ))
+}
+
+#[tactic(auto, unfolding(crate::specs::Image::image_piece))]
+fn whole_of(alloc: Global, bytes: &[u8]) -> Result<(Whole, &[u8]), ReadError>
+    ensures { Gives (λ x. (parts x.0, x.1.now)) result (image_piece.read bytes.now) }
+{
+    let (counts, rest) = head_here(bytes)?;
+    let (names, rest) = names_of(alloc, counts.names, rest)?;
+    let (inputs, rest) = inputs_of(alloc, counts.profile, counts.names, counts.inputs, rest)?;
+    later_lists_of(alloc, &counts, names, inputs, rest)
 }
 
 /// The image, after which no byte is left.

@@ -1,12 +1,12 @@
 use Rattle.std.proofs.Common.{◌++◌, [], ap, ◌∙◌}
 use Rattle.std.specs.Int.{w16, w32, to_be_bytes}
-use Rattle.image_file.specs.Image.{counts_piece}
+use Rattle.image_file.specs.Image.{counts_piece, entry_counts, later_counts}
 use Rattle.image_file.specs.Codes.{version_code}
 use Rattle.image_file.proofs.Appended.{joined, ended}
 use Rattle.image_file.proofs.writing.put_counts.Goals as goal
 
 pub returns : goal.returns
-unfolding counts_piece
+unfolding counts_piece entry_counts later_counts
 returns c =
     joined c.args.out.now.items c.put_u16.new.out.items c.put_u32-7.new.out.items (to_be_bytes w16 (version_code c.args.v.profile))
     ((to_be_bytes w16 c.args.v.step)

@@ -2,13 +2,13 @@ use Rattle.std.proofs.Common.{◌++◌, ◌∷◌, [], ap, ◌∙◌, rules}
 use Rattle.std.proofs.lemmas.Int.{to_z-of_z}
 use Rattle.std.specs.Int.{w32, w64, to_be_bytes, cast_unsigned}
 use Rattle.vcp_base.specs.Spellings.{ty_code, kind_code}
-use Rattle.image_file.specs.Image.{op_by, corrected, correction_of}
+use Rattle.image_file.specs.Image.{op_by, corrected, correction_of, op_number, op_operands}
 use Rattle.image_file.specs.Codes.{correction_width}
 use Rattle.image_file.proofs.Appended.{joined, ended}
 use Rattle.image_file.proofs.writing.put_op.Goals as goal
 
 pub returns : goal.returns
-unfolding op_by corrected
+unfolding op_by op_operands op_number corrected
 returns c = λ s earlier code same.
     joined c.args.out.now.items c.put_kind.new.out.items c.put_residue.new.out.items (kind_code c.args.v.kind ∷ [])
     ((ty_code c.args.v.from ∷ [])

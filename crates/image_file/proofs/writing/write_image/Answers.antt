@@ -3,12 +3,12 @@ use Rattle.op_graph.specs.Lists.{Lists, cells}
 use Rattle.image_file.specs.Pieces.{entries}
 use Rattle.image_file.specs.Views.{head}
 use Rattle.image_file.specs.Entries.{name_piece, input_piece, output_piece, cell_piece, turn_piece}
-use Rattle.image_file.specs.Image.{Parts, image_piece, head_piece, head_of, parts_of, op_piece, said}
+use Rattle.image_file.specs.Image.{Parts, image_piece, head_piece, head_of, parts_of, op_piece, said, later_lists}
 use Rattle.image_file.proofs.Appended.{joined, ended}
 use Rattle.image_file.proofs.writing.write_image.Goals as goal
 
 pub returns : goal.returns
-unfolding image_piece
+unfolding image_piece later_lists
 returns c =
     let g : Lists = c.args.graph.now in
     let p : Parts = parts_of g c.args.table.now.seed c.args.table.now.step in
