@@ -1,16 +1,16 @@
 -- AddedRuns: runs in which numbers are added to words that operations read.
-use Rattle.std.proofs.Common.{◌≡◌, ◌≢◌, ⊎_elim, ℕ, suc, ◌+◌, ◌<◌, ◌==◌, nat_lt, cond, true, false, List, [], ◌∷◌, ◌++◌, length, slice_get, ℤ, pos, ◌+ℤ◌, ◌*ℤ◌}
+use Rattle.std.proofs.Common.{◌≡◌, ◌≢◌, ⊎_elim, ℕ, suc, ◌<◌, ◌==◌, cond, true, false, List, [], ◌∷◌, ◌++◌, length, slice_get, ℤ, pos, ◌+ℤ◌, ◌*ℤ◌}
 use Rattle.std.proofs.Common.{Option, Some, None, ap, sym, subst, ◌∙◌, refl, arith}
 use Rattle.std.proofs.Math.IntN.{*ℤ-zero}
 use Rattle.std.proofs.lemmas.Bool.Decides.{eqb_tells}
 use Rattle.std.proofs.lemmas.Int.{ints}
 use Rattle.vcp_base.specs.declared.code.Profile.{Profile}
 use Rattle.vcp_base.specs.Code.{modulus}
-use Rattle.vcp_base.specs.Kinds.{Outcome, outcome}
-use Rattle.coded_unit.specs.Words.{coded, modulo, value_part}
+use Rattle.vcp_base.specs.Kinds.{outcome}
+use Rattle.coded_unit.specs.Words.{coded, value_part}
 use Rattle.coded_unit.specs.WordLaws.{WordLaws}
 use Rattle.op_graph.specs.declared.op.Op.{Op}
-use Rattle.op_graph.specs.GraphRun.{Cycle, after, initial, own, stored}
+use Rattle.op_graph.specs.GraphRun.{after, initial, own, stored}
 use Rattle.op_graph.specs.Laws.{CellLaws, EntryLaws}
 use Rattle.op_graph.specs.Lists.{Lists}
 use Rattle.op_graph.specs.Reads.{Reads, named}

@@ -284,7 +284,7 @@ module _ (g : Lists) (a : Audit) (horizon : ℕ) (audit : IsAudit g horizon a) (
       (leb_tells s.borders borders)
 
   -- an output is reached, or nothing comes to it
-  reached_or_none : (from : List Source) → Reaches g from borders o.op ⊎ (comes g o.op borders from ≡ pos 0)
+  pub reached_or_none : (from : List Source) → Reaches g from borders o.op ⊎ (comes g o.op borders from ≡ pos 0)
   reached_or_none [] = inr refl
   reached_or_none (s ∷ more) = ⊎_elim
       (λ (r : Reaches g (s ∷ more) borders o.op). inl r)

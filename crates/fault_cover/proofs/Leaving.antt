@@ -236,9 +236,9 @@ nearest_there g wanted found q (Some n) e is near = kept_within found q n e
 stop_there : (s : Subject) (v : Surveyed) (q : ℕ) → IsSurvey s v → is_any_named (slice_get s.stops q) ≡ true → q < length s.graph.operations
 stop_there s v q survey may =
     let mapped = survey.mapped in
-    let is : is_wanted mapped.able q ≡ true = survey.able_are q ∙ may in
-    let inside = nearest_there s.graph mapped.able v.stops q (kept v.stops q) refl is (mapped.stops.each q) in
-    let many = mapped.stops.many in
+    let is : is_wanted mapped.maps.able q ≡ true = survey.able_are q ∙ may in
+    let inside = nearest_there s.graph mapped.maps.able v.stops q (kept v.stops q) refl is (mapped.maps.stops.each q) in
+    let many = mapped.maps.stops.many in
     omega (arith, inside, many)
 
 not_nothing : (b q : ℕ) → told.RunsOn b q ≡ told.Nothing → ⊥

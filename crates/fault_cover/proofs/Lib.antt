@@ -25,6 +25,8 @@ mod Placing
 mod Reaching
 mod ReadOnce
 mod RestMeaning
+mod RestTelling
+mod Resting
 mod SameKind
 mod Surveying
 mod Sweeping

@@ -1,6 +1,6 @@
 -- Placing: readings and other starts are at operations, and their amounts are residues.
 use Rattle.std.proofs.Common.{◌≡◌, ℕ, zero, suc, ◌+◌, ◌*◌, ◌^◌, ◌<◌, ◌≤◌, ◌==◌, ◌&&◌, cond, Bool, true, false, List, [], ◌∷◌, ◌++◌, length, map, drop}
-use Rattle.std.proofs.Common.{slice_get, Some, pos, ap, subst, ◌∙◌, refl, arith}
+use Rattle.std.proofs.Common.{slice_get, Some, pos, ap, sym, subst, ◌∙◌, refl, arith}
 use Rattle.std.specs.Option.{is_some}
 use Rattle.std.proofs.lemmas.List.{drop-map, length-append}
 use Rattle.vcp_base.specs.declared.code.Profile.{Profile}
@@ -13,7 +13,7 @@ use Rattle.op_graph.specs.Lists.{Lists, cells}
 use Rattle.op_graph.specs.Reads.{named}
 use Rattle.op_graph.specs.Rules.{IsPart, reads_as}
 use Rattle.fault_cover.specs.declared.starts.Start.{Start}
-use Rattle.fault_cover.specs.Beginnings.{ArePlaced, IsPlaced, start_at, starts_of}
+use Rattle.fault_cover.specs.Beginnings.{ArePlaced, AreReadings, IsPlaced, start_at, starts_of}
 use Rattle.fault_cover.specs.Sources.{Reading, as_source, reading_as, readings, readings_by, readings_from, reading_across, readings_across}
 use Rattle.fault_cover.proofs.Cells.{few_cells, load_inside}
 
@@ -80,6 +80,12 @@ pub placed_left : (p : Profile) (g : Lists) (k right : ℕ) → WordLaws p → E
     (starts_of p (drop right (readings g k)))
 placed_left p g k right laws entries part =
     placed_by p laws (length g.operations) (drop right (readings g k)) (inside_left (length g.operations) right (readings g k) (are_inside g k entries part))
+
+-- the readings of a word, as they are kept
+pub placed_word : (g : Lists) (by_word : List (List Start)) (k : ℕ) (starts : List Start) → AreReadings g by_word → slice_get by_word k ≡ Some starts
+    → WordLaws g.profile → EntryLaws → IsPart g → ArePlaced g.profile (length g.operations) starts
+placed_word g by_word k starts are there laws entries part =
+    subst (ArePlaced g.profile (length g.operations)) (sym (are.each k starts there)) (placed_left g.profile g k 0 laws entries part)
 
 pub placed_one : (p : Profile) (n : ℕ) (start : Start) → IsPlaced p n start → ArePlaced p n (start ∷ [])
 placed_one p n start is zero s there =

@@ -1,8 +1,7 @@
 -- ReadOnce: each reading of a word stands once among its readings, and has the multiplier of the operand that reads.
 use Rattle.std.proofs.Common.{◌≡◌, ◌≢◌, ⊎_elim, ℕ, zero, suc, ◌+◌, ◌*◌, ◌<◌, ◌≤◌, ◌==◌, ◌&&◌, cond, Bool, true, false, List, [], ◌∷◌, ◌++◌, length, drop}
 use Rattle.std.proofs.Common.{take, slice_get}
-use Rattle.std.proofs.Common.{ℤ, pos, Some, ap, sym, subst, ◌∙◌, refl, arith}
-use Rattle.std.specs.List.{Contains}
+use Rattle.std.proofs.Common.{pos, Some, ap, sym, subst, ◌∙◌, refl, arith}
 use Rattle.std.specs.Option.{is_some}
 use Rattle.std.proofs.Math.ListN.{get_or}
 use Rattle.std.proofs.lemmas.Bool.Decides.{eqb_tells}
@@ -10,7 +9,6 @@ use Rattle.std.proofs.lemmas.List.{get_or-take, length-take-le}
 use Rattle.std.proofs.lemmas.Option.{get_or_from_slice_get, slice_get_within}
 use Rattle.vcp_base.specs.declared.kind.Kind.{Kind}
 use Rattle.vcp_base.specs.declared.kind.Kind.TheVariants as kind
-use Rattle.vcp_base.specs.declared.ty.Ty.{Ty}
 use Rattle.vcp_base.specs.Kinds.{multiplier}
 use Rattle.op_graph.specs.declared.op.Cell.{Cell}
 use Rattle.op_graph.specs.declared.op.Loaded.{Loaded}
@@ -18,7 +16,7 @@ use Rattle.op_graph.specs.declared.op.Op.{Op}
 use Rattle.op_graph.specs.Laws.{EntryLaws}
 use Rattle.op_graph.specs.Lists.{Lists, cells}
 use Rattle.op_graph.specs.Reads.{named}
-use Rattle.op_graph.specs.Rules.{IsGraph, IsPart, agree, entry, found, is_input, is_load, is_out, is_store, place_of, reads_as, scope}
+use Rattle.op_graph.specs.Rules.{IsPart, agree, entry, found, is_input, is_load, is_out, is_store, place_of, reads_as, scope}
 use Rattle.fault_cover.specs.Sources.{Reading, reading_across, reading_as, readings, readings_across, readings_by, readings_from}
 use Rattle.fault_cover.proofs.Adding.{there_is}
 use Rattle.fault_cover.proofs.Cells.{load_at, load_inside}

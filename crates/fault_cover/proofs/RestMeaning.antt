@@ -1,28 +1,24 @@
 -- RestMeaning: what it says of every run that a number which is added to the later readings of a word is told to be refused, or to come to nothing.
 use Rattle.std.proofs.Common.{◌≡◌, ◌≢◌, ◌⊎◌, ⊎_elim, inl, inr, ℕ, zero, suc, ◌+◌, ◌-◌, ◌*◌, ◌<◌, ◌≤◌, ◌==◌, ◌&&◌, nat_le, cond, Bool, true, false, List, []}
 use Rattle.std.proofs.Common.{◌∷◌, length, map}
-use Rattle.std.proofs.Common.{drop, slice_get, ℤ, pos, ◌+ℤ◌, ◌*ℤ◌, Option, Some, None, ap, sym, subst, ◌∙◌, refl, arith}
+use Rattle.std.proofs.Common.{drop, slice_get, ℤ, pos, ◌+ℤ◌, ◌*ℤ◌, Some, None, ap, sym, subst, ◌∙◌, refl, arith}
 use Rattle.std.specs.List.{Contains}
 use Rattle.std.proofs.Math.IntN.{*ℤ_comm, *ℤ-zero}
 use Rattle.std.proofs.lemmas.Bool.Decides.{eqb_tells, leb_tells}
 use Rattle.std.proofs.lemmas.Int.{ints}
 use Rattle.std.proofs.lemmas.Option.{get_or_from_slice_get, slice_get-get_or, slice_get_within}
-use Rattle.vcp_base.specs.Kinds.{multiplier}
 use Rattle.vcp_base.specs.Values.{at}
 use Rattle.coded_unit.specs.Words.{modulo}
 use Rattle.coded_unit.specs.WordLaws.{WordLaws}
 use Rattle.vcp_base.specs.declared.code.Profile.{Profile}
-use Rattle.op_graph.specs.declared.op.Op.{Op}
 use Rattle.op_graph.specs.declared.op.Outlet.{Outlet}
 use Rattle.op_graph.specs.GraphRun.{initial}
-use Rattle.op_graph.specs.Lists.{Lists}
-use Rattle.signature_table.specs.Signatures.{Numbers}
 use Rattle.range_audit.specs.Audit.{RowsFit}
 use Rattle.fault_script.specs.declared.act.Act.{Act}
 use Rattle.fault_script.specs.declared.act.Act.TheVariants as act
 use Rattle.fault_script.specs.Changes.{Acts}
-use Rattle.fault_script.specs.Differences.{difference_at, frame}
-use Rattle.fault_injector.specs.Verdicts.{compared, plain_cycles}
+use Rattle.fault_script.specs.Differences.{difference_at}
+use Rattle.fault_injector.specs.Verdicts.{plain_cycles}
 use Rattle.weight_audit.specs.Paths.{Reached}
 use Rattle.weight_audit.specs.Weights.{weight}
 use Rattle.fault_cover.specs.declared.disturbance.Disturbance.TheVariants as disturbance
@@ -31,12 +27,12 @@ use Rattle.fault_cover.specs.Certain.{IsSubject, Means, StandsAt, StandsAtRest}
 use Rattle.fault_cover.specs.Sources.{Reading, Source, as_source, comes, part, readings, source_at}
 use Rattle.fault_cover.specs.Telling.{NoOutputBefore, Subject}
 use Rattle.fault_cover.specs.Touched.{IsTouched}
-use Rattle.fault_cover.proofs.AddedDifferences.{act_at, any_make, as_acts, compared_same, frame_same, frame_sums, no_act_at, one_each}
+use Rattle.fault_cover.proofs.AddedDifferences.{any_make, as_acts, compared_same, frame_same, frame_sums, no_act_at, one_each}
 use Rattle.fault_cover.proofs.AddedRuns.{with_run}
 use Rattle.fault_cover.proofs.Certainty.{Laws, TouchesFrom, comes_is, difference_is}
 use Rattle.fault_cover.proofs.Choosing.{contained, contained_first, mapped_there}
 use Rattle.fault_cover.proofs.Dividing.{plus_residue, times_plus}
-use Rattle.fault_cover.proofs.Meaning.{any_counts, means_there, run_means, Spreads}
+use Rattle.fault_cover.proofs.Meaning.{any_counts, means_there, run_means}
 use Rattle.fault_cover.proofs.ReadOnce.{AreReadBy, IsReadBy, Rising, left_read, left_rise, no_lower, rank, readings_read, readings_rise}
 
 -- ---- one reading

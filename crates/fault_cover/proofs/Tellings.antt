@@ -24,7 +24,7 @@ use Rattle.fault_cover.specs.Beginnings.{ArePlaced, rest_of, starts_at}
 use Rattle.fault_cover.specs.Firsts.{IsFirstOf, ToldAt, before, behind, outlook_of}
 use Rattle.fault_cover.specs.Sited.{IsSited}
 use Rattle.fault_cover.specs.Sources.{Source, is_any, readings, sources}
-use Rattle.fault_cover.specs.Surveys.{IsMapped, IsSurvey, Surveyed}
+use Rattle.fault_cover.specs.Surveys.{AreMaps, IsOutOf, IsSurvey, Surveyed}
 use Rattle.fault_cover.specs.Telling.{FirstReached, Subject, Tells, TellsAt, TellsOf, UnlessSame, does_the_same, subject}
 use Rattle.fault_cover.specs.Walks.{AreWithin, kept}
 use Rattle.fault_cover.proofs.Cells.{few_cells}
@@ -69,18 +69,22 @@ outputs_first horizon (Some m) stop n e = ⊎_elim
     sym (ap (λ b. cond b (before m stop) (outlook.Is (behind horizon (Some m) stop))) h.0) ∙ e in cc))
     (leb_tells m.borders horizon)
 
--- the OUT that is reached first is an operation
-pub out_inside : (g : Lists) (v : Surveyed) (found : List (Option Nearest)) (starts : List Start) (output : Option Nearest) (n : Nearest) → EntryLaws → IsPart g
-    → IsMapped g v → found ≡ v.outputs → IsFirstOf found starts output → output ≡ Some n → n.op < length g.operations
-out_inside g v found starts output n entries part mapped same first e =
+-- what is reached first is the OUT of an output
+pub is_out : (g : Lists) (v : Surveyed) (found : List (Option Nearest)) (starts : List Start) (output : Option Nearest) (n : Nearest) → AreMaps g v
+    → found ≡ v.outputs → IsFirstOf found starts output → output ≡ Some n → IsOutOf g n.op
+is_out g v found starts output n maps same first e =
     let r = first.reached n e in
     let back = further_back (kept found r.1.op) r.1.borders n r.3 in
-    let is = first_there g mapped.outs r.1.op (kept v.outputs r.1.op) back.0 (mapped.outputs.each r.1.op) (ap (λ xs. kept xs r.1.op) (sym same) ∙ back.1) in
-    let o = mapped.outs_are.sound back.0.op is.looked_for in
-    let inside = (entries.output g o.0 o.1 part o.2).operation in
-    let op : back.0.op ≡ n.op = ap (λ (x : Nearest). x.op) back.2 in
-    let own = o.3 in
-    omega (arith, inside, op, own)
+    let is = first_there g maps.outs r.1.op (kept v.outputs r.1.op) back.0 (maps.outputs.each r.1.op) (ap (λ xs. kept xs r.1.op) (sym same) ∙ back.1) in
+    let o = maps.outs_are.sound back.0.op is.looked_for in
+    (o.0, o.1, o.2, o.3 ∙ ap (λ (x : Nearest). x.op) back.2)
+
+-- which is an operation
+pub out_inside : (g : Lists) (q : ℕ) → EntryLaws → IsPart g → IsOutOf g q → q < length g.operations
+out_inside g q entries part out =
+    let inside = (entries.output g out.0 out.1 part out.2).operation in
+    let own = out.3 in
+    omega (arith, inside, own)
 
 pub audit_for : (g : Lists) (horizon : ℕ) (a : Audit) → IsAudit g horizon a → IsAudit g a.horizon a
 audit_for g horizon a audit = subst (λ h. IsAudit g h a) (sym audit.horizon_is) audit
@@ -91,19 +95,19 @@ module _ (g : Lists) (t : Numbers) (stops : List Stops) (v : Surveyed) (survey :
     (starts : List Start) (is : starts ≡ starts_at g.profile from) (outputs able : List (Option Nearest)) (outputs_is : outputs ≡ v.outputs)
     (able_is : able ≡ v.stops) (output stop : Option Nearest) (first : IsFirstOf outputs starts output) (second : IsFirstOf able starts stop)
     (x : Outlook) (x_is : x ≡ outlook_of v.horizon output stop) where
-  nearest_output : IsNearestFrom g survey.mapped.outs from output
+  nearest_output : IsNearestFrom g survey.mapped.maps.outs from output
   nearest_output =
-      nearest_from g survey.mapped.outs v.outputs survey.mapped.outputs g.profile from starts is output
+      nearest_from g survey.mapped.maps.outs v.outputs survey.mapped.maps.outputs g.profile from starts is output
       (subst (λ xs. IsFirstOf xs starts output) outputs_is first)
 
-  nearest_stop : IsNearestFrom g survey.mapped.able from stop
+  nearest_stop : IsNearestFrom g survey.mapped.maps.able from stop
   nearest_stop =
-      nearest_from g survey.mapped.able v.stops survey.mapped.stops g.profile from starts is stop (subst (λ xs. IsFirstOf xs starts stop) able_is second)
+      nearest_from g survey.mapped.maps.able v.stops survey.mapped.maps.stops g.profile from starts is stop (subst (λ xs. IsFirstOf xs starts stop) able_is second)
 
   spreads : Spreads (subject g t v.horizon stops) any from output x
   spreads =
       subst (Spreads (subject g t v.horizon stops) any from output) (sym x_is)
-      (outlook_is (subject g t v.horizon stops) survey.mapped.outs survey.mapped.able survey.mapped.outs_are survey.able_are any from output stop nearest_output
+      (outlook_is (subject g t v.horizon stops) survey.mapped.maps.outs survey.mapped.maps.able survey.mapped.maps.outs_are survey.able_are any from output stop nearest_output
       nearest_stop)
 
   pub told_directly : (told : Effect) → x ≡ outlook.Is told → TellsOf (subject g t v.horizon stops) any from told
@@ -115,9 +119,9 @@ module _ (g : Lists) (t : Numbers) (stops : List Stops) (v : Surveyed) (survey :
   told_at_outputs n e unreached words entries part number number_is told told_so =
       let there : (output ≡ Some n) × FirstReached (subject g t v.horizon stops) from n.borders =
       subst (Spreads (subject g t v.horizon stops) any from output) e spreads in
-      let one : IsFirstFrom g survey.mapped.outs from n = subst (IsNearestFrom g survey.mapped.outs from) there.0 nearest_output in
-      told_is (subject g t v.horizon stops) v.weights survey.mapped.outs survey.mapped.able v.numbers survey.mapped.weights unreached words entries part
-      survey.mapped.outs_are survey.able_are survey.mapped.numbers any from n one there.1 number number_is told told_so
+      let one : IsFirstFrom g survey.mapped.maps.outs from n = subst (IsNearestFrom g survey.mapped.maps.outs from) there.0 nearest_output in
+      told_is (subject g t v.horizon stops) v.weights survey.mapped.maps.outs survey.mapped.maps.able v.numbers survey.mapped.maps.weights unreached words entries part
+      survey.mapped.maps.outs_are survey.able_are survey.mapped.maps.numbers any from n one there.1 number number_is told told_so
 
 -- ---- what is amiss
 
@@ -128,7 +132,7 @@ rest_is (disturbance.AddToRest n) right e = let same : n ≡ right = cc in ap di
 rest_is (disturbance.Late j r) right e = absurd cc
 rest_is (disturbance.Does a) right e = absurd cc
 
-pub stands_rest : (g : Lists) (k : ℕ) (d : Disturbance) (right : ℕ) → d ≡ disturbance.AddToRest right → IsSited g k d → right ≤ length (readings g k)
+pub stands_rest : (g : Lists) (k : ℕ) (d : Disturbance) (right : ℕ) → d ≡ disturbance.AddToRest right → IsSited g k d → right < length (readings g k)
 stands_rest g k d right is sited = ⊎_elim
     (λ (h : (nat_lt right (length (readings g k)) ≡ true) × (suc right ≤ length (readings g k))). let lt = h.1 in omega (arith, lt))
     (λ (h : (nat_lt right (length (readings g k)) ≡ false) × (length (readings g k) < suc right)).

@@ -1,5 +1,5 @@
 -- Beginnings: what the code has for sources: the same operation and borders, and the residue of the amount.
-use Rattle.std.specs.Prelude.{◌≡◌, ℕ, ◌<◌, ◌≤◌, List, [], ◌∷◌, ◌++◌, map, length, slice_get, slice_index_or, Some, None, Option, ℤ, pos}
+use Rattle.std.specs.Prelude.{◌≡◌, ℕ, ◌<◌, ◌≤◌, List, [], ◌∷◌, map, length, slice_get, Some, None, Option, ℤ, pos}
 use Rattle.vcp_base.specs.Code.{modulus}
 use Rattle.vcp_base.specs.Kinds.{multiplier}
 use Rattle.coded_unit.specs.Words.{modulo}
@@ -24,15 +24,6 @@ starts_at p from = map (start_at p) from
 -- the starts that readings are
 abbrev pub starts_of : Profile → List Reading → List Start
 starts_of p rs = starts_at p (map as_source rs)
-
--- what is kept of operation k's word
-abbrev pub word : List (List Start) → ℕ → List Start
-word by_word k = slice_index_or by_word k []
-
--- these readings of each word are kept behind those that were
-pub record Adds (p : Profile) (more : ℕ → List Reading) (old new : List (List Start)) : Type 0 where
-  pub many : length new ≡ length old
-  pub each : (k : ℕ) → k < length old → word new k ≡ word old k ++ starts_of p (more k)
 
 -- the readings of each operation's word
 pub record AreReadings (g : Lists) (by_word : List (List Start)) : Type 0 where

@@ -1,14 +1,12 @@
 -- Classes: the faults of each class, in order: by operation, then operand or reading, then value.
-use Rattle.std.specs.Prelude.{ℕ, ◌+◌, ◌-◌, ◌==◌, Bool, false, not, cond, ◌&&◌, List, [], ◌∷◌, map, flat_map, length, slice_get, unsigned_abs, Option}
-use Rattle.std.specs.Prelude.{Some, None}
-use Rattle.vcp_base.specs.Kinds.{operands, operand_type}
-use Rattle.vcp_base.specs.Types.{within}
+use Rattle.std.specs.Prelude.{ℕ, ◌+◌, ◌-◌, cond, List, [], ◌∷◌, map, flat_map, length, slice_get, Option, Some, None}
+use Rattle.vcp_base.specs.Kinds.{operands}
 use Rattle.op_graph.specs.declared.op.Op.{Op}
-use Rattle.op_graph.specs.Lists.{Lists, cells}
-use Rattle.op_graph.specs.Rules.{is_load, is_out}
-use Rattle.signature_table.specs.Signatures.{store_of}
+use Rattle.op_graph.specs.Lists.{Lists}
+use Rattle.op_graph.specs.Rules.{is_out}
 use Rattle.fault_script.specs.declared.act.Act.{Act}
 use Rattle.fault_sites.specs.declared.class.Class.TheVariants as class
+pub use Rattle.fault_sites.specs.Late.{may_be_late}
 use Rattle.fault_sites.specs.Sites.{each_below, acts_of}
 use Rattle.fault_cover.specs.declared.class.CoverClass.{CoverClass}
 use Rattle.fault_cover.specs.declared.class.CoverClass.TheVariants as cover
@@ -30,18 +28,6 @@ abbrev pub rests : Lists → ℕ → Op → List Disturbance
 rests g k op = cond (is_out op.kind) [] (each_below (λ i. disturbance.AddToRest (i + 1) ∷ []) (length (readings g k) - 2))
 
 -- ---- late: an operand is the word that an operation answered in the cycle before
-
--- operation r is the STORE of the cell of a LOAD, whose word of the cycle before is what a LOAD reads
-abbrev pub is_it : ℕ → Option ℕ → Bool
-is_it r None = false
-is_it r (Some n) = n == r
-
-abbrev pub loads_from : Lists → Op → ℕ → Bool
-loads_from g op r = is_load op.kind && is_it r (store_of (cells g) (unsigned_abs op.imm))
-
--- operation r, which is `source`, has a type that goes there
-abbrev pub may_be_late : Lists → Op → ℕ → ℕ → Op → Bool
-may_be_late g op j r source = within source.ty (operand_type op.kind j op.from) && not (loads_from g op r)
 
 abbrev pub late_one : Lists → Op → ℕ → ℕ → Option Op → List Disturbance
 late_one g op j r None = []

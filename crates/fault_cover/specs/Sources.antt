@@ -1,17 +1,15 @@
 -- Sources: what is amiss at an operation, in whatever cycle, and from where and as how much of a difference it spreads. No value of the program is in
 -- it: the answer is made of multipliers, signatures and the step.
-use Rattle.std.specs.Option.{is_some}
-use Rattle.std.specs.Prelude.{◌≡◌, ◌≢◌, ℕ, suc, ◌-◌, ◌==◌, ◌&&◌, nat_le, cond, Bool, true, false, List, [], ◌∷◌, ◌++◌, drop, map, ℤ, pos, ◌+ℤ◌, ◌-ℤ◌, ◌*ℤ◌}
+use Rattle.std.specs.Prelude.{◌≡◌, ◌≢◌, ℕ, ◌-◌, nat_le, cond, Bool, true, false, List, [], ◌∷◌, drop, map, ℤ, pos, ◌+ℤ◌, ◌-ℤ◌, ◌*ℤ◌}
 use Rattle.vcp_base.specs.declared.code.Profile.{Profile}
 use Rattle.vcp_base.specs.Kinds.{multiplier}
 use Rattle.coded_unit.specs.Words.{modulo}
-use Rattle.op_graph.specs.declared.op.Cell.{Cell}
 use Rattle.op_graph.specs.declared.op.Op.{Op}
-use Rattle.op_graph.specs.Lists.{Lists, cells}
-use Rattle.op_graph.specs.Reads.{named}
-use Rattle.op_graph.specs.Rules.{reads_as}
+use Rattle.op_graph.specs.Lists.{Lists}
 use Rattle.signature_table.specs.Signatures.{Numbers, signature}
 use Rattle.fault_script.specs.Differences.{made, origin}
+pub use Rattle.fault_sites.specs.declared.reading.Reading.{Reading}
+pub use Rattle.fault_sites.specs.Readings.{reading_across, reading_as, readings, readings_across, readings_by, readings_from}
 use Rattle.weight_audit.specs.Weights.{weight}
 use Rattle.fault_cover.specs.declared.disturbance.Disturbance.{Disturbance}
 use Rattle.fault_cover.specs.declared.disturbance.Disturbance.TheVariants as disturbance
@@ -29,38 +27,6 @@ abbrev pub source_at : ℕ → ℕ → ℤ → Source
 source_at op borders amount = record { op = op; borders = borders; amount = amount }
 
 -- ---- the readings of a word
-
--- an operation reads a word as this operand, in the cycle in which the word was answered, or in the next; what is added to it comes times the multiplier
-pub record Reading : Type 0 where
-  pub op : ℕ
-  pub operand : ℕ
-  pub borders : ℕ
-  pub multiplier : ℤ
-
--- operand j of operation q, where it is the word of operation k
-abbrev pub reading_as : ℕ → ℕ → Op → ℕ → List Reading
-reading_as k q op j =
-    cond (is_some (reads_as op.kind op.from j) && (k == named op j)) (record { op = q; operand = j; borders = 0; multiplier = multiplier op.kind j } ∷ []) []
-
-abbrev pub readings_by : ℕ → ℕ → Op → List Reading
-readings_by k q op = reading_as k q op 0 ++ (reading_as k q op 1 ++ reading_as k q op 2)
-
--- by these operations, which are counted from q
-abbrev pub readings_from : ℕ → ℕ → List Op → List Reading
-readings_from k q [] = []
-readings_from k q (op ∷ ops) = readings_by k q op ++ readings_from k (suc q) ops
-
--- of a STORE, by the LOAD of its cell, in the next cycle
-abbrev pub reading_across : ℕ → Cell → List Reading
-reading_across k c = cond (k == c.store) (record { op = c.load; operand = 0; borders = 1; multiplier = pos 1 } ∷ []) []
-
-abbrev pub readings_across : ℕ → List Cell → List Reading
-readings_across k [] = []
-readings_across k (c ∷ cells) = reading_across k c ++ readings_across k cells
-
--- the readings of operation k's word of one cycle, in the order of operations and operands, and last of all that in the next cycle
-abbrev pub readings : Lists → ℕ → List Reading
-readings g k = readings_from k 0 g.operations ++ readings_across k (cells g)
 
 -- the source that a reading is where a number is added to the word that it reads
 abbrev pub as_source : Reading → Source

@@ -10,7 +10,7 @@ ghost use Rattle.op_graph.specs.Rules.{is_out as is_out_of};
 ghost use Rattle.signature_table.specs.Signatures.{IsTableOf};
 ghost use Rattle.fault_sites.specs.Sites.{each_below, from as from_op, from_one, may_replace as may_replace_of, may_stand as may_stand_of};
 ghost use Rattle.fault_sites.specs.Sites.{operator as operator_op, operator_one, reads as reads_of, stale as stale_op};
-ghost use Rattle.fault_cover.specs.Classes.{act_at, additions, fault_at, late_one, lates, lates_at, loads_from as loads_from_of, may_be_late as may_be_late_of};
+ghost use Rattle.fault_cover.specs.Classes.{act_at, additions, fault_at, late_one, lates, lates_at};
 ghost use Rattle.fault_cover.specs.Classes.{of_classes, of_classes_at, rests, singles, singles_of};
 ghost use Rattle.fault_cover.specs.CoverText.{Heard, heard_as};
 ghost use Rattle.fault_cover.specs.Passing.{Passing};
@@ -22,10 +22,11 @@ ghost use Rattle.fault_cover.specs.declared.disturbance.Disturbance.TheVariants 
 use crate::class::CoverClass;
 use crate::disturbance::Disturbance;
 use crate::effect::Effect;
-use crate::starts::{named, store_of};
+use crate::starts::named;
 use crate::survey::Survey;
 use crate::telling::tell;
 use fault_script::Act;
+use fault_sites::may_be_late;
 use op_graph::{Graph, Op};
 use signature_table::Table;
 use vcp_base::{Kind, kind_code, kind_of_code, operand_type, operands, within};
@@ -343,26 +344,6 @@ fn then_from<O: Sink, L: Listener>(
     'operands: for j in 0..operands(op.kind) {
         then_from_at(line, out, listener, subject, k, op, j);
     }
-}
-
-/// Whether a LOAD reads its word of the cycle before from operation `r`.
-fn loads_from(graph: &Graph, op: &Op, r: u32) -> bool
-    ensures { result ≡ loads_from_of graph.now op.now r }
-{
-    match op.kind {
-        Kind::Load => match store_of(graph, op) {
-            Some(store) => store == r,
-            None => false,
-        },
-        _ => false,
-    }
-}
-
-/// Whether operand `j` may be the word of the cycle before of operation `r`, which is `source`.
-fn may_be_late(graph: &Graph, op: &Op, j: u32, r: u32, source: &Op) -> bool
-    ensures { result ≡ may_be_late_of graph.now op.now j r source.now }
-{
-    within(source.ty, operand_type(op.kind, j, op.from)) && !loads_from(graph, op, r)
 }
 
 /// Operand `j` is the word of the cycle before of operation `r`, where its type goes there.

@@ -17,6 +17,7 @@ mod laws;
 mod left;
 mod lines;
 mod nearest;
+mod rests;
 mod starts;
 mod survey;
 mod tally;

@@ -26,7 +26,7 @@ pub(crate) struct Nearest {
 }
 
 /// Whether the first is nearer: across fewer borders, or as many and with a lower number.
-fn is_nearer(new: Nearest, old: Nearest) -> bool
+pub(crate) fn is_nearer(new: Nearest, old: Nearest) -> bool
     ensures { result ≡ is_nearer_of new old }
 {
     new.borders < old.borders || new.borders == old.borders && new.op < old.op

@@ -1,24 +1,21 @@
 //! Where what is amiss begins to spread.
 
-ghost use Rattle.std.specs.Option.{is_some};
-ghost use Rattle.std.specs.Prelude.{◌≡◌, ◌<◌, ◌≤◌, ◌^◌, ◌++◌, ◌∷◌, [], ℕ, true, None, pos, negsuc, neg_ℤ, ◌+ℤ◌, ◌-ℤ◌, ◌*ℤ◌, ◌≤ℤ◌, length, set, unsigned_abs};
+ghost use Rattle.std.specs.Prelude.{◌≡◌, ◌<◌, ◌≤◌, ◌^◌, ◌++◌, ◌∷◌, [], None, pos, negsuc, neg_ℤ, ◌+ℤ◌, ◌-ℤ◌, ◌*ℤ◌, ◌≤ℤ◌, length, map};
 ghost use Rattle.std.specs.Prelude.{IfOk, OnOk};
 ghost use Rattle.vcp_base.specs.Code.{modulus as modulus_of};
 ghost use Rattle.vcp_base.specs.Kinds.{multiplier as multiplier_of};
 ghost use Rattle.coded_unit.specs.Words.{Small as Moderate, modulo};
-ghost use Rattle.op_graph.specs.Lists.{cells};
 ghost use Rattle.op_graph.specs.Reads.{named as named_of};
-ghost use Rattle.op_graph.specs.Rules.{IsGraph, reads_as};
-ghost use Rattle.signature_table.specs.Signatures.{signature, store_of as store_of_cell, stored_signature};
+ghost use Rattle.signature_table.specs.Signatures.{signature, stored_signature};
 ghost use Rattle.fault_script.specs.Differences.{made, origin as origin_of, exchanged as exchanged_of};
-ghost use Rattle.weight_audit.specs.Sweeping.{Takes};
-ghost use Rattle.fault_cover.specs.Beginnings.{Adds, AreReadings, IsStart, amount_of, rest_of, word};
-ghost use Rattle.fault_cover.specs.Sources.{reading_as, readings_by, readings_from, reading_across, readings_across};
+ghost use Rattle.fault_cover.specs.Beginnings.{AreReadings, IsStart, amount_of, rest_of, start_at, starts_of};
+ghost use Rattle.fault_cover.specs.Sources.{as_source};
 
 use crate::disturbance::Disturbance;
-use coded_unit::{remainder, words_split_in_one_way};
+use coded_unit::remainder;
 use fault_script::Act;
-use op_graph::{Cell, Graph, Op, entries_keep_their_rules, operands_are_there, reads_operation};
+use fault_sites::{Reading, WordReadings, readings as readings_of, store_of};
+use op_graph::{Graph, Op};
 use signature_table::{Table, signature_of};
 use std::alloc::Global;
 use std::marker::Model;
@@ -73,147 +70,42 @@ impl Starts {
     }
 }
 
-/// One more reading of operation `n`'s word.
-fn add(by_word: &mut [Starts], n: u32, start: Start) -> Result<(), Memory>
-    requires { n < length by_word.old }
-    ensures { OnOk result (by_word.new ≡ set by_word.old n (word by_word.old n ++ start ∷ [])) }
+/// Where what is added to a word begins to spread from a reading of it.
+fn start_by(profile: Profile, reading: &Reading) -> Start
+    ensures { result ≡ start_at profile (as_source reading.now) }
 {
-    let starts = &mut by_word[n as usize];
-    starts.push(start)?;
-    Ok(())
+    Start {
+        op: reading.op,
+        borders: reading.borders as u32,
+        amount: remainder(profile, reading.multiplier as i128),
+    }
 }
 
-/// The residue of a multiplier.
-fn factor_of(profile: Profile, op: &Op, j: u32) -> Residue
-    ensures { result ≡ modulo profile (multiplier_of op.now.kind j) }
+/// The same of each of these readings of a word.
+fn starts_by(alloc: Global, profile: Profile, readings: &[Reading]) -> Result<Starts, Memory>
+    ensures { IfOk result (λ starts. starts ≡ starts_of profile readings.now) }
 {
-    remainder(profile, multiplier(op.kind, j) as i128)
+    let mut starts = Starts::new(alloc);
+    'readings: for i in 0..readings.len() {
+        starts.push(start_by(profile, &readings[i]))?;
+    }
+    Ok(starts)
 }
 
-/// The reading of operand `j`, which is operation `n`, by operation `q`.
-fn read_one(
+/// The same of each word.
+fn starts_by_word(
+    alloc: Global,
     profile: Profile,
-    q: u32,
-    op: &Op,
-    j: u32,
-    n: u32,
-    by_word: &mut [Starts],
-) -> Result<(), Memory>
-    requires names { named_of op.now j ≡ n }
-    requires reads { is_some (reads_as op.now.kind op.now.from j) ≡ true }
-    requires there { n < length by_word.old }
-    ensures { OnOk result (Adds profile (λ k. reading_as k q op.now j) by_word.old by_word.new) }
+    by_word: &[WordReadings],
+) -> Result<Vec<Starts>, Memory>
+    ensures { IfOk result (λ starts. starts.items ≡ map (starts_of profile) by_word.now) }
 {
-    let amount = factor_of(profile, op, j);
-    let start = Start {
-        op: q,
-        borders: 0,
-        amount,
-    };
-    add(by_word, n, start)?;
-    Ok(())
-}
-
-/// The reading of operand `j` by operation `q`, which names operation `n` there.
-fn read(
-    profile: Profile,
-    q: u32,
-    op: &Op,
-    j: u32,
-    n: u32,
-    by_word: &mut [Starts],
-) -> Result<(), Memory>
-    requires names { named_of op.now j ≡ n }
-    requires there { is_some (reads_as op.now.kind op.now.from j) ≡ true → n < length by_word.old }
-    ensures { OnOk result (Adds profile (λ k. reading_as k q op.now j) by_word.old by_word.new) }
-{
-    let reads = reads_operation(op.kind, j);
-    if reads {
-        read_one(profile, q, op, j, n, by_word)
-    } else {
-        Ok(())
+    let mut starts = Vec::with_capacity(alloc, by_word.len())?;
+    'words: for k in 0..by_word.len() {
+        let word = &by_word[k];
+        starts.push(starts_by(alloc, profile, word.all())?)?;
     }
-}
-
-/// The readings of operation `q`.
-fn read_all(profile: Profile, q: u32, op: &Op, by_word: &mut [Starts]) -> Result<(), Memory>
-    requires { (k : ℕ) → Takes op.now k → k < length by_word.old }
-    ensures { OnOk result (Adds profile (λ k. readings_by k q op.now) by_word.old by_word.new) }
-{
-    read(profile, q, op, 0, op.a, by_word)?;
-    read(profile, q, op, 1, op.b, by_word)?;
-    read(profile, q, op, 2, op.c, by_word)?;
-    Ok(())
-}
-
-/// The readings of each operation's word by the operations of its cycle.
-fn read_in_cycle(graph: &Graph, profile: Profile, by_word: &mut [Starts]) -> Result<(), Memory>
-    requires graph { IsGraph graph.now }
-    requires count { length by_word.old ≡ length graph.now.operations }
-    ensures { OnOk result (Adds profile (λ k. readings_from k 0 graph.now.operations) by_word.old by_word.new) }
-{
-    // What an operation reads is an earlier one.
-    operands_are_there();
-    'operations: for q in 0..graph.len() {
-        let op = graph.operation(q);
-        read_all(profile, q, &op, by_word)?;
-    }
-    Ok(())
-}
-
-/// The reading of a STORE's word by the LOAD of its cell.
-fn cross(profile: Profile, cell: &Cell, by_word: &mut [Starts]) -> Result<(), Memory>
-    requires { cell.now.store < length by_word.old }
-    ensures { OnOk result (Adds profile (λ k. reading_across k cell.now) by_word.old by_word.new) }
-{
-    words_split_in_one_way();
-    let start = Start {
-        op: cell.load,
-        borders: 1,
-        amount: 1,
-    };
-    add(by_word, cell.store, start)?;
-    Ok(())
-}
-
-/// The readings of the STOREs' words in the next cycle.
-fn read_across(graph: &Graph, profile: Profile, by_word: &mut [Starts]) -> Result<(), Memory>
-    requires graph { IsGraph graph.now }
-    requires count { length by_word.old ≡ length graph.now.operations }
-    ensures { OnOk result (Adds profile (λ k. readings_across k (cells graph.now)) by_word.old by_word.new) }
-{
-    // The STORE of each cell is an operation.
-    entries_keep_their_rules();
-    'cells: for i in 0..graph.cells() {
-        let cell = graph.cell(i);
-        cross(profile, &cell, by_word)?;
-    }
-    Ok(())
-}
-
-/// No readings of so many words.
-fn no_readings(alloc: Global, count: u32) -> Result<Vec<Starts>, Memory>
-    ensures many { IfOk result (λ by_word. length by_word.items ≡ count) }
-    ensures none { IfOk result (λ by_word. (k : ℕ) → word by_word.items k ≡ []) }
-{
-    let mut by_word = Vec::with_capacity(alloc, count as usize)?;
-    'words: for _n in 0..count {
-        by_word.push(Starts::new(alloc))?;
-    }
-    Ok(by_word)
-}
-
-/// Makes lists without entries the readings of each operation's word.
-fn gather(graph: &Graph, profile: Profile, by_word: &mut [Starts]) -> Result<(), Memory>
-    requires profile { profile ≡ graph.now.profile }
-    requires graph { IsGraph graph.now }
-    requires count { length by_word.old ≡ length graph.now.operations }
-    requires none { (k : ℕ) → word by_word.old k ≡ [] }
-    ensures { OnOk result (AreReadings graph.now by_word.new) }
-{
-    read_in_cycle(graph, profile, by_word)?;
-    read_across(graph, profile, by_word)?;
-    Ok(())
+    Ok(starts)
 }
 
 /// The readings of each operation's word.
@@ -225,21 +117,9 @@ pub(crate) fn readings(
     requires { profile ≡ graph.now.profile }
     ensures { IfOk result (λ by_word. AreReadings graph.now by_word.items) }
 {
-    let count = graph.len();
-    let mut by_word = no_readings(alloc, count)?;
-    gather(graph, profile, &mut by_word)?;
-    Ok(by_word)
-}
-
-/// The number of the STORE of the cell that a LOAD reads, which its `imm` names; `None` where there is no such cell.
-pub(crate) fn store_of(graph: &Graph, op: &Op) -> Option<u32>
-    ensures { result ≡ store_of_cell (cells graph.now) (unsigned_abs op.now.imm) }
-{
-    let i = op.imm.unsigned_abs();
-    if i >= graph.cells() as u64 {
-        return None;
-    }
-    Some(graph.cell(i as u32).store)
+    let by_word = readings_of(alloc, graph, true)?;
+    let starts = starts_by_word(alloc, profile, &by_word)?;
+    Ok(starts)
 }
 
 /// The signature of what the LOAD of a cell reads: that of its STORE, less the step.

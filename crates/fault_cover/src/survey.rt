@@ -6,9 +6,10 @@ ghost use Rattle.op_graph.specs.Rules.{IsGraph};
 ghost use Rattle.signature_table.specs.Signatures.{IsTableOf};
 ghost use Rattle.weight_audit.specs.Audit.{most_weights, weights_up_to, IsAudit};
 ghost use Rattle.weight_audit.specs.declared.kept.AuditFault.TheVariants as fault;
-ghost use Rattle.fault_cover.specs.Surveys.{AreAble, AreNumbers, AreOuts, IsMapped, IsSurveyOf};
+ghost use Rattle.fault_cover.specs.Surveys.{AreAble, AreMaps, AreNumbers, AreOuts, IsMapped, IsSurveyOf};
 
 use crate::nearest::{Nearest, find_nearest};
+use crate::rests::{Rests, word_rests};
 use crate::starts::{Start, Starts, readings};
 use op_graph::{Graph, entries_keep_their_rules};
 use range_audit::ranges_of;
@@ -20,7 +21,8 @@ use vcp_base::Memory;
 use weight_audit::weigh::weights;
 use weight_audit::{AuditFault, Weights};
 
-/// The weights of a graph up to a horizon, what is reached first from each operation, and the readings of each operation's word.
+/// The weights of a graph up to a horizon, what is reached first from each operation, the readings of each operation's word, and what the later of
+/// them come to.
 #[derive(Drop)]
 pub struct Survey {
     pub(crate) horizon: u32,
@@ -29,6 +31,7 @@ pub struct Survey {
     pub(crate) stops: Vec<Option<Nearest>>,
     pub(crate) numbers: Vec<u32>,
     pub(crate) readings: Vec<Starts>,
+    pub(crate) rests: Vec<Rests>,
 }
 
 impl Model for Survey {
@@ -43,6 +46,7 @@ impl Model for Survey {
       stops = s.stops.items;
       numbers = s.numbers.items;
       readings = s.readings.items;
+      rests = s.rests.items;
     } };
 }
 
@@ -90,6 +94,14 @@ impl Survey {
     {
         let word = &self.readings[k as usize];
         word.all()
+    }
+
+    /// What the later readings of operation `k`'s word come to.
+    pub(crate) fn rests(&self, k: u32) -> &Rests
+        requires { k < length self.now.rests }
+        ensures { slice_get self.now.rests k ≡ Some result.now }
+    {
+        &self.rests[k as usize]
     }
 }
 
@@ -156,14 +168,18 @@ fn surveyed(alloc: Global, graph: &Graph, horizon: u32, weights: Weights) -> Res
     let stops = find_nearest(alloc, graph, &able)?;
     let numbers = output_numbers(alloc, graph)?;
     let readings = readings(alloc, graph, graph.profile())?;
-    Ok(Survey {
+    let mut survey = Survey {
         horizon,
         weights,
         outputs,
         stops,
         numbers,
         readings,
-    })
+        rests: Vec::new(alloc),
+    };
+    let rests = word_rests(alloc, graph, &survey)?;
+    survey.rests = rests;
+    Ok(survey)
 }
 
 /// Surveys a graph up to a horizon, which is at most 1000. The table is the graph's. It is refused as its weights are: `TooLarge` where there are more

@@ -43,7 +43,7 @@ pub(crate) enum Outlook {
 }
 
 /// One of the starts.
-fn start_in(starts: &[Start], i: usize) -> Start
+pub(crate) fn start_in(starts: &[Start], i: usize) -> Start
     requires { i < length starts.now }
     ensures { slice_get starts.now i ≡ Some result }
 {
@@ -51,7 +51,7 @@ fn start_in(starts: &[Start], i: usize) -> Start
 }
 
 /// What is reached first from a start.
-fn first_from(found: &[Option<Nearest>], start: &Start) -> Option<Nearest>
+pub(crate) fn first_from(found: &[Option<Nearest>], start: &Start) -> Option<Nearest>
     requires op { start.now.op < length found.now }
     requires borders { start.now.borders ≤ 1 }
     requires within { AreWithin 1024 found.now }
@@ -145,7 +145,7 @@ fn summed(profile: Profile, before: Residue, more: i128) -> Residue
 }
 
 /// What comes from a start to an output, across so many borders from the fault, beside what came before.
-fn then_comes(
+pub(crate) fn then_comes(
     graph: &Graph,
     weights: &Weights,
     output: u32,
@@ -366,21 +366,52 @@ fn left_of(starts: &[Start], right: usize) -> &[Start]
     &starts[right..]
 }
 
-/// What is reported where the word of operation `k` changes behind so many readings.
+/// What is reported where outputs are reached first, across so many borders, and this comes to the first of them for each 1 of the number that is added.
+fn told_of_sum(
+    graph: &Graph,
+    survey: &Survey,
+    borders: u32,
+    sum: Residue,
+    starts: &[Start],
+) -> Effect
+    requires graph { IsGraph graph.now }
+    requires mapped { IsMapped graph.now survey.now }
+    requires placed { ArePlaced graph.now.profile (length graph.now.operations) starts.now }
+    requires below { sum < modulus_of graph.now.profile }
+    ensures { (t : Numbers) (stops : List Stops) (from : List Source) → IsSurvey (subject graph.now t survey.now.horizon stops) survey.now
+        → starts.now ≡ starts_at graph.now.profile from
+        → (Refuses graph.now.profile true (pos sum) → TellsOf (subject graph.now t survey.now.horizon stops) true from (told.Refused borders))
+        → TellsOf (subject graph.now t survey.now.horizon stops) true from result }
+{
+    let refused = refuses(graph.profile(), true, sum);
+    if refused {
+        return Effect::Refused { borders };
+    }
+    told_of(graph, survey, starts, true)
+}
+
+/// What is reported where the word of operation `k` changes behind so many readings. What comes to the output that is reached first was summed before.
 fn told_of_rest(graph: &Graph, survey: &Survey, k: u32, right: u32) -> Effect
     requires graph { IsGraph graph.now }
     requires mapped { IsMapped graph.now survey.now }
     requires there { k < length graph.now.operations }
-    requires stands { right ≤ length (readings graph.now k) }
+    requires stands { right < length (readings graph.now k) }
     ensures { (t : Numbers) (stops : List Stops) → IsSurvey (subject graph.now t survey.now.horizon stops) survey.now
         → TellsOf (subject graph.now t survey.now.horizon stops) true (map as_source (drop right (readings graph.now k))) result }
 {
     // The LOAD and the STORE of each cell are operations.
     entries_keep_their_rules();
     words_split_in_one_way();
+    differences_are_superposed();
     let starts = survey.readings(k);
     let left = left_of(starts, right as usize);
-    told_of(graph, survey, left, true)
+    let rests = survey.rests(k);
+    let rest = rests.behind(right as usize);
+    let outlook = outlook_of(survey.horizon(), rest.output, rest.stop);
+    match outlook {
+        Outlook::Is(told) => told,
+        Outlook::Outputs(near) => told_of_sum(graph, survey, near.borders, rest.sum, left),
+    }
 }
 
 /// What is reported where what is amiss begins at operation `k` alone.

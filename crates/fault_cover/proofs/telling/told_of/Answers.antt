@@ -1,13 +1,13 @@
 use Rattle.std.proofs.Common.{ap, sym, subst, ◌≤◌, ◌∙◌, arith}
 use Rattle.weight_audit.specs.Audit.{IsAudit}
 use Rattle.fault_cover.specs.Firsts.{outlook_of}
-use Rattle.fault_cover.proofs.Tellings.{audit_for, out_inside, outputs_first, placed_for, told_at_outputs, told_directly, within_for}
+use Rattle.fault_cover.proofs.Tellings.{audit_for, is_out, out_inside, outputs_first, placed_for, told_at_outputs, told_directly, within_for}
 use Rattle.fault_cover.proofs.telling.told_of.Goals as goal
 
 pub first_of-output-requires : goal.first_of-output-requires
 first_of-output-requires c =
     let g = c.args.graph.now in
-    let m = c.requires.mapped in
+    let m = c.requires.mapped.maps in
     record {
       placed = placed_for c.profile-profile.result g c.outputs.result.now c.args.survey.now.outputs c.args.starts.now
           c.profile-profile.ensures.value c.outputs.ensures
@@ -18,7 +18,7 @@ first_of-output-requires c =
 pub first_of-stop-requires : goal.first_of-stop-requires
 first_of-stop-requires c =
     let g = c.args.graph.now in
-    let m = c.requires.mapped in
+    let m = c.requires.mapped.maps in
     record {
       placed = placed_for c.profile-profile.result g c.stops.result.now c.args.survey.now.stops c.args.starts.now
           c.profile-profile.ensures.value c.stops.ensures
@@ -30,25 +30,24 @@ pub number-first-requires : goal.number-first-requires
 number-first-requires c =
     let g = c.args.graph.now in
     let v = c.args.survey.now in
-    let m = c.requires.mapped in
+    let m = c.requires.mapped.maps in
     let first = outputs_first c.horizon.result c.first_of-output.result c.first_of-stop.result c.in-Outputs.near
     (sym c.outlook_of-outlook.ensures ∙ c.in-Outputs.is) in
-    let inside = out_inside g v c.outputs.result.now c.args.starts.now c.first_of-output.result c.in-Outputs.near
-    c.entries_keep_their_rules.ensures c.requires.graph.part m
-    c.outputs.ensures c.first_of-output.ensures first.0 in
+    let out = is_out g v c.outputs.result.now c.args.starts.now c.first_of-output.result c.in-Outputs.near m c.outputs.ensures c.first_of-output.ensures first.0 in
+    let inside = out_inside g c.in-Outputs.near.op c.entries_keep_their_rules.ensures c.requires.graph.part out in
     omega (arith, inside, m.numbers.many)
 
 pub told_at-requires-clause-audit : goal.told_at-requires-clause-audit
 told_at-requires-clause-audit c =
     let g = c.args.graph.now in
-    subst (λ a. IsAudit g a.horizon a) (sym c.weights.ensures) (audit_for g c.args.survey.now.horizon c.args.survey.now.weights c.requires.mapped.weights)
+    subst (λ a. IsAudit g a.horizon a) (sym c.weights.ensures) (audit_for g c.args.survey.now.horizon c.args.survey.now.weights c.requires.mapped.maps.weights)
 
 pub told_at-requires-clause-borders : goal.told_at-requires-clause-borders
 told_at-requires-clause-borders c =
     let first = outputs_first c.horizon.result c.first_of-output.result c.first_of-stop.result c.in-Outputs.near
     (sym c.outlook_of-outlook.ensures ∙ c.in-Outputs.is) in
     let within = first.1 in
-    let audit = c.requires.mapped.weights.horizon_is in
+    let audit = c.requires.mapped.maps.weights.horizon_is in
     subst (λ a. c.in-Outputs.near.borders ≤ a.horizon) (sym c.weights.ensures) (omega (arith, within, audit, c.horizon.ensures))
 
 pub returns-in-Is : goal.returns-in-Is
