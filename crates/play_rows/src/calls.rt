@@ -11,6 +11,6 @@ pub fn make(row: &mut RowCall<'_>, name: &str) {
         || machines::make(row, name)
         || faults::make(row, name);
     if !is_made {
-        row.told.fail("no call of this name");
+        row.told.text("no call of this name");
     }
 }

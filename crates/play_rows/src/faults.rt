@@ -6,6 +6,7 @@ mod scripts;
 mod verdicts;
 
 use crate::row_call::RowCall;
+use verdicts::{Asked, answer};
 
 /// Makes a call on faults; false where the name is another call's. The given text is the source of a program, but of `acts` and `kept` the calls that
 /// the unit is asked.
@@ -15,9 +16,9 @@ pub fn make(row: &mut RowCall<'_>, name: &str) -> bool {
         "groups" => scripts::tell_count(row),
         "acts" => acts::answers_under(row),
         "kept" => acts::answers_with_kept(row),
-        "judged" => verdicts::judged(row),
-        "alone" => verdicts::alone(row),
-        "ending" => verdicts::ending(row),
+        "judged" => answer(row, Asked::Judged),
+        "alone" => answer(row, Asked::Alone),
+        "ending" => answer(row, Asked::Ending),
         _ => return false,
     }
     true

@@ -10,25 +10,13 @@ use crate::row_call::RowCall;
 
 /// Makes a call on graphs or images; false where the name is another call's. The given text is a source, or an image in hexadecimal digits.
 pub fn make(row: &mut RowCall<'_>, name: &str) -> bool {
-    flattened::laws();
     match name {
         "listing" => flattened::listed(row),
-        "widened" => flattened::widened(row),
-        "profile" => flattened::profile(row),
         "codes" => flattened::codes(row),
         "entries" => flattened::entries(row),
-        "folded" => flattened::folded(row),
         "passed" => flattened::passed(row),
         "counts" => flattened::counts(row),
         "filled" => builders::tell_filled(row),
-        _ => return make_on_image(row, name),
-    }
-    true
-}
-
-/// Makes a call on images; false where the name is another call's.
-fn make_on_image(row: &mut RowCall<'_>, name: &str) -> bool {
-    match name {
         "image" => images::appended(row),
         "patched" => images::patched(row),
         "fronts" => images::fronts(row),

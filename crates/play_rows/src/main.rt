@@ -12,45 +12,23 @@ mod player;
 mod row_call;
 mod sources;
 mod texts;
-mod told;
 mod values;
 
 use player::Player;
 use std::process::ExitCode;
-use std::rt::Files;
 use std::test::Fail;
-use std::{env, fs, io};
-
-/// Plays the rows of a file. One that has no answer ends the program, which tells its file and its line, and why.
-fn played<R: Files + AllocGlobal>(rt: &R, name: &str) -> Result<Player, Fail> {
-    let text = fs::read_to_string(rt, name)?;
-    let mut player = Player::new(rt.alloc());
-    player.play(&text)?;
-    if player.why.is_empty() {
-        return Ok(player);
-    }
-    let number = player.number;
-    let why = player.why;
-    Err(Fail::new(format_args!("{name}, line {number}: {why}")))
-}
-
-/// Tells how many rows a file has, and which of them tell something else; whether all are as they say.
-fn tell<R: Print + Eprint>(rt: &R, name: &str, played: &Player) -> io::Result<bool> {
-    let rows = played.rows;
-    println!(rt; "{name}: {rows} rows")?;
-    for fault in &played.faults {
-        eprintln!(rt; "{name}, {fault}")?;
-    }
-    Ok(played.faults.is_empty())
-}
+use std::{env, fs};
 
 fn main(rt: HostRuntime) -> Result<ExitCode, Fail> {
-    let mut status = ExitCode::SUCCESS;
+    let mut player = Player::new(rt.alloc());
     for name in env::args(&rt)?.skip(1) {
-        let played = played(&rt, &name)?;
-        if !tell(&rt, &name, &played)? {
-            status = ExitCode::FAILURE;
-        }
+        let text = fs::read_to_string(&rt, &name)?;
+        player.play(&name, &text);
     }
-    Ok(status)
+    print!(rt; "{}", player.told.as_str())?;
+    eprint!(rt; "{}", player.faults.as_str())?;
+    if player.faults.as_str().is_empty() {
+        return Ok(ExitCode::SUCCESS);
+    }
+    Ok(ExitCode::FAILURE)
 }

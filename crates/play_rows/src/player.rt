@@ -1,119 +1,109 @@
-//! Playing a file of rows.
+//! Playing files of rows.
 
 use crate::calls::make;
 use crate::row_call::RowCall;
-use std::alloc::{AllocError, Global};
-use worked_texts::{cells, word_off};
+use std::alloc::Global;
+use worked_texts::{Told, cells, word_off};
 
-/// A file of rows that is played.
+/// Files of rows that are played, one after another.
 #[derive(Drop)]
 pub struct Player {
     alloc: Global,
-    /// How many lines have been read.
-    pub number: u32,
-    /// How many rows have been played.
-    pub rows: u32,
-    /// Each row that told something else than it says, with its line.
-    pub faults: Vec<String>,
-    /// Why the last row has no answer; empty where each has one.
-    pub why: &'static str,
+    /// How many rows each file has.
+    pub told: Told,
+    /// Each row that told something else than it says, with its file and its line.
+    pub faults: Told,
+    /// How many rows of the file have been played.
+    rows: u32,
     /// The text that the next calls are about.
-    given: String,
-    /// The last row, the number of its line, what it told, and what is wanted so far.
-    row: String,
-    at: u32,
-    found: String,
-    wanted: String,
-}
-
-/// Appends a further line.
-fn push_line(text: &mut String, line: &str) -> Result<(), AllocError> {
-    text.push_str("\n")?;
-    text.push_str(line)
+    given: Told,
+    /// The last row with its file and its line, what it told, and what is wanted so far.
+    row: Told,
+    found: Told,
+    wanted: Told,
 }
 
 impl Player {
-    /// A file before its first line.
+    /// Before the first file.
     pub fn new(alloc: Global) -> Player {
         Player {
             alloc,
-            number: 0,
+            told: Told::new(alloc),
+            faults: Told::new(alloc),
             rows: 0,
-            faults: Vec::new(alloc),
-            why: "",
-            given: String::new(alloc),
-            row: String::new(alloc),
-            at: 0,
-            found: String::new(alloc),
-            wanted: String::new(alloc),
+            given: Told::new(alloc),
+            row: Told::new(alloc),
+            found: Told::new(alloc),
+            wanted: Told::new(alloc),
         }
     }
 
-    /// Plays the rows of a text, to its end or to the first that has no answer.
-    pub fn play(&mut self, text: &str) -> Result<(), AllocError> {
-        for line in text.lines() {
-            self.number = self.number.saturating_add(1);
-            self.line(line)?;
-            if !self.why.is_empty() {
-                return Ok(());
-            }
+    /// Plays the rows of the file of a name.
+    pub fn play(&mut self, name: &str, text: &str) {
+        self.rows = 0;
+        self.given.clear();
+        for (i, line) in text.lines().enumerate() {
+            self.line(name, i, line);
         }
-        self.close()
+        self.close();
+        self.told.text(name);
+        self.told.text(": ");
+        self.told.item(self.rows);
+        self.told.text(" rows\n");
     }
 
-    /// Does what the next line says.
-    fn line(&mut self, line: &str) -> Result<(), AllocError> {
+    /// Does what a line says, behind so many others.
+    fn line(&mut self, name: &str, behind: usize, line: &str) {
         let (mark, rest) = word_off(line);
         match mark {
-            "#" | "" => Ok(()),
+            "#" | "" => {}
             "<" => {
                 self.given.clear();
-                self.given.push_str(rest)
+                self.given.text(rest);
             }
-            "+" => push_line(&mut self.given, rest),
-            "|" => push_line(&mut self.wanted, rest),
+            "+" => {
+                self.given.text("\n");
+                self.given.text(rest);
+            }
+            "|" => {
+                self.wanted.text("\n");
+                self.wanted.text(rest);
+            }
             _ => {
-                self.close()?;
-                self.begin(line)?;
-                self.ask(line);
-                Ok(())
+                self.close();
+                self.begin(name, behind, line);
             }
         }
-    }
-
-    /// Begins a row.
-    fn begin(&mut self, row: &str) -> Result<(), AllocError> {
-        self.rows = self.rows.saturating_add(1);
-        self.at = self.number;
-        self.row.clear();
-        self.row.push_str(row)?;
-        self.wanted.clear();
-        self.wanted.push_str(cells(row).1)
     }
 
     /// Makes the call of a row.
-    fn ask(&mut self, row: &str) {
-        let (name, arguments) = word_off(cells(row).0);
-        let mut call = RowCall::new(self.alloc, &self.given, arguments);
+    fn begin(&mut self, name: &str, behind: usize, row: &str) {
+        self.rows = self.rows.saturating_add(1);
+        self.row.clear();
+        self.row.text(name);
+        self.row.text(", line ");
+        self.row.item(behind.saturating_add(1));
+        self.row.text(": `");
+        self.row.text(row);
+        let (asked, wanted) = cells(row);
+        self.wanted.text(wanted);
+        let (name, arguments) = word_off(asked);
+        let mut call = RowCall::new(self.alloc, self.given.as_str(), arguments);
         make(&mut call, name);
-        match call.end() {
-            Ok(found) => self.found = found,
-            Err(why) => self.why = why,
-        }
+        self.found = call.end();
     }
 
     /// Compares what the last row told with what is wanted, and notes where it is something else.
-    fn close(&mut self) -> Result<(), AllocError> {
-        let found = self.found.as_str().trim_ascii();
-        let wanted = self.wanted.as_str().trim_ascii();
-        if found != wanted {
-            let at = self.at;
-            let row = &self.row;
-            let fault = format!(in self.alloc;
-                "line {at}: `{row}` told `{found}`, and not `{wanted}`"
-            )?;
-            self.faults.push(fault)?;
+    fn close(&mut self) {
+        if self.found.as_str().trim_ascii() != self.wanted.as_str().trim_ascii() {
+            self.faults.text(self.row.as_str());
+            self.faults.text("` told `");
+            self.faults.text(self.found.as_str());
+            self.faults.text("`, and not `");
+            self.faults.text(self.wanted.as_str());
+            self.faults.text("`\n");
         }
-        Ok(())
+        self.found.clear();
+        self.wanted.clear();
     }
 }

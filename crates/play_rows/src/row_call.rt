@@ -1,13 +1,14 @@
 //! A row's call.
 
-use crate::told::Told;
+ghost use Rattle.std.specs.Prelude.{◌≡◌, IfSome, Ok};
+
 use coded_unit::Word;
 use std::alloc::Global;
-use vcp_base::{Kind, Profile, Ty, kind_name, kind_of_code, ty_name, ty_of_code};
-use worked_texts::{joined, spelled, word_off};
+use vcp_base::{Kind, Profile, Text, Ty, kind_name, kind_of_code, ty_name, ty_of_code};
+use worked_texts::{Told, joined, spelled, word_off};
 
-/// A row's call: what it is about, its arguments, which are read word by word, and what it tells. Where a word isn't what is read, what is
-/// told notes that, and a value is answered that stands for none.
+/// A row's call: what it is about, its arguments, which are read word by word, and what it tells. Where a word isn't what is read, that is
+/// told, and a value is answered that stands for none.
 #[derive(Drop)]
 pub struct RowCall<'a> {
     pub alloc: Global,
@@ -16,6 +17,8 @@ pub struct RowCall<'a> {
     /// What has not been read.
     pub rest: &'a str,
     pub told: Told,
+    /// The words that a unit has answered so far; 0 where it stopped.
+    pub answers: Vec<Word>,
 }
 
 impl<'a> RowCall<'a> {
@@ -26,13 +29,45 @@ impl<'a> RowCall<'a> {
             given,
             rest: arguments,
             told: Told::new(alloc),
+            answers: Vec::new(alloc),
         }
     }
 
-    /// What the call tells; why it has no answer.
-    pub fn end(self) -> Result<String, &'static str> {
+    /// What the call tells.
+    pub fn end(self) -> Told {
         let RowCall { told, .. } = self;
-        told.end()
+        told
+    }
+
+    /// What was made; where nothing was, this is told in its place.
+    pub fn made<T: Drop, E: Drop>(&mut self, tried: Result<T, E>, why: &str) -> Option<T>
+        ensures { IfSome result (λ value. tried ≡ Ok value) }
+    {
+        match tried {
+            Ok(value) => Some(value),
+            Err(_) => {
+                self.told.text(why);
+                None
+            }
+        }
+    }
+
+    /// What was read; where nothing was, another value, and that is told.
+    fn read<T: Copy>(&mut self, read: Option<T>, other: T) -> T {
+        match read {
+            Some(value) => value,
+            None => {
+                self.told.text("no argument");
+                other
+            }
+        }
+    }
+
+    /// Notes whether there was memory for what was done.
+    pub fn done<E: Drop>(&mut self, done: Result<(), E>) {
+        if done.is_err() {
+            self.told.lack_memory();
+        }
     }
 
     /// The next word.
@@ -42,54 +77,32 @@ impl<'a> RowCall<'a> {
         word
     }
 
-    /// The number of 128 bits that is written so; else 0.
-    pub fn i128_in(&mut self, text: &str) -> i128 {
-        match text.parse() {
-            Ok(n) => n,
-            Err(_) => {
-                self.told.fail("no number of 128 bits");
-                0
-            }
-        }
+    /// The number that is written so; else 0.
+    pub fn number_in(&mut self, text: &str) -> i128 {
+        self.read(text.parse().ok(), 0)
     }
 
     /// The number of 32 bits that is written so; else 0.
     pub fn u32_in(&mut self, text: &str) -> u32 {
-        match text.parse() {
-            Ok(n) => n,
-            Err(_) => {
-                self.told.fail("no number of 32 bits");
-                0
-            }
-        }
+        self.read(text.parse().ok(), 0)
     }
 
-    /// The next word as a number of 128 bits.
-    pub fn i128(&mut self) -> i128 {
+    /// The next word as a number.
+    pub fn number(&mut self) -> i128 {
         let word = self.word();
-        self.i128_in(word)
+        self.number_in(word)
     }
 
     /// The next word as a number of 64 bits with a sign.
     pub fn i64(&mut self) -> i64 {
-        match self.word().parse() {
-            Ok(n) => n,
-            Err(_) => {
-                self.told.fail("no number of 64 bits with a sign");
-                0
-            }
-        }
+        let number = self.number();
+        self.read(i64::try_from(number).ok(), 0)
     }
 
     /// The next word as a number of 64 bits.
     pub fn u64(&mut self) -> u64 {
-        match self.word().parse() {
-            Ok(n) => n,
-            Err(_) => {
-                self.told.fail("no number of 64 bits");
-                0
-            }
-        }
+        let number = self.number();
+        self.read(u64::try_from(number).ok(), 0)
     }
 
     /// The next word as a number of 32 bits.
@@ -98,85 +111,40 @@ impl<'a> RowCall<'a> {
         self.u32_in(word)
     }
 
-    /// The next word as the name of a kind; else of the kind INPUT.
+    /// The next word as the name of a kind; else the kind INPUT.
     pub fn kind(&mut self) -> Kind {
-        match kind_named(self.word()) {
-            Some(kind) => kind,
-            None => {
-                self.told.fail("no kind");
-                Kind::Input
-            }
-        }
+        let word = self.word();
+        self.read(kind_named(word), Kind::Input)
     }
 
-    /// The next word as the name of a type; else of BOOL.
+    /// The next word as the name of a type; else BOOL.
     pub fn ty(&mut self) -> Ty {
-        match ty_named(self.word()) {
-            Some(ty) => ty,
-            None => {
-                self.told.fail("no type");
-                Ty::Bool
-            }
-        }
+        let word = self.word();
+        self.read(ty_named(word), Ty::Bool)
     }
 
-    /// The next word as the name of a code; else of the narrow one.
+    /// The next word as the name of a code: the wide one, or else the narrow one.
     pub fn profile(&mut self) -> Profile {
-        match self.word() {
-            "narrow" => Profile::Narrow,
-            "wide" => Profile::Wide,
-            _ => {
-                self.told.fail("no code");
-                Profile::Narrow
-            }
+        if self.word() == "wide" {
+            Profile::Wide
+        } else {
+            Profile::Narrow
         }
     }
 
     /// The word that is this integer; else 0.
     pub fn coded(&mut self, code: i128) -> Word {
-        match Word::new(code) {
-            Some(word) => word,
-            None => {
-                self.told.fail("no word");
-                Word::ZERO
-            }
-        }
+        self.read(Word::new(code), Word::ZERO)
     }
 
-    /// The bytes that a text spells; else none.
-    pub fn spelled(&mut self, text: &str) -> Vec<u8> {
-        match spelled(self.alloc, text) {
-            Ok(bytes) => bytes,
-            Err(_) => {
-                self.told.lack_memory();
-                Vec::new(self.alloc)
-            }
-        }
+    /// The bytes that the rest of the arguments spells.
+    pub fn spelled(&self) -> Vec<u8> {
+        spelled(self.alloc, self.rest)
     }
 
-    /// Appends a byte.
-    pub fn push(&mut self, bytes: &mut Vec<u8>, byte: u8) {
-        if bytes.push(byte).is_err() {
-            self.told.lack_memory();
-        }
-    }
-
-    /// Appends bytes.
-    pub fn append(&mut self, bytes: &mut Vec<u8>, more: &[u8]) {
-        if bytes.extend_from_slice(more).is_err() {
-            self.told.lack_memory();
-        }
-    }
-
-    /// These parts, one after another; else nothing.
-    pub fn joined(&mut self, parts: &[&[u8]]) -> Vec<u8> {
-        match joined(self.alloc, parts) {
-            Ok(bytes) => bytes,
-            Err(_) => {
-                self.told.lack_memory();
-                Vec::new(self.alloc)
-            }
-        }
+    /// A text of these bytes.
+    pub fn text(&self, bytes: &[u8]) -> Text {
+        Text::from_vec(joined(self.alloc, &[bytes]))
     }
 }
 

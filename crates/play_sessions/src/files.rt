@@ -1,17 +1,17 @@
 //! The files of a session.
 
 use std::alloc::Global;
-use vcp_base::{Memory, Text};
 use vcp_outside::MemFiles;
+use worked_texts::joined;
 
 /// A file of a session.
 #[derive(Drop)]
 struct File {
-    name: String,
-    text: Text,
+    name: Vec<u8>,
+    text: Vec<u8>,
 }
 
-/// The files of a session, each name once.
+/// The files of a session: of several with one name the last holds, and those before it are empty.
 #[derive(Drop)]
 pub(crate) struct SessionFiles {
     alloc: Global,
@@ -27,32 +27,34 @@ impl SessionFiles {
         }
     }
 
-    /// Sets the file of a name.
-    pub(crate) fn put(&mut self, name: &str, bytes: &[u8]) -> Result<(), Memory> {
-        let text = Text::copy_of(self.alloc, bytes)?;
+    /// Sets the file of a name. Where there is no memory for it, it is lacking, and what it is wanted for comes otherwise.
+    pub(crate) fn put(&mut self, name: &str, text: Vec<u8>) {
         for file in self.files.iter_mut() {
-            if file.name.as_str() == name {
-                file.text = text;
-                return Ok(());
+            if file.name.as_slice() == name.as_bytes() {
+                file.text.clear();
             }
         }
-        let name = String::from_str(self.alloc, name)?;
-        self.files.push(File { name, text })?;
-        Ok(())
+        let name = joined(self.alloc, &[name.as_bytes()]);
+        self.files.push(File { name, text }).ok();
     }
 
-    /// What the file of a name has; `None` where there is none.
+    /// What the file of a name has; None where there is none.
     pub(crate) fn text(&self, name: &str) -> Option<&[u8]> {
-        let file = self.files.iter().find(|file| file.name.as_str() == name)?;
-        Some(file.text.bytes())
+        let mut text = None;
+        for file in &self.files {
+            if file.name.as_slice() == name.as_bytes() {
+                text = Some(file.text.as_slice());
+            }
+        }
+        text
     }
 
     /// The files in memory, of which no call was made so far.
-    pub(crate) fn in_memory(&self) -> Result<MemFiles, Memory> {
+    pub(crate) fn in_memory(&self) -> MemFiles {
         let mut files = MemFiles::new(self.alloc);
         for file in &self.files {
-            files.put(file.name.as_bytes(), file.text.bytes())?;
+            files.put(&file.name, &file.text).ok();
         }
-        Ok(files)
+        files
     }
 }

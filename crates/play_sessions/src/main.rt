@@ -8,77 +8,53 @@
 
 mod failing;
 mod files;
-mod lines;
 mod player;
 mod program_call;
 mod single;
 mod words;
 
-use player::{Played, play};
+use player::Player;
 use single::file_step;
+use std::env;
 use std::process::ExitCode;
 use std::rt::Files;
-use std::str::from_utf8;
 use std::test::Fail;
-use std::{env, io};
 use vcp_outside::{HostFiles, read_all};
-use worked_texts::same;
+use worked_texts::{Told, text_of};
 
 /// The most bytes of a session.
 const MOST_BYTES: u64 = 1 << 24;
 
-/// Plays the session of a file.
-fn played<R: Files + AllocGlobal>(rt: &R, name: &str) -> Result<Played, Fail> {
+/// Tells what the files of the host answer where one that is lacking is begun behind one that is there, whose rest is gone then.
+fn tell_lacking<R: Files + AllocGlobal>(rt: &R, name: &str, told: &mut Told) {
     let mut files = HostFiles::new(rt);
-    match read_all(rt.alloc(), &mut files, name.as_bytes(), MOST_BYTES) {
-        Ok(session) => Ok(play(rt.alloc(), from_utf8(session.bytes())?)?),
-        Err(_) => Err(Fail::new(name)),
-    }
-}
-
-/// Tells what a session's calls gave otherwise, line by line.
-fn complain<R: Print + Eprint>(rt: &R, name: &str, played: &Played) -> io::Result<()> {
-    let otherwise = played.otherwise;
-    let calls = played.calls;
-    println!(rt; "{name}: {otherwise} of {calls} calls otherwise")?;
-    for fault in &played.faults {
-        eprintln!(rt; "{name}, {fault}")?;
-    }
-    Ok(())
-}
-
-/// Tells what came out of a session; whether all came out as it says.
-fn tell<R: Print + Eprint>(rt: &R, name: &str, played: &Played) -> io::Result<bool> {
-    if played.faults.is_empty() {
-        let calls = played.calls;
-        println!(rt; "{name}: {calls} calls")?;
-        return Ok(true);
-    }
-    complain(rt, name, played)?;
-    Ok(false)
-}
-
-/// Fails where, of the files of the host, one that is lacking doesn't end the one that was begun before.
-fn lacking_ends<R: Files + AllocGlobal>(rt: &R, name: &str) -> Result<(), Fail> {
-    let mut files = HostFiles::new(rt);
-    let begun = file_step(rt.alloc(), &mut files, "begin", name);
-    let lacking = file_step(rt.alloc(), &mut files, "begin", "lacking");
-    let rest = file_step(rt.alloc(), &mut files, "read", "1");
-    let no_name = file_step(rt.alloc(), &mut files, "begin", r"\xff");
-    same(
-        &format!(in rt.alloc(); "{begun:?} {lacking:?} {rest:?} {no_name:?}")?,
-        r#"Some("[Ok(())]") Some("[Err(Failed)]") Some("[]") Some("[Err(Failed)]")"#,
-    )
+    file_step(rt.alloc(), &mut files, "begin", name, told);
+    file_step(rt.alloc(), &mut files, "begin", "lacking", told);
+    file_step(rt.alloc(), &mut files, "read", "1", told);
+    file_step(rt.alloc(), &mut files, "begin", r"\xff", told);
 }
 
 fn main(rt: HostRuntime) -> Result<ExitCode, Fail> {
-    let mut status = ExitCode::SUCCESS;
+    let mut told = Told::new(rt.alloc());
+    let mut faults = Told::new(rt.alloc());
     for name in env::args(&rt)?.skip(1) {
-        lacking_ends(&rt, &name)?;
-        let played = played(&rt, &name)?;
-        if !tell(&rt, &name, &played)? {
-            status = ExitCode::FAILURE;
+        let mut lacking = Told::new(rt.alloc());
+        tell_lacking(&rt, &name, &mut lacking);
+        let mut files = HostFiles::new(&rt);
+        if let Ok(session) = read_all(rt.alloc(), &mut files, name.as_bytes(), MOST_BYTES)
+            && lacking.as_str() == "[Ok(())][Err(Failed)][][Err(Failed)]"
+        {
+            let mut player = Player::new(rt.alloc(), &name);
+            player.play(text_of(session.bytes()));
+            player.tell(&mut told, &mut faults);
+        } else {
+            faults.text("a file of the host isn't read as it is\n");
         }
     }
-    Ok(status)
+    print!(rt; "{}", told.as_str())?;
+    eprint!(rt; "{}", faults.as_str())?;
+    if faults.as_str().is_empty() {
+        return Ok(ExitCode::SUCCESS);
+    }
+    Ok(ExitCode::FAILURE)
 }

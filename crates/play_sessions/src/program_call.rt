@@ -2,7 +2,6 @@
 
 use crate::failing::{Counts, Outside};
 use crate::files::SessionFiles;
-use crate::lines::Wanted;
 use crate::single::single_call;
 use crate::words::{STUDY_USAGE, USAGE, words_of};
 use coded_unit::{Answer, BadUnit};
@@ -11,7 +10,7 @@ use vcp_base::{Memory, kind_name};
 use vcp_core::vcp;
 use vcp_outside::{MemFiles, MemSink};
 use vcp_study_core::vcp_study;
-use worked_texts::spelled;
+use worked_texts::{Told, text_of};
 
 /// For how many bytes of output and of errors there is room, where nothing else is said.
 pub(crate) const ROOM: u32 = 1 << 20;
@@ -46,13 +45,11 @@ impl Setting {
         }
     }
 
-    /// The unit that gives the answers, and else the right ones.
-    fn unit(&self, alloc: Global) -> Result<BadUnit, Memory> {
-        let mut unit = BadUnit::new(alloc, KEPT)?;
+    /// Has a unit give the answers.
+    fn replace(&self, unit: &mut BadUnit) {
         for (number, answer) in &self.answers {
-            unit.replace(*number as u64, *answer)?;
+            unit.replace(*number as u64, *answer).ok();
         }
-        Ok(unit)
     }
 
     /// Makes the call fail that is to fail.
@@ -72,7 +69,7 @@ impl Setting {
 }
 
 /// Which program is called.
-#[derive(Clone, Copy, Debug, PartialEq, Eq)]
+#[derive(Clone, Copy)]
 pub(crate) enum Program {
     /// `vcp`.
     Vcp,
@@ -82,17 +79,40 @@ pub(crate) enum Program {
     Single,
 }
 
+/// A program, its command, and the words behind it.
+#[derive(Clone, Copy)]
+pub(crate) struct Called<'a> {
+    pub(crate) program: Program,
+    pub(crate) command: &'a str,
+    pub(crate) behind: &'a str,
+}
+
+/// A part of what a call has to give.
+#[derive(Clone, Copy)]
+pub(crate) enum Wanted<'a> {
+    /// Bytes of the output.
+    Bytes(&'a [u8]),
+    /// A text so many times in the whole output.
+    Times(u32, &'a [u8]),
+    /// A call of the unit with its answer, or `end`.
+    Asked(&'a str),
+    /// How many answers of the unit were wrong.
+    Wrong(u32),
+    /// The status, and the line of error, if it is not empty.
+    End(u32, &'a [u8]),
+    /// The end with the usage line.
+    Usage,
+    /// The end with this status, no error, and any output.
+    Kept(u32),
+}
+
 /// A call that was made of a program.
 #[derive(Drop)]
-pub(crate) struct ProgramCall {
-    /// The command and the words behind it.
-    pub(crate) words: String,
-    program: Program,
-    command: String,
-    behind: String,
-    status: u8,
-    out: MemSink,
-    err: MemSink,
+pub(crate) struct ProgramCall<'a> {
+    pub(crate) called: Called<'a>,
+    pub(crate) status: u8,
+    pub(crate) out: MemSink,
+    pub(crate) err: MemSink,
     unit: BadUnit,
     /// For how many bytes of errors there was room.
     error_room: u32,
@@ -104,31 +124,28 @@ pub(crate) struct ProgramCall {
     pub(crate) is_otherwise: bool,
 }
 
-impl ProgramCall {
-    /// Calls a program with a command and the words behind it on these files, in this setting.
+impl<'a> ProgramCall<'a> {
+    /// Calls a program on these files, in this setting. Nothing where there is no memory for it.
     pub(crate) fn new(
         alloc: Global,
-        files: &mut MemFiles,
+        files: &SessionFiles,
         setting: &Setting,
-        program: Program,
-        command: &str,
-        behind: &str,
-    ) -> Result<ProgramCall, Memory> {
-        let words = words_of(alloc, command, behind)?;
-        let mut unit = setting.unit(alloc)?;
-        let mut out = MemSink::new(alloc, setting.room)?;
-        let mut err = MemSink::new(alloc, setting.error_room)?;
-        setting.fail(files, &mut out, &mut err)?;
-        let status = match program {
-            Program::Vcp => vcp(alloc, &words, files, &mut unit, &mut out, &mut err),
-            Program::Study => vcp_study(alloc, &words, files, &mut out, &mut err),
-            Program::Single => single_call(alloc, command, behind, files, &mut out),
+        called: Called<'a>,
+    ) -> Option<ProgramCall<'a>> {
+        let mut unit = BadUnit::new(alloc, KEPT).ok()?;
+        let mut out = MemSink::new(alloc, setting.room).ok()?;
+        let mut err = MemSink::new(alloc, setting.error_room).ok()?;
+        let mut files = files.in_memory();
+        setting.replace(&mut unit);
+        setting.fail(&mut files, &mut out, &mut err).ok();
+        let words = words_of(alloc, called.command, called.behind);
+        let status = match called.program {
+            Program::Vcp => vcp(alloc, &words, &mut files, &mut unit, &mut out, &mut err),
+            Program::Study => vcp_study(alloc, &words, &mut files, &mut out, &mut err),
+            Program::Single => single_call(alloc, called, &mut files, &mut out),
         };
-        Ok(ProgramCall {
-            words: format!(in alloc; "{command} {behind}")?,
-            program,
-            command: String::from_str(alloc, command)?,
-            behind: String::from_str(alloc, behind)?,
+        Some(ProgramCall {
+            called,
             status,
             out,
             err,
@@ -140,76 +157,25 @@ impl ProgramCall {
         })
     }
 
-    /// The same call on these files, in this setting.
-    pub(crate) fn again(
-        &self,
-        alloc: Global,
-        files: &SessionFiles,
-        setting: &Setting,
-    ) -> Result<ProgramCall, Memory> {
-        let mut files = files.in_memory()?;
-        let command = self.command.as_str();
-        let behind = self.behind.as_str();
-        ProgramCall::new(alloc, &mut files, setting, self.program, command, behind)
-    }
-
-    /// Whether the same came as of another call.
-    pub(crate) fn is_same(&self, other: &ProgramCall) -> bool {
-        self.status == other.status
-            && self.out.bytes() == other.out.bytes()
-            && self.err.bytes() == other.err.bytes()
-    }
-
-    /// Whether the call ended as it has to where a call of this kind failed in it, and in another call of the program none did:
-    /// where the files failed, with 5, a front of the output and the line of a read fault; where the output failed, with 6, a part of
-    /// the output and the line of a write fault; where the errors failed, with 6, all of the output and a part of the line.
-    pub(crate) fn is_broken(&self, outside: Outside, other: &ProgramCall) -> bool {
-        let out = self.out.bytes();
-        let err = self.err.bytes();
-        let whole = other.out.bytes();
-        match outside {
-            Outside::Files => {
-                self.status == 5 && whole.starts_with(out) && err.ends_with(b" read fault\n")
-            }
-            Outside::Output => {
-                self.status == 6 && is_part(out, whole) && err == b"write fault\n".as_slice()
-            }
-            Outside::Errors => {
-                self.status == 6 && out == whole && is_part(err, other.err.bytes())
-            }
-        }
-    }
-
-    /// What was written to the output.
-    pub(crate) fn output(&self) -> &[u8] {
-        self.out.bytes()
-    }
-
-    /// Takes what is wanted next off what was given; what came instead, where it is something else.
-    pub(crate) fn otherwise(
-        &mut self,
-        alloc: Global,
-        wanted: Wanted<'_>,
-    ) -> Result<Option<String>, Memory> {
+    /// Takes what is wanted next off what was given; whether it was that.
+    pub(crate) fn gives(&mut self, alloc: Global, wanted: Wanted<'_>) -> bool {
         match wanted {
-            Wanted::Output(line) => self.other_line(alloc, line.as_bytes()),
-            Wanted::Spelled(line) => self.other_line(alloc, &spelled(alloc, line)?),
-            Wanted::Bytes(bytes) => self.other_bytes(alloc, bytes),
-            Wanted::Asked(call) => self.other_call(alloc, call),
-            Wanted::Wrong(number) => self.other_wrong(alloc, number),
-            Wanted::End(status, error) => self.other_end(alloc, status, error.as_bytes()),
-            Wanted::Times(number, part) => self.other_times(alloc, number, part),
-            Wanted::Usage => self.other_end(alloc, 4, self.usage().trim_ascii_end()),
+            Wanted::Bytes(bytes) => self.gives_bytes(bytes),
+            Wanted::Times(number, part) => self.times(part) == number as usize,
+            Wanted::Asked(call) => self.gives_call(alloc, call),
+            Wanted::Wrong(number) => self.unit.wrong() == number as u64,
+            Wanted::End(status, error) => self.ends(status, error),
+            Wanted::Usage => self.ends(4, self.usage().trim_ascii_end()),
             Wanted::Kept(status) => {
                 self.told = self.out.bytes().len();
-                self.other_end(alloc, status, b"")
+                self.ends(status, b"")
             }
         }
     }
 
     /// The usage line of the program.
     fn usage(&self) -> &'static [u8] {
-        match self.program {
+        match self.called.program {
             Program::Study => STUDY_USAGE,
             Program::Vcp | Program::Single => USAGE,
         }
@@ -220,58 +186,34 @@ impl ProgramCall {
         self.out.bytes().get(self.told..).unwrap_or(b"")
     }
 
-    /// Takes a line off the output, or tells what came.
-    fn other_line(&mut self, alloc: Global, line: &[u8]) -> Result<Option<String>, Memory> {
-        let rest = self.rest();
-        if rest.starts_with(line) && rest.get(line.len()) == Some(&b'\n') {
-            self.told = self.told.saturating_add(line.len()).saturating_add(1);
-            return Ok(None);
-        }
-        Ok(Some(self.came(alloc)?))
-    }
-
-    /// Takes bytes off the output, or tells what came.
-    fn other_bytes(&mut self, alloc: Global, bytes: &[u8]) -> Result<Option<String>, Memory> {
-        if self.rest().starts_with(bytes) {
+    /// Takes bytes off the output, where they come next.
+    fn gives_bytes(&mut self, bytes: &[u8]) -> bool {
+        let comes = self.rest().starts_with(bytes);
+        if comes {
             self.told = self.told.saturating_add(bytes.len());
-            return Ok(None);
         }
-        Ok(Some(self.came(alloc)?))
+        comes
     }
 
-    /// Tells how often a text stands in the output, where it is another number.
-    fn other_times(
-        &self,
-        alloc: Global,
-        number: u32,
-        part: &str,
-    ) -> Result<Option<String>, Memory> {
-        let part = spelled(alloc, part)?;
-        let pieces = text_of(self.out.bytes()).split(text_of(&part)).count();
-        let times = pieces.saturating_sub(1);
-        if times == number as usize {
-            return Ok(None);
-        }
-        Ok(Some(format!(in alloc; "{times} times")?))
+    /// How often a text stands in the output.
+    fn times(&self, part: &[u8]) -> usize {
+        let pieces = text_of(self.out.bytes()).split(text_of(part)).count();
+        pieces.saturating_sub(1)
     }
 
-    /// Takes a call off the unit's calls, or tells what came.
-    fn other_call(&mut self, alloc: Global, call: &str) -> Result<Option<String>, Memory> {
-        let came = self.next_call(alloc)?;
-        self.asked = self.asked.saturating_add(1);
-        Ok(match came.as_str().strip_prefix(call) {
-            Some(behind) if behind.is_empty() || behind.starts_with(" ") => None,
-            _ => Some(came),
-        })
-    }
-
-    /// Tells how many answers were wrong, where it is another number.
-    fn other_wrong(&self, alloc: Global, number: u64) -> Result<Option<String>, Memory> {
-        let wrong = self.unit.wrong();
-        if wrong == number {
-            return Ok(None);
+    /// Takes a call off the unit's calls, where it begins so and ends there or with a blank.
+    fn gives_call(&mut self, alloc: Global, call: &str) -> bool {
+        let mut came = Told::new(alloc);
+        self.tell_call(&mut came);
+        came.text(" ");
+        let mut wanted = Told::new(alloc);
+        wanted.text(call);
+        wanted.text(" ");
+        let comes = came.as_str().starts_with(wanted.as_str());
+        if comes {
+            self.asked = self.asked.saturating_add(1);
         }
-        Ok(Some(format!(in alloc; "wrong {wrong}")?))
+        comes
     }
 
     /// Whether the errors are this line, as far as there was room for it, or nothing where it is empty.
@@ -283,80 +225,71 @@ impl ProgramCall {
         }
     }
 
-    /// Tells what came where it is another status or error, or more output.
-    fn other_end(&self, alloc: Global, status: u8, error: &[u8]) -> Result<Option<String>, Memory> {
-        if self.is_told(error) && self.status == status && self.rest().is_empty() {
-            return Ok(None);
-        }
-        Ok(Some(self.came(alloc)?))
+    /// Whether the call has this status and error, and no more output.
+    fn ends(&self, status: u32, error: &[u8]) -> bool {
+        self.is_told(error) && self.status as u32 == status && self.rest().is_empty()
     }
 
-    /// The next line of the output; behind the last the status and the errors.
-    fn came(&self, alloc: Global) -> Result<String, Memory> {
+    /// Tells what came where something else was wanted.
+    pub(crate) fn tell_came(&self, wanted: Wanted<'_>, told: &mut Told) {
+        match wanted {
+            Wanted::Times(_, part) => {
+                told.item(self.times(part));
+                told.text(" times");
+            }
+            Wanted::Asked(_) => self.tell_call(told),
+            Wanted::Wrong(_) => {
+                told.text("wrong ");
+                told.item(self.unit.wrong());
+            }
+            _ => self.tell_next(told),
+        }
+    }
+
+    /// Tells the next line of the output; behind the last the status and the errors.
+    fn tell_next(&self, told: &mut Told) {
         let rest = self.rest();
         if rest.is_empty() {
-            return self.came_last(alloc);
+            return self.tell_end(told);
         }
-        let line = rest.split(|byte| *byte == b'\n').next().unwrap_or(rest);
-        if line.len() == rest.len() {
-            let line = text_of(line);
-            return Ok(format!(in alloc; "{line} (a line that is not ended)")?);
+        told.text(text_of(rest).lines().next().unwrap_or(""));
+        if !rest.contains(&b'\n') {
+            told.text(" (a line that is not ended)");
         }
-        Ok(String::from_str(alloc, text_of(line))?)
     }
 
-    /// The status and the errors, as a session writes them.
-    pub(crate) fn came_last(&self, alloc: Global) -> Result<String, Memory> {
-        let status = self.status;
-        if status == 4 && self.err.bytes() == self.usage() {
-            return Ok(String::from_str(alloc, "= usage")?);
-        }
-        let error = text_of(self.err.bytes()).trim_ascii_end();
-        if error.is_empty() {
-            return Ok(format!(in alloc; "= {status}")?);
-        }
-        Ok(format!(in alloc; "= {status} {error}")?)
+    /// Tells the status and the errors, as a session writes them.
+    pub(crate) fn tell_end(&self, told: &mut Told) {
+        told.text("= ");
+        told.item(self.status);
+        told.item(text_of(self.err.bytes()).trim_ascii_end());
     }
 
-    /// The unit's next call as a session writes it.
-    fn next_call(&self, alloc: Global) -> Result<String, Memory> {
-        let Some((call, answer)) = self.unit.entry(self.asked) else {
-            return Ok(String::from_str(alloc, "end")?);
-        };
-        let cycle = call.cycle;
-        let operation = call.op;
-        let kind = text_of(kind_name(call.kind));
-        let answer = answer_text(alloc, answer)?;
-        let correction = call.corr;
-        let stamp = call.stamp;
-        let first = call.a.get();
-        let second = call.b.get();
-        let third = call.c.get();
-        Ok(format!(in alloc;
-            "{cycle} {operation} {kind} {answer} {correction} {stamp} {first} {second} {third}"
-        )?)
+    /// Tells the unit's next call as a session writes it.
+    fn tell_call(&self, told: &mut Told) {
+        match self.unit.entry(self.asked) {
+            Some((call, answer)) => {
+                told.item(call.cycle);
+                told.item(call.op);
+                told.name(kind_name(call.kind));
+                tell_answer(answer, told);
+                told.item(call.corr);
+                told.item(call.stamp);
+                told.item(call.a.get());
+                told.item(call.b.get());
+                told.item(call.c.get());
+            }
+            None => told.text("end"),
+        }
     }
 }
 
-/// Whether a text is a front of another that lacks at least its last byte.
-fn is_part(front: &[u8], whole: &[u8]) -> bool {
-    front.len() < whole.len() && whole.starts_with(front)
-}
-
-/// An answer as a session writes it.
-fn answer_text(alloc: Global, answer: Answer) -> Result<String, Memory> {
+/// Tells an answer as a session writes it.
+fn tell_answer(answer: Answer, told: &mut Told) {
     match answer {
-        Answer::Word(word) => {
-            let word = word.get();
-            Ok(format!(in alloc; "{word}")?)
-        }
-        Answer::Range => Ok(String::from_str(alloc, "RANGE")?),
-        Answer::DivZero => Ok(String::from_str(alloc, "DIVZERO")?),
-        Answer::Operand => Ok(String::from_str(alloc, "OPERAND")?),
+        Answer::Word(word) => told.item(word.get()),
+        Answer::Range => told.item("RANGE"),
+        Answer::DivZero => told.item("DIVZERO"),
+        Answer::Operand => told.item("OPERAND"),
     }
-}
-
-/// Bytes as a text, for its reader.
-fn text_of(bytes: &[u8]) -> &str {
-    str::from_utf8(bytes).unwrap_or("(bytes that are no text)")
 }

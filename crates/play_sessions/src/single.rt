@@ -7,6 +7,7 @@ mod rows;
 mod sinks;
 mod words;
 
+use crate::program_call::Called;
 use element::write_element;
 pub(crate) use files::file_step;
 use files::file_steps;
@@ -16,54 +17,40 @@ use sinks::{room_steps, unflushed_steps};
 use std::alloc::Global;
 use vcp_outside::{Failed, MemFiles, MemSink, write_all};
 use words::command;
+use worked_texts::Told;
 
 /// Makes the single call of this name with these words on the files, and writes what it answers. The status is 0; 6 where the output has
-/// no room, and 1 where the words say no call, or memory is wanted.
+/// no room.
 pub(crate) fn single_call(
     alloc: Global,
-    name: &str,
-    words: &str,
+    called: Called<'_>,
     files: &mut MemFiles,
     out: &mut MemSink,
 ) -> u8 {
-    if name == "element" {
-        return status(write_element(out));
+    let mut told = Told::new(alloc);
+    let words = called.behind;
+    let mut written: Result<(), Failed> = Ok(());
+    match called.command {
+        "files" => file_steps(alloc, files, words, &mut told),
+        "sink" => room_steps(alloc, words, &mut told),
+        "unflushed" => unflushed_steps(words, &mut told),
+        "rows" => rows_taken(alloc, files, words, &mut told),
+        "cycles" => cycles_taken(alloc, words, &mut told),
+        "words" => command(alloc, words, &mut told),
+        "made" => made_sums(alloc, words, &mut told),
+        _ => written = write_element(out),
     }
-    match answered(alloc, name, words, files) {
-        Some(answer) => status(write_line(out, &answer)),
-        None => 1,
+    if !told.as_str().is_empty() {
+        told.text("\n");
+        written = write_all(out, told.as_str().as_bytes());
     }
-}
-
-/// The status of a call that wrote its answer.
-fn status(written: Result<(), Failed>) -> u8 {
     match written {
         Ok(()) => 0,
         Err(Failed) => 6,
     }
 }
 
-/// Writes a line.
-fn write_line(out: &mut MemSink, line: &str) -> Result<(), Failed> {
-    write_all(out, line.as_bytes())?;
-    write_all(out, b"\n")
-}
-
-/// The number that is written so.
-fn number(text: &str) -> Option<u32> {
-    text.parse().ok()
-}
-
-/// What the call of this name answers to these words; nothing where they say no call, or memory is wanted.
-fn answered(alloc: Global, name: &str, words: &str, files: &mut MemFiles) -> Option<String> {
-    match name {
-        "files" => file_steps(alloc, files, words),
-        "sink" => room_steps(alloc, words),
-        "unflushed" => unflushed_steps(alloc, words),
-        "rows" => rows_taken(alloc, files, words),
-        "cycles" => cycles_taken(alloc, words),
-        "words" => command(alloc, words),
-        "made" => made_sums(alloc, words),
-        _ => None,
-    }
+/// The number that is written so; else 0.
+fn number(text: &str) -> u32 {
+    text.parse().unwrap_or(0)
 }

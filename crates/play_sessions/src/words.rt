@@ -1,7 +1,7 @@
 //! Words of a call, as a text.
 
 use std::alloc::Global;
-use vcp_base::{Memory, Words};
+use vcp_base::Words;
 
 /// The line of error of `vcp` where the words are none of the forms.
 pub(crate) const USAGE: &[u8] =
@@ -17,19 +17,19 @@ pub(crate) const STUDY_USAGE: &[u8] =
       sum M SCRIPT VERDICTS .. ROWS, faults M SCRIPT VERDICTS, script M NAMED, image P CODE or text P\n";
 
 /// Adds a word, which is empty where it is written `''`; nothing where it isn't written at all.
-fn add_word(words: &mut Words, word: &str) -> Result<(), Memory> {
-    if word.is_empty() {
-        return Ok(());
+fn add_word(words: &mut Words, word: &str) {
+    if !word.is_empty() {
+        let word = if word == "''" { "" } else { word };
+        words.push(word.as_bytes()).ok();
     }
-    words.push(if word == "''" { b"" } else { word.as_bytes() })
 }
 
 /// A command and these words behind it, with a blank between them; `''` is an empty word.
-pub(crate) fn words_of(alloc: Global, command: &str, behind: &str) -> Result<Words, Memory> {
+pub(crate) fn words_of(alloc: Global, command: &str, behind: &str) -> Words {
     let mut words = Words::new(alloc);
-    add_word(&mut words, command)?;
+    add_word(&mut words, command);
     for word in behind.split(' ') {
-        add_word(&mut words, word)?;
+        add_word(&mut words, word);
     }
-    Ok(words)
+    words
 }

@@ -1,8 +1,10 @@
-//! Texts of rows: their cells, what they spell, and the words in them; and texts that are put together from parts.
+//! Texts of rows: their cells, what they spell, and the words in them; texts that are put together from parts; and what a call tells.
 #![tactic(auto)]
 
 mod parts;
 mod tables;
+mod told;
 
-pub use parts::{joined, put_repeated};
-pub use tables::{cells, same, spelled, word_off};
+pub use parts::{joined, put, put_repeated};
+pub use tables::{cells, digit, spelled, word_off};
+pub use told::{Told, text_of};

@@ -1,21 +1,26 @@
-//! Texts from parts.
+//! Texts from parts. Where there is no memory for a part, what stood before it is lost, and the text is another one.
 
 use std::alloc::Global;
-use vcp_base::Memory;
 
-/// These parts, one after another.
-pub fn joined(alloc: Global, parts: &[&[u8]]) -> Result<Vec<u8>, Memory> {
-    let mut all = Vec::new(alloc);
-    for part in parts {
-        all.extend_from_slice(*part)?;
+/// Appends these bytes.
+pub fn put(text: &mut Vec<u8>, bytes: &[u8]) {
+    if text.extend_from_slice(bytes).is_err() {
+        text.clear();
     }
-    Ok(all)
 }
 
 /// Appends these bytes so many times.
-pub fn put_repeated(text: &mut Vec<u8>, bytes: &[u8], times: u32) -> Result<(), Memory> {
+pub fn put_repeated(text: &mut Vec<u8>, bytes: &[u8], times: u32) {
     for _i in 0..times {
-        text.extend_from_slice(bytes)?;
+        put(text, bytes);
     }
-    Ok(())
+}
+
+/// These parts, one after another.
+pub fn joined(alloc: Global, parts: &[&[u8]]) -> Vec<u8> {
+    let mut all = Vec::new(alloc);
+    for part in parts {
+        put(&mut all, part);
+    }
+    all
 }

@@ -1,17 +1,7 @@
 //! What stands in rows: cells before and behind ` =>`, spelled bytes, and words.
 
+use crate::parts::put;
 use std::alloc::Global;
-use std::test::Fail;
-use vcp_base::Memory;
-
-/// Fails with what is found, where it is something else than what is wanted.
-pub fn same(found: &str, wanted: &str) -> Result<(), Fail> {
-    if found == wanted {
-        Ok(())
-    } else {
-        Err(Fail::new(found))
-    }
-}
 
 /// A row's two cells, without the blanks around the ` =>` between them; the whole row and nothing where it has none.
 pub fn cells(row: &str) -> (&str, &str) {
@@ -31,7 +21,7 @@ enum Escape {
 }
 
 /// The value of a hexadecimal digit; 0 of another byte.
-fn digit(byte: u8) -> u8 {
+pub fn digit(byte: u8) -> u8 {
     match byte {
         b'0'..=b'9' => byte - b'0',
         b'a'..=b'f' => byte - b'a' + 10,
@@ -41,35 +31,32 @@ fn digit(byte: u8) -> u8 {
 }
 
 /// The bytes that a cell spells: in it `\n`, `\r`, `\t` and `\xHH` stand for one byte each, and `\` before another byte for that byte.
-pub fn spelled(alloc: Global, cell: &str) -> Result<Vec<u8>, Memory> {
+pub fn spelled(alloc: Global, cell: &str) -> Vec<u8> {
     let mut bytes = Vec::new(alloc);
     let mut escape = Escape::Outside;
     for byte in cell.as_bytes() {
-        escape = after(&mut bytes, escape, *byte)?;
+        escape = after(&mut bytes, escape, *byte);
     }
-    Ok(bytes)
+    bytes
 }
 
 /// Appends what is spelled with one byte more.
-fn after(bytes: &mut Vec<u8>, escape: Escape, byte: u8) -> Result<Escape, Memory> {
+fn after(bytes: &mut Vec<u8>, escape: Escape, byte: u8) -> Escape {
     let spelled = match (escape, byte) {
-        (Escape::Outside, b'\\') => return Ok(Escape::Letter),
-        (Escape::Letter, b'x') => return Ok(Escape::High),
-        (Escape::High, _) => return Ok(Escape::Low(digit(byte))),
+        (Escape::Outside, b'\\') => return Escape::Letter,
+        (Escape::Letter, b'x') => return Escape::High,
+        (Escape::High, _) => return Escape::Low(digit(byte)),
         (Escape::Low(high), _) => high.wrapping_mul(16).wrapping_add(digit(byte)),
         (Escape::Letter, b'n') => b'\n',
         (Escape::Letter, b'r') => b'\r',
         (Escape::Letter, b't') => b'\t',
         _ => byte,
     };
-    bytes.push(spelled)?;
-    Ok(Escape::Outside)
+    put(bytes, &[spelled]);
+    Escape::Outside
 }
 
 /// A text's first word, and what stands behind the blank after it.
 pub fn word_off(text: &str) -> (&str, &str) {
-    match text.split_once(' ') {
-        Some((word, rest)) => (word, rest),
-        None => (text, ""),
-    }
+    text.split_once(' ').unwrap_or((text, ""))
 }

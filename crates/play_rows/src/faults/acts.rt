@@ -7,7 +7,7 @@ use crate::row_call::RowCall;
 use crate::sources::programs::graph_of;
 use crate::values::units::{KEPT, calls_of, tell_answers};
 use coded_unit::{BadUnit, Word};
-use fault_runs::{KeptWords, Scripted, acts_keep_the_step_law, carried_of};
+use fault_runs::{KeptWords, Scripted, carried_of};
 use fault_script::{Fault, Group};
 use std::alloc::Global;
 use vcp_base::Memory;
@@ -24,12 +24,10 @@ END_PROGRAM
 /// The first fault of the script that the rest of the arguments spells; None where there is none.
 fn fault_of(row: &mut RowCall<'_>) -> Option<Fault> {
     let graph = graph_of(row, ADD)?;
-    let script = script_of(row, &graph)?;
-    let group = script.at(0);
-    if group.len() > 0 {
-        return Some(group.at(0));
+    let script = script_of(row, &graph, row.rest)?;
+    if script.len() > 0 && script.at(0).len() > 0 {
+        return Some(script.at(0).at(0));
     }
-    row.told.fail("no fault");
     None
 }
 
@@ -62,21 +60,18 @@ fn tell_scripted(row: &mut RowCall<'_>, mut scripted: Scripted<'_, BadUnit>) {
 
 /// A unit's answers under a fault.
 pub fn answers_under(row: &mut RowCall<'_>) {
-    acts_keep_the_step_law();
     if let Some(fault) = fault_of(row)
         && let Ok(group) = group_of(row.alloc, fault)
         && let Ok(carried) = carried_of(row.alloc, &group)
         && let Ok(mut unit) = BadUnit::new(row.alloc, KEPT)
     {
         tell_scripted(row, Scripted::of_parts(&mut unit, carried));
-    } else {
-        row.told.lack_memory();
     }
 }
 
 /// The same where this word was kept before.
 pub fn answers_with_kept(row: &mut RowCall<'_>) {
-    let code = row.i128();
+    let code = row.number();
     let word = row.coded(code);
     if let Some(fault) = fault_of(row)
         && let Ok(group) = group_of(row.alloc, fault)
@@ -85,7 +80,5 @@ pub fn answers_with_kept(row: &mut RowCall<'_>) {
         && let Ok(scripted) = Scripted::with_kept(row.alloc, &mut unit, &group, &kept)
     {
         tell_scripted(row, scripted);
-    } else {
-        row.told.lack_memory();
     }
 }

@@ -6,33 +6,29 @@ ghost use Rattle.signature_table.specs.Signatures.{IsTableOf};
 use crate::row_call::RowCall;
 use crate::sources::programs::graph_of;
 use hex::encode;
-use image_file::{ImageFault, images_are_told_apart, read_image, write_image};
+use image_file::{ImageFault, read_image, write_image};
 use op_graph::Graph;
 use signature_table::Table;
 use std::alloc::Global;
 use vcp_base::MOST_IMAGE_BYTES;
+use worked_texts::{digit, joined, put};
 
-/// The value of a hexadecimal digit.
-fn digit(c: u8) -> Option<u8> {
-    match c {
-        b'0'..=b'9' => Some(c - 48),
-        b'a'..=b'f' => Some(c - 87),
-        _ => None,
-    }
-}
-
-/// The bytes that hexadecimal digits spell; what is no digit is passed over.
-pub fn bytes_of(row: &mut RowCall<'_>, text: &str) -> Vec<u8> {
-    let mut bytes = Vec::new(row.alloc);
+/// The bytes that lower hexadecimal digits spell, two a byte; what is no digit is passed over.
+pub fn bytes_of(alloc: Global, text: &str) -> Vec<u8> {
+    let mut bytes = Vec::new(alloc);
     let mut high = None;
     for c in text.as_bytes() {
-        match (digit(*c), high) {
-            (None, _) => {}
-            (Some(d), None) => high = Some(d),
-            (Some(d), Some(h)) => {
-                row.push(&mut bytes, h.wrapping_mul(16).wrapping_add(d));
-                high = None;
-            }
+        if *c > b' ' {
+            high = match high {
+                Some(h) => {
+                    put(
+                        &mut bytes,
+                        &[digit(h).wrapping_mul(16).wrapping_add(digit(*c))],
+                    );
+                    None
+                }
+                None => Some(*c),
+            };
         }
     }
     bytes
@@ -59,7 +55,6 @@ fn is_image(alloc: Global, bytes: &[u8]) -> Result<bool, ImageFault> {
 
 /// Tells the fault of bytes, or that they are an image.
 pub fn tell_image(row: &mut RowCall<'_>, bytes: &[u8]) {
-    images_are_told_apart();
     match is_image(row.alloc, bytes) {
         Ok(true) => row.told.text("an image"),
         Ok(false) => row.told.text("written otherwise"),
@@ -69,59 +64,44 @@ pub fn tell_image(row: &mut RowCall<'_>, bytes: &[u8]) {
 
 /// What is told of the given bytes with more behind them.
 pub fn appended(row: &mut RowCall<'_>) {
-    let front = bytes_of(row, row.given);
-    let more = bytes_of(row, row.rest);
-    let bytes = row.joined(&[&front[..], &more[..]]);
+    let front = bytes_of(row.alloc, row.given);
+    let more = bytes_of(row.alloc, row.rest);
+    let bytes = joined(row.alloc, &[&front[..], &more[..]]);
     tell_image(row, &bytes);
 }
 
 /// A copy with other bytes from a place on.
-fn with_patch(row: &mut RowCall<'_>, bytes: &[u8], at: usize, patch: &[u8]) -> Vec<u8> {
-    let mut copy = Vec::new(row.alloc);
-    for (i, b) in bytes.iter().enumerate() {
-        match patch.get(i.wrapping_sub(at)) {
-            Some(p) => row.push(&mut copy, *p),
-            None => row.push(&mut copy, *b),
-        }
-    }
-    copy
+fn with_patch(alloc: Global, bytes: &[u8], at: usize, patch: &[u8]) -> Vec<u8> {
+    let front = bytes.get(..at).unwrap_or(bytes);
+    let behind = bytes.get(at.saturating_add(patch.len())..).unwrap_or(b"");
+    joined(alloc, &[front, patch, behind])
 }
 
 /// What is told of the given bytes with others from a place on.
 pub fn patched(row: &mut RowCall<'_>) {
-    let at = row.u32() as usize;
-    let bytes = bytes_of(row, row.given);
-    let patch = bytes_of(row, row.rest);
-    let bytes = with_patch(row, &bytes, at, &patch);
+    let at = row.u32();
+    let bytes = bytes_of(row.alloc, row.given);
+    let patch = bytes_of(row.alloc, row.rest);
+    let bytes = with_patch(row.alloc, &bytes, at as usize, &patch);
     tell_image(row, &bytes);
 }
 
-/// The first bytes, so many where they are there.
-fn front(bytes: &[u8], n: usize) -> &[u8] {
-    if n <= bytes.len() {
-        bytes.split_at(n).0
-    } else {
-        bytes
-    }
-}
-
-/// Whether of the front of so many bytes is told that it ends there.
-fn is_short(alloc: Global, bytes: &[u8], n: u32) -> bool {
-    match read(alloc, front(bytes, n as usize)) {
-        Ok(_) => false,
-        Err(fault) => fault == ImageFault::Short { at: n },
-    }
-}
-
-/// The length of the first front of the given bytes of which something else is told than that it ends there; all of them where there is
-/// none.
-pub fn fronts(row: &mut RowCall<'_>) {
-    let bytes = bytes_of(row, row.given);
-    for n in 0..u32::MAX {
-        if n as usize >= bytes.len() || !is_short(row.alloc, &bytes, n) {
-            return row.told.item(n);
+/// How many fronts of bytes there are of which is told that they end there, up to the first of which something else is told.
+fn short_fronts(alloc: Global, bytes: &[u8]) -> u32 {
+    let mut at = 0;
+    for n in 0..bytes.len() {
+        match read(alloc, bytes.get(..n).unwrap_or(bytes)) {
+            Err(ImageFault::Short { at: told }) if told == at => at = at.saturating_add(1),
+            _ => break,
         }
     }
+    at
+}
+
+/// How many fronts of the given bytes are told to be short.
+pub fn fronts(row: &mut RowCall<'_>) {
+    let bytes = bytes_of(row.alloc, row.given);
+    row.told.item(short_fronts(row.alloc, &bytes));
 }
 
 /// Whether bytes are refused, or are the image of what they read to.
@@ -132,29 +112,28 @@ fn is_refused_or_written(alloc: Global, bytes: &[u8]) -> bool {
     }
 }
 
-/// Whether this holds of each value of the byte at a place.
-fn all_values(row: &mut RowCall<'_>, bytes: &[u8], at: usize) -> bool {
-    for v in 0..256u32 {
-        let changed = with_patch(row, bytes, at, &[v as u8]);
-        if !is_refused_or_written(row.alloc, &changed) {
-            return false;
+/// How many values the byte at a place may have with which the bytes are refused, or are the image of what they read to.
+fn values(alloc: Global, bytes: &[u8], at: usize) -> u32 {
+    let mut count = 0u32;
+    for value in 0..=255u8 {
+        if is_refused_or_written(alloc, &with_patch(alloc, bytes, at, &[value])) {
+            count = count.saturating_add(1);
         }
     }
-    true
+    count
 }
 
 /// How many of the given bytes, from a place to before another, may have each value and are refused, or are the image of what they read
-/// to, up to the first that isn't.
+/// to.
 pub fn changes(row: &mut RowCall<'_>) {
     let from = row.u32();
     let to = row.u32();
-    let bytes = bytes_of(row, row.given);
+    let bytes = bytes_of(row.alloc, row.given);
     let mut places = 0u32;
     for at in from..to {
-        if !all_values(row, &bytes, at as usize) {
-            break;
+        if values(row.alloc, &bytes, at as usize) == 256 {
+            places = places.saturating_add(1);
         }
-        places = places.saturating_add(1);
     }
     row.told.item(places);
 }
@@ -166,8 +145,6 @@ fn tell_digits(row: &mut RowCall<'_>, graph: &Graph) {
         && let Ok(digits) = encode(row.alloc, image.bytes())
     {
         row.told.text(&digits);
-    } else {
-        row.told.lack_memory();
     }
 }
 

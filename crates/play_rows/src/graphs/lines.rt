@@ -2,20 +2,24 @@
 
 ghost use Rattle.std.specs.Prelude.{◌<◌, length};
 
-use crate::told::Told;
 use op_graph::{Graph, Op};
 use vcp_base::{Kind, kind_name, operands, ty_name};
+use worked_texts::Told;
 
 /// The operands of an operation, but for a LOAD, which reads its cell.
 fn tell_operands(told: &mut Told, op: &Op) {
     if op.kind == Kind::Load {
         return;
     }
-    let numbers = [op.a, op.b, op.c];
-    for (j, number) in numbers.iter().enumerate() {
-        if j < operands(op.kind) as usize {
-            told.item(*number);
-        }
+    let count = operands(op.kind);
+    if count > 0 {
+        told.item(op.a);
+    }
+    if count > 1 {
+        told.item(op.b);
+    }
+    if count > 2 {
+        told.item(op.c);
     }
 }
 
@@ -37,14 +41,13 @@ fn tell_turns(told: &mut Told, graph: &Graph, i: u32)
 {
     let mut turns = graph.turns(i);
     for _node in 0..graph.turn_nodes() {
-        let Some(turn) = turns.next() else {
-            return;
-        };
-        if turn.name < graph.names() {
-            told.name(graph.name(turn.name).bytes());
+        if let Some(turn) = turns.next() {
+            if turn.name < graph.names() {
+                told.name(graph.name(turn.name).bytes());
+            }
+            told.text("=");
+            told.item(turn.value);
         }
-        told.text("=");
-        told.item(turn.value);
     }
 }
 

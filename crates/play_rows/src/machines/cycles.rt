@@ -1,21 +1,14 @@
 //! Three cycles of a machine with the seed 0 and the step 1.
 
 ghost use Rattle.std.specs.Prelude.{◌≡◌, ◌≤◌, ◌<◌, ◌+◌, false, length};
-ghost use Rattle.signature_table.specs.Signatures.{IsTableOf};
 
 use crate::row_call::RowCall;
 use crate::sources::programs::graph_of;
-use crate::told::Told;
 use crate::values::units::{bad_unit, calls_of};
-use coded_machine::{
-    CycleEnd, Machine, honest_runs_follow_the_graph, right_answers_stand_for_values,
-    runs_follow_their_answers,
-};
+use coded_machine::{CycleEnd, Machine};
 use coded_unit::BadUnit;
 use op_graph::Graph;
-use signature_table::{
-    Table, constants_are_in_range, expected_residues_are_residues, signatures_are_distinct,
-};
+use signature_table::Table;
 use vcp_base::Row;
 
 /// How many calls of a unit are kept.
@@ -29,33 +22,6 @@ fn word(machine: &Machine<'_>, i: u32) -> i128 {
     }
 }
 
-/// What is seen of a cycle: its end, the value of the output, and the first words.
-#[derive(Clone, Copy)]
-pub struct Seen {
-    pub end: CycleEnd,
-    pub y: i64,
-    pub words: [i128; 5],
-}
-
-/// The first words of the last cycle.
-pub fn words(machine: &Machine<'_>) -> [i128; 5] {
-    [
-        word(machine, 0),
-        word(machine, 1),
-        word(machine, 2),
-        word(machine, 3),
-        word(machine, 4),
-    ]
-}
-
-/// Tells the end of a cycle, the value of the output, and the first words.
-pub fn tell_seen(told: &mut Told, seen: Seen) {
-    told.shown(&seen.end);
-    told.item(seen.y);
-    told.shown(&seen.words);
-    told.text("\n");
-}
-
 /// What is told of cycles.
 #[derive(Clone, Copy)]
 pub enum Part {
@@ -67,13 +33,28 @@ pub enum Part {
     Calls,
 }
 
-/// A cycle on a row of one value, the next number of the arguments.
+/// Tells the end of a cycle, the value of the output, and the first words.
+pub fn tell_cycle(row: &mut RowCall<'_>, end: CycleEnd, y: i64, machine: &Machine<'_>) {
+    row.told.shown(&end);
+    row.told.item(y);
+    row.told.shown(&[
+        word(machine, 0),
+        word(machine, 1),
+        word(machine, 2),
+        word(machine, 3),
+        word(machine, 4),
+    ]);
+    row.told.text("\n");
+}
+
+/// A cycle on a row of one value, the next number of the arguments, of which the part is told.
 fn cycle(
     row: &mut RowCall<'_>,
     machine: &mut Machine<'_>,
     unit: &mut BadUnit,
     out: &mut Row,
-) -> Seen
+    part: Part,
+)
     requires cycle { machine.old.cycles < 1000000 }
     requires between { machine.old.under_way ≡ false }
     requires outputs { length machine.old.graph.outputs ≡ 1 }
@@ -84,76 +65,41 @@ fn cycle(
     ensures out { length out.new ≡ 1 }
 {
     let mut inputs = Row::new(row.alloc);
-    if inputs.push(row.i64()).is_err() {
-        row.told.lack_memory();
-    }
+    let value = row.i64();
+    row.done(inputs.push(value));
     let end = machine.cycle(unit, &inputs, out);
-    Seen {
-        end,
-        y: out.at(0),
-        words: words(machine),
-    }
-}
-
-/// Tells a part of what is seen of a cycle.
-fn tell_cycle(told: &mut Told, seen: Seen, part: Part) {
     match part {
-        Part::Words => tell_seen(told, seen),
+        Part::Words => tell_cycle(row, end, out.at(0), machine),
         Part::Ends => {
-            told.shown(&seen.end);
-            told.item(seen.y);
-            told.text("\n");
+            row.told.shown(&end);
+            row.told.item(out.at(0));
+            row.told.text("\n");
         }
         Part::Calls => {}
     }
 }
 
-/// Three cycles of a new machine.
-fn three_cycles(row: &mut RowCall<'_>, graph: &Graph, table: &Table, unit: &mut BadUnit, part: Part)
-    requires table { IsTableOf table.now graph.now }
-    requires outputs { length graph.now.outputs ≡ 1 }
-{
-    if let Ok(mut machine) = Machine::new(row.alloc, graph, table)
+/// Three cycles of a graph with one output.
+fn three_cycles(row: &mut RowCall<'_>, graph: &Graph, unit: &mut BadUnit, part: Part) {
+    if graph.outputs() == 1
+        && let Ok(table) = Table::new(row.alloc, graph, 0, 1)
+        && let Ok(mut machine) = Machine::new(row.alloc, graph, &table)
         && let Ok(mut out) = Row::zeros(row.alloc, 1)
     {
-        let first = cycle(row, &mut machine, unit, &mut out);
-        let second = cycle(row, &mut machine, unit, &mut out);
-        let third = cycle(row, &mut machine, unit, &mut out);
-        tell_cycle(&mut row.told, first, part);
-        tell_cycle(&mut row.told, second, part);
-        tell_cycle(&mut row.told, third, part);
-    } else {
-        row.told.lack_memory();
+        cycle(row, &mut machine, unit, &mut out, part);
+        cycle(row, &mut machine, unit, &mut out, part);
+        cycle(row, &mut machine, unit, &mut out, part);
     }
-}
-
-/// Three cycles of a graph with one output.
-fn graph_cycles(row: &mut RowCall<'_>, graph: &Graph, unit: &mut BadUnit, part: Part) {
-    if graph.outputs() != 1 {
-        return row.told.fail("no output");
-    }
-    match Table::new(row.alloc, graph, 0, 1) {
-        Ok(table) => three_cycles(row, graph, &table, unit, part),
-        Err(_) => row.told.lack_memory(),
-    }
-}
-
-/// Tells how many answers of a unit were wrong, and how many calls were asked.
-fn tell_counts(told: &mut Told, unit: &BadUnit) {
-    told.item(unit.wrong());
-    told.text(" wrong, ");
-    told.item(calls_of(unit));
-    told.text(" calls\n");
 }
 
 /// Tells the operation, the first operand and the answer of each call that was asked.
-fn tell_calls(told: &mut Told, unit: &BadUnit) {
+fn tell_calls(row: &mut RowCall<'_>, unit: &BadUnit) {
     for i in 0..KEPT {
         if let Some((call, given)) = unit.entry(i) {
-            told.item(call.op);
-            told.item(call.a.get());
-            told.shown(&given);
-            told.text("\n");
+            row.told.item(call.op);
+            row.told.item(call.a.get());
+            row.told.shown(&given);
+            row.told.text("\n");
         }
     }
 }
@@ -161,20 +107,20 @@ fn tell_calls(told: &mut Told, unit: &BadUnit) {
 /// Three cycles of the given program, which has one output. The arguments are the answers that are replaced, and the values of the input
 /// in three cycles.
 pub fn cycles(row: &mut RowCall<'_>, part: Part) {
-    right_answers_stand_for_values();
-    runs_follow_their_answers();
-    honest_runs_follow_the_graph();
-    constants_are_in_range();
-    signatures_are_distinct();
-    expected_residues_are_residues();
+    let answers = row.word();
     if let Some(graph) = graph_of(row, row.given.as_bytes())
-        && let Some(mut unit) = bad_unit(row, KEPT)
+        && let Some(mut unit) = bad_unit(row, KEPT, answers)
     {
-        graph_cycles(row, &graph, &mut unit, part);
+        three_cycles(row, &graph, &mut unit, part);
         match part {
             Part::Words => {}
-            Part::Ends => tell_counts(&mut row.told, &unit),
-            Part::Calls => tell_calls(&mut row.told, &unit),
+            Part::Ends => {
+                row.told.item(unit.wrong());
+                row.told.text(" wrong, ");
+                row.told.item(calls_of(&unit));
+                row.told.text(" calls");
+            }
+            Part::Calls => tell_calls(row, &unit),
         }
     }
 }

@@ -1,6 +1,6 @@
 //! The numbers of a graph's table, and the weights of its operations.
 
-ghost use Rattle.std.specs.Prelude.{◌≡◌, ◌<◌, IfSome, length};
+ghost use Rattle.std.specs.Prelude.{◌≡◌, ◌<◌, length};
 
 use crate::row_call::RowCall;
 use crate::sources::programs::graph_of;
@@ -20,61 +20,39 @@ fn graph_in_code(row: &mut RowCall<'_>) -> Option<Graph> {
     }
 }
 
-/// Tells a table's code, its seed and its step, and each operation's signature, its correction, and the residue that is expected in cycle 1.
-fn tell_numbers(row: &mut RowCall<'_>, table: &Table, count: u32)
-    requires { count ≡ length table.now.corrections }
-{
-    let told = (table.profile(), table.seed(), table.step());
-    row.told.shown(&told);
-    row.told.text("\n");
-    for i in 0..count {
-        row.told.item(table.signature(i));
-        row.told.item(table.correction(i));
-        row.told.item(table.expected(i, 1));
-        row.told.text("\n");
-    }
-}
-
-/// The numbers of the given source's table with the seed 0 and the step 1.
+/// The code, the seed and the step of the given source's table with the seed 0 and the step 1, and each operation's signature, its
+/// correction, and the residue that is expected in cycle 1.
 pub fn numbers(row: &mut RowCall<'_>) {
-    if let Some(graph) = graph_in_code(row) {
-        match Table::new(row.alloc, &graph, 0, 1) {
-            Ok(table) => tell_numbers(row, &table, graph.len()),
-            Err(_) => row.told.lack_memory(),
-        }
-    }
-}
-
-/// The table of a graph with the seed and the step that are written next; None where there is none.
-fn next_table(row: &mut RowCall<'_>, graph: &Graph) -> Option<Table>
-    ensures { IfSome result (λ table. length table.corrections ≡ length graph.now.operations) }
-{
-    let seed = row.u32();
-    let step = row.u32();
-    if seed >= SEEDS || step == 0 || step > MOST_STEP as u32 {
-        row.told.fail("no table");
-        return None;
-    }
-    match Table::new(row.alloc, graph, seed, step as u16) {
-        Ok(table) => Some(table),
-        Err(_) => {
-            row.told.lack_memory();
-            None
+    if let Some(graph) = graph_in_code(row)
+        && let Ok(table) = Table::new(row.alloc, &graph, 0, 1)
+    {
+        row.told
+            .shown(&(table.profile(), table.seed(), table.step()));
+        row.told.text("\n");
+        for i in 0..graph.len() {
+            row.told.item(table.signature(i));
+            row.told.item(table.correction(i));
+            row.told.item(table.expected(i, 1));
+            row.told.text("\n");
         }
     }
 }
 
 /// The residue that is expected of an operation in a cycle, with a seed and a step.
 pub fn expected(row: &mut RowCall<'_>) {
-    if let Some(graph) = graph_in_code(row)
-        && let Some(table) = next_table(row, &graph)
-    {
+    if let Some(graph) = graph_in_code(row) {
+        let seed = row.u32();
+        let step = row.u32();
         let op = row.u32();
         let cycle = row.u32();
-        if op < graph.len() && cycle < MOST_CYCLES {
+        if seed < SEEDS
+            && 0 < step
+            && step <= MOST_STEP as u32
+            && op < graph.len()
+            && cycle < MOST_CYCLES
+            && let Ok(table) = Table::new(row.alloc, &graph, seed, step as u16)
+        {
             row.told.item(table.expected(op, cycle));
-        } else {
-            row.told.fail("no operation or cycle");
         }
     }
 }
@@ -98,13 +76,9 @@ fn tell_weights(row: &mut RowCall<'_>, audit: &Weights, count: u32)
 pub fn weighed(row: &mut RowCall<'_>) {
     if let Some(graph) = graph_of(row, row.given.as_bytes())
         && graph.outputs() > 0
+        && let Ok(table) = Table::new(row.alloc, &graph, 0, 1)
+        && let Ok(audit) = weights(row.alloc, &graph, &table, 1)
     {
-        match Table::new(row.alloc, &graph, 0, 1) {
-            Ok(table) => match weights(row.alloc, &graph, &table, 1) {
-                Ok(audit) => tell_weights(row, &audit, graph.len()),
-                Err(_) => row.told.fail("no weights"),
-            },
-            Err(_) => row.told.lack_memory(),
-        }
+        tell_weights(row, &audit, graph.len());
     }
 }

@@ -3,6 +3,7 @@
 use crate::row_call::RowCall;
 use crate::texts::unrolled;
 use il_front::read_il;
+use worked_texts::{joined, spelled};
 
 /// The most bytes of a text of instructions.
 const MOST_BYTES: usize = 1_048_564;
@@ -10,11 +11,11 @@ const MOST_BYTES: usize = 1_048_564;
 /// How many variables the typed program of an instruction list has, and its Size; or the fault. The list is the given text and a spelled
 /// one behind it in which `{NUMBER TEXT}` stands for a repeated text.
 pub fn answered(row: &mut RowCall<'_>) {
-    let behind = unrolled(row, row.rest, '{', '}');
-    let behind = row.spelled(&behind);
-    let text = row.joined(&[row.given.as_bytes(), &behind[..]]);
+    let behind = unrolled(row.alloc, row.rest, '{', '}');
+    let behind = spelled(row.alloc, behind.as_str());
+    let text = joined(row.alloc, &[row.given.as_bytes(), &behind[..]]);
     if text.len() > MOST_BYTES {
-        return row.told.fail("too long");
+        return row.told.text("too long");
     }
     match read_il(row.alloc, &text) {
         Ok(program) => {

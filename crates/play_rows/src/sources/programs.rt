@@ -15,24 +15,24 @@ use st_tree::Program;
 use st_types::typed;
 use vcp_base::MOST_SOURCE_BYTES;
 use vcp_typed::{TStmt, TStmts, Typed};
+use worked_texts::joined;
 
-/// The program of a source; None where it is refused.
+/// The program of a source; None where it is refused, and that is told.
 pub fn program_of(row: &mut RowCall<'_>, source: &[u8]) -> Option<Program>
     ensures { IfSome result (λ program. HasNames (program_tree program)) }
 {
     if source.len() as u64 > MOST_SOURCE_BYTES {
-        row.told.fail("too long");
         return None;
     }
     let Ok(tokens) = lex(row.alloc, source) else {
-        row.told.fail("no tokens");
+        row.told.text("no tokens");
         return None;
     };
     spelled_names_are_declarable();
     match parse(row.alloc, source, &tokens) {
         Ok(program) => Some(program),
         Err(_) => {
-            row.told.fail("no program");
+            row.told.text("no program");
             None
         }
     }
@@ -41,69 +41,48 @@ pub fn program_of(row: &mut RowCall<'_>, source: &[u8]) -> Option<Program>
 /// The checked program of a source; None where it is refused.
 pub fn checked(row: &mut RowCall<'_>, source: &[u8]) -> Option<Typed> {
     let program = program_of(row, source)?;
-    match typed(row.alloc, &program) {
-        Ok(typed) => Some(typed),
-        Err(_) => {
-            row.told.fail("refused");
-            None
-        }
-    }
-}
-
-/// The graph of a checked program; None where there is no memory for it.
-pub fn flattened(row: &mut RowCall<'_>, program: &Typed) -> Option<Graph> {
-    match flatten(row.alloc, program) {
-        Ok(graph) => Some(graph),
-        Err(_) => {
-            row.told.lack_memory();
-            None
-        }
-    }
+    row.made(typed(row.alloc, &program), "refused")
 }
 
 /// The graph of a source; None where it is refused.
 pub fn graph_of(row: &mut RowCall<'_>, source: &[u8]) -> Option<Graph> {
     let program = checked(row, source)?;
-    flattened(row, &program)
+    row.made(flatten(row.alloc, &program), "no memory")
 }
 
 /// The slot that a body of one assignment sets.
 fn assigned(body: &TStmts) -> Option<u32> {
-    if body.len() != 1 {
-        return None;
+    if body.len() == 1
+        && let TStmt::Assign { slot, .. } = body.at(0)
+    {
+        return Some(*slot);
     }
-    match body.at(0) {
-        TStmt::Assign { slot, .. } => Some(*slot),
-        _ => None,
-    }
+    None
 }
 
-/// Tells what a checked program holds: its columns, how many slots it has, its Size, whether it is wide, and the slot that its one
-/// assignment sets.
-fn tell_program(row: &mut RowCall<'_>, program: &Typed) {
-    tell_columns(row, program.columns(row.alloc));
-    tell_columns(row, program.output_columns(row.alloc));
-    row.told.item(program.slots().len());
-    row.told.text(" slots, Size ");
-    row.told.item(program.size());
-    row.told.text(", wide ");
-    row.told.item(program.wide());
-    row.told.text(", sets ");
-    row.told.shown(&assigned(program.body()));
-    row.told.text("\n");
-}
-
-/// What the checked program of the given source holds.
+/// What the checked program of the given source holds: its columns, how many slots it has, its Size, whether it is wide, and the slot that
+/// its one assignment sets.
 pub fn held(row: &mut RowCall<'_>) {
     if let Some(program) = checked(row, row.given.as_bytes()) {
-        tell_program(row, &program);
+        tell_columns(row, program.columns(row.alloc));
+        tell_columns(row, program.output_columns(row.alloc));
+        row.told.item(program.slots().len());
+        row.told.text(" slots, Size ");
+        row.told.item(program.size());
+        row.told.text(", wide ");
+        row.told.item(program.wide());
+        row.told.text(", sets ");
+        row.told.shown(&assigned(program.body()));
     }
 }
 
 /// How many slots the checked program of spelled declarations has.
 pub fn slots(row: &mut RowCall<'_>) {
-    let declarations = row.spelled(row.rest);
-    let source = row.joined(&[b"PROGRAM p\n", &declarations[..], b"\nEND_PROGRAM\n"]);
+    let declarations = row.spelled();
+    let source = joined(
+        row.alloc,
+        &[b"PROGRAM p\n", &declarations[..], b"\nEND_PROGRAM\n"],
+    );
     if let Some(program) = checked(row, &source) {
         row.told.item(program.slots().len());
     }

@@ -1,32 +1,32 @@
 //! How trees are written in rows.
 
-use crate::told::Told;
-use st_tree::{Arm, BinOp, Block, Branch, Decl, Expr, Label, Program, Section, Stmt, Stmts, UnOp};
+use st_tree::{Arm, BinOp, Branch, Decl, Expr, Label, Program, Section, Stmt, Stmts, UnOp};
 use vcp_base::{Spot, Text, ty_name};
+use worked_texts::Told;
 
-fn unary_sign(op: UnOp) -> &'static str {
+fn unary_sign(op: UnOp) -> &'static [u8] {
     match op {
-        UnOp::Neg => "-",
-        UnOp::Not => "NOT",
+        UnOp::Neg => b"-",
+        UnOp::Not => b"NOT",
     }
 }
 
-fn binary_sign(op: BinOp) -> &'static str {
+fn binary_sign(op: BinOp) -> &'static [u8] {
     match op {
-        BinOp::Mul => "*",
-        BinOp::Div => "/",
-        BinOp::Mod => "MOD",
-        BinOp::Add => "+",
-        BinOp::Sub => "-",
-        BinOp::Lt => "<",
-        BinOp::Gt => ">",
-        BinOp::Le => "<=",
-        BinOp::Ge => ">=",
-        BinOp::Eq => "=",
-        BinOp::Ne => "<>",
-        BinOp::And => "AND",
-        BinOp::Xor => "XOR",
-        BinOp::Or => "OR",
+        BinOp::Mul => b"*",
+        BinOp::Div => b"/",
+        BinOp::Mod => b"MOD",
+        BinOp::Add => b"+",
+        BinOp::Sub => b"-",
+        BinOp::Lt => b"<",
+        BinOp::Gt => b">",
+        BinOp::Le => b"<=",
+        BinOp::Ge => b">=",
+        BinOp::Eq => b"=",
+        BinOp::Ne => b"<>",
+        BinOp::And => b"AND",
+        BinOp::Xor => b"XOR",
+        BinOp::Or => b"OR",
     }
 }
 
@@ -40,22 +40,16 @@ fn section_word(section: Section) -> &'static str {
     }
 }
 
-/// The column of a spot: all of a row stands on one line.
-fn tell_spot(told: &mut Told, spot: Spot) {
+/// A sign, a word or a name, and the column of its spot: all of a row stands on one line.
+fn tell_at(told: &mut Told, text: &[u8], spot: Spot) {
+    told.name(text);
     told.text("@");
     told.item(spot.col);
 }
 
-/// A sign or a word, and the column of its spot.
-fn tell_at(told: &mut Told, text: &str, spot: Spot) {
-    told.text(text);
-    tell_spot(told, spot);
-}
-
 /// A name, and the column of its spot.
 fn tell_name(told: &mut Told, name: &Text, spot: Spot) {
-    told.bytes(name.bytes());
-    tell_spot(told, spot);
+    tell_at(told, name.bytes(), spot);
 }
 
 /// An expression in prefix form, each operation in brackets.
@@ -63,19 +57,18 @@ fn show_expr(told: &mut Told, e: &Expr) {
     match e {
         Expr::Lit { ty, value, spot } => {
             if let Some(ty) = ty {
-                told.bytes(ty_name(*ty));
-                told.text("#");
+                told.name(ty_name(*ty));
             }
             told.item(*value);
-            tell_spot(told, *spot);
+            told.text("@");
+            told.item(spot.col);
         }
         Expr::Name { name, spot } => tell_name(told, name, *spot),
         Expr::Unary { op, arg, spot } => {
-            told.text("(");
+            told.item("(");
             tell_at(told, unary_sign(*op), *spot);
-            told.text(" ");
             show_expr(told, arg);
-            told.text(")");
+            told.item(")");
         }
         Expr::Binary {
             op,
@@ -83,22 +76,19 @@ fn show_expr(told: &mut Told, e: &Expr) {
             right,
             spot,
         } => {
-            told.text("(");
+            told.item("(");
             tell_at(told, binary_sign(*op), *spot);
-            told.text(" ");
             show_expr(told, left);
-            told.text(" ");
             show_expr(told, right);
-            told.text(")");
+            told.item(")");
         }
         Expr::Call { name, args, spot } => {
-            told.text("(");
+            told.item("(");
             tell_name(told, name, *spot);
             for arg in &args.items {
-                told.text(" ");
                 show_expr(told, arg);
             }
-            told.text(")");
+            told.item(")");
         }
     }
 }
@@ -106,10 +96,9 @@ fn show_expr(told: &mut Told, e: &Expr) {
 fn show_label(told: &mut Told, label: &Label) {
     show_expr(told, &label.first);
     if let Some(last) = &label.last {
-        told.text("..");
+        told.item("..");
         show_expr(told, last);
     }
-    told.text(" ");
 }
 
 /// Statements, each followed by a semicolon.
@@ -117,8 +106,16 @@ fn show_label(told: &mut Told, label: &Label) {
 fn show_stmts(told: &mut Told, stmts: &[Stmt]) {
     for stmt in stmts {
         show_stmt(told, stmt);
-        told.text("; ");
+        told.item(";");
     }
+}
+
+/// Statements in braces.
+#[cycle(show)]
+fn show_body(told: &mut Told, stmts: &Stmts) {
+    told.item("{");
+    show_stmts(told, &stmts.items);
+    told.item("}");
 }
 
 #[cycle(show)]
@@ -126,7 +123,7 @@ fn show_stmt(told: &mut Told, stmt: &Stmt) {
     match stmt {
         Stmt::Assign { name, value, spot } => {
             tell_name(told, name, *spot);
-            told.text(" := ");
+            told.item(":=");
             show_expr(told, value)
         }
         Stmt::If { arms, other } => {
@@ -139,8 +136,7 @@ fn show_stmt(told: &mut Told, stmt: &Stmt) {
             other,
             spot,
         } => {
-            tell_at(told, "CASE", *spot);
-            told.text(" ");
+            tell_at(told, b"CASE", *spot);
             show_expr(told, on);
             show_branches(told, &branches.items);
             show_other(told, other)
@@ -154,24 +150,20 @@ fn show_stmt(told: &mut Told, stmt: &Stmt) {
             body,
             spot,
         } => {
-            tell_at(told, "FOR", *spot);
-            told.text(" ");
+            tell_at(told, b"FOR", *spot);
             tell_name(told, name, *name_spot);
-            told.text(" ");
             show_bounds(told, first, last, by);
-            told.text(" { ");
-            show_stmts(told, &body.items);
-            told.text("}");
+            show_body(told, body)
         }
     }
 }
 
 fn show_bounds(told: &mut Told, first: &Expr, last: &Expr, by: &Option<Expr>) {
     show_expr(told, first);
-    told.text(" TO ");
+    told.item("TO");
     show_expr(told, last);
     if let Some(by) = by {
-        told.text(" BY ");
+        told.item("BY");
         show_expr(told, by);
     }
 }
@@ -179,65 +171,53 @@ fn show_bounds(told: &mut Told, first: &Expr, last: &Expr, by: &Option<Expr>) {
 #[cycle(show)]
 fn show_arms(told: &mut Told, arms: &[Arm]) {
     for arm in arms {
-        tell_at(told, "IF", arm.spot);
-        told.text(" ");
+        tell_at(told, b"IF", arm.spot);
         show_expr(told, &arm.cond);
-        told.text(" { ");
-        show_stmts(told, &arm.body.items);
-        told.text("} ");
+        show_body(told, &arm.body);
     }
 }
 
 #[cycle(show)]
 fn show_branches(told: &mut Told, branches: &[Branch]) {
     for branch in branches {
-        told.text(" : ");
+        told.item(":");
         for label in &branch.labels.items {
             show_label(told, label);
         }
-        told.text("{ ");
-        show_stmts(told, &branch.body.items);
-        told.text("}");
+        show_body(told, &branch.body);
     }
 }
 
 #[cycle(show)]
 fn show_other(told: &mut Told, other: &Option<Stmts>) {
     if let Some(body) = other {
-        told.text(" ELSE { ");
-        show_stmts(told, &body.items);
-        told.text("}");
+        told.item("ELSE");
+        show_body(told, body);
     }
 }
 
 fn show_decl(told: &mut Told, decl: &Decl) {
     for declared in &decl.names.items {
         tell_name(told, &declared.name, declared.spot);
-        told.text(" ");
     }
-    told.bytes(ty_name(decl.ty));
+    told.name(ty_name(decl.ty));
     if let Some(init) = &decl.init {
-        told.text(" := ");
+        told.item(":=");
         show_expr(told, init);
     }
-    told.text("; ");
-}
-
-fn show_block(told: &mut Told, block: &Block) {
-    told.text(section_word(block.section));
-    told.text(" { ");
-    for decl in &block.decls.items {
-        show_decl(told, decl);
-    }
-    told.text("} ");
+    told.item(";");
 }
 
 /// Tells a program, with the columns of its spots.
 pub fn show_program(told: &mut Told, program: &Program) {
-    told.bytes(program.name.bytes());
-    told.text(" ");
+    told.name(program.name.bytes());
     for block in &program.blocks.items {
-        show_block(told, block);
+        told.item(section_word(block.section));
+        told.item("{");
+        for decl in &block.decls.items {
+            show_decl(told, decl);
+        }
+        told.item("}");
     }
     show_stmts(told, &program.body.items)
 }

@@ -2,9 +2,9 @@
 
 use crate::row_call::RowCall;
 use crate::texts::unrolled;
-use crate::told::Told;
-use st_lexer::{LexFault, Tok, Token, Tokens, key_spelling, lex, symbol_spelling};
+use st_lexer::{Tok, Token, Tokens, key_spelling, lex, symbol_spelling};
 use vcp_base::{MOST_SOURCE_BYTES, Spot, ty_name};
+use worked_texts::Told;
 
 /// Tells what a token is: a name as `name`, a number as its type and value.
 fn tell_token(told: &mut Told, tok: Tok) {
@@ -21,42 +21,36 @@ fn tell_token(told: &mut Told, tok: Tok) {
     }
 }
 
-/// The tokens of a text, or its fault.
-fn tokens_of(row: &mut RowCall<'_>, text: &[u8]) -> Result<Tokens, LexFault> {
-    if text.len() as u64 > MOST_SOURCE_BYTES {
-        row.told.fail("too long");
-        return Err(LexFault::Memory);
+/// The tokens of a text; where it has a fault, that is told.
+fn tokens_of(row: &mut RowCall<'_>, text: &[u8]) -> Option<Tokens> {
+    if text.len() as u64 <= MOST_SOURCE_BYTES {
+        match lex(row.alloc, text) {
+            Ok(tokens) => return Some(tokens),
+            Err(fault) => row.told.shown(&fault),
+        }
     }
-    lex(row.alloc, text)
+    None
 }
 
 /// Tells the tokens that a spelled text is read as.
 pub fn of_text(row: &mut RowCall<'_>) {
-    let text = row.spelled(row.rest);
-    match tokens_of(row, &text) {
-        Ok(tokens) => {
-            for i in 0..tokens.len() {
-                tell_token(&mut row.told, tokens.at(i).tok);
-            }
+    let text = row.spelled();
+    if let Some(tokens) = tokens_of(row, &text) {
+        for i in 0..tokens.len() {
+            tell_token(&mut row.told, tokens.at(i).tok);
         }
-        Err(_) => row.told.fail("no tokens"),
     }
 }
 
 /// Tells each token with its bytes and its spot, and the spot of the end.
 fn tell_list(told: &mut Told, tokens: &Tokens) {
     for i in 0..tokens.len() {
-        let Token {
-            tok,
-            from,
-            to,
-            spot,
-        } = tokens.at(i);
-        told.shown(&tok);
-        told.item(from);
+        let token = tokens.at(i);
+        told.shown(&token.tok);
+        told.item(token.from);
         told.text("..");
-        told.item(to);
-        told.shown(&spot);
+        told.item(token.to);
+        told.shown(&token.spot);
         told.text("\n");
     }
     told.shown(&tokens.end());
@@ -65,10 +59,9 @@ fn tell_list(told: &mut Told, tokens: &Tokens) {
 
 /// The tokens of a spelled text with their bytes and spots.
 pub fn with_spots(row: &mut RowCall<'_>) {
-    let text = row.spelled(row.rest);
-    match tokens_of(row, &text) {
-        Ok(tokens) => tell_list(&mut row.told, &tokens),
-        Err(_) => row.told.fail("no tokens"),
+    let text = row.spelled();
+    if let Some(tokens) = tokens_of(row, &text) {
+        tell_list(&mut row.told, &tokens);
     }
 }
 
@@ -76,28 +69,22 @@ pub fn with_spots(row: &mut RowCall<'_>) {
 pub fn of_list(row: &mut RowCall<'_>) {
     let mut list = Tokens::new(row.alloc);
     tell_list(&mut row.told, &list);
-    let name = Token {
+    row.done(list.push(Token {
         tok: Tok::Name,
         from: 3,
         to: 4,
         spot: Spot { line: 1, col: 4 },
-    };
-    if list.push(name).is_err() {
-        return row.told.lack_memory();
-    }
+    }));
     list.set_end(Spot { line: 1, col: 5 });
     tell_list(&mut row.told, &list);
 }
 
 /// How many tokens a text has in which `{NUMBER TEXT}` stands for a repeated text, with the spot of the end, or its fault.
 pub fn counted(row: &mut RowCall<'_>) {
-    let text = unrolled(row, row.rest, '{', '}');
-    match tokens_of(row, text.as_bytes()) {
-        Ok(tokens) => {
-            row.told.item(tokens.len());
-            row.told.text(" tokens to ");
-            row.told.shown(&tokens.end());
-        }
-        Err(fault) => row.told.shown(&fault),
+    let text = unrolled(row.alloc, row.rest, '{', '}');
+    if let Some(tokens) = tokens_of(row, text.as_str().as_bytes()) {
+        row.told.item(tokens.len());
+        row.told.text(" tokens to ");
+        row.told.shown(&tokens.end());
     }
 }

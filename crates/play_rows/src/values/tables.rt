@@ -2,9 +2,9 @@
 
 use crate::row_call::RowCall;
 use vcp_base::{
-    Column, Columns, Row, StopKind, Text, Turn, Turns, Words, fits, greatest, kind_code,
-    kind_of_code, least, multiplier, number_in, numeral, operand_type, operands, same_name,
-    stop_name, ty_code, ty_name, ty_of_code, within, without_first_blanks,
+    Row, StopKind, Text, Turn, Turns, fits, greatest, kind_code, kind_of_code, least, multiplier,
+    number_in, numeral, operand_type, operands, same_name, stop_name, ty_code, ty_name, ty_of_code,
+    within, without_first_blanks,
 };
 
 /// Makes a call on types, kinds and numbers, or on lists; false where the name is another call's.
@@ -20,19 +20,9 @@ pub fn make(row: &mut RowCall<'_>, name: &str) -> bool {
         "numeral" => row.told.shown(&numeral(row.rest.as_bytes())),
         "number" => number(row),
         "blanks" => blanks(row),
-        _ => return make_list(row, name),
-    }
-    true
-}
-
-/// Makes a call on lists; false where the name is another call's.
-fn make_list(row: &mut RowCall<'_>, name: &str) -> bool {
-    match name {
         "texts" => texts(row),
-        "words" => words(row),
         "row" => zeros(row),
         "turns" => turns(row),
-        "columns" => columns(row),
         _ => return false,
     }
     true
@@ -43,14 +33,13 @@ fn ty(row: &mut RowCall<'_>) {
     let ty = row.ty();
     row.told.item(ty_code(ty));
     row.told.name(ty_name(ty));
-    row.told.item(least(ty));
-    row.told.item(greatest(ty));
+    row.told.shown(&(least(ty), greatest(ty)));
 }
 
 /// Whether a value is of a type.
 fn fitting(row: &mut RowCall<'_>) {
     let ty = row.ty();
-    let value = row.i128();
+    let value = row.number();
     row.told.item(fits(ty, value));
 }
 
@@ -64,8 +53,7 @@ fn inside(row: &mut RowCall<'_>) {
 /// A kind's code, the number of its operands, and their multipliers.
 fn kind(row: &mut RowCall<'_>) {
     let kind = row.kind();
-    row.told.item(kind_code(kind));
-    row.told.item(operands(kind));
+    row.told.shown(&(kind_code(kind), operands(kind)));
     row.told.shown(&[
         multiplier(kind, 0),
         multiplier(kind, 1),
@@ -83,13 +71,8 @@ fn operand(row: &mut RowCall<'_>) {
 
 /// The kind and the type of a code.
 fn code(row: &mut RowCall<'_>) {
-    match u8::try_from(row.u32()) {
-        Ok(code) => {
-            row.told.shown(&kind_of_code(code));
-            row.told.shown(&ty_of_code(code));
-        }
-        Err(_) => row.told.fail("no number of 8 bits"),
-    }
+    let code = u8::try_from(row.u32()).unwrap_or(255);
+    row.told.shown(&(kind_of_code(code), ty_of_code(code)));
 }
 
 /// The names of the stops.
@@ -107,7 +90,7 @@ fn number(row: &mut RowCall<'_>) {
 
 /// A spelled text without its first blanks, between brackets.
 fn blanks(row: &mut RowCall<'_>) {
-    let text = row.spelled(row.rest);
+    let text = row.spelled();
     row.told.text("[");
     row.told.bytes(without_first_blanks(&text));
     row.told.text("]");
@@ -115,62 +98,34 @@ fn blanks(row: &mut RowCall<'_>) {
 
 /// A text's length and bytes, whether another is the same name, and the bytes of that.
 fn texts(row: &mut RowCall<'_>) {
-    let name = Text::copy_of(row.alloc, row.word().as_bytes());
-    let other = row.rest.as_bytes().to_vec(row.alloc);
-    let (Ok(name), Ok(other)) = (name, other) else {
-        return row.told.lack_memory();
+    let word = row.word();
+    let Some(name) = row.made(Text::copy_of(row.alloc, word.as_bytes()), "no memory") else {
+        return;
     };
-    let other = Text::from_vec(other);
+    let other = row.text(row.rest.as_bytes());
     row.told.item(name.len());
     row.told.name(name.bytes());
     row.told.item(same_name(&name, &other));
     row.told.name(&other.into_vec());
 }
 
-/// How many words a word and an empty one are, and the first.
-fn words(row: &mut RowCall<'_>) {
-    let mut words = Words::new(row.alloc);
-    if words.push(row.rest.as_bytes()).is_err() || words.push(b"").is_err() {
-        return row.told.lack_memory();
-    }
-    row.told.item(words.len());
-    row.told.name(words.at(0).bytes());
-}
-
 /// A row of two zeros of which the second is set, with a value appended.
 fn zeros(row: &mut RowCall<'_>) {
-    let Ok(mut values) = Row::zeros(row.alloc, 2) else {
-        return row.told.lack_memory();
-    };
-    values.set(1, row.i64());
-    if values.push(row.i64()).is_err() {
-        return row.told.lack_memory();
+    if let Ok(mut values) = Row::zeros(row.alloc, 2) {
+        values.set(1, row.i64());
+        let last = row.i64();
+        row.done(values.push(last));
+        row.told.shown(&values.into_vec());
     }
-    row.told.shown(&values.into_vec());
 }
 
-/// How many turns a turn is, and the first.
+/// The first of a list of turns that had none.
 fn turns(row: &mut RowCall<'_>) {
     let name = row.u32();
     let value = row.i64();
     let mut turns = Turns::new(row.alloc);
-    if turns.push(Turn { name, value }).is_err() {
-        return row.told.lack_memory();
+    if turns.push(Turn { name, value }).is_ok() {
+        row.told.item(turns.len());
+        row.told.shown(&turns.at(0));
     }
-    row.told.item(turns.len());
-    row.told.shown(&turns.at(0));
-}
-
-/// How many columns a column is, and the type of the first.
-fn columns(row: &mut RowCall<'_>) {
-    let Ok(name) = Text::copy_of(row.alloc, row.word().as_bytes()) else {
-        return row.told.lack_memory();
-    };
-    let ty = row.ty();
-    let mut columns = Columns::new(row.alloc);
-    if columns.push(Column { name, ty }).is_err() {
-        return row.told.lack_memory();
-    }
-    row.told.item(columns.len());
-    row.told.shown(&columns.at(0).ty);
 }

@@ -1,21 +1,14 @@
 //! Units, asked one call after another.
 
 use crate::row_call::RowCall;
-use crate::told::Told;
 use crate::values::words::{call_of, tell_answer};
-use coded_unit::{
-    Answer, BadUnit, Call, CpuUnit, LogUnit, Unit, Word, right_answers_keep_the_step_law,
-    shifted_words_keep_their_parts, words_split_in_one_way,
-};
+use coded_unit::{Answer, BadUnit, Call, CpuUnit, LogUnit, Unit, Word};
 
 /// How many calls of a unit are kept and told at the most.
 pub const KEPT: u32 = 64;
 
 /// Makes a call on units; false where the name is another call's. The given text has the calls that the unit is asked, a line each.
 pub fn make(row: &mut RowCall<'_>, name: &str) -> bool {
-    words_split_in_one_way();
-    shifted_words_keep_their_parts();
-    right_answers_keep_the_step_law();
     match name {
         "cpu" => tell_answers(row, &mut CpuUnit::new()),
         "log" => logged(row),
@@ -35,28 +28,24 @@ fn word_of(answer: &Answer) -> Word {
 
 /// Tells a unit's answers to the given calls, a line each.
 pub fn tell_answers<U: Unit>(row: &mut RowCall<'_>, unit: &mut U) {
-    let mut words = Vec::new(row.alloc);
     for line in row.given.lines() {
         row.rest = line;
-        let Some(call) = call_of(row, &words) else {
-            return;
-        };
-        let answer = unit.perform(&call);
-        tell_answer(&mut row.told, call.profile, &answer);
-        row.told.text("\n");
-        if words.push(word_of(&answer)).is_err() {
-            return row.told.lack_memory();
+        if let Some(call) = call_of(row) {
+            let answer = unit.perform(&call);
+            tell_answer(row, call.profile, &answer);
+            let kept = row.answers.push(word_of(&answer));
+            row.done(kept);
         }
     }
 }
 
 /// Tells a kept call: its operation, and the word that was answered.
-fn tell_kept(told: &mut Told, kept: Option<(Call, Answer)>) {
+fn tell_kept(row: &mut RowCall<'_>, kept: Option<(Call, Answer)>) {
     if let Some((call, answer)) = kept {
-        told.text("kept ");
-        told.item(call.op);
-        told.item(word_of(&answer).get());
-        told.text("\n");
+        row.told.text("kept ");
+        row.told.item(call.op);
+        row.told.item(word_of(&answer).get());
+        row.told.text("\n");
     }
 }
 
@@ -73,12 +62,12 @@ pub fn calls_of(unit: &BadUnit) -> u32 {
 
 /// The answers of a unit that has room for so many calls, and those that it kept.
 fn logged(row: &mut RowCall<'_>) {
-    let Ok(mut unit) = LogUnit::new(row.alloc, row.u32()) else {
-        return row.told.lack_memory();
-    };
-    tell_answers(row, &mut unit);
-    for i in 0..KEPT {
-        tell_kept(&mut row.told, unit.entry(i));
+    let room = row.u32();
+    if let Ok(mut unit) = LogUnit::new(row.alloc, room) {
+        tell_answers(row, &mut unit);
+        for i in 0..KEPT {
+            tell_kept(row, unit.entry(i));
+        }
     }
 }
 
@@ -89,50 +78,36 @@ fn answer_in(row: &mut RowCall<'_>, text: &str) -> Answer {
         "DivZero" => Answer::DivZero,
         "Operand" => Answer::Operand,
         _ => {
-            let code = row.i128_in(text);
+            let code = row.number_in(text);
             Answer::Word(row.coded(code))
         }
     }
 }
 
-/// Gives a unit these answers, with `,` between them, each as a call's number, `=` and the answer.
-pub fn replace(row: &mut RowCall<'_>, unit: &mut BadUnit, answers: &str) {
+/// A unit that has room for so many calls and gives these answers, with `,` between them, each as a call's number, `=` and the answer.
+pub fn bad_unit(row: &mut RowCall<'_>, room: u32, answers: &str) -> Option<BadUnit> {
+    let mut unit = BadUnit::new(row.alloc, room).ok()?;
     for text in answers.split(',') {
         if let Some((number, answer)) = text.split_once('=') {
-            let number = row.u32_in(number) as u64;
+            let number = row.u32_in(number);
             let answer = answer_in(row, answer);
-            if unit.replace(number, answer).is_err() {
-                row.told.lack_memory();
-            }
+            row.done(unit.replace(number as u64, answer));
         }
     }
-}
-
-/// A unit that has room for so many calls and gives the answers of the next word.
-pub fn bad_unit(row: &mut RowCall<'_>, room: u32) -> Option<BadUnit> {
-    match BadUnit::new(row.alloc, room) {
-        Ok(mut unit) => {
-            let answers = row.word();
-            replace(row, &mut unit, answers);
-            Some(unit)
-        }
-        Err(_) => {
-            row.told.lack_memory();
-            None
-        }
-    }
+    Some(unit)
 }
 
 /// The answers of a unit some of which are replaced, how many of them are wrong, and the calls that it kept.
 fn replaced(row: &mut RowCall<'_>) {
     let room = row.u32();
-    if let Some(mut unit) = bad_unit(row, room) {
+    let answers = row.word();
+    if let Some(mut unit) = bad_unit(row, room, answers) {
         tell_answers(row, &mut unit);
         row.told.text("wrong ");
         row.told.item(unit.wrong());
         row.told.text("\n");
         for i in 0..KEPT {
-            tell_kept(&mut row.told, unit.entry(i));
+            tell_kept(row, unit.entry(i));
         }
     }
 }

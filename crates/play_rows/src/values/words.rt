@@ -1,10 +1,9 @@
 //! Words, calls of a unit, and the right answers.
 
-ghost use Rattle.std.specs.Prelude.{IfSome};
+ghost use Rattle.std.specs.Prelude.{◌≡◌, IfSome, true};
 ghost use Rattle.coded_unit.specs.Asked.{Asked};
 
 use crate::row_call::RowCall;
-use crate::told::Told;
 use coded_unit::{Answer, Call, Word, table};
 use vcp_base::{MOST_STAMP, Profile, admits, modulus};
 
@@ -20,36 +19,29 @@ pub fn make(row: &mut RowCall<'_>, name: &str) -> bool {
     true
 }
 
-/// The earlier answer of this number.
-fn earlier(row: &mut RowCall<'_>, number: &str, answers: &[Word]) -> Word {
-    match answers.get(row.u32_in(number) as usize) {
-        Some(word) => *word,
-        None => {
-            row.told.fail("no answer of this number");
-            Word::ZERO
-        }
-    }
-}
-
 /// The next word of the row as a coded word: as an integer, as its value and its residue with `:` between them, or as `@` and the number of
-/// an earlier answer, which has the word 0 where it stopped.
-fn coded_word(row: &mut RowCall<'_>, profile: Profile, answers: &[Word]) -> Word {
+/// an earlier answer.
+fn coded_word(row: &mut RowCall<'_>, profile: Profile) -> Word {
     let text = row.word();
     if let Some(number) = text.strip_prefix("@") {
-        return earlier(row, number, answers);
+        let number = row.u32_in(number);
+        return match row.answers.get(number as usize) {
+            Some(word) => *word,
+            None => Word::ZERO,
+        };
     }
     let code = match text.split_once(':') {
         Some((value, residue)) => (modulus(profile) as i128)
-            .wrapping_mul(row.i128_in(value))
-            .wrapping_add(row.i128_in(residue)),
-        None => row.i128_in(text),
+            .wrapping_mul(row.number_in(value))
+            .wrapping_add(row.number_in(residue)),
+        None => row.number_in(text),
     };
     row.coded(code)
 }
 
 /// The call that is written next: its operation and cycle, its code, kind and types, the words of its operands, its number, its
-/// correction and its stamp; None where no unit is asked it.
-pub fn call_of(row: &mut RowCall<'_>, answers: &[Word]) -> Option<Call>
+/// correction and its stamp; None where no unit is asked it, and that is told.
+pub fn call_of(row: &mut RowCall<'_>) -> Option<Call>
     ensures { IfSome result (λ call. Asked call) }
 {
     let op = row.u32();
@@ -62,55 +54,55 @@ pub fn call_of(row: &mut RowCall<'_>, answers: &[Word]) -> Option<Call>
         kind: row.kind(),
         from: row.ty(),
         ty: row.ty(),
-        a: coded_word(row, profile, answers),
-        b: coded_word(row, profile, answers),
-        c: coded_word(row, profile, answers),
+        a: coded_word(row, profile),
+        b: coded_word(row, profile),
+        c: coded_word(row, profile),
         imm: row.i64(),
         corr: row.u64(),
         stamp: row.u32(),
     };
-    let asked = asked(call);
-    if asked.is_none() {
-        row.told.fail("no unit is asked this");
-    }
-    asked
-}
-
-/// A call, where a unit may be asked it.
-fn asked(call: Call) -> Option<Call>
-    ensures { IfSome result (λ call. Asked call) }
-{
-    let in_code = admits(call.profile, call.from) && admits(call.profile, call.ty);
-    if in_code && call.corr < modulus(call.profile) && call.stamp <= MOST_STAMP {
+    if is_asked(&call) {
         return Some(call);
     }
+    row.told.text("no unit is asked this");
     None
 }
 
-/// Tells an answer: its word, with its value and its residue, or why there is none.
-pub fn tell_answer(told: &mut Told, profile: Profile, answer: &Answer) {
+/// Whether a unit may be asked a call.
+fn is_asked(call: &Call) -> bool
+    ensures { result ≡ true → Asked call.now }
+{
+    admits(call.profile, call.from)
+        && admits(call.profile, call.ty)
+        && call.corr < modulus(call.profile)
+        && call.stamp <= MOST_STAMP
+}
+
+/// Tells an answer in a line: its word, with its value and its residue, or why there is none.
+pub fn tell_answer(row: &mut RowCall<'_>, profile: Profile, answer: &Answer) {
     match answer {
         Answer::Word(word) => {
             let (value, residue) = word.split(profile);
-            told.item(word.get());
-            told.item(value);
-            told.text(":");
-            told.item(residue);
+            row.told.item(word.get());
+            row.told.item(value);
+            row.told.text(":");
+            row.told.item(residue);
         }
-        _ => told.shown(answer),
+        _ => row.told.shown(answer),
     }
+    row.told.text("\n");
 }
 
 /// The right answer to a call.
 fn answered(row: &mut RowCall<'_>) {
-    if let Some(call) = call_of(row, &[]) {
-        tell_answer(&mut row.told, call.profile, &table::answer(&call));
+    if let Some(call) = call_of(row) {
+        tell_answer(row, call.profile, &table::answer(&call));
     }
 }
 
 /// Whether an integer is a word.
 fn word(row: &mut RowCall<'_>) {
-    let code = row.i128();
+    let code = row.number();
     row.told.item(Word::new(code).is_some());
 }
 
@@ -119,12 +111,12 @@ fn packed(row: &mut RowCall<'_>) {
     let value = row.i64();
     let residue = row.u64();
     let word = Word::packed(Profile::Narrow, value as i128, residue);
-    tell_answer(&mut row.told, Profile::Narrow, &Answer::Word(word));
+    tell_answer(row, Profile::Narrow, &Answer::Word(word));
 }
 
 /// A word that is shifted.
 fn shifted(row: &mut RowCall<'_>) {
-    let code = row.i128();
+    let code = row.number();
     let word = row.coded(code);
     let change = row.i64();
     row.told.item(word.shift(change).get());

@@ -7,7 +7,7 @@ use input_rows::Rows;
 use std::alloc::Global;
 use vcp_base::{Column, Columns, Memory, Row, Text, Ty};
 use vcp_outside::{MemFiles, read_all};
-use worked_texts::word_off;
+use worked_texts::{Told, word_off};
 
 /// One column, `x` of type DINT.
 fn one_column(alloc: Global) -> Result<Columns, Memory>
@@ -21,51 +21,43 @@ fn one_column(alloc: Global) -> Result<Columns, Memory>
     Ok(columns)
 }
 
-/// How many rows are taken, what the call behind them answers, what the next call answers, and what the row holds then.
-fn taken(alloc: Global, rows: &mut Rows<'_>, mut row: Row) -> Option<String>
+/// Tells how many rows are taken, what the call behind them answers, what the next call answers, and what the row holds then.
+fn tell_taken(alloc: Global, rows: &mut Rows<'_>, mut row: Row, told: &mut Told)
     requires { length row ≡ length rows.old.types }
 {
     let mut answer = rows.next(alloc, &mut row);
-    'rows: for count in 0..1000001u32 {
+    let mut taken = 0u32;
+    'rows: for _call in 0..1000000u32 {
         if answer != Ok(true) {
-            let again = rows.next(alloc, &mut row);
-            let held = row.into_vec();
-            return format!(in alloc; "{count} {answer:?} {again:?} {held:?}").ok();
+            break;
         }
+        taken = taken.saturating_add(1);
         answer = rows.next(alloc, &mut row);
     }
-    None
+    told.item(taken);
+    told.shown(&answer);
+    told.shown(&rows.next(alloc, &mut row));
+    told.shown(&row.into_vec());
 }
 
 /// The same of a file with one column `x`, through a cycle: `NAME CYCLE`.
-pub(crate) fn rows_taken(alloc: Global, files: &mut MemFiles, words: &str) -> Option<String> {
+pub(crate) fn rows_taken(alloc: Global, files: &mut MemFiles, words: &str, told: &mut Told) {
     let (name, last) = word_off(words);
-    let bytes = read_all(alloc, files, name.as_bytes(), u32::MAX as u64).ok()?;
-    let Ok(columns) = one_column(alloc) else {
-        return None;
-    };
-    let Ok(rows) = Rows::new(alloc, bytes.bytes(), &columns) else {
-        return None;
-    };
-    let last = number(last)?;
-    let Ok(row) = Row::zeros(alloc, 1) else {
-        return None;
-    };
-    taken(alloc, &mut rows.through(last), row)
+    if let Ok(bytes) = read_all(alloc, files, name.as_bytes(), u32::MAX as u64)
+        && let Ok(columns) = one_column(alloc)
+        && let Ok(rows) = Rows::new(alloc, bytes.bytes(), &columns)
+        && let Ok(row) = Row::zeros(alloc, 1)
+    {
+        tell_taken(alloc, &mut rows.through(number(last)), row, told);
+    }
 }
 
 /// The same of three cycles without inputs through these cycles, one after another: `CYCLE CYCLE`.
-pub(crate) fn cycles_taken(alloc: Global, words: &str) -> Option<String> {
+pub(crate) fn cycles_taken(alloc: Global, words: &str, told: &mut Told) {
     let (first, then) = word_off(words);
     let none = Columns::new(alloc);
-    let first = number(first)?;
-    let then = number(then)?;
-    let Ok(rows) = Rows::cycles(3, &none) else {
-        return None;
-    };
-    taken(
-        alloc,
-        &mut rows.through(first).through(then),
-        Row::new(alloc),
-    )
+    if let Ok(rows) = Rows::cycles(3, &none) {
+        let mut rows = rows.through(number(first)).through(number(then));
+        tell_taken(alloc, &mut rows, Row::new(alloc), told);
+    }
 }

@@ -3,37 +3,37 @@
 use crate::single::number;
 use std::alloc::Global;
 use std::io::{self, Write};
-use std::str::from_utf8;
 use vcp_outside::{HostSink, MemSink, Sink, write_all};
-use worked_texts::word_off;
+use worked_texts::{Told, word_off};
 
-/// What a sink in memory with this room answers to the steps behind it, between which `; ` stands, and what was written to it: `fail_call N`,
-/// which answers nothing, and those of all sinks.
-pub(crate) fn room_steps(alloc: Global, words: &str) -> Option<String> {
+/// Tells what a sink in memory with this room answers to the steps behind it, between which `; ` stands, and what was written to it:
+/// `fail_call N`, which answers nothing, and those of all sinks.
+pub(crate) fn room_steps(alloc: Global, words: &str, told: &mut Told) {
     let (room, steps) = word_off(words);
-    let mut sink = MemSink::new(alloc, number(room)?).ok()?;
-    let mut told = String::new(alloc);
-    for step in steps.split("; ") {
-        let (call, piece) = word_off(step);
-        if call == "fail_call" {
-            sink.fail_call(number(piece)? as u64).ok()?;
-        } else {
-            told.push_str(&sink_step(alloc, &mut sink, call, piece)?)
-                .ok()?;
+    if let Ok(mut sink) = MemSink::new(alloc, number(room)) {
+        for step in steps.split("; ") {
+            let (call, piece) = word_off(step);
+            if call == "fail_call" {
+                sink.fail_call(number(piece) as u64).ok();
+            } else {
+                sink_step(&mut sink, call, piece, told);
+            }
         }
+        told.text(": [");
+        told.bytes(sink.bytes());
+        told.text("]");
     }
-    let written = from_utf8(sink.bytes()).ok()?;
-    format!(in alloc; "{told}: [{written}]").ok()
 }
 
-/// What a sink answers to a call, in brackets: `write TEXT` or `write_all TEXT`.
-fn sink_step<O: Sink>(alloc: Global, sink: &mut O, call: &str, piece: &str) -> Option<String> {
+/// Tells what a sink answers to a call, in brackets: `write TEXT` or `write_all TEXT`.
+fn sink_step<O: Sink>(sink: &mut O, call: &str, piece: &str, told: &mut Told) {
+    told.text("[");
     if call == "write_all" {
-        let written = write_all(sink, piece.as_bytes());
-        return format!(in alloc; "[{written:?}]").ok();
+        told.shown(&write_all(sink, piece.as_bytes()));
+    } else {
+        told.shown(&sink.write(piece.as_bytes()));
     }
-    let written = sink.write(piece.as_bytes());
-    format!(in alloc; "[{written:?}]").ok()
+    told.text("]");
 }
 
 /// A writer that takes all bytes, and whose flush fails.
@@ -53,14 +53,11 @@ impl Write for NeverFlushed {
     }
 }
 
-/// What the sink of a writer whose flush fails answers to these steps.
-pub(crate) fn unflushed_steps(alloc: Global, steps: &str) -> Option<String> {
+/// Tells what the sink of a writer whose flush fails answers to these steps.
+pub(crate) fn unflushed_steps(steps: &str, told: &mut Told) {
     let mut sink = HostSink::new(NeverFlushed { taken: 0 });
-    let mut told = String::new(alloc);
     for step in steps.split("; ") {
         let (call, piece) = word_off(step);
-        told.push_str(&sink_step(alloc, &mut sink, call, piece)?)
-            .ok()?;
+        sink_step(&mut sink, call, piece, told);
     }
-    Some(told)
 }

@@ -3,7 +3,7 @@
 use crate::words::words_of;
 use std::alloc::Global;
 use vcp_words::{Command, RowsWord, command_of};
-use worked_texts::word_off;
+use worked_texts::{Told, word_off};
 
 /// The number of cycles of ROWS.
 fn cycles(rows: &RowsWord<'_>) -> u32 {
@@ -15,7 +15,7 @@ fn cycles(rows: &RowsWord<'_>) -> u32 {
 
 /// A command by its name, with the cycles, the horizon or the number of a made program, the seed or the cycle, and the step that it has, and
 /// 0 for those that it hasn't.
-fn told(command: &Command<'_>) -> (&'static str, u32, u32, u16) {
+fn parts(command: &Command<'_>) -> (&'static str, u32, u32, u16) {
     match command {
         Command::Check { .. } => ("check", 0, 0, 0),
         Command::Format { .. } => ("format", 0, 0, 0),
@@ -36,15 +36,17 @@ fn told(command: &Command<'_>) -> (&'static str, u32, u32, u16) {
     }
 }
 
-/// What is told of these words; `none` where they are none of the forms.
-pub(crate) fn command(alloc: Global, text: &str) -> Option<String> {
+/// Tells the command that these words are; `none` where they are none of the forms.
+pub(crate) fn command(alloc: Global, text: &str, told: &mut Told) {
     let (first, behind) = word_off(text);
-    let words = words_of(alloc, first, behind).ok()?;
-    match command_of(&words) {
+    match command_of(&words_of(alloc, first, behind)) {
         Some(command) => {
-            let (name, rows, seed, step) = told(&command);
-            format!(in alloc; "{name} {rows} {seed} {step}").ok()
+            let (name, rows, seed, step) = parts(&command);
+            told.item(name);
+            told.item(rows);
+            told.item(seed);
+            told.item(step);
         }
-        None => String::from_str(alloc, "none").ok(),
+        None => told.text("none"),
     }
 }

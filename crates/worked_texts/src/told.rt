@@ -4,15 +4,15 @@ use std::alloc::Global;
 use std::fmt::{Debug, Display, Write};
 use std::str::from_utf8;
 
-/// What a call has told so far: texts as they are, and items, each with a blank before it where it stands behind another item. Where there
-/// is no answer, it notes why, the first time, and nobody has to ask after each item.
+/// What has been told so far: texts as they are, and items, each with a blank before it where it stands behind another item. Nobody has to ask
+/// after each whether there was memory for it: where there wasn't, that alone is told in the end.
 #[derive(Drop)]
 pub struct Told {
     text: String,
     /// Whether an item is the last that was told.
     ends_in_item: bool,
-    /// Why there is no answer; empty where there is one so far.
-    why: &'static str,
+    /// Whether there was memory for all that was told.
+    is_whole: bool,
 }
 
 impl Told {
@@ -21,36 +21,32 @@ impl Told {
         Told {
             text: String::new(alloc),
             ends_in_item: false,
-            why: "",
+            is_whole: true,
         }
     }
 
-    /// Notes why there is no answer.
-    pub fn fail(&mut self, why: &'static str) {
-        if self.why.is_empty() {
-            self.why = why;
-        }
+    /// Nothing again.
+    pub fn clear(&mut self) {
+        self.text.clear();
+        self.ends_in_item = false;
     }
 
     /// Notes that there was no memory.
     pub fn lack_memory(&mut self) {
-        self.fail("no memory");
+        self.is_whole = false;
     }
 
     /// Tells a text.
     pub fn text(&mut self, text: &str) {
         self.ends_in_item = false;
         if self.text.push_str(text).is_err() {
-            self.lack_memory();
+            self.is_whole = false;
         }
     }
 
     /// Tells the text of these bytes.
     pub fn bytes(&mut self, bytes: &[u8]) {
-        match from_utf8(bytes) {
-            Ok(text) => self.text(text),
-            Err(_) => self.fail("no UTF-8"),
-        }
+        self.text(text_of(bytes));
     }
 
     /// Sets an item apart from one before it.
@@ -65,7 +61,7 @@ impl Told {
     pub fn item<D: Display + Drop>(&mut self, item: D) {
         self.begin_item();
         if write!(self.text, "{item}").is_err() {
-            self.lack_memory();
+            self.is_whole = false;
         }
     }
 
@@ -73,7 +69,7 @@ impl Told {
     pub fn shown<D: Debug>(&mut self, item: &D) {
         self.begin_item();
         if write!(self.text, "{item:?}").is_err() {
-            self.lack_memory();
+            self.is_whole = false;
         }
     }
 
@@ -84,9 +80,17 @@ impl Told {
         self.ends_in_item = true;
     }
 
-    /// What was told; why there is no answer.
-    pub fn end(self) -> Result<String, &'static str> {
-        let Told { text, why, .. } = self;
-        if why.is_empty() { Ok(text) } else { Err(why) }
+    /// What was told.
+    pub fn as_str(&self) -> &str {
+        if self.is_whole {
+            self.text.as_str()
+        } else {
+            "no memory"
+        }
     }
+}
+
+/// Bytes as a text, for its reader.
+pub fn text_of(bytes: &[u8]) -> &str {
+    from_utf8(bytes).unwrap_or("(bytes that are no text)")
 }
