@@ -1,5 +1,5 @@
 -- What `inject` comes to and how far it comes, from what reading its files and judging the groups give.
-use Rattle.std.proofs.Common.{ℕ, ℤ, ◌+◌, ◌≤◌, ◌≡◌, ◌≢◌, ◌⊎◌, inl, inr, refl, sym, ap, subst, ◌∙◌, arith, List, [], ◌∷◌, ◌++◌, append_assoc, length, length-append, take, drop, false, All, IfSome, Option, Some, Ok, Err}
+use Rattle.std.proofs.Common.{ℕ, ℤ, ◌+◌, ◌≤◌, ◌≡◌, ◌≢◌, ◌⊎◌, inl, inr, refl, sym, ap, subst, ◌∙◌, arith, List, [], ◌∷◌, ◌++◌, append_assoc, length, length-append, take, drop, false, All, IfSome, Option, Some, Result, Ok, Err}
 use Rattle.std.proofs.lemmas.List.{length-map, take-append-drop}
 use Rattle.std.proofs.Math.Seq.{take-length}
 use Rattle.std.specs.Io.KnownBytes.{Appends, IsAtEnd}
@@ -30,7 +30,7 @@ use Rattle.vcp_inputs.specs.declared.refusal.NoInput.TheVariants as input
 use Rattle.vcp_inputs.specs.Files.{LeavesLong, Loads, NotLoaded as FileLost}
 use Rattle.vcp_inputs.specs.Images.{ImageOf, NotImage}
 use Rattle.vcp_inputs.specs.Lines.{input_status, input_text, refusal_text}
-use Rattle.vcp_inputs.specs.RowsOutcome.{RowsOutcome, opened, rows_outcome}
+use Rattle.vcp_inputs.specs.RowsOutcome.{RowsOutcome, rows_outcome}
 use Rattle.vcp_inputs.specs.RowsRead.{AllRead, NoneRead, RowsBroken, at_header, at_row, graph_columns}
 use Rattle.vcp_inputs.specs.Scripts.{ScriptOf, NotScript}
 use Rattle.command_meaning.specs.Abouts.{About, about, FileWord, rows_words, script_word, Among}
@@ -45,10 +45,11 @@ use Rattle.vcp_outside.specs.Seen.{FilesSeen, SinkSeen}
 use Rattle.machine_run.specs.Moments.{Moment, moment}
 use Rattle.vcp_core.specs.Tasks.{FewRows, WholeRows, TaskOf, ScriptedTask}
 use Rattle.vcp_core.specs.Tasks as task
-use Rattle.vcp_core.specs.Faults.{of_campaign}
+use Rattle.vcp_core.specs.Faults.{campaign_end, of_campaign}
 use Rattle.vcp_core.specs.Inject.{AllRows, NoRows, RowsRefused, broken, too_many}
-use Rattle.vcp_core.specs.Reach.{fault_status, fault_text}
-use Rattle.vcp_core.proofs.Performing.{file_lost, file_taken, file_takes, part_performs, short_performs, still}
+use Rattle.vcp_core.specs.Reach.{fault_status, fault_text, told_line, told_status}
+use Rattle.vcp_core.proofs.PlainTurns.{appends-nothing}
+use Rattle.vcp_core.proofs.Performing.{file_lost, file_taken, file_takes, part_performs, short_performs, still, whole_performs}
 
 -- ---- all rows
 
@@ -209,9 +210,13 @@ lines_go_on text (f ∷ groups) (v ∷ vs) later =
     (more, ap (λ t. line ++ t) is ∙ sym (append_assoc line (lines_by text groups vs) more))
 
 -- there are none of no verdicts
-no_verdict_lines : (g : Lists) (groups : List (List ScriptedFault)) → verdict_lines g groups [] ≡ []
-no_verdict_lines g [] = refl
-no_verdict_lines g (faults ∷ groups) = refl
+no_lines : {V : Type 0} (text : ℕ → V → List ℕ) (groups : List (List ScriptedFault)) → lines_by text groups [] ≡ []
+no_lines text [] = refl
+no_lines text (faults ∷ groups) = refl
+
+pub no_lines_written : {V : Type 0} (text : ℕ → V → List ℕ) (groups : List (List ScriptedFault)) (old : Option (List ℕ))
+    → Appends old old (lines_by text groups [])
+no_lines_written text groups old = subst (λ (t : List ℕ). Appends old old t) (sym (no_lines text groups)) (appends-nothing old)
 
 -- so they are a front of the whole text, which ends with the totals
 pub lines_front : {V : Type 0} (text : ℕ → V → List ℕ) (totals : List V → List ℕ) (groups : List (List ScriptedFault)) (vs later : List V)
@@ -317,19 +322,19 @@ module _ (c : Campaign) (unit unit' : UnitSeen) (out out' : SinkSeen) where
   none_judged vs w none quiet =
       record {
         unit = quiet;
-        out = subst (λ (t : List ℕ). Appends out.written out'.written t) (ap (verdict_lines c.graph c.groups) none ∙ no_verdict_lines c.graph c.groups) w;
+        out = subst (λ (t : List ℕ). Appends out.written out'.written t) (ap (verdict_lines c.graph c.groups) none ∙ no_lines (verdict_text c.graph) c.groups) w;
       }
 
   module _ (m : List ℕ) (rows : Rows) (f : List ℕ) (held : Held) (files later : FilesSeen) (comes : TaskOf (inject m rows f) held (judges c)) where
-    pub judged_whole : Told c.table c.graph c.groups c.rows unit unit' out.written out'.written (Ok tt)
+    judged_whole : (u : Unit {0}) → Told c.table c.graph c.groups c.rows unit unit' out.written out'.written (Ok u)
         → Reaches (about (inject m rows f)) (TaskOf (inject m rows f) held) files later before after [] 0
-    judged_whole told =
+    judged_whole u told =
         done (judges c) (verdicts_answer c told.verdicts) comes
         (groups_done c (RerunsAsked c) (verdict_text c.graph) totals (verdicts_meant c) as_many before after told.verdicts
         (judged told.verdicts told.names told.asked) told.right told.written.0)
         told.written.1 refl refl
 
-    pub judged_to : (e : CampaignFault) → (e ≡ campaign.Write → Rose out.faults out'.faults) → Told c.table c.graph c.groups c.rows unit unit'
+    judged_to : (e : CampaignFault) → (e ≡ campaign.Write → Rose out.faults out'.faults) → Told c.table c.graph c.groups c.rows unit unit'
         out.written out'.written (Err e)
         → Reaches (about (inject m rows f)) (TaskOf (inject m rows f) held) files later before after (fault_text (of_campaign e))
         (fault_status (of_campaign e))
@@ -348,8 +353,15 @@ module _ (c : Campaign) (unit unit' : UnitSeen) (out out' : SinkSeen) where
           | inr none ↦ unmade (none_judged told.verdicts told.written none.0 none.1) refl refl
         ]
 
+    pub judged_ends : (result : Result (Unit {0}) CampaignFault) → (result ≡ Err campaign.Write → Rose out.faults out'.faults)
+        → Told c.table c.graph c.groups c.rows unit unit' out.written out'.written result
+        → Reaches (about (inject m rows f)) (TaskOf (inject m rows f) held) files later before after (told_line (campaign_end result))
+        (told_status (campaign_end result))
+    judged_ends (Ok u) rose told = judged_whole u told
+    judged_ends (Err e) rose told = judged_to e (λ is. rose (ap Err is)) told
+
 -- the groups weren't all judged, behind all files
-pub campaign_performs : (c : About) (Comes : Held → Task → Type 0) (files later : FilesSeen) → c.files ≢ [] → later.held ≡ files.held →
+campaign_performs : (c : About) (Comes : Held → Task → Type 0) (files later : FilesSeen) → c.files ≢ [] → later.held ≡ files.held →
     (before after : Moment) → IsAtEnd later.rest → later.faults ≡ files.faults → (c.calls ≡ false → after.unit ≡ before.unit) → (e : CampaignFault) →
     IfSome files.held (λ h. Reaches c (Comes h) files later before after (fault_text (of_campaign e)) (fault_status (of_campaign e))) →
     (e ≡ campaign.Write → Rose before.out.faults after.out.faults) → (e ≢ campaign.Write → after.out.faults ≡ before.out.faults) →
@@ -358,3 +370,15 @@ campaign_performs c Comes files later reads held before after end read unit camp
     part_performs c Comes files later reads held before after end read unit (rose refl) far
 campaign_performs c Comes files later reads held before after end read unit campaign.Memory far rose stayed =
     short_performs c Comes files later reads held before after end read unit far (stayed (λ e. cc))
+
+-- they were all judged, or they weren't
+pub campaign_ends : (c : About) (Comes : Held → Task → Type 0) (files later : FilesSeen) → c.files ≢ [] → later.held ≡ files.held → Among 0 c.ends →
+    (before after : Moment) → IsAtEnd later.rest → later.faults ≡ files.faults → (c.calls ≡ false → after.unit ≡ before.unit) →
+    (result : Result (Unit {0}) CampaignFault) →
+    IfSome files.held (λ h. Reaches c (Comes h) files later before after (told_line (campaign_end result)) (told_status (campaign_end result))) →
+    (result ≡ Err campaign.Write → Rose before.out.faults after.out.faults) → (result ≢ Err campaign.Write → after.out.faults ≡ before.out.faults) →
+    Performs c Comes files later before after (told_line (campaign_end result)) (told_status (campaign_end result))
+campaign_ends c Comes files later reads held zero before after end read unit (Ok _) far rose stayed =
+    whole_performs c Comes files later reads held before after end read zero unit far (stayed (λ e. cc))
+campaign_ends c Comes files later reads held zero before after end read unit (Err e) far rose stayed =
+    campaign_performs c Comes files later reads held before after end read unit e far (λ is. rose (ap Err is)) (λ no. stayed (λ is. no cc))

@@ -4,6 +4,7 @@ pub mod EachTask
 pub mod Facts
 pub mod PairsTasks
 pub mod ImageLoaded
+pub mod ImagesRead
 pub mod JobFacts
 pub mod JudgedTasks
 pub mod JobRun
@@ -21,6 +22,7 @@ pub mod PlainNames
 pub mod PlainTurns
 pub mod PlainWorked
 pub mod PrintedRun
+pub mod ProgramsRead
 pub mod ScriptsTold
 pub mod Sized
 pub mod StaleShown

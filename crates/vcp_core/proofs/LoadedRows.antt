@@ -24,6 +24,7 @@ use Rattle.command_meaning.specs.Clauses.{IsTooLong, MayName}
 use Rattle.command_meaning.specs.FileTasks.{TakenFile, taken, OnRows, TakenRows}
 use Rattle.command_meaning.specs.Kinds.{Task, lacks, lack_answer, refusal_task}
 use Rattle.command_meaning.specs.Performing.{Reaches, done, unread, unmade, Performs}
+use Rattle.vcp_core.specs.Loading.{FirstRead, BothRead}
 use Rattle.vcp_core.proofs.Facts.{if_some_always, if_some_both, if_some_same, if_some_weaker}
 use Rattle.vcp_core.proofs.Performing.{files_lost, still}
 
@@ -87,89 +88,89 @@ module _ {V : Type 0} (Is : List ℕ → V → Type 0) (Why : List ℕ → Refus
   abbrev pub OnFile : Held → Task → Type 0
   OnFile held task = TakenFile Is Why word.most (λ v. TakenRows (Then held v) rows held (columns_of v)) word.name (held word.name) task
 
-  -- the file was loaded, before which so many files broke, and these are the columns of its rows
-  module _ (files mid later : FilesSeen) (v : V) (columns : List Column) (columns_are : columns ≡ columns_of v) (held_mid : mid.held ≡ files.held)
-      (held_later : later.held ≡ mid.held) (loads : IfSome files.held (λ h. Loads Is Why h word.name word.most files.broken mid.broken (Ok v))) where
+  -- the file was read, and these are the columns of its rows
+  module _ (files mid : FilesSeen) (v : V) (columns : List Column) (columns_are : columns ≡ columns_of v)
+      (read : FirstRead Is Why word.most word.name files mid v) where
     -- it comes to what ROWS come to
-    pub rows_come : (held : Held) (o : RowsOutcome) (task : Task) → Loads Is Why held word.name word.most files.broken mid.broken (Ok v)
+    rows_come : (held : Held) (o : RowsOutcome) (task : Task) → Loads Is Why held word.name word.most files.broken mid.broken (Ok v)
         → rows_outcome rows held columns ≡ o → OnRows (rows_name rows) (Then held v) o task → OnFile held task
     rows_come held o task (text, found, few, is) o_is comes =
         let own : rows_outcome rows held (columns_of v) ≡ o = ap (rows_outcome rows held) (sym columns_are) ∙ o_is in
         taken text v task found few is (subst (λ (x : RowsOutcome). OnRows (rows_name rows) (Then held v) x task) (sym own) comes)
 
-    -- there is nothing of ROWS, and nothing was done
-    rows_lost : (held : Held) (at : Moment) (o : RowsOutcome) (i : NoInput) → Loads Is Why held word.name word.most files.broken mid.broken (Ok v)
-        → rows_outcome rows held columns ≡ o → (i ≡ input.Unread → begins rows columns ≡ true) → Opens o files.broken later.broken (Err i)
-        → Reaches c (OnFile held) files later at at (input_text (rows_name rows) i) (input_status i)
-    rows_lost held at o input.Unread l o_is begun (inl is) =
-        let none : OnRows (rows_name rows) (Then held v) o (lacks (rows_name rows)) =
-        subst (λ (x : RowsOutcome). OnRows (rows_name rows) (Then held v) x (lacks (rows_name rows))) (sym is) refl in
-        done (lacks (rows_name rows)) (lack_answer (rows_name rows)) (rows_come held o (lacks (rows_name rows)) l o_is none) (refl, refl) (still at).out
-        refl refl
-    rows_lost held at o input.Unread l o_is begun (inr rose) =
-        let w = rows_file rows columns (begun refl) in
-        unread w.0 (more w.0 w.1) rose (still at) (ap (λ (n : List ℕ). input_text n input.Unread) (sym w.2)) refl
-    rows_lost held at o (input.Refused r) l o_is begun is =
-        let no : OnRows (rows_name rows) (Then held v) o (refusal_task (rows_name rows) r) =
-        subst (λ (x : RowsOutcome). OnRows (rows_name rows) (Then held v) x (refusal_task (rows_name rows) r)) (sym is) refl in
-        done (refusal_task (rows_name rows) r) (record { out = []; err = refusal_text (rows_name rows) r; status = 1 })
-        (rows_come held o (refusal_task (rows_name rows) r) l o_is no) (refl, refl) (still at).out refl refl
-    rows_lost held at o input.Memory l o_is begun h = unmade (still at) refl refl
+    module _ (later : FilesSeen) where
+      -- there is nothing of ROWS, and nothing was done
+      rows_lost : (held : Held) (at : Moment) (o : RowsOutcome) (i : NoInput) → Loads Is Why held word.name word.most files.broken mid.broken (Ok v)
+          → rows_outcome rows held columns ≡ o → (i ≡ input.Unread → begins rows columns ≡ true) → Opens o files.broken later.broken (Err i)
+          → Reaches c (OnFile held) files later at at (input_text (rows_name rows) i) (input_status i)
+      rows_lost held at o input.Unread l o_is begun (inl is) =
+          let none : OnRows (rows_name rows) (Then held v) o (lacks (rows_name rows)) =
+          subst (λ (x : RowsOutcome). OnRows (rows_name rows) (Then held v) x (lacks (rows_name rows))) (sym is) refl in
+          done (lacks (rows_name rows)) (lack_answer (rows_name rows)) (rows_come held o (lacks (rows_name rows)) l o_is none) (refl, refl) (still at).out
+          refl refl
+      rows_lost held at o input.Unread l o_is begun (inr rose) =
+          let w = rows_file rows columns (begun refl) in
+          unread w.0 (more w.0 w.1) rose (still at) (ap (λ (n : List ℕ). input_text n input.Unread) (sym w.2)) refl
+      rows_lost held at o (input.Refused r) l o_is begun is =
+          let no : OnRows (rows_name rows) (Then held v) o (refusal_task (rows_name rows) r) =
+          subst (λ (x : RowsOutcome). OnRows (rows_name rows) (Then held v) x (refusal_task (rows_name rows) r)) (sym is) refl in
+          done (refusal_task (rows_name rows) r) (record { out = []; err = refusal_text (rows_name rows) r; status = 1 })
+          (rows_come held o (refusal_task (rows_name rows) r) l o_is no) (refl, refl) (still at).out refl refl
+      rows_lost held at o input.Memory l o_is begun h = unmade (still at) refl refl
 
-    -- where they are refused, their file was read to its end, or it is too long
-    rows_taken : (i : NoInput) → ((r : Refusal) → i ≡ input.Refused r → r ≢ refusal.Bytes → IsAtEnd later.rest)
-        → (i ≡ input.Refused refusal.Bytes → IfSome mid.held (HasLongFile rows later.rest)) → input_status i ≡ 1
-        → IfSome files.held (λ h. IsAtEnd later.rest ⊎ IsTooLong c h later.rest (input_text (rows_name rows) i))
-    rows_taken input.Unread whole long is = absurd (omega (arith, is))
-    rows_taken (input.Refused r) whole long is =
-        elim (bytes_or r) [
-          | inl bytes ↦
-              if_some_same files.held mid.held _ held_mid
-              (if_some_weaker mid.held (HasLongFile rows later.rest) _
-              (λ h l. inr (subst (λ (x : Refusal). IsTooLong c h later.rest (refusal_text (rows_name rows) x)) (sym bytes)
-              (long_rows c rows later.rest h more l)))
-              (long (ap input.Refused bytes)))
-          | inr other ↦ if_some_always files.held _ (λ h. inl (whole r refl other))
-        ]
-    rows_taken input.Memory whole long is = absurd (omega (arith, is))
+      -- where they are refused, their file was read to its end, or it is too long
+      rows_taken : (i : NoInput) → ((r : Refusal) → i ≡ input.Refused r → r ≢ refusal.Bytes → IsAtEnd later.rest)
+          → (i ≡ input.Refused refusal.Bytes → IfSome mid.held (HasLongFile rows later.rest)) → input_status i ≡ 1
+          → IfSome files.held (λ h. IsAtEnd later.rest ⊎ IsTooLong c h later.rest (input_text (rows_name rows) i))
+      rows_taken input.Unread whole long is = absurd (omega (arith, is))
+      rows_taken (input.Refused r) whole long is =
+          elim (bytes_or r) [
+            | inl bytes ↦
+                if_some_same files.held mid.held _ read.held
+                (if_some_weaker mid.held (HasLongFile rows later.rest) _
+                (λ h l. inr (subst (λ (x : Refusal). IsTooLong c h later.rest (refusal_text (rows_name rows) x)) (sym bytes)
+                (long_rows c rows later.rest h more l)))
+                (long (ap input.Refused bytes)))
+            | inr other ↦ if_some_always files.held _ (λ h. inl (whole r refl other))
+          ]
+      rows_taken input.Memory whole long is = absurd (omega (arith, is))
 
-    -- ROWS aren't loaded
-    pub rows_unloaded : (at : Moment) (i : NoInput) → mid.faults ≡ files.faults → files.broken ≤ mid.broken → IsAtEnd mid.rest
-        → IfSome mid.held (λ h. Opens (rows_outcome rows h columns) mid.broken later.broken (Err i)) → (i ≡ input.Unread → begins rows columns ≡ true)
-        → (i ≡ input.Unread → Rose mid.faults later.faults) → (i ≢ input.Unread → later.faults ≡ mid.faults)
-        → ((r : Refusal) → i ≡ input.Refused r → r ≢ refusal.Bytes → later.rest ≡ mid.rest)
-        → (i ≡ input.Refused refusal.Bytes → IfSome mid.held (HasLongFile rows later.rest)) → IsCaused i →
-        Performs c OnFile files later at at (input_text (rows_name rows) i) (input_status i)
-    rows_unloaded at i faults broken end opens begun rose stayed rest long caused =
-        files_lost c OnFile files later reads (held_later ∙ held_mid) one at (rows_name rows) i
-        (if_some_both files.held mid.held _ _ _ held_mid
-        (λ h l o. rows_lost h at (rows_outcome rows h columns) i l refl begun
-        (opens_before (rows_outcome rows h columns) files.broken mid.broken later.broken i broken o))
-        loads opens)
-        (rows_taken i (λ r is other. stays_at_end mid.rest later.rest end (rest r is other)) long) (λ is. omega (arith, faults, rose is))
-        (λ no. stayed no ∙ faults) (λ is. let (w, among, name_is) = rows_file rows columns (begun is) in (w, more w among, sym name_is)) caused (rows_may c rows more names)
-
-    -- they were, from this source
-    module _ (s : RowsSource) (end : IsAtEnd later.rest) (source_is : IfSome mid.held (λ h. rows_outcome rows h columns ≡ source_outcome s columns)) where
-      -- so the file comes to what the source comes to
-      pub source_comes : (task : Held → Task) → ((held : Held) → OnRows (rows_name rows) (Then held v) (source_outcome s columns) (task held))
-          → IfSome files.held (λ h. OnFile h (task h))
-      source_comes task comes =
-          if_some_both files.held mid.held _ _ _ held_mid (λ h l is. rows_come h (source_outcome s columns) (task h) l is (comes h)) loads source_is
-
-      -- where it was opened, to what comes of the rows that are left
-      pub opened_comes : (left : RowsLeft) (task : Held → Task) → source_outcome s columns ≡ opened left → ((held : Held) → Then held v left (task held))
-          → IfSome files.held (λ h. OnFile h (task h))
-      opened_comes left task opens comes =
-          source_comes task
-          (λ h. subst (λ (x : RowsOutcome). OnRows (rows_name rows) (Then h v) x (task h)) (sym opens) (comes h))
-
-      -- it wasn't opened
-      pub rows_unopened : later.faults ≡ files.faults → (at : Moment) (i : NoInput) → (i ≡ input.Unread → ⊥) → Opens (source_outcome s columns) files.broken later.broken (Err i)
-          → IsCaused i → Performs c OnFile files later at at (input_text (rows_name rows) i) (input_status i)
-      rows_unopened faults at i read opens caused =
-          files_lost c OnFile files later reads (held_later ∙ held_mid) one at (rows_name rows) i
-          (if_some_both files.held mid.held _ _ _ held_mid
-          (λ h l is. rows_lost h at (source_outcome s columns) i l is (λ e. absurd (read e)) opens) loads source_is)
-          (λ is. if_some_always files.held _ (λ h. inl end)) (λ is. absurd (read is)) (λ no. faults) (λ is. absurd (read is)) caused
+      -- ROWS aren't loaded
+      pub rows_unloaded : later.held ≡ mid.held → (at : Moment) (i : NoInput)
+          → IfSome mid.held (λ h. Opens (rows_outcome rows h columns) mid.broken later.broken (Err i)) → (i ≡ input.Unread → begins rows columns ≡ true)
+          → (i ≡ input.Unread → Rose mid.faults later.faults) → (i ≢ input.Unread → later.faults ≡ mid.faults)
+          → ((r : Refusal) → i ≡ input.Refused r → r ≢ refusal.Bytes → later.rest ≡ mid.rest)
+          → (i ≡ input.Refused refusal.Bytes → IfSome mid.held (HasLongFile rows later.rest)) → IsCaused i →
+          Performs c OnFile files later at at (input_text (rows_name rows) i) (input_status i)
+      rows_unloaded held_later at i opens begun rose stayed rest long caused =
+          files_lost c OnFile files later reads (held_later ∙ read.held) one at (rows_name rows) i
+          (if_some_both files.held mid.held _ _ _ read.held
+          (λ h l o. rows_lost h at (rows_outcome rows h columns) i l refl begun
+          (opens_before (rows_outcome rows h columns) files.broken mid.broken later.broken i read.broken o))
+          read.loads opens)
+          (rows_taken i (λ r is other. stays_at_end mid.rest later.rest read.ended (rest r is other)) long) (λ is. omega (arith, read.faults, rose is))
+          (λ no. stayed no ∙ read.faults) (λ is. let (w, among, name_is) = rows_file rows columns (begun is) in (w, more w among, sym name_is)) caused
           (rows_may c rows more names)
+
+  -- ROWS were read too, from this source
+  module _ (files later : FilesSeen) (v : V) (columns : List Column) (s : RowsSource) (columns_are : columns ≡ columns_of v)
+      (read : BothRead Is Why word.most word.name rows files later v columns s) where
+    -- where it was opened, the file comes to what comes of the rows that are left
+    pub opened_comes : (left : RowsLeft) (task : Held → Task) → source_outcome s columns ≡ opened left → ((held : Held) → Then held v left (task held))
+        → IfSome files.held (λ h. OnFile h (task h))
+    opened_comes left task opens comes =
+        if_some_both files.held files.held _ (λ h. rows_outcome rows h columns ≡ source_outcome s columns) _ refl
+        (λ h l is. rows_come files later v columns columns_are read.file h (source_outcome s columns) (task h) l is
+        (subst (λ (x : RowsOutcome). OnRows (rows_name rows) (Then h v) x (task h)) (sym opens) (comes h)))
+        read.file.loads read.rows_are
+
+    -- it wasn't opened
+    pub rows_unopened : (at : Moment) (i : NoInput) → (i ≡ input.Unread → ⊥) → Opens (source_outcome s columns) files.broken later.broken (Err i)
+        → IsCaused i → Performs c OnFile files later at at (input_text (rows_name rows) i) (input_status i)
+    rows_unopened at i none opens caused =
+        files_lost c OnFile files later reads read.file.held one at (rows_name rows) i
+        (if_some_both files.held files.held _ (λ h. rows_outcome rows h columns ≡ source_outcome s columns) _ refl
+        (λ h l is. rows_lost files later v columns columns_are read.file later h at (source_outcome s columns) i l is (λ e. absurd (none e)) opens)
+        read.file.loads read.rows_are)
+        (λ is. if_some_always files.held _ (λ h. inl read.file.ended)) (λ is. absurd (none is)) (λ no. read.file.faults) (λ is. absurd (none is)) caused
+        (rows_may c rows more names)

@@ -1,5 +1,5 @@
 -- What `pairs` comes to and how far it comes, from what reading its files and running the groups give.
-use Rattle.std.proofs.Common.{ℕ, ℤ, ◌≤◌, ◌≡◌, ◌≢◌, ◌⊎◌, inl, inr, refl, sym, subst, ◌∙◌, List, [], ◌∷◌, length, Option, Some, Ok, Err}
+use Rattle.std.proofs.Common.{ℕ, ℤ, ◌≤◌, ◌≡◌, ◌≢◌, ◌⊎◌, inl, inr, refl, sym, subst, ◌∙◌, List, [], ◌∷◌, length, ap, Option, Some, Result, Ok, Err}
 use Rattle.std.proofs.lemmas.List.{length-map}
 use Rattle.std.specs.Io.KnownBytes.{IsAtEnd}
 use Rattle.vcp_base.specs.Limits.{most_image_bytes, most_source_bytes}
@@ -36,8 +36,8 @@ use Rattle.command_meaning.specs.FileTasks.{OnRows, taken}
 use Rattle.command_meaning.specs.CampaignKind.{PairRunsAsked, pairs_answer, pairs_meant}
 use Rattle.command_meaning.specs.Kinds.{Task, pairs_, refusal_task}
 use Rattle.command_meaning.specs.Performing.{Reaches, done, cut, wanting, unread, unmade}
-use Rattle.vcp_core.specs.Faults.{of_campaign}
-use Rattle.vcp_core.specs.Reach.{fault_status, fault_text}
+use Rattle.vcp_core.specs.Faults.{campaign_end, of_campaign}
+use Rattle.vcp_core.specs.Reach.{fault_status, fault_text, told_line, told_status}
 use Rattle.vcp_inputs.specs.RowsRead.{AllRead, NoneRead, graph_columns}
 use Rattle.vcp_core.specs.Tasks.{two_seeds, TaskOf, ScriptedTask}
 use Rattle.vcp_core.proofs.JudgedTasks.{WholeLeft, campaign_of, groups_done, groups_front, groups_part, rows_front, script_end, whole_broken, whole_comes}
@@ -63,10 +63,6 @@ script_named m rows seed f = inr (script_end (script_word f) (rows_words rows) (
 -- what its rows come to, once they are opened
 abbrev pub OnLeft : Rows → List ℕ → Held → Image → RowsLeft → Task → Type 0
 OnLeft rows f held i left t = WholeLeft rows (ScriptedTask pairs_ i f held) left t
-
--- M holds this image, and ROWS come to this for its graph
-abbrev pub LoadsAt : List ℕ → Rows → Image → RowsOutcome → Held → Type 0
-LoadsAt m rows i o held = Loads ImageOf NotImage held m most_image_bytes 0 0 (Ok i) × (rows_outcome rows held (graph_columns i.graph) ≡ o)
 
 module _ (m : List ℕ) (rows : Rows) (seed : ℕ) (f : List ℕ) (held : Held) (files later : FilesSeen) (i : Image) (apart : seed ≢ i.table.seed)
     (o : RowsOutcome) (loads : Loads ImageOf NotImage held m most_image_bytes 0 0 (Ok i)) (same : rows_outcome rows held (graph_columns i.graph) ≡ o) where
@@ -143,14 +139,14 @@ module _ (c : Campaign) (unit unit' : UnitSeen) (out out' : SinkSeen) where
   as_many = length-map (verdicts_of c.table c.graph c.groups c.rows) told_verdict ∙ length-map c.groups _
 
   module _ (m : List ℕ) (rows : Rows) (seed : ℕ) (f : List ℕ) (held : Held) (files later : FilesSeen) (comes : TaskOf (pairs m rows seed f) held (pairs_ c)) where
-    pub pairs_whole : PairsTold c.table c.graph c.groups c.rows unit unit' out.written out'.written (Ok tt)
+    pairs_whole : (u : Unit {0}) → PairsTold c.table c.graph c.groups c.rows unit unit' out.written out'.written (Ok u)
         → Reaches (about (pairs m rows seed f)) (TaskOf (pairs m rows seed f) held) files later before after [] 0
-    pairs_whole told =
+    pairs_whole u told =
         done (pairs_ c) (pairs_answer c told.verdicts) comes
         (groups_done c (PairRunsAsked c) group_text totals (pairs_meant c) as_many before after told.verdicts told.ran told.right told.written.0)
         told.written.1 refl refl
 
-    pub pairs_to : (e : CampaignFault) → (e ≡ campaign.Write → Rose out.faults out'.faults)
+    pairs_to : (e : CampaignFault) → (e ≡ campaign.Write → Rose out.faults out'.faults)
         → PairsTold c.table c.graph c.groups c.rows unit unit' out.written out'.written (Err e)
         → Reaches (about (pairs m rows seed f)) (TaskOf (pairs m rows seed f) held) files later before after (fault_text (of_campaign e))
         (fault_status (of_campaign e))
@@ -163,3 +159,10 @@ module _ (c : Campaign) (unit unit' : UnitSeen) (out out' : SinkSeen) where
         wanting (pairs_ c) comes
         (groups_front c (PairRunsAsked c) group_text totals (pairs_meant c) as_many before after told.verdicts told.ran told.right told.few told.written)
         refl refl refl
+
+    pub pairs_end : (result : Result (Unit {0}) CampaignFault) → (result ≡ Err campaign.Write → Rose out.faults out'.faults)
+        → PairsTold c.table c.graph c.groups c.rows unit unit' out.written out'.written result
+        → Reaches (about (pairs m rows seed f)) (TaskOf (pairs m rows seed f) held) files later before after (told_line (campaign_end result))
+        (told_status (campaign_end result))
+    pairs_end (Ok u) rose told = pairs_whole u told
+    pairs_end (Err e) rose told = pairs_to e (λ is. rose (ap Err is)) told

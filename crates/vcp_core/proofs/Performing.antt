@@ -1,10 +1,10 @@
 -- How far a command comes and what it keeps, from what its calls answer.
 use Rattle.std.proofs.Common.{ℕ, ◌≡◌, ◌≢◌, ◌≤◌, ◌⊎◌, length, inl, inr, true, false, refl, sym, ap, subst, ◌∙◌, List, [], ◌∷◌, ◌++◌, Option, Some, Result, Ok, Err, IfSome, arith}
-use Rattle.std.specs.Io.KnownBytes.{Appends, IsAtEnd}
+use Rattle.std.specs.Io.KnownBytes.{IsAtEnd}
 use Rattle.vcp_outside.specs.Counts.{Rose}
 use Rattle.vcp_outside.specs.Held.{Held}
 use Rattle.vcp_outside.specs.Seen.{FilesSeen}
-use Rattle.vcp_outside.specs.Written.{AppendsPart}
+use Rattle.vcp_outside.specs.Written.{AppendsPart, WritesTo}
 use Rattle.input_rows.specs.declared.fault.RowFault.{RowFault}
 use Rattle.input_rows.specs.declared.fault.RowFault.TheVariants as row
 use Rattle.machine_run.specs.Moments.{Moment}
@@ -16,7 +16,7 @@ use Rattle.vcp_inputs.specs.declared.refusal.Refusal.{Refusal}
 use Rattle.vcp_inputs.specs.declared.refusal.Refusal.TheVariants as refusal
 use Rattle.vcp_inputs.specs.declared.refusal.NoInput.{NoInput}
 use Rattle.vcp_inputs.specs.declared.refusal.NoInput.TheVariants as input
-use Rattle.vcp_inputs.specs.Files.{LeavesLong, NotLoaded, long}
+use Rattle.vcp_inputs.specs.Files.{LeavesLong, NotLoaded}
 use Rattle.vcp_inputs.specs.Lines.{input_text, input_status, memory_text, refusal_text, rows_text, write_fault_text}
 use Rattle.vcp_inputs.specs.Refusals.{IsCaused, no_rows}
 use Rattle.vcp_inputs.proofs.Causes.{row_caused}
@@ -32,7 +32,8 @@ use Rattle.command_meaning.specs.RunKind.{Job}
 use Rattle.vcp_core.specs.declared.ending.Ending.{Ending}
 use Rattle.vcp_core.specs.declared.ending.Ending.TheVariants as end
 use Rattle.vcp_core.specs.MachineRun.{RunsTo}
-use Rattle.vcp_core.specs.Reach.{end_status, run_code, run_line}
+use Rattle.vcp_core.specs.Faults.{text_end}
+use Rattle.vcp_core.specs.Reach.{end_status, run_code, run_line, told_line, told_status}
 use Rattle.vcp_core.proofs.Facts.{if_some_always, if_some_weaker, if_some_when}
 use Rattle.vcp_core.proofs.PlainTurns.{appends-nothing}
 
@@ -469,18 +470,18 @@ module _ (c : About) (Comes : Held → Task → Type 0) (files later : FilesSeen
       no_write_fault = λ no. written;
     }
 
-    -- of a command without a unit that prints
-    module _ (unit : after.unit ≡ before.unit) where
-      pub quiet_whole : Among 0 c.ends → (text : List ℕ)
-          → IfSome files.held (λ h. (task : Task) × Comes h task × Done task before.unit after.unit (printed text))
-          → Appends before.out.written after.out.written text → after.out.faults ≡ before.out.faults → Performs c Comes files later before after [] 0
-      quiet_whole zero text comes w written =
-          whole_performs zero (λ no. unit) (if_some_weaker files.held _ _ (λ h (task, is, d). done task (printed text) is d w refl refl) comes) written
-
-      pub quiet_part : IfSome files.held (λ h. (task : Task) × Comes h task × Left task AppendsPart before after)
-          → Rose before.out.faults after.out.faults → Performs c Comes files later before after write_fault_text 6
-      quiet_part comes rose =
-          part_performs (λ no. unit) rose (if_some_weaker files.held _ _ (λ h (task, is, l). cut task is l rose refl refl) comes)
+    -- of a command without a unit that prints: it wrote its text, or the sink failed
+    pub quiet_ended : {E : Type 0} → after.unit ≡ before.unit → Among 0 c.ends → (text : List ℕ) →
+        IfSome files.held (λ h. (task : Task) × Comes h task × Done task before.unit after.unit (printed text)
+        × (AppendsPart before.out.written after.out.written text → Left task AppendsPart before after)) →
+        (result : Result (Unit {0}) E) → WritesTo before.out after.out text result →
+        Performs c Comes files later before after (told_line (text_end result)) (told_status (text_end result))
+    quiet_ended unit zero text comes (Ok _) w =
+        whole_performs zero (λ no. unit)
+        (if_some_weaker files.held _ _ (λ h (task, is, d, left). done task (printed text) is d w.whole refl refl) comes) w.cause.stayed
+    quiet_ended unit zero text comes (Err e) w =
+        part_performs (λ no. unit) w.cause.failed
+        (if_some_weaker files.held _ _ (λ h (task, is, d, left). cut task is (left w.part) w.cause.failed refl refl) comes)
 
 -- the one file isn't taken, or the first
 pub quiet_lost : (c : About) {V : Type 0} (Is : List ℕ → V → Type 0) (Why : List ℕ → Refusal → Type 0) (Then : Held → V → Task → Type 0) (word : FileWord)

@@ -1,6 +1,7 @@
 -- The run of two channels as the end of a command, and what `pair` comes to where M was loaded.
 use Rattle.std.proofs.Common.{ℕ, ◌≡◌, ◌≢◌, ◌≤◌, inl, inr, true, refl, sym, ap, ◌∙◌, List, [], length, Option, Some, None, Result, Ok, Err, IfSome, arith}
 use Rattle.vcp_base.specs.Limits.{most_image_bytes}
+use Rattle.vcp_base.specs.declared.columns.Column.{Column}
 use Rattle.vcp_outside.specs.Counts.{Rose}
 use Rattle.vcp_outside.specs.Held.{Held}
 use Rattle.vcp_outside.specs.Seen.{FilesSeen}
@@ -21,7 +22,7 @@ use Rattle.vcp_words.specs.Forms as form
 use Rattle.vcp_words.specs.Tables.{rows_name}
 use Rattle.vcp_inputs.specs.declared.images.Image.{Image}
 use Rattle.vcp_inputs.specs.declared.refusal.Refusal.TheVariants as refusal
-use Rattle.vcp_inputs.specs.Files.{Loads}
+use Rattle.vcp_inputs.specs.declared.rows.RowsSource.{RowsSource}
 use Rattle.vcp_inputs.specs.Images.{ImageOf, NotImage}
 use Rattle.vcp_inputs.specs.Lines.{input_status, input_text, refusal_text}
 use Rattle.vcp_inputs.specs.Refusals.{no_rows}
@@ -32,6 +33,7 @@ use Rattle.command_meaning.specs.PairKind.{PairJob, pair_answer, pair_behind, pa
 use Rattle.command_meaning.specs.Performing.{Performs, Reaches, done, cut, wanting, unread, unmade}
 use Rattle.vcp_core.specs.declared.ending.Ending.{Ending}
 use Rattle.vcp_core.specs.ChannelsRun.{ComparesTo, PairAnswers}
+use Rattle.vcp_core.specs.Loading.{FirstRead, BothRead}
 use Rattle.vcp_core.specs.Reach.{end_status, run_code, run_line}
 use Rattle.vcp_inputs.specs.RowsRead.{graph_columns}
 use Rattle.vcp_core.specs.Tasks.{Apart, same_seed, two_seeds, Compared, pair_job, TaskOf}
@@ -171,10 +173,23 @@ pub apart_comes : (m : List ℕ) (rows : Rows) (seed : ℕ) (held : Held) (task 
     TaskOf (form.pair m rows seed) held task
 apart_comes m rows seed held task comes = apart_by m seed (Compared rows held) (held m) task comes
 
-pub loads_apart : (m : List ℕ) (seed : ℕ) (held : Option Held) (b n : ℕ) (i : Image) → seed ≢ i.table.seed →
-    IfSome held (λ h. Loads ImageOf NotImage h m most_image_bytes b n (Ok i)) →
-    IfSome held (λ h. Loads (ApartImage seed) NotImage h m most_image_bytes b n (Ok i))
-loads_apart m seed held b n i apart loads = if_some_weaker held _ _ (λ h (text, found, few, is). (text, found, few, (is, apart))) loads
+pub file_apart : (m : List ℕ) (seed : ℕ) (files later : FilesSeen) (i : Image) → seed ≢ i.table.seed →
+    FirstRead ImageOf NotImage most_image_bytes m files later i → FirstRead (ApartImage seed) NotImage most_image_bytes m files later i
+file_apart m seed files later i apart read = record {
+  loads = if_some_weaker files.held _ _ (λ h (text, found, few, is). (text, found, few, (is, apart))) read.loads;
+  ended = read.ended;
+  faults = read.faults;
+  broken = read.broken;
+  held = read.held;
+}
+
+pub rows_apart : (m : List ℕ) (seed : ℕ) (rows : Rows) (files later : FilesSeen) (i : Image) (columns : List Column) (s : RowsSource) → seed ≢ i.table.seed →
+    BothRead ImageOf NotImage most_image_bytes m rows files later i columns s →
+    BothRead (ApartImage seed) NotImage most_image_bytes m rows files later i columns s
+rows_apart m seed rows files later i columns s apart read = record {
+  file = file_apart m seed files later i apart read.file;
+  rows_are = read.rows_are;
+}
 
 -- the seeds are one, and nothing was done
 pub seeds_same : (c : About) (m : List ℕ) (seed : ℕ) (Then : Image → Task → Type 0) (held : Held) (i : Image) (files later : FilesSeen) (at : Moment) →

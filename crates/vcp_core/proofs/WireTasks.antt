@@ -1,5 +1,5 @@
 -- What `wire` comes to, and how far it comes, from what reading its script and running it give.
-use Rattle.std.proofs.Common.{ℕ, ℤ, ◌≡◌, ◌≢◌, inl, inr, refl, sym, ap, subst, ◌∙◌, arith, List, [], ◌∷◌, Option, Some, None, IfSome, Ok, Err}
+use Rattle.std.proofs.Common.{ℕ, ℤ, ◌≡◌, ◌≢◌, inl, inr, refl, sym, ap, subst, ◌∙◌, arith, List, [], ◌∷◌, Option, Some, None, IfSome, Result, Ok, Err}
 use Rattle.std.specs.Io.KnownBytes.{Appends, IsAtEnd}
 use Rattle.vcp_base.specs.Limits.{most_source_bytes}
 use Rattle.coded_unit.specs.Log.{GrowsBy}
@@ -29,8 +29,8 @@ use Rattle.command_meaning.specs.Kinds.{Task, wires}
 use Rattle.command_meaning.specs.Performing.{Reaches, done, cut, Performs}
 use Rattle.command_meaning.specs.WireKind.{WireDone, WireLeft, WritesTold, wire_answer}
 use Rattle.vcp_core.proofs.OneFile.{one_file}
-use Rattle.vcp_core.specs.Faults.{of_wire}
-use Rattle.vcp_core.specs.Reach.{end_status, fault_status, fault_text, wire_ending}
+use Rattle.vcp_core.specs.Faults.{of_wire, wire_end}
+use Rattle.vcp_core.specs.Reach.{end_status, fault_status, fault_text, told_line, told_status, wire_ending}
 use Rattle.vcp_core.specs.Tasks.{TaskOf}
 use Rattle.vcp_core.proofs.Facts.{if_some_weaker}
 use Rattle.vcp_core.proofs.Performing.{no_line, on_held, part_performs, wanted_performs}
@@ -149,7 +149,7 @@ module _ (f : List ℕ) (files later : FilesSeen) (held : later.held ≡ files.h
   is_end (end.Unsent cycle id) = inr (inr refl)
 
   -- to its end, or to a sending that was answered by no word
-  pub wire_ended : (e : WireEnd) → RunsWire s.wire s.events unit unit' out out' (Ok e) → out'.faults ≡ out.faults
+  wire_ended : (e : WireEnd) → RunsWire s.wire s.events unit unit' out out' (Ok e) → out'.faults ≡ out.faults
       → Performs (about (wire f)) (TaskOf (wire f)) files later (moment unit out) (moment unit' out') [] (end_status (wire_ending e))
   wire_ended e r kept =
       let (x, is, written, err, status) = wire_whole s fits unit unit' out out' e r in
@@ -173,7 +173,7 @@ module _ (f : List ℕ) (files later : FilesSeen) (held : later.held ≡ files.h
       }
 
   -- or not
-  pub wire_failed : (e : WireRunFault) → RunsWire s.wire s.events unit unit' out out' (Err e)
+  wire_failed : (e : WireRunFault) → RunsWire s.wire s.events unit unit' out out' (Err e)
       → Performs (about (wire f)) (TaskOf (wire f)) files later (moment unit out) (moment unit' out') (fault_text (of_wire e)) (fault_status (of_wire e))
   wire_failed fault.Write r =
       part_performs (about (wire f)) (TaskOf (wire f)) files later reads held (moment unit out) (moment unit' out') ended read (λ no. absurd cc) r.ends.0
@@ -182,3 +182,8 @@ module _ (f : List ℕ) (files later : FilesSeen) (held : later.held ≡ files.h
       wanted_performs (about (wire f)) (TaskOf (wire f)) files later held (λ none. absurd (reads none)) (moment unit out) (moment unit' out')
       (record { unit = r.still refl; out = subst (λ (o : SinkSeen). Appends out.written o.written []) (sym r.ends.0) (appends-nothing out.written) })
       read (ap (λ (o : SinkSeen). o.faults) r.ends.0)
+
+  pub wire_ends : (r : Result WireEnd WireRunFault) → RunsWire s.wire s.events unit unit' out out' r → (r ≢ Err fault.Write → out'.faults ≡ out.faults)
+      → Performs (about (wire f)) (TaskOf (wire f)) files later (moment unit out) (moment unit' out') (told_line (wire_end r)) (told_status (wire_end r))
+  wire_ends (Ok e) r kept = wire_ended e r (kept (λ e. cc))
+  wire_ends (Err e) r kept = wire_failed e r

@@ -1,15 +1,32 @@
--- Faults: what is said of faults that weren't all judged, and of a wire's script that wasn't run to its end.
+-- Faults: how a command ends whose text was written, or whose faults were judged, or whose script of a wire was run; or not all of it.
+use Rattle.std.specs.Prelude.{Result, Ok, Err}
 use Rattle.fault_campaign.specs.declared.fault.CampaignFault.{CampaignFault}
 use Rattle.fault_campaign.specs.declared.fault.CampaignFault.TheVariants as campaign
+use Rattle.telegram.specs.declared.runs.wire_end.WireEnd.{WireEnd}
 use Rattle.telegram.specs.declared.runs.wire_end.WireRunFault.{WireRunFault}
 use Rattle.telegram.specs.declared.runs.wire_end.WireRunFault.TheVariants as wire
+use Rattle.vcp_core.specs.declared.ending.Ending.{Ending}
+use Rattle.vcp_core.specs.declared.ending.Ending.TheVariants as end
 use Rattle.vcp_core.specs.declared.fault.Fault.{Fault}
 use Rattle.vcp_core.specs.declared.fault.Fault.TheVariants as fault
+use Rattle.vcp_core.specs.Reach.{wire_ending}
+
+abbrev pub text_end : {E : Type 0} → Result (Unit {0}) E → Result Ending Fault
+text_end (Ok _) = Ok end.Done
+text_end (Err e) = Err fault.Write
 
 abbrev pub of_campaign : CampaignFault → Fault
 of_campaign campaign.Write = fault.Write
 of_campaign campaign.Memory = fault.Memory
 
+abbrev pub campaign_end : Result (Unit {0}) CampaignFault → Result Ending Fault
+campaign_end (Ok _) = Ok end.Done
+campaign_end (Err e) = Err (of_campaign e)
+
 abbrev pub of_wire : WireRunFault → Fault
 of_wire wire.Write = fault.Write
 of_wire wire.Memory = fault.Memory
+
+abbrev pub wire_end : Result WireEnd WireRunFault → Result Ending Fault
+wire_end (Ok e) = Ok (wire_ending e)
+wire_end (Err e) = Err (of_wire e)

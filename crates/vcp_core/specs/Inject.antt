@@ -1,6 +1,5 @@
 -- Inject: all rows of runs under faults, as they are read before the script.
-use Rattle.std.specs.Prelude.{ℤ, ◌≡◌, ◌≤◌, ◌<◌, ◌*◌, List, length, Some, None}
-use Rattle.input_rows.specs.declared.fault.RowFault.{RowFault}
+use Rattle.std.specs.Prelude.{ℤ, ◌≡◌, ◌≤◌, ◌<◌, ◌*◌, List, length, None}
 use Rattle.input_rows.specs.RowsOf.{RowsLeft}
 use Rattle.op_graph.specs.Lists.{Lists}
 use Rattle.vcp_inputs.specs.declared.refusal.NoInput.{NoInput}

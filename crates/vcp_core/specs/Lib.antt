@@ -3,11 +3,14 @@ pub mod Demo
 pub mod EachTask
 pub mod EndLines
 pub mod Faults
+pub mod ImagesRead
 pub mod Inject
+pub mod Loading
 pub mod MachineRun
 pub mod Performed
 pub mod PerformedLaws
 pub mod PlainRun
+pub mod ProgramsRead
 pub mod Reach
 pub mod Shown
 pub mod StaleSeen

@@ -14,7 +14,7 @@ ghost use Rattle.machine_run.specs.Moments.{moment};
 ghost use Rattle.vcp_core.specs.Tasks.{TaskOf};
 ghost use Rattle.vcp_core.specs.Reach.{told_line, told_status};
 
-use crate::ending::Ending;
+use crate::ending::{Ending, text_ended};
 use crate::fault::Fault;
 use std::alloc::Global;
 use vcp_base::Text;
@@ -63,10 +63,7 @@ pub fn audit_command<'a, F: Files, O: Sink>(
         }
     };
     match weights_of(alloc, &loaded, horizon) {
-        Ok(weights) => {
-            write_audit(out, &loaded.graph, &weights, horizon)?;
-            Ok(Ending::Done)
-        }
+        Ok(weights) => text_ended(write_audit(out, &loaded.graph, &weights, horizon)),
         Err(input) => Err(Fault::Input {
             name: image.bytes(),
             input,

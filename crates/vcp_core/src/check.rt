@@ -10,7 +10,7 @@ ghost use Rattle.coded_unit.specs.Seen.{UnitSeen};
 ghost use Rattle.machine_run.specs.Moments.{moment};
 ghost use Rattle.vcp_core.specs.Reach.{told_line, told_status};
 
-use crate::ending::Ending;
+use crate::ending::{Ending, text_ended};
 use crate::fault::Fault;
 use std::alloc::Global;
 use vcp_base::Text;
@@ -40,10 +40,7 @@ pub fn check_command<'a, F: Files, O: Sink>(
         (told_line result) (told_status result) }
 {
     match load_typed(alloc, files, source) {
-        Ok(program) => {
-            ok_line(out, program.size())?;
-            Ok(Ending::Done)
-        }
+        Ok(program) => text_ended(ok_line(out, program.size())),
         Err(input) => Err(Fault::Input {
             name: source.bytes(),
             input,

@@ -9,11 +9,11 @@ ghost use Rattle.machine_run.specs.Moments.{moment};
 ghost use Rattle.vcp_core.specs.Tasks.{TaskOf};
 ghost use Rattle.vcp_core.specs.Reach.{told_line, told_status};
 
-use crate::ending::Ending;
+use crate::ending::{Ending, text_ended};
 use crate::fault::Fault;
 use command_meaning::image_for;
 use std::alloc::Global;
-use vcp_base::Text;
+use vcp_base::{Memory, Text};
 use vcp_inputs::load_typed;
 use vcp_outside::{Files, Sink, write_all};
 use vcp_words::Code;
@@ -35,11 +35,10 @@ pub fn compile_command<'a, F: Files, O: Sink>(
         (told_line result) (told_status result) }
 {
     match load_typed(alloc, files, source) {
-        Ok(program) => {
-            let image = image_for(alloc, &program, code)?;
-            write_all(out, image.bytes())?;
-            Ok(Ending::Done)
-        }
+        Ok(program) => match image_for(alloc, &program, code) {
+            Ok(image) => text_ended(write_all(out, image.bytes())),
+            Err(Memory) => Err(Fault::Memory),
+        },
         Err(input) => Err(Fault::Input {
             name: source.bytes(),
             input,

@@ -1,11 +1,14 @@
 //! How commands end.
 
 ghost use Rattle.std.specs.Prelude.{◌≡◌};
+ghost use Rattle.vcp_core.specs.Faults.{campaign_end, text_end};
 ghost use Rattle.vcp_core.specs.Reach.{end_status, run_code, run_line, told_line, told_status};
 
 use crate::fault::Fault;
+use fault_campaign::CampaignFault;
 use machine_run::RunFault;
 use vcp_inputs::NoInput;
+use vcp_outside::Failed;
 
 /// How a command came to its end.
 #[derive(Clone, Copy, Debug, PartialEq, Eq)]
@@ -42,5 +45,26 @@ pub fn run_ended<'a>(rows: &'a [u8], ended: Result<Ending, RunFault>) -> Result<
         }),
         Err(RunFault::Write) => Err(Fault::Write),
         Err(RunFault::Memory) => Err(Fault::Memory),
+    }
+}
+
+/// How a command ends whose text was written, or wasn't since the sink failed.
+pub fn text_ended<'a>(written: Result<(), Failed>) -> Result<Ending, Fault<'a>>
+    ensures { result ≡ text_end written }
+{
+    match written {
+        Ok(()) => Ok(Ending::Done),
+        Err(Failed) => Err(Fault::Write),
+    }
+}
+
+/// How a command ends whose groups of faults were all judged, or were not for this reason.
+pub fn campaign_ended<'a>(ended: Result<(), CampaignFault>) -> Result<Ending, Fault<'a>>
+    ensures { result ≡ campaign_end ended }
+{
+    match ended {
+        Ok(()) => Ok(Ending::Done),
+        Err(CampaignFault::Write) => Err(Fault::Write),
+        Err(CampaignFault::Memory) => Err(Fault::Memory),
     }
 }

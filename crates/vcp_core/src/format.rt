@@ -9,11 +9,11 @@ ghost use Rattle.machine_run.specs.Moments.{moment};
 ghost use Rattle.vcp_core.specs.Tasks.{TaskOf};
 ghost use Rattle.vcp_core.specs.Reach.{told_line, told_status};
 
-use crate::ending::Ending;
+use crate::ending::{Ending, text_ended};
 use crate::fault::Fault;
 use st_writer::write_program;
 use std::alloc::Global;
-use vcp_base::Text;
+use vcp_base::{Memory, Text};
 use vcp_inputs::load_program;
 use vcp_outside::{Files, Sink, write_all};
 
@@ -30,11 +30,10 @@ pub fn format_command<'a, F: Files, O: Sink>(
         (told_line result) (told_status result) }
 {
     match load_program(alloc, files, source) {
-        Ok(program) => {
-            let text = write_program(alloc, &program)?;
-            write_all(out, text.bytes())?;
-            Ok(Ending::Done)
-        }
+        Ok(program) => match write_program(alloc, &program) {
+            Ok(text) => text_ended(write_all(out, text.bytes())),
+            Err(Memory) => Err(Fault::Memory),
+        },
         Err(input) => Err(Fault::Input {
             name: source.bytes(),
             input,

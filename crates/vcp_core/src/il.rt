@@ -7,16 +7,14 @@ ghost use Rattle.machine_run.specs.Moments.{moment};
 ghost use Rattle.vcp_core.specs.Tasks.{TaskOf};
 ghost use Rattle.vcp_core.specs.Reach.{told_line, told_status};
 
-use crate::ending::{Ending, run_ended};
-use crate::every_row::{EveryRow, RowLines};
+use crate::ending::Ending;
 use crate::fault::Fault;
-use crate::loading::{input_columns, rows_name};
-use crate::printed::run_program;
+use crate::run::run_read;
 use coded_unit::Unit;
 use command_meaning::lists_are_told;
 use std::alloc::Global;
 use vcp_base::Text;
-use vcp_inputs::{load_il, load_rows};
+use vcp_inputs::load_il;
 use vcp_outside::{Files, Sink};
 use vcp_words::{Code, RowsWord};
 
@@ -37,37 +35,13 @@ pub fn il_command<'a, F: Files, U: Unit, O: Sink>(
         (F.seen files.old) (F.seen files.new) (moment (U.seen unit.old) (O.seen out.old)) (moment (U.seen unit.new) (O.seen out.new))
         (told_line result) (told_status result) }
 {
-    // So what is run is the list on the accumulator.
+    // So an instruction list has the columns of its typed program.
     lists_are_told();
-    let program = match load_il(alloc, files, source) {
-        Ok(program) => program,
-        Err(input) => {
-            return Err(Fault::Input {
-                name: source.bytes(),
-                input,
-            });
-        }
-    };
-    let columns = input_columns(alloc, &program)?;
-    let name = rows_name(rows);
-    let inputs = match load_rows(alloc, files, rows, &columns) {
-        Ok(inputs) => inputs,
-        Err(input) => return Err(Fault::Input { name, input }),
-    };
-    match inputs.open(alloc, &columns) {
-        Ok(mut rows) => run_ended(
-            name,
-            run_program(
-                alloc,
-                &program,
-                code,
-                &mut rows,
-                unit,
-                out,
-                &EveryRow,
-                &mut RowLines,
-            ),
-        ),
-        Err(input) => Err(Fault::Input { name, input }),
+    match load_il(alloc, files, source) {
+        Ok(program) => run_read(alloc, program, rows, code, files, unit, out),
+        Err(input) => Err(Fault::Input {
+            name: source.bytes(),
+            input,
+        }),
     }
 }

@@ -2,18 +2,20 @@
 
 ghost use Rattle.std.specs.Prelude.{◌≡◌, ◌≤◌, All, IfErr, IfOk, length};
 ghost use Rattle.vcp_base.specs.Limits.{most_cycles, most_names};
-ghost use Rattle.vcp_words.specs.Forms.{inject, rows_of, AreFew};
+ghost use Rattle.vcp_words.specs.Forms.{inject, rows_of, AreFew, Rows};
 ghost use Rattle.vcp_inputs.specs.Refusals.{IsCaused};
 ghost use Rattle.vcp_inputs.specs.RowsOutcome.{HasFewCycles, source_outcome};
 ghost use Rattle.command_meaning.specs.Abouts.{about};
 ghost use Rattle.command_meaning.specs.Performing.{Performs};
 ghost use Rattle.machine_run.specs.Moments.{moment};
+ghost use Rattle.vcp_core.specs.ImagesRead.{AreImageRows, PerformsOn};
 ghost use Rattle.vcp_core.specs.Tasks.{TaskOf};
 ghost use Rattle.vcp_core.specs.Inject.{AllRows, NoRows};
 ghost use Rattle.vcp_core.specs.Reach.{told_line, told_status};
 
-use crate::ending::Ending;
+use crate::ending::{Ending, campaign_ended};
 use crate::fault::Fault;
+use crate::image_rows::{ImageRows, load_image_rows};
 use crate::loading::rows_name;
 use coded_unit::Unit;
 use fault_campaign::run_campaign;
@@ -21,9 +23,7 @@ use input_rows::RowList;
 use op_graph::Graph;
 use std::alloc::Global;
 use vcp_base::{Columns, Text};
-use vcp_inputs::{
-    NoInput, Refusal, RowsSource, graph_columns, load_image, load_rows, load_script, whole_rows,
-};
+use vcp_inputs::{NoInput, Refusal, RowsSource, load_script, whole_rows};
 use vcp_outside::{Files, Sink};
 use vcp_words::RowsWord;
 
@@ -72,42 +72,65 @@ pub fn inject_command<'a, F: Files, U: Unit, O: Sink>(
         (F.seen files.old) (F.seen files.new) (moment (U.seen unit.old) (O.seen out.old)) (moment (U.seen unit.new) (O.seen out.new))
         (told_line result) (told_status result) }
 {
-    let loaded = match load_image(alloc, files, image) {
-        Ok(loaded) => loaded,
-        Err(input) => {
-            return Err(Fault::Input {
-                name: image.bytes(),
-                input,
-            });
-        }
-    };
-    let columns = graph_columns(alloc, &loaded.graph)?;
-    let name = rows_name(rows);
-    let inputs = match load_rows(alloc, files, rows, &columns) {
-        Ok(inputs) => inputs,
-        Err(input) => return Err(Fault::Input { name, input }),
-    };
-    let list = match all_rows(alloc, &inputs, &columns, &loaded.graph) {
-        Ok(list) => list,
-        Err(input) => return Err(Fault::Input { name, input }),
-    };
-    let groups = match load_script(alloc, files, script, &loaded.graph) {
-        Ok(groups) => groups,
-        Err(input) => {
-            return Err(Fault::Input {
-                name: script.bytes(),
-                input,
-            });
-        }
-    };
-    run_campaign(
-        alloc,
-        out,
-        &loaded.graph,
-        &loaded.table,
-        &list,
-        &groups,
-        unit,
-    )?;
-    Ok(Ending::Done)
+    match load_image_rows(alloc, files, image, rows, None) {
+        Ok(loaded) => inject_image(alloc, &loaded, rows, script, files, unit, out),
+        Err(fault) => Err(fault),
+    }
+}
+
+/// Reads all rows of an image, once its file and ROWS were read, and goes on with the script.
+fn inject_image<'a, F: Files, U: Unit, O: Sink>(
+    alloc: Global,
+    loaded: &ImageRows,
+    rows: RowsWord<'a>,
+    script: &'a Text,
+    files: &mut F,
+    unit: &mut U,
+    out: &mut O,
+) -> Result<Ending, Fault<'a>>
+    requires fit { AreImageRows loaded.now }
+    ensures { PerformsOn (λ m. inject m (rows_of rows.entry) script.now) (rows_of rows.entry) loaded.now (F.seen files.old) (F.seen files.new)
+        (moment (U.seen unit.old) (O.seen out.old)) (moment (U.seen unit.new) (O.seen out.new)) (told_line result) (told_status result) }
+{
+    match all_rows(alloc, &loaded.rows, &loaded.columns, &loaded.image.graph) {
+        Ok(list) => judge_script(alloc, loaded, &list, script, files, unit, out),
+        Err(input) => Err(Fault::Input {
+            name: rows_name(rows),
+            input,
+        }),
+    }
+}
+
+/// Reads the script F for an image, all of whose rows these are, and judges each of its groups.
+fn judge_script<'a, F: Files, U: Unit, O: Sink>(
+    alloc: Global,
+    loaded: &ImageRows,
+    list: &RowList,
+    script: &'a Text,
+    files: &mut F,
+    unit: &mut U,
+    out: &mut O,
+) -> Result<Ending, Fault<'a>>
+    requires fit { AreImageRows loaded.now }
+    requires all { AllRows (source_outcome loaded.now.rows loaded.now.columns) loaded.now.image.graph list.now }
+    requires width { All (λ row. length row ≡ length loaded.now.columns) list.now }
+    requires few { length list.now ≤ most_cycles }
+    ensures { (rows : Rows) → PerformsOn (λ m. inject m rows script.now) rows loaded.now (F.seen files.old) (F.seen files.new)
+        (moment (U.seen unit.old) (O.seen out.old)) (moment (U.seen unit.new) (O.seen out.new)) (told_line result) (told_status result) }
+{
+    match load_script(alloc, files, script, &loaded.image.graph) {
+        Ok(groups) => campaign_ended(run_campaign(
+            alloc,
+            out,
+            &loaded.image.graph,
+            &loaded.image.table,
+            list,
+            &groups,
+            unit,
+        )),
+        Err(input) => Err(Fault::Input {
+            name: script.bytes(),
+            input,
+        }),
+    }
 }

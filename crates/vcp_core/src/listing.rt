@@ -10,7 +10,7 @@ ghost use Rattle.coded_unit.specs.Seen.{UnitSeen};
 ghost use Rattle.machine_run.specs.Moments.{moment};
 ghost use Rattle.vcp_core.specs.Reach.{told_line, told_status};
 
-use crate::ending::Ending;
+use crate::ending::{Ending, text_ended};
 use crate::fault::Fault;
 use op_graph::Graph;
 use run_report::list_line;
@@ -44,10 +44,7 @@ pub fn list_command<'a, F: Files, O: Sink>(
         (told_line result) (told_status result) }
 {
     match load_image(alloc, files, image) {
-        Ok(loaded) => {
-            list_operations(out, &loaded.graph, &loaded.table)?;
-            Ok(Ending::Done)
-        }
+        Ok(loaded) => text_ended(list_operations(out, &loaded.graph, &loaded.table)),
         Err(input) => Err(Fault::Input {
             name: image.bytes(),
             input,

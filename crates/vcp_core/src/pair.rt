@@ -1,22 +1,24 @@
 //! The command `pair`, up to the line of its fault.
 
-ghost use Rattle.std.specs.Prelude.{◌<◌};
+ghost use Rattle.std.specs.Prelude.{◌≢◌, ◌<◌};
 ghost use Rattle.vcp_base.specs.Limits.{seeds};
+ghost use Rattle.vcp_outside.specs.Seen.{FilesSeen};
 ghost use Rattle.vcp_words.specs.Forms.{pair, rows_of, AreFew};
 ghost use Rattle.command_meaning.specs.Abouts.{about};
 ghost use Rattle.command_meaning.specs.Performing.{Performs};
 ghost use Rattle.machine_run.specs.Moments.{moment};
+ghost use Rattle.vcp_core.specs.ImagesRead.{AreImageRows, PerformsOn};
 ghost use Rattle.vcp_core.specs.Tasks.{TaskOf};
 ghost use Rattle.vcp_core.specs.Reach.{told_line, told_status};
 
 use crate::channels::run_channels;
 use crate::ending::{Ending, run_ended};
 use crate::fault::Fault;
+use crate::image_rows::{ImageRows, load_image_rows};
 use crate::loading::rows_name;
 use coded_unit::Unit;
 use std::alloc::Global;
 use vcp_base::Text;
-use vcp_inputs::{NoInput, Refusal, graph_columns, load_image, load_rows};
 use vcp_outside::{Files, Sink};
 use vcp_words::RowsWord;
 
@@ -38,31 +40,33 @@ pub fn pair_command<'a, F: Files, U: Unit, O: Sink>(
         (F.seen files.old) (F.seen files.new) (moment (U.seen unit.old) (O.seen out.old)) (moment (U.seen unit.new) (O.seen out.new))
         (told_line result) (told_status result) }
 {
-    let loaded = match load_image(alloc, files, image) {
-        Ok(loaded) => loaded,
-        Err(input) => {
-            return Err(Fault::Input {
-                name: image.bytes(),
-                input,
-            });
-        }
-    };
-    if loaded.table.seed() == seed {
-        return Err(Fault::Input {
-            name: image.bytes(),
-            input: NoInput::Refused(Refusal::Seed),
-        });
+    match load_image_rows(alloc, files, image, rows, Some(seed)) {
+        Ok(loaded) => pair_image(alloc, &loaded, rows, seed, unit, out),
+        Err(fault) => Err(fault),
     }
-    let columns = graph_columns(alloc, &loaded.graph)?;
+}
+
+/// Runs the operations of an image on its rows, once both were read, on two channels, of which the second
+/// has this other seed.
+fn pair_image<'a, U: Unit, O: Sink>(
+    alloc: Global,
+    loaded: &ImageRows,
+    rows: RowsWord<'a>,
+    seed: u32,
+    unit: &mut U,
+    out: &mut O,
+) -> Result<Ending, Fault<'a>>
+    requires fit { AreImageRows loaded.now }
+    requires seed { seed < seeds }
+    requires apart { seed ≢ loaded.now.image.table.seed }
+    ensures { (files : FilesSeen) → PerformsOn (λ m. pair m (rows_of rows.entry) seed) (rows_of rows.entry) loaded.now files files
+        (moment (U.seen unit.old) (O.seen out.old)) (moment (U.seen unit.new) (O.seen out.new)) (told_line result) (told_status result) }
+{
     let name = rows_name(rows);
-    let inputs = match load_rows(alloc, files, rows, &columns) {
-        Ok(inputs) => inputs,
-        Err(input) => return Err(Fault::Input { name, input }),
-    };
-    match inputs.open(alloc, &columns) {
+    match loaded.rows.open(alloc, &loaded.columns) {
         Ok(mut rows) => run_ended(
             name,
-            run_channels(alloc, &loaded, seed, &mut rows, unit, out),
+            run_channels(alloc, &loaded.image, seed, &mut rows, unit, out),
         ),
         Err(input) => Err(Fault::Input { name, input }),
     }

@@ -1,22 +1,26 @@
 //! The command `plain`, up to the line of its fault.
 
 ghost use Rattle.std.specs.Prelude.{ℕ, Option, List};
+ghost use Rattle.vcp_outside.specs.Seen.{FilesSeen};
 ghost use Rattle.vcp_words.specs.Forms.{plain, rows_of, AreFew};
 ghost use Rattle.command_meaning.specs.Abouts.{about};
 ghost use Rattle.command_meaning.specs.Performing.{Performs};
 ghost use Rattle.coded_unit.specs.Seen.{UnitSeen};
 ghost use Rattle.machine_run.specs.Moments.{moment};
+ghost use Rattle.vcp_core.specs.ProgramsRead.{structured_text, AreProgramRows, ProgramRead, ProgramRowsRead};
 ghost use Rattle.vcp_core.specs.Tasks.{TaskOf};
 ghost use Rattle.vcp_core.specs.Reach.{told_line, told_status};
 
 use crate::ending::{Ending, run_ended};
 use crate::fault::Fault;
-use crate::loading::{input_columns, rows_name};
+use crate::loading::rows_name;
 use crate::plain_run::print_run;
+use crate::program_rows::{ProgramRows, load_program_rows};
 use std::alloc::Global;
 use vcp_base::Text;
-use vcp_inputs::{load_rows, load_typed};
+use vcp_inputs::load_typed;
 use vcp_outside::{Files, Sink};
+use vcp_typed::Typed;
 use vcp_words::RowsWord;
 
 /// Does what the words `plain P ROWS` say, and writes to `out` alone: P is read whole and taken through
@@ -34,23 +38,49 @@ pub fn plain_command<'a, F: Files, O: Sink>(
         (F.seen files.old) (F.seen files.new) (moment unit (O.seen out.old)) (moment unit (O.seen out.new))
         (told_line result) (told_status result) }
 {
-    let program = match load_typed(alloc, files, source) {
-        Ok(program) => program,
-        Err(input) => {
-            return Err(Fault::Input {
-                name: source.bytes(),
-                input,
-            });
-        }
-    };
-    let columns = input_columns(alloc, &program)?;
+    match load_typed(alloc, files, source) {
+        Ok(program) => plain_read(alloc, program, rows, files, out),
+        Err(input) => Err(Fault::Input {
+            name: source.bytes(),
+            input,
+        }),
+    }
+}
+
+/// Reads ROWS for a program, once it was read, and writes its own run on them.
+fn plain_read<'a, F: Files, O: Sink>(
+    alloc: Global,
+    program: Typed,
+    rows: RowsWord<'a>,
+    files: &mut F,
+    out: &mut O,
+) -> Result<Ending, Fault<'a>>
+    requires few { AreFew (rows_of rows) }
+    ensures { (unit : UnitSeen) (p : List ℕ) (before : FilesSeen) → ProgramRead structured_text p before (F.seen files.old) program →
+        Performs (about (plain p (rows_of rows.entry))) (TaskOf (plain p (rows_of rows.entry))) before (F.seen files.new)
+        (moment unit (O.seen out.old)) (moment unit (O.seen out.new)) (told_line result) (told_status result) }
+{
+    match load_program_rows(alloc, files, program, rows) {
+        Ok(loaded) => plain_rows(alloc, &loaded, rows, out),
+        Err(fault) => Err(fault),
+    }
+}
+
+/// Writes a program's own run on its rows, once both were read.
+fn plain_rows<'a, O: Sink>(
+    alloc: Global,
+    loaded: &ProgramRows,
+    rows: RowsWord<'a>,
+    out: &mut O,
+) -> Result<Ending, Fault<'a>>
+    requires fit { AreProgramRows loaded.now }
+    ensures { (unit : UnitSeen) (p : List ℕ) (files later : FilesSeen) → ProgramRowsRead structured_text p (rows_of rows.entry) files later loaded.now →
+        Performs (about (plain p (rows_of rows.entry))) (TaskOf (plain p (rows_of rows.entry))) files later
+        (moment unit (O.seen out.old)) (moment unit (O.seen out.new)) (told_line result) (told_status result) }
+{
     let name = rows_name(rows);
-    let inputs = match load_rows(alloc, files, rows, &columns) {
-        Ok(inputs) => inputs,
-        Err(input) => return Err(Fault::Input { name, input }),
-    };
-    match inputs.open(alloc, &columns) {
-        Ok(mut rows) => run_ended(name, print_run(alloc, &program, &mut rows, out)),
+    match loaded.rows.open(alloc, &loaded.columns) {
+        Ok(mut rows) => run_ended(name, print_run(alloc, &loaded.program, &mut rows, out)),
         Err(input) => Err(Fault::Input { name, input }),
     }
 }

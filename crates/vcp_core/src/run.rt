@@ -1,22 +1,28 @@
 //! The command `run`, up to the line of its fault.
 
+ghost use Rattle.std.specs.Prelude.{ℕ, List};
+ghost use Rattle.vcp_outside.specs.Seen.{FilesSeen};
 ghost use Rattle.vcp_words.specs.Forms.{run, rows_of, as_code, AreFew, IsCode};
 ghost use Rattle.command_meaning.specs.Abouts.{about};
 ghost use Rattle.command_meaning.specs.Performing.{Performs};
 ghost use Rattle.machine_run.specs.Moments.{moment};
+ghost use Rattle.vcp_core.specs.ProgramsRead.{run_of, AreProgramRows, Language, ProgramRead, ProgramRowsRead};
 ghost use Rattle.vcp_core.specs.Tasks.{TaskOf};
 ghost use Rattle.vcp_core.specs.Reach.{told_line, told_status};
 
 use crate::ending::{Ending, run_ended};
 use crate::every_row::{EveryRow, RowLines};
 use crate::fault::Fault;
-use crate::loading::{input_columns, rows_name};
+use crate::loading::rows_name;
 use crate::printed::run_program;
+use crate::program_rows::{ProgramRows, load_program_rows};
 use coded_unit::Unit;
+use command_meaning::lists_are_told;
 use std::alloc::Global;
 use vcp_base::Text;
-use vcp_inputs::{load_rows, load_typed};
+use vcp_inputs::load_typed;
 use vcp_outside::{Files, Sink};
+use vcp_typed::Typed;
 use vcp_words::{Code, RowsWord};
 
 /// Does what the words `run P ROWS CODE` say, and writes to `out` alone: P is read whole and
@@ -36,27 +42,61 @@ pub fn run_command<'a, F: Files, U: Unit, O: Sink>(
         (F.seen files.old) (F.seen files.new) (moment (U.seen unit.old) (O.seen out.old)) (moment (U.seen unit.new) (O.seen out.new))
         (told_line result) (told_status result) }
 {
-    let program = match load_typed(alloc, files, source) {
-        Ok(program) => program,
-        Err(input) => {
-            return Err(Fault::Input {
-                name: source.bytes(),
-                input,
-            });
-        }
-    };
-    let columns = input_columns(alloc, &program)?;
+    match load_typed(alloc, files, source) {
+        Ok(program) => run_read(alloc, program, rows, code, files, unit, out),
+        Err(input) => Err(Fault::Input {
+            name: source.bytes(),
+            input,
+        }),
+    }
+}
+
+/// Reads ROWS for a program, once it was read, and runs its operations on them, on the unit.
+pub fn run_read<'a, F: Files, U: Unit, O: Sink>(
+    alloc: Global,
+    program: Typed,
+    rows: RowsWord<'a>,
+    code: Code,
+    files: &mut F,
+    unit: &mut U,
+    out: &mut O,
+) -> Result<Ending, Fault<'a>>
+    requires few { AreFew (rows_of rows) }
+    requires code { IsCode (as_code code) }
+    ensures { (l : Language) (p : List ℕ) (before : FilesSeen) → ProgramRead l p before (F.seen files.old) program →
+        Performs (about (run_of l p (rows_of rows.entry) (as_code code))) (TaskOf (run_of l p (rows_of rows.entry) (as_code code))) before (F.seen files.new)
+        (moment (U.seen unit.old) (O.seen out.old)) (moment (U.seen unit.new) (O.seen out.new)) (told_line result) (told_status result) }
+{
+    match load_program_rows(alloc, files, program, rows) {
+        Ok(loaded) => run_rows(alloc, &loaded, rows, code, unit, out),
+        Err(fault) => Err(fault),
+    }
+}
+
+/// Runs a program's operations on its rows, once both were read, on the unit, and prints each row.
+fn run_rows<'a, U: Unit, O: Sink>(
+    alloc: Global,
+    loaded: &ProgramRows,
+    rows: RowsWord<'a>,
+    code: Code,
+    unit: &mut U,
+    out: &mut O,
+) -> Result<Ending, Fault<'a>>
+    requires fit { AreProgramRows loaded.now }
+    requires code { IsCode (as_code code) }
+    ensures { (l : Language) (p : List ℕ) (files later : FilesSeen) → ProgramRowsRead l p (rows_of rows.entry) files later loaded.now →
+        Performs (about (run_of l p (rows_of rows.entry) (as_code code))) (TaskOf (run_of l p (rows_of rows.entry) (as_code code))) files later
+        (moment (U.seen unit.old) (O.seen out.old)) (moment (U.seen unit.new) (O.seen out.new)) (told_line result) (told_status result) }
+{
+    // So what is run of an instruction list is the list on the accumulator.
+    lists_are_told();
     let name = rows_name(rows);
-    let inputs = match load_rows(alloc, files, rows, &columns) {
-        Ok(inputs) => inputs,
-        Err(input) => return Err(Fault::Input { name, input }),
-    };
-    match inputs.open(alloc, &columns) {
+    match loaded.rows.open(alloc, &loaded.columns) {
         Ok(mut rows) => run_ended(
             name,
             run_program(
                 alloc,
-                &program,
+                &loaded.program,
                 code,
                 &mut rows,
                 unit,

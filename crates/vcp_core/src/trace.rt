@@ -2,21 +2,23 @@
 
 ghost use Rattle.std.specs.Prelude.{◌<◌};
 ghost use Rattle.vcp_base.specs.Limits.{most_cycles};
+ghost use Rattle.vcp_outside.specs.Seen.{FilesSeen};
 ghost use Rattle.vcp_words.specs.Forms.{trace, rows_of, AreFew};
 ghost use Rattle.command_meaning.specs.Abouts.{about};
 ghost use Rattle.command_meaning.specs.Performing.{Performs};
 ghost use Rattle.machine_run.specs.Moments.{moment};
+ghost use Rattle.vcp_core.specs.ImagesRead.{AreImageRows, PerformsOn};
 ghost use Rattle.vcp_core.specs.Tasks.{TaskOf};
 ghost use Rattle.vcp_core.specs.Reach.{told_line, told_status};
 
 use crate::ending::{Ending, run_ended};
 use crate::fault::Fault;
+use crate::image_rows::{ImageRows, load_image_rows};
 use crate::loading::rows_name;
 use crate::tracing::run_words;
 use coded_unit::Unit;
 use std::alloc::Global;
 use vcp_base::Text;
-use vcp_inputs::{graph_columns, load_image, load_rows};
 use vcp_outside::{Files, Sink};
 use vcp_words::RowsWord;
 
@@ -38,28 +40,35 @@ pub fn trace_command<'a, F: Files, U: Unit, O: Sink>(
         (F.seen files.old) (F.seen files.new) (moment (U.seen unit.old) (O.seen out.old)) (moment (U.seen unit.new) (O.seen out.new))
         (told_line result) (told_status result) }
 {
-    let loaded = match load_image(alloc, files, image) {
-        Ok(loaded) => loaded,
-        Err(input) => {
-            return Err(Fault::Input {
-                name: image.bytes(),
-                input,
-            });
-        }
-    };
-    let columns = graph_columns(alloc, &loaded.graph)?;
+    match load_image_rows(alloc, files, image, rows, None) {
+        Ok(loaded) => trace_image(alloc, &loaded, rows, cycle, unit, out),
+        Err(fault) => Err(fault),
+    }
+}
+
+/// Runs the operations of an image on its rows through the cycle, once both were read, on the unit, and
+/// prints the words of that cycle.
+fn trace_image<'a, U: Unit, O: Sink>(
+    alloc: Global,
+    loaded: &ImageRows,
+    rows: RowsWord<'a>,
+    cycle: u32,
+    unit: &mut U,
+    out: &mut O,
+) -> Result<Ending, Fault<'a>>
+    requires fit { AreImageRows loaded.now }
+    requires cycle { cycle < most_cycles }
+    ensures { (files : FilesSeen) → PerformsOn (λ m. trace m (rows_of rows.entry) cycle) (rows_of rows.entry) loaded.now files files
+        (moment (U.seen unit.old) (O.seen out.old)) (moment (U.seen unit.new) (O.seen out.new)) (told_line result) (told_status result) }
+{
     let name = rows_name(rows);
-    let inputs = match load_rows(alloc, files, rows, &columns) {
-        Ok(inputs) => inputs,
-        Err(input) => return Err(Fault::Input { name, input }),
-    };
-    match inputs.open(alloc, &columns) {
+    match loaded.rows.open(alloc, &loaded.columns) {
         Ok(rows) => run_ended(
             name,
             run_words(
                 alloc,
-                &loaded.graph,
-                &loaded.table,
+                &loaded.image.graph,
+                &loaded.image.table,
                 cycle,
                 &mut rows.through(cycle),
                 unit,

@@ -10,7 +10,7 @@ ghost use Rattle.coded_unit.specs.Seen.{UnitSeen};
 ghost use Rattle.machine_run.specs.Moments.{moment};
 ghost use Rattle.vcp_core.specs.Reach.{told_line, told_status};
 
-use crate::ending::Ending;
+use crate::ending::{Ending, text_ended};
 use crate::fault::Fault;
 use image_file::write_image;
 use signature_table::Table;
@@ -43,11 +43,10 @@ pub fn widen_command<'a, F: Files, O: Sink>(
         (told_line result) (told_status result) }
 {
     match load_image(alloc, files, image) {
-        Ok(loaded) => {
-            let wide = wide_image(alloc, loaded)?;
-            write_all(out, wide.bytes())?;
-            Ok(Ending::Done)
-        }
+        Ok(loaded) => match wide_image(alloc, loaded) {
+            Ok(wide) => text_ended(write_all(out, wide.bytes())),
+            Err(Memory) => Err(Fault::Memory),
+        },
         Err(input) => Err(Fault::Input {
             name: image.bytes(),
             input,

@@ -5,14 +5,15 @@ ghost use Rattle.vcp_words.specs.Forms.{wire};
 ghost use Rattle.command_meaning.specs.Abouts.{about};
 ghost use Rattle.command_meaning.specs.Performing.{Performs};
 ghost use Rattle.machine_run.specs.Moments.{moment};
+ghost use Rattle.vcp_core.specs.Faults.{wire_end};
 ghost use Rattle.vcp_core.specs.Tasks.{TaskOf};
-ghost use Rattle.vcp_core.specs.Reach.{told_line, told_status, wire_ending};
+ghost use Rattle.vcp_core.specs.Reach.{told_line, told_status};
 
 use crate::ending::Ending;
 use crate::fault::Fault;
 use coded_unit::Unit;
 use std::alloc::Global;
-use telegram::{WireEnd, run_wire};
+use telegram::{WireEnd, WireRunFault, run_wire};
 use vcp_base::Text;
 use vcp_inputs::load_wire;
 use vcp_outside::{Files, Sink};
@@ -29,25 +30,23 @@ pub fn wire_command<'a, F: Files, U: Unit, O: Sink>(
     ensures { Performs (about (wire script.now)) (TaskOf (wire script.now)) (F.seen files.old) (F.seen files.new)
         (moment (U.seen unit.old) (O.seen out.old)) (moment (U.seen unit.new) (O.seen out.new)) (told_line result) (told_status result) }
 {
-    let loaded = match load_wire(alloc, files, script) {
-        Ok(loaded) => loaded,
-        Err(input) => {
-            return Err(Fault::Input {
-                name: script.bytes(),
-                input,
-            });
-        }
-    };
-    let end = run_wire(alloc, out, &loaded, unit)?;
-    Ok(ending_of(end))
+    match load_wire(alloc, files, script) {
+        Ok(loaded) => wire_ended(run_wire(alloc, out, &loaded, unit)),
+        Err(input) => Err(Fault::Input {
+            name: script.bytes(),
+            input,
+        }),
+    }
 }
 
-/// How the command came to its end.
-fn ending_of(end: WireEnd) -> Ending
-    ensures { result ≡ wire_ending end }
+/// How the command ends whose script was run to its end, or to a sending that was answered by no word, or was given up.
+fn wire_ended<'a>(ended: Result<WireEnd, WireRunFault>) -> Result<Ending, Fault<'a>>
+    ensures { result ≡ wire_end ended }
 {
-    match end {
-        WireEnd::Complete => Ending::Done,
-        WireEnd::Unsent { .. } => Ending::Refused,
+    match ended {
+        Ok(WireEnd::Complete) => Ok(Ending::Done),
+        Ok(WireEnd::Unsent { .. }) => Ok(Ending::Refused),
+        Err(WireRunFault::Write) => Err(Fault::Write),
+        Err(WireRunFault::Memory) => Err(Fault::Memory),
     }
 }

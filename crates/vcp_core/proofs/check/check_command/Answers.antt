@@ -1,14 +1,14 @@
 use Rattle.std.proofs.Common.{◌≡◌, inl, inr, refl, ap, Err}
-use Rattle.std.proofs.lemmas.Result.{err_from_is_err_and}
 use Rattle.vcp_typed.specs.Size.{size}
 use Rattle.vcp_words.specs.Forms.{check}
 use Rattle.vcp_inputs.specs.Programs.{TypedOf, NotTyped}
+use Rattle.machine_run.specs.Moments.{moment}
 use Rattle.command_meaning.specs.Abouts.{about, source_word}
 use Rattle.command_meaning.specs.Answer.{printed as printed_answer}
 use Rattle.command_meaning.specs.Kinds.{prints}
 use Rattle.vcp_core.specs.Tasks.{ok_text, TaskOf}
 use Rattle.vcp_core.proofs.Facts.{if_some_weaker}
-use Rattle.vcp_core.proofs.Performing.{quiet_lost, quiet_part, quiet_whole}
+use Rattle.vcp_core.proofs.Performing.{quiet_lost, quiet_ended}
 use Rattle.vcp_core.proofs.Sized.{sized}
 use Rattle.vcp_core.proofs.check.check_command.Goals as goal
 
@@ -24,30 +24,19 @@ returns-in-Err g c unit =
     (λ is. c.in-Err.ensures.unread (ap Err is)) (λ no. c.in-Err.ensures.stayed (λ e. no cc))
     c.in-Err.ensures.caused)
 
-pub returns-in_err-ok_line-in-Ok : goal.returns-in_err-ok_line-in-Ok
-returns-in_err-ok_line-in-Ok g c unit =
+pub returns-in-Ok : goal.returns-in-Ok
+returns-in-Ok g c unit =
     let p = c.args.source.now in
     let files = g.F.Files.seen c.args.files.now in
     let later = g.F.Files.seen c.load_typed.new.files in
-    let q = err_from_is_err_and c.from_residual.result c.from_residual.ensures.1 in
-    let w = c.in_err-ok_line-in-Ok.ensures in
-    rw (q.1, q.2)
-    (quiet_part (about (check p)) (TaskOf (check p)) files later (λ none. cc) c.load_typed.ensures.held _ _ c.in-Ok.ensures.ended (c.in-Ok.ensures.stayed (λ e. cc)) refl
+    rw c.text_ended.ensures
+    (quiet_ended (about (check p)) (TaskOf (check p)) files later (λ none. cc) c.load_typed.ensures.held (moment unit _) (moment unit _) c.in-Ok.ensures.ended
+    (c.in-Ok.ensures.stayed (λ e. cc)) refl (inl refl) (ok_text c.size.result)
     (if_some_weaker files.held _ _
     (λ h loads. (
       prints (ok_text c.size.result),
       sized p h c.in-Ok.program c.size.result loads c.size.ensures.size,
-      (refl, (printed_answer (ok_text c.size.result), refl, w.part)),
+      (refl, refl),
+      λ part. (refl, (printed_answer (ok_text c.size.result), refl, part)),
     )) c.in-Ok.ensures.loads)
-    w.cause.failed)
-
-pub returns-in_ok-ok_line-in-Ok : goal.returns-in_ok-ok_line-in-Ok
-returns-in_ok-ok_line-in-Ok g c unit =
-    let p = c.args.source.now in
-    let files = g.F.Files.seen c.args.files.now in
-    let later = g.F.Files.seen c.load_typed.new.files in
-    quiet_whole (about (check p)) (TaskOf (check p)) files later (λ none. cc) c.load_typed.ensures.held _ _ c.in-Ok.ensures.ended (c.in-Ok.ensures.stayed (λ e. cc)) refl (inl refl)
-    (ok_text c.size.result)
-    (if_some_weaker files.held _ _
-    (λ h loads. (prints (ok_text c.size.result), sized p h c.in-Ok.program c.size.result loads c.size.ensures.size, (refl, refl))) c.in-Ok.ensures.loads)
-    c.in_ok-ok_line-in-Ok.ensures.whole c.in_ok-ok_line-in-Ok.ensures.cause.stayed
+    c.ok_line.result c.ok_line.ensures)

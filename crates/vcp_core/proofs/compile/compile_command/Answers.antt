@@ -1,19 +1,19 @@
 use Rattle.std.proofs.Common.{◌≡◌, inl, inr, refl, ap, Err}
-use Rattle.std.proofs.lemmas.Result.{err_from_is_err_and}
 use Rattle.vcp_base.specs.Limits.{most_source_bytes}
 use Rattle.vcp_words.specs.Forms.{compile, as_code}
 use Rattle.vcp_inputs.specs.Programs.{TypedOf, NotTyped}
 use Rattle.vcp_core.proofs.Facts.{if_some_weaker}
 use Rattle.image_file.specs.Image.{image_of}
+use Rattle.machine_run.specs.Moments.{moment}
 use Rattle.command_meaning.specs.Abouts.{about, source_word}
 use Rattle.command_meaning.specs.GraphsOf.{image_answer}
 use Rattle.command_meaning.specs.Kinds.{compiles as compiles_to}
 use Rattle.vcp_core.specs.Tasks.{TaskOf}
-use Rattle.vcp_core.proofs.Performing.{file_takes, files_wanted, quiet_lost, quiet_part, quiet_whole}
+use Rattle.vcp_core.proofs.Performing.{file_takes, files_wanted, quiet_lost, quiet_ended}
 use Rattle.vcp_core.proofs.compile.compile_command.Goals as goal
 
-pub returns-in-Err : goal.returns-in-Err
-returns-in-Err g c unit =
+pub returns : goal.returns
+returns g c unit =
     let p = c.args.source.now in
     let code = as_code c.args.code in
     let files = g.F.Files.seen c.args.files.now in
@@ -25,49 +25,30 @@ returns-in-Err g c unit =
     (λ is. c.in-Err.ensures.unread (ap Err is)) (λ no. c.in-Err.ensures.stayed (λ e. no cc))
     c.in-Err.ensures.caused)
 
-pub returns-in_err-image-in-Ok : goal.returns-in_err-image-in-Ok
-returns-in_err-image-in-Ok g c unit =
+pub returns-in-Ok : goal.returns-in-Ok
+returns-in-Ok g c unit =
     let p = c.args.source.now in
     let code = as_code c.args.code in
     let files = g.F.Files.seen c.args.files.now in
     let later = g.F.Files.seen c.load_typed.new.files in
-    let q = err_from_is_err_and c.from_residual.result c.from_residual.ensures.1 in
-    rw (q.1, q.2)
-    (files_wanted (about (compile p code)) (TaskOf (compile p code)) files later (λ none. cc) c.load_typed.ensures.held _ (c.in-Ok.ensures.stayed (λ e. cc)))
+    files_wanted (about (compile p code)) (TaskOf (compile p code)) files later (λ none. cc) c.load_typed.ensures.held _ (c.in-Ok.ensures.stayed (λ e. cc))
 
-pub returns-in_err-write_all-in-Ok : goal.returns-in_err-write_all-in-Ok
-returns-in_err-write_all-in-Ok g c unit =
+pub returns-in-Ok-image_for : goal.returns-in-Ok-image_for
+returns-in-Ok-image_for g c unit =
     let p = c.args.source.now in
     let code = as_code c.args.code in
     let files = g.F.Files.seen c.args.files.now in
     let later = g.F.Files.seen c.load_typed.new.files in
-    let q = err_from_is_err_and c.from_residual-in_err-write_all-in-Ok.result c.from_residual-in_err-write_all-in-Ok.ensures.1 in
-    let (graph, may, is) = c.in_ok-image-in-Ok.ensures in
-    rw (q.1, q.2)
-    (quiet_part (about (compile p code)) (TaskOf (compile p code)) files later (λ none. cc) c.load_typed.ensures.held _ _ c.in-Ok.ensures.ended (c.in-Ok.ensures.stayed (λ e. cc)) refl
-    (if_some_weaker files.held _ _
-    (λ h loads. (
-      compiles_to c.in-Ok.program code,
-      file_takes TypedOf NotTyped most_source_bytes (λ t x. x ≡ compiles_to t code) p h c.in-Ok.program
-          (compiles_to c.in-Ok.program code) loads refl,
-      (refl, (image_answer code graph, (graph, may, refl), rw (c.bytes.ensures, is) at c.in_err-write_all-in-Ok.ensures.part)),
-    )) c.in-Ok.ensures.loads)
-    c.in_err-write_all-in-Ok.ensures.cause.failed)
-
-pub returns-in_ok-write_all-in-Ok : goal.returns-in_ok-write_all-in-Ok
-returns-in_ok-write_all-in-Ok g c unit =
-    let p = c.args.source.now in
-    let code = as_code c.args.code in
-    let files = g.F.Files.seen c.args.files.now in
-    let later = g.F.Files.seen c.load_typed.new.files in
-    let (graph, may, is) = c.in_ok-image-in-Ok.ensures in
-    quiet_whole (about (compile p code)) (TaskOf (compile p code)) files later (λ none. cc) c.load_typed.ensures.held _ _ c.in-Ok.ensures.ended (c.in-Ok.ensures.stayed (λ e. cc)) refl (inl refl)
-    (image_of graph code.seed code.step)
+    let (graph, may, is) = c.in-Ok-image_for.ensures in
+    rw c.text_ended.ensures
+    (quiet_ended (about (compile p code)) (TaskOf (compile p code)) files later (λ none. cc) c.load_typed.ensures.held (moment unit _) (moment unit _)
+    c.in-Ok.ensures.ended (c.in-Ok.ensures.stayed (λ e. cc)) refl (inl refl) (image_of graph code.seed code.step)
     (if_some_weaker files.held _ _
     (λ h loads. (
       compiles_to c.in-Ok.program code,
       file_takes TypedOf NotTyped most_source_bytes (λ t x. x ≡ compiles_to t code) p h c.in-Ok.program
           (compiles_to c.in-Ok.program code) loads refl,
       (refl, (graph, may, refl)),
+      λ part. (refl, (image_answer code graph, (graph, may, refl), part)),
     )) c.in-Ok.ensures.loads)
-    (rw (c.bytes.ensures, is) at c.in_ok-write_all-in-Ok.ensures.whole) c.in_ok-write_all-in-Ok.ensures.cause.stayed
+    c.write_all.result (rw (c.bytes.ensures, is) at c.write_all.ensures))

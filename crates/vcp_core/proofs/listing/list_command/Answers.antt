@@ -1,13 +1,13 @@
 use Rattle.std.proofs.Common.{◌≡◌, inl, inr, refl, ap, Err}
-use Rattle.std.proofs.lemmas.Result.{err_from_is_err_and}
 use Rattle.vcp_words.specs.Forms.{list}
 use Rattle.vcp_core.proofs.Facts.{if_some_weaker}
 use Rattle.vcp_core.proofs.ImageLoaded.{corrections-long, table-is-of}
+use Rattle.machine_run.specs.Moments.{moment}
 use Rattle.command_meaning.specs.Abouts.{about, image_word}
 use Rattle.command_meaning.specs.Answer.{printed as printed_answer}
 use Rattle.command_meaning.specs.Kinds.{prints}
 use Rattle.vcp_core.specs.Tasks.{listing, TaskOf}
-use Rattle.vcp_core.proofs.Performing.{file_takes, quiet_lost, quiet_part, quiet_whole}
+use Rattle.vcp_core.proofs.Performing.{file_takes, quiet_lost, quiet_ended}
 use Rattle.vcp_base.specs.Limits.{most_image_bytes}
 use Rattle.vcp_inputs.specs.Images.{ImageOf, NotImage}
 use Rattle.vcp_core.proofs.listing.list_command.Goals as goal
@@ -28,36 +28,20 @@ returns-in-Err g c unit =
     (λ is. c.in-Err.ensures.unread (ap Err is)) (λ no. c.in-Err.ensures.stayed (λ e. no cc))
     c.in-Err.ensures.caused)
 
-pub returns-in_err-list_operations-in-Ok : goal.returns-in_err-list_operations-in-Ok
-returns-in_err-list_operations-in-Ok g c unit =
+pub returns-in-Ok : goal.returns-in-Ok
+returns-in-Ok g c unit =
     let m = c.args.image.now in
     let files = g.F.Files.seen c.args.files.now in
     let later = g.F.Files.seen c.load_image.new.files in
-    let q = err_from_is_err_and c.from_residual.result c.from_residual.ensures.1 in
-    rw (q.1, q.2)
-    (quiet_part (about (list m)) (TaskOf (list m)) files later (λ none. cc) c.load_image.ensures.held _ _ c.in-Ok.ensures.ended (c.in-Ok.ensures.stayed (λ e. cc)) refl
+    let text = listing c.in-Ok.loaded.graph c.in-Ok.loaded.table in
+    rw c.text_ended.ensures
+    (quiet_ended (about (list m)) (TaskOf (list m)) files later (λ none. cc) c.load_image.ensures.held (moment unit _) (moment unit _)
+    c.in-Ok.ensures.ended (c.in-Ok.ensures.stayed (λ e. cc)) refl (inl refl) text
     (if_some_weaker files.held _ _
     (λ h loads. (
-      prints (listing c.in-Ok.loaded.graph c.in-Ok.loaded.table),
-      file_takes ImageOf NotImage most_image_bytes
-          (λ i x. x ≡ prints (listing i.graph i.table)) m h c.in-Ok.loaded
-          (prints (listing c.in-Ok.loaded.graph c.in-Ok.loaded.table)) loads refl,
-      (refl, (printed_answer (listing c.in-Ok.loaded.graph c.in-Ok.loaded.table), refl, c.in_err-list_operations-in-Ok.ensures.part)),
-    )) c.in-Ok.ensures.loads)
-    c.in_err-list_operations-in-Ok.ensures.cause.failed)
-
-pub returns-in_ok-list_operations-in-Ok : goal.returns-in_ok-list_operations-in-Ok
-returns-in_ok-list_operations-in-Ok g c unit =
-    let m = c.args.image.now in
-    let files = g.F.Files.seen c.args.files.now in
-    let later = g.F.Files.seen c.load_image.new.files in
-    quiet_whole (about (list m)) (TaskOf (list m)) files later (λ none. cc) c.load_image.ensures.held _ _ c.in-Ok.ensures.ended (c.in-Ok.ensures.stayed (λ e. cc)) refl (inl refl)
-    (listing c.in-Ok.loaded.graph c.in-Ok.loaded.table)
-    (if_some_weaker files.held _ _
-    (λ h loads. (
-      prints (listing c.in-Ok.loaded.graph c.in-Ok.loaded.table),
-      file_takes ImageOf NotImage most_image_bytes
-          (λ i x. x ≡ prints (listing i.graph i.table)) m h c.in-Ok.loaded
-          (prints (listing c.in-Ok.loaded.graph c.in-Ok.loaded.table)) loads refl,
+      prints text,
+      file_takes ImageOf NotImage most_image_bytes (λ i x. x ≡ prints (listing i.graph i.table)) m h c.in-Ok.loaded (prints text) loads refl,
       (refl, refl),
-    )) c.in-Ok.ensures.loads) c.in_ok-list_operations-in-Ok.ensures.whole c.in_ok-list_operations-in-Ok.ensures.cause.stayed
+      λ part. (refl, (printed_answer text, refl, part)),
+    )) c.in-Ok.ensures.loads)
+    c.list_operations.result c.list_operations.ensures)

@@ -1,33 +1,29 @@
-use Rattle.std.proofs.Common.{◌∙◌, ◌≡◌, inl, inr, ap, refl, Err}
-use Rattle.std.proofs.lemmas.Result.{err_from_is_err_and}
-use Rattle.input_rows.specs.RowsOf.{types_of}
+use Rattle.std.proofs.Common.{◌≡◌, inl, inr, ap, refl, Err}
 use Rattle.vcp_words.specs.Forms.{run, rows_of, as_code}
 use Rattle.vcp_words.specs.Tables.{rows_name}
-use Rattle.machine_run.specs.Moments.{moment}
 use Rattle.vcp_typed.specs.Fitting.{input_columns}
 use Rattle.vcp_inputs.specs.Programs.{TypedOf, NotTyped}
 use Rattle.command_meaning.specs.Abouts.{about, source_word}
 use Rattle.command_meaning.specs.FileTasks.{TakenRows}
 use Rattle.command_meaning.specs.Answer.{source}
 use Rattle.command_meaning.specs.Kinds.{runs as runs_to}
-use Rattle.command_meaning.specs.Printing.{every_row, no_words}
-use Rattle.command_meaning.specs.Reports.{subject_outputs}
-use Rattle.vcp_core.specs.MachineRun.{RunsTo}
-use Rattle.vcp_core.proofs.JobFacts.{as-itself}
-use Rattle.vcp_core.proofs.PrintedRun.{rows-shown}
-use Rattle.vcp_core.specs.Tasks.{rows_job, TaskOf}
-use Rattle.vcp_core.proofs.Facts.{if_some_weaker}
-use Rattle.vcp_core.proofs.LoadedRows.{opened_comes, rows_may, rows_unloaded, rows_unopened}
-use Rattle.vcp_core.proofs.Performing.{files_run, files_wanted, quiet_lost, ran, run_ends}
-use Rattle.vcp_core.proofs.PlainNames.{types-of-inputs}
+use Rattle.vcp_core.specs.Tasks.{rows_job}
+use Rattle.vcp_core.proofs.Performing.{quiet_lost}
+use Rattle.vcp_core.specs.ProgramsRead.{structured_text}
 use Rattle.vcp_core.proofs.run.run_command.Goals as goal
 
-pub run_program-requires-clause-types : goal.run_program-requires-clause-types
-run_program-requires-clause-types g c =
-    c.in-Ok-open.ensures.types ∙ (ap types_of c.in_ok-columns.ensures.columns ∙ types-of-inputs c.in-Ok.program.slots)
+pub returns-in-Ok : goal.returns-in-Ok
+returns-in-Ok g c =
+    c.run_read.ensures structured_text c.args.source.now (g.F.Files.seen c.args.files.now)
+    (record {
+      loads = c.in-Ok.ensures.loads;
+      ended = c.in-Ok.ensures.ended;
+      faults = c.in-Ok.ensures.stayed (λ e. cc);
+      broken = c.load_typed.ensures.broken_later;
+      held = c.load_typed.ensures.held;
+    })
 
--- ---- the file isn't taken, or memory is wanted
-
+-- the file isn't taken, or memory is wanted
 pub returns-in-Err : goal.returns-in-Err
 returns-in-Err g c =
     let p = c.args.source.now in
@@ -43,88 +39,3 @@ returns-in-Err g c =
     c.in-Err.ensures.loads (λ r is. c.in-Err.ensures.whole r (ap Err is)) (λ is. c.in-Err.ensures.left (ap Err is))
     (λ is. c.in-Err.ensures.unread (ap Err is)) (λ no. c.in-Err.ensures.stayed (λ e. no cc))
     c.in-Err.ensures.caused)
-
-pub returns-in_err-columns : goal.returns-in_err-columns
-returns-in_err-columns g c =
-    let p = c.args.source.now in
-    let code = as_code c.args.code in
-    let rows = rows_of c.args.rows in
-    let f = run p rows code in
-    let files = g.F.Files.seen c.args.files.now in
-    let mid = g.F.Files.seen c.load_typed.new.files in
-    let q = err_from_is_err_and c.from_residual.result c.from_residual.ensures.1 in
-    rw (q.1, q.2) (files_wanted (about f) (TaskOf (run p rows code)) files mid (λ none. cc) c.load_typed.ensures.held _ (c.in-Ok.ensures.stayed (λ e. cc)))
-
--- ---- there is nothing of ROWS
-
-pub returns-in-Err-load_rows : goal.returns-in-Err-load_rows
-returns-in-Err-load_rows g c =
-    let p = c.args.source.now in
-    let code = as_code c.args.code in
-    let rows = rows_of c.args.rows in
-    let f = run p rows code in
-    let files = g.F.Files.seen c.args.files.now in
-    let mid = g.F.Files.seen c.load_typed.new.files in
-    let later = g.F.Files.seen c.load_rows.new.files in
-    rw c.rows_name-name.ensures
-    (rows_unloaded TypedOf NotTyped (λ t. input_columns t.slots) (about f) (source_word p) rows (λ none. cc) (inr (inl refl)) (λ w among. inr among)
-    (λ n among. among) (λ h t left x. x ≡ runs_to (rows_job (rows_name rows) code (source t) left))
-    files mid later c.in-Ok.program c.in_ok-columns.columns
-    c.in_ok-columns.ensures.columns c.load_typed.ensures.held c.load_rows.ensures.held c.in-Ok.ensures.loads _
-    c.in-Err-load_rows.input (c.in-Ok.ensures.stayed (λ e. cc)) c.load_typed.ensures.broken_later c.in-Ok.ensures.ended c.in-Err-load_rows.ensures.loads
-    (λ is. c.in-Err-load_rows.ensures.begun (ap Err is)) (λ is. c.in-Err-load_rows.ensures.unread (ap Err is))
-    (λ no. c.in-Err-load_rows.ensures.stayed (λ e. no cc))
-    (λ r is other. c.in-Err-load_rows.ensures.whole r (ap Err is) other) (λ is. c.in-Err-load_rows.ensures.long (ap Err is))
-    c.in-Err-load_rows.ensures.caused)
-
-pub returns : goal.returns
-returns g c =
-    let p = c.args.source.now in
-    let code = as_code c.args.code in
-    let rows = rows_of c.args.rows in
-    let f = run p rows code in
-    let files = g.F.Files.seen c.args.files.now in
-    let mid = g.F.Files.seen c.load_typed.new.files in
-    let later = g.F.Files.seen c.load_rows.new.files in
-    rw c.rows_name-name.ensures
-    (rows_unopened TypedOf NotTyped (λ t. input_columns t.slots) (about f) (source_word p) rows (λ none. cc) (inr (inl refl)) (λ w among. inr among)
-    (λ n among. among) (λ h t left x. x ≡ runs_to (rows_job (rows_name rows) code (source t) left))
-    files mid later c.in-Ok.program c.in_ok-columns.columns
-    c.in_ok-columns.ensures.columns c.load_typed.ensures.held c.load_rows.ensures.held c.in-Ok.ensures.loads
-    c.in-Ok-load_rows.inputs (c.in-Ok-load_rows.ensures.ended c.in-Ok.ensures.ended) c.in-Ok-load_rows.ensures.loads
-    (c.in-Ok-load_rows.ensures.stayed (λ e. cc) ∙ c.in-Ok.ensures.stayed (λ e. cc)) _ c.in-Err-open.input
-    (λ is. c.in-Err-open.ensures.read (ap Err is)) (c.in-Err-open.ensures.opens files.broken later.broken) c.in-Err-open.ensures.caused)
-
--- ---- the run
-
-pub returns-in-Ok-open : goal.returns-in-Ok-open
-returns-in-Ok-open g c =
-    let p = c.args.source.now in
-    let code = as_code c.args.code in
-    let rows = rows_of c.args.rows in
-    let f = run p rows code in
-    let files = g.F.Files.seen c.args.files.now in
-    let mid = g.F.Files.seen c.load_typed.new.files in
-    let later = g.F.Files.seen c.load_rows.new.files in
-    let j = rows_job (rows_name rows) code (source c.in-Ok.program) c.in-Ok-open.rows in
-    let before = moment (g.U.Unit.seen c.args.unit.now) (g.O.Sink.seen c.args.out.now) in
-    let after = moment (g.U.Unit.seen c.run_program.new.unit) (g.O.Sink.seen c.run_program.new.out) in
-    let ended : RunsTo j before after c.run_program.result = c.run_program.ensures.ran (source c.in-Ok.program) (rows_name rows)
-    (every_row (subject_outputs (source c.in-Ok.program))) no_words (as-itself c.in-Ok.program c.in-Ok-open.rows)
-    (rows-shown _ _ (source c.in-Ok.program) code c.in-Ok-open.rows (rows_name rows)) in
-    rw (c.run_ended.ensures.line, c.run_ended.ensures.status, c.rows_name-name.ensures)
-    (files_run (about f) (TaskOf (run p rows code)) files later (λ none. cc) (c.load_rows.ensures.held ∙ c.load_typed.ensures.held) (inr (inl refl)) before
-    after (rows_name rows)
-    c.run_program.result (λ e is. run_ends e)
-    (if_some_weaker files.held _ _
-    (λ h comes. ran (about f) files later before after (TaskOf (run p rows code) h) j c.run_program.result refl comes c.run_program.ensures.causes.write ended)
-    (opened_comes TypedOf NotTyped (λ t. input_columns t.slots) (about f) (source_word p) rows (λ none. cc) (inr (inl refl)) (λ w among. inr among)
-    (λ n among. among) (λ h t left x. x ≡ runs_to (rows_job (rows_name rows) code (source t) left))
-    files mid later c.in-Ok.program c.in_ok-columns.columns
-    c.in_ok-columns.ensures.columns c.load_typed.ensures.held c.load_rows.ensures.held c.in-Ok.ensures.loads
-    c.in-Ok-load_rows.inputs (c.in-Ok-load_rows.ensures.ended c.in-Ok.ensures.ended) c.in-Ok-load_rows.ensures.loads c.in-Ok-open.rows (λ h. runs_to j)
-    (c.in-Ok-open.ensures.opens 0 0) (λ h. refl)))
-    (c.in-Ok-load_rows.ensures.ended c.in-Ok.ensures.ended) (λ no. absurd cc) (λ calls. c.run_program.ensures.causes.stopped)
-    c.run_program.ensures.causes.refused c.run_program.ensures.causes.write
-    (c.in-Ok-load_rows.ensures.stayed (λ e. cc) ∙ c.in-Ok.ensures.stayed (λ e. cc)) c.run_program.ensures.causes.stayed
-    (rows_may (about f) rows (λ w among. inr among) (λ n among. among)))

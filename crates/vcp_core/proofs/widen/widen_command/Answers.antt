@@ -1,12 +1,12 @@
 use Rattle.std.proofs.Common.{◌≡◌, inl, inr, refl, ap, Err}
-use Rattle.std.proofs.lemmas.Result.{err_from_is_err_and}
 use Rattle.vcp_words.specs.Forms.{widen}
 use Rattle.vcp_core.proofs.Facts.{if_some_weaker}
+use Rattle.machine_run.specs.Moments.{moment}
 use Rattle.command_meaning.specs.Abouts.{about, image_word}
 use Rattle.command_meaning.specs.Answer.{printed as printed_answer}
 use Rattle.command_meaning.specs.Kinds.{prints}
 use Rattle.vcp_core.specs.Tasks.{widened, TaskOf}
-use Rattle.vcp_core.proofs.Performing.{file_takes, files_wanted, quiet_lost, quiet_part, quiet_whole}
+use Rattle.vcp_core.proofs.Performing.{file_takes, files_wanted, quiet_lost, quiet_ended}
 use Rattle.vcp_base.specs.Limits.{most_image_bytes}
 use Rattle.vcp_inputs.specs.Images.{ImageOf, NotImage}
 use Rattle.image_file.specs.Image.{image_of}
@@ -24,51 +24,28 @@ returns-in-Err g c unit =
     (λ is. c.in-Err.ensures.unread (ap Err is)) (λ no. c.in-Err.ensures.stayed (λ e. no cc))
     c.in-Err.ensures.caused)
 
-pub returns-in_err-wide-in-Ok : goal.returns-in_err-wide-in-Ok
-returns-in_err-wide-in-Ok g c unit =
+pub returns-in-Err-wide_image : goal.returns-in-Err-wide_image
+returns-in-Err-wide_image g c unit =
     let m = c.args.image.now in
     let files = g.F.Files.seen c.args.files.now in
     let later = g.F.Files.seen c.load_image.new.files in
-    let q = err_from_is_err_and c.from_residual.result c.from_residual.ensures.1 in
-    rw (q.1, q.2)
-    (files_wanted (about (widen m)) (TaskOf (widen m)) files later (λ none. cc) c.load_image.ensures.held _ (c.in-Ok.ensures.stayed (λ e. cc)))
+    files_wanted (about (widen m)) (TaskOf (widen m)) files later (λ none. cc) c.load_image.ensures.held _ (c.in-Ok.ensures.stayed (λ e. cc))
 
-pub returns-in_err-write_all-in-Ok : goal.returns-in_err-write_all-in-Ok
-returns-in_err-write_all-in-Ok g c unit =
+pub returns-in-Ok-wide_image : goal.returns-in-Ok-wide_image
+returns-in-Ok-wide_image g c unit =
     let m = c.args.image.now in
     let files = g.F.Files.seen c.args.files.now in
     let later = g.F.Files.seen c.load_image.new.files in
-    let q = err_from_is_err_and c.from_residual-in_err-write_all-in-Ok.result c.from_residual-in_err-write_all-in-Ok.ensures.1 in
-    rw (q.1, q.2)
-    (quiet_part (about (widen m)) (TaskOf (widen m)) files later (λ none. cc) c.load_image.ensures.held _ _ c.in-Ok.ensures.ended (c.in-Ok.ensures.stayed (λ e. cc)) refl
+    let text = image_of (widened c.in-Ok.loaded.graph) c.in-Ok.loaded.table.seed c.in-Ok.loaded.table.step in
+    rw c.text_ended.ensures
+    (quiet_ended (about (widen m)) (TaskOf (widen m)) files later (λ none. cc) c.load_image.ensures.held (moment unit _) (moment unit _)
+    c.in-Ok.ensures.ended (c.in-Ok.ensures.stayed (λ e. cc)) refl (inl refl) text
     (if_some_weaker files.held _ _
     (λ h loads. (
-      prints (image_of (widened c.in-Ok.loaded.graph) c.in-Ok.loaded.table.seed c.in-Ok.loaded.table.step),
+      prints text,
       file_takes ImageOf NotImage most_image_bytes (λ i x. x ≡ prints (image_of (widened i.graph) i.table.seed i.table.step)) m h c.in-Ok.loaded
-          (prints (image_of (widened c.in-Ok.loaded.graph) c.in-Ok.loaded.table.seed c.in-Ok.loaded.table.step)) loads refl,
-      (
-        refl,
-        (
-          printed_answer (image_of (widened c.in-Ok.loaded.graph) c.in-Ok.loaded.table.seed c.in-Ok.loaded.table.step),
-          refl,
-          (rw (c.bytes.ensures, c.in_ok-wide-in-Ok.ensures) at c.in_err-write_all-in-Ok.ensures.part),
-        ),
-      ),
-    )) c.in-Ok.ensures.loads)
-    c.in_err-write_all-in-Ok.ensures.cause.failed)
-
-pub returns-in_ok-write_all-in-Ok : goal.returns-in_ok-write_all-in-Ok
-returns-in_ok-write_all-in-Ok g c unit =
-    let m = c.args.image.now in
-    let files = g.F.Files.seen c.args.files.now in
-    let later = g.F.Files.seen c.load_image.new.files in
-    quiet_whole (about (widen m)) (TaskOf (widen m)) files later (λ none. cc) c.load_image.ensures.held _ _ c.in-Ok.ensures.ended (c.in-Ok.ensures.stayed (λ e. cc)) refl (inl refl)
-    (image_of (widened c.in-Ok.loaded.graph) c.in-Ok.loaded.table.seed c.in-Ok.loaded.table.step)
-    (if_some_weaker files.held _ _
-    (λ h loads. (
-      prints (image_of (widened c.in-Ok.loaded.graph) c.in-Ok.loaded.table.seed c.in-Ok.loaded.table.step),
-      file_takes ImageOf NotImage most_image_bytes (λ i x. x ≡ prints (image_of (widened i.graph) i.table.seed i.table.step)) m h c.in-Ok.loaded
-          (prints (image_of (widened c.in-Ok.loaded.graph) c.in-Ok.loaded.table.seed c.in-Ok.loaded.table.step)) loads refl,
+          (prints text) loads refl,
       (refl, refl),
+      λ part. (refl, (printed_answer text, refl, part)),
     )) c.in-Ok.ensures.loads)
-    (rw (c.bytes.ensures, c.in_ok-wide-in-Ok.ensures) at c.in_ok-write_all-in-Ok.ensures.whole) c.in_ok-write_all-in-Ok.ensures.cause.stayed
+    c.write_all.result (rw (c.bytes.ensures, c.in-Ok-wide_image.ensures) at c.write_all.ensures))

@@ -1,5 +1,4 @@
 use Rattle.std.proofs.Common.{◌≡◌, ap, refl, inl, inr, Err}
-use Rattle.std.proofs.lemmas.Result.{err_from_is_err_and}
 use Rattle.vcp_base.specs.Limits.{most_source_bytes}
 use Rattle.vcp_words.specs.Forms.{wire}
 use Rattle.vcp_inputs.specs.Wires.{WireOf, NotWire}
@@ -7,7 +6,7 @@ use Rattle.command_meaning.specs.Abouts.{about, script_word}
 use Rattle.command_meaning.specs.Kinds.{wires}
 use Rattle.vcp_core.proofs.Facts.{if_some_weaker}
 use Rattle.vcp_core.proofs.Performing.{file_takes, quiet_lost}
-use Rattle.vcp_core.proofs.WireTasks.{wire_ended, wire_failed}
+use Rattle.vcp_core.proofs.WireTasks.{wire_ends}
 use Rattle.vcp_core.proofs.wire.wire_command.Goals as goal
 
 -- F isn't taken
@@ -23,28 +22,15 @@ returns-in-Err g c =
     (λ is. c.in-Err.ensures.unread (ap Err is)) (λ no. c.in-Err.ensures.stayed (λ e. no cc))
     c.in-Err.ensures.caused)
 
--- it wasn't run to its end
-pub returns-in_err-end : goal.returns-in_err-end
-returns-in_err-end g c =
+-- it was run, or wasn't run to its end
+pub returns-in-Ok : goal.returns-in-Ok
+returns-in-Ok g c =
     let f = c.args.script.now in
     let s = c.in-Ok.loaded in
     let files = g.F.Files.seen c.args.files.now in
     let later = g.F.Files.seen c.load_wire.new.files in
-    let q = err_from_is_err_and c.from_residual.result c.from_residual.ensures.1 in
-    rw (q.1, q.2)
-    (wire_failed f files later c.load_wire.ensures.held c.in-Ok.ensures.ended (c.in-Ok.ensures.stayed (λ e. cc)) s c.in-Ok.ensures.fits
+    rw c.wire_ended.ensures
+    (wire_ends f files later c.load_wire.ensures.held c.in-Ok.ensures.ended (c.in-Ok.ensures.stayed (λ e. cc)) s c.in-Ok.ensures.fits
     (if_some_weaker files.held _ _ (λ h found. file_takes WireOf NotWire most_source_bytes (λ s x. x ≡ wires s) f h s (wires s) found refl)
     c.in-Ok.ensures.loads)
-    _ _ _ _ _ c.in_err-end.ensures.runs)
-
-pub returns : goal.returns
-returns g c =
-    let f = c.args.script.now in
-    let s = c.in-Ok.loaded in
-    let files = g.F.Files.seen c.args.files.now in
-    let later = g.F.Files.seen c.load_wire.new.files in
-    rw c.ending_of.ensures
-    (wire_ended f files later c.load_wire.ensures.held c.in-Ok.ensures.ended (c.in-Ok.ensures.stayed (λ e. cc)) s c.in-Ok.ensures.fits
-    (if_some_weaker files.held _ _ (λ h found. file_takes WireOf NotWire most_source_bytes (λ s x. x ≡ wires s) f h s (wires s) found refl)
-    c.in-Ok.ensures.loads)
-    _ _ _ _ c.in_ok-end.end c.in_ok-end.ensures.runs (c.in_ok-end.ensures.stayed (λ e. cc)))
+    _ _ _ _ c.run_wire.result c.run_wire.ensures.runs c.run_wire.ensures.stayed)

@@ -1,0 +1,73 @@
+-- What the commands come to that read a program and ROWS, where there is nothing of these.
+use Rattle.std.proofs.Common.{ℕ, ◌≡◌, ◌≢◌, inl, inr, true, refl, List, [], Err, IfSome}
+use Rattle.vcp_base.specs.declared.columns.Column.{Column}
+use Rattle.vcp_outside.specs.Counts.{Rose}
+use Rattle.vcp_outside.specs.Held.{Held}
+use Rattle.vcp_outside.specs.Seen.{FilesSeen}
+use Rattle.vcp_typed.specs.Fitting.{input_columns}
+use Rattle.vcp_typed.specs.SourceRun.{Program}
+use Rattle.input_rows.specs.RowsOf.{RowsLeft}
+use Rattle.il_front.specs.Outcomes.{IsTypedIl}
+use Rattle.machine_run.specs.Moments.{Moment}
+use Rattle.vcp_words.specs.Forms.{Code, Form, Rows, il, plain, run}
+use Rattle.vcp_words.specs.Tables.{rows_name}
+use Rattle.vcp_inputs.specs.declared.refusal.Refusal.{Refusal}
+use Rattle.vcp_inputs.specs.declared.refusal.Refusal.TheVariants as refusal
+use Rattle.vcp_inputs.specs.declared.refusal.NoInput.{NoInput}
+use Rattle.vcp_inputs.specs.declared.refusal.NoInput.TheVariants as input
+use Rattle.vcp_inputs.specs.Lines.{input_status, input_text}
+use Rattle.vcp_inputs.specs.Listings.{NotListing}
+use Rattle.vcp_inputs.specs.Programs.{NotTyped, TypedOf}
+use Rattle.vcp_inputs.specs.Refusals.{IsCaused}
+use Rattle.vcp_inputs.specs.RowsOutcome.{HasLongFile, Opens, begins, rows_outcome}
+use Rattle.command_meaning.specs.Abouts.{about, listing_word, source_word}
+use Rattle.command_meaning.specs.Answer.{source}
+use Rattle.command_meaning.specs.Kinds.{Task, answers, runs}
+use Rattle.command_meaning.specs.ListRuns.{HasListColumns}
+use Rattle.command_meaning.specs.Performing.{Performs}
+use Rattle.vcp_core.specs.ProgramsRead.{Language, ProgramRead, ReadsProgramRows, answering, instruction_list, listing, run_of, running, structured_text}
+use Rattle.vcp_core.specs.Tasks.{TaskOf, plain_answer, rows_job}
+use Rattle.vcp_core.proofs.ListedRuns.{RunsHeld, il_by}
+use Rattle.vcp_core.proofs.LoadedRows.{rows_unloaded}
+use Rattle.vcp_core.proofs.TwoChannels.{performs_by}
+
+-- each of them reads files
+pub some_files : (p : List ℕ) (rows : Rows) (l : Language) (f : Form) → ReadsProgramRows p rows l f → (about f).files ≢ []
+some_files p rows _ _ (running code) = λ none. cc
+some_files p rows _ _ answering = λ none. cc
+some_files p rows _ _ (listing code) = λ none. cc
+
+-- the one that runs P
+pub reads_run : (l : Language) (p : List ℕ) (rows : Rows) (code : Code) → ReadsProgramRows p rows l (run_of l p rows code)
+reads_run structured_text p rows code = running code
+reads_run instruction_list p rows code = listing code
+
+-- what is said of its program's rows
+abbrev pub RunsOnRows : Rows → Code → Held → Program → RowsLeft → Task → Type 0
+RunsOnRows rows code h t left x = x ≡ runs (rows_job (rows_name rows) code (source t) left)
+
+abbrev pub AnswersOnRows : Rows → Held → Program → RowsLeft → Task → Type 0
+AnswersOnRows rows h t left x = x ≡ answers (plain_answer (rows_name rows) t left)
+
+-- P was read, and there is nothing of ROWS
+module _ (law : HasListColumns) (p : List ℕ) (rows : Rows) (files mid later : FilesSeen) (t : Program) (columns : List Column)
+    (columns_are : columns ≡ input_columns t.slots) (held_later : later.held ≡ mid.held) (here : Moment) (e : NoInput)
+    (opens : IfSome mid.held (λ h. Opens (rows_outcome rows h columns) mid.broken later.broken (Err e)))
+    (begun : e ≡ input.Unread → begins rows columns ≡ true) (rose : e ≡ input.Unread → Rose mid.faults later.faults)
+    (stayed : e ≢ input.Unread → later.faults ≡ mid.faults) (rest : (r : Refusal) → e ≡ input.Refused r → r ≢ refusal.Bytes → later.rest ≡ mid.rest)
+    (long : e ≡ input.Refused refusal.Bytes → IfSome mid.held (HasLongFile rows later.rest)) (caused : IsCaused e) where
+  pub rows_lost : (l : Language) (f : Form) → ReadsProgramRows p rows l f → ProgramRead l p files mid t
+      → Performs (about f) (TaskOf f) files later here here (input_text (rows_name rows) e) (input_status e)
+  rows_lost _ _ (running code) read =
+      rows_unloaded TypedOf NotTyped (λ v. input_columns v.slots) (about (run p rows code)) (source_word p) rows (λ none. cc) (inr (inl refl))
+      (λ w among. inr among) (λ n among. among) (RunsOnRows rows code) files mid t columns columns_are read later held_later here e opens begun rose stayed rest
+      long caused
+  rows_lost _ _ answering read =
+      rows_unloaded TypedOf NotTyped (λ v. input_columns v.slots) (about (plain p rows)) (source_word p) rows (λ none. cc) (inr (inl refl))
+      (λ w among. inr among) (λ n among. among) (AnswersOnRows rows) files mid t columns columns_are read later held_later here e opens begun rose stayed rest
+      long caused
+  rows_lost _ _ (listing code) read =
+      performs_by (about (il p rows code)) _ (TaskOf (il p rows code)) (il_by law p rows code) files later _ _ _ _
+      (rows_unloaded IsTypedIl NotListing (λ v. input_columns v.slots) (about (il p rows code)) (listing_word p) rows (λ none. cc) (inr (inl refl))
+      (λ w among. inr among) (λ n among. among) (λ h v. RunsHeld p rows code h) files mid t columns columns_are read later held_later here e opens begun
+      rose stayed rest long caused)

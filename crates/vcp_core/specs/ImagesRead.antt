@@ -1,0 +1,40 @@
+-- ImagesRead: the commands that read an image and then ROWS, and what stands when both were read.
+use Rattle.std.specs.Prelude.{ℕ, ◌≡◌, ◌≤◌, List, length, Option, Some, None}
+use Rattle.vcp_base.specs.Limits.{most_image_bytes, most_names}
+use Rattle.vcp_outside.specs.Seen.{FilesSeen}
+use Rattle.signature_table.specs.Signatures.{table_of}
+use Rattle.machine_run.specs.Moments.{Moment}
+use Rattle.vcp_words.specs.Forms.{Form, Rows, exec, trace, inject, pair, pairs}
+use Rattle.vcp_inputs.specs.Images.{ImageOf, NotImage}
+use Rattle.vcp_inputs.specs.RowsOutcome.{HasFewCycles}
+use Rattle.vcp_inputs.specs.RowsRead.{graph_columns}
+use Rattle.command_meaning.specs.Abouts.{about}
+use Rattle.command_meaning.specs.Performing.{Performs}
+use Rattle.vcp_core.specs.declared.image_rows.ImageRows.{ImageRows}
+use Rattle.vcp_core.specs.Loading.{BothRead}
+use Rattle.vcp_core.specs.Tasks.{TaskOf}
+
+-- The commands that read M and then ROWS. Those on two channels name the seed of the second.
+pub data ReadsImageRows (m : List ℕ) (rows : Rows) : Option ℕ → Form → Type 0 where
+  executing : ReadsImageRows m rows None (exec m rows)
+  tracing : (n : ℕ) → ReadsImageRows m rows None (trace m rows n)
+  injecting : (f : List ℕ) → ReadsImageRows m rows None (inject m rows f)
+  comparing : (seed : ℕ) → ReadsImageRows m rows (Some seed) (pair m rows seed)
+  pairing : (seed : ℕ) (f : List ℕ) → ReadsImageRows m rows (Some seed) (pairs m rows seed f)
+
+-- the columns are those of the graph's inputs, the table is the graph's, and there are few cycles
+pub record AreImageRows (r : ImageRows) : Type 0 where
+  pub columns : r.columns ≡ graph_columns r.image.graph
+  pub table : r.image.table ≡ table_of r.image.table.seed r.image.table.step r.image.graph
+  pub few : HasFewCycles r.rows
+  pub narrow : length r.columns ≤ most_names
+
+-- M and ROWS were read, before which the files were others
+abbrev pub ImageRowsRead : List ℕ → Rows → FilesSeen → FilesSeen → ImageRows → Type 0
+ImageRowsRead m rows files later r = BothRead ImageOf NotImage most_image_bytes m rows files later r.image r.columns r.rows
+
+-- then a command goes on and is performed, the one of a name of M
+abbrev pub PerformsOn : (List ℕ → Form) → Rows → ImageRows → FilesSeen → FilesSeen → Moment → Moment → List ℕ → ℕ → Type 0
+PerformsOn command rows r mid later before after line code =
+    (m : List ℕ) (files : FilesSeen) → ImageRowsRead m rows files mid r →
+    Performs (about (command m)) (TaskOf (command m)) files later before after line code

@@ -1,0 +1,55 @@
+//! ROWS for a program that was read.
+
+ghost use Rattle.std.specs.Prelude.{◌≡◌, IfErr, IfOk};
+ghost use Rattle.vcp_words.specs.Forms.{rows_of, AreFew};
+ghost use Rattle.vcp_core.specs.ProgramsRead.{AreProgramRows, EndsOn, ReadsOn};
+
+use crate::fault::Fault;
+use crate::loading::{input_columns, rows_name};
+use command_meaning::lists_are_told;
+use std::alloc::Global;
+use vcp_base::Columns;
+use vcp_inputs::{RowsSource, load_rows};
+use vcp_outside::Files;
+use vcp_typed::Typed;
+use vcp_words::RowsWord;
+
+/// A program, and the rows that it is run on.
+#[derive(Drop)]
+pub struct ProgramRows {
+    /// The program.
+    pub program: Typed,
+    /// The columns of its inputs.
+    pub columns: Columns,
+    /// The rows, before they are read.
+    pub rows: RowsSource,
+}
+
+/// ROWS for a program that was read, up to their header. Where there is nothing of them, the command that
+/// wants them ends so, and nothing is done.
+pub fn load_program_rows<'a, F: Files>(
+    alloc: Global,
+    files: &mut F,
+    program: Typed,
+    rows: RowsWord<'a>,
+) -> Result<ProgramRows, Fault<'a>>
+    requires few { AreFew (rows_of rows) }
+    ensures fit { IfOk result AreProgramRows }
+    ensures read { IfOk result (ReadsOn program (rows_of rows.entry) (F.seen files.old) (F.seen files.new)) }
+    ensures unread { IfErr result (EndsOn program (rows_of rows.entry) (F.seen files.old) (F.seen files.new)) }
+{
+    // So an instruction list has the columns of its typed program.
+    lists_are_told();
+    let columns = input_columns(alloc, &program)?;
+    match load_rows(alloc, files, rows, &columns) {
+        Ok(source) => Ok(ProgramRows {
+            program,
+            columns,
+            rows: source,
+        }),
+        Err(input) => Err(Fault::Input {
+            name: rows_name(rows),
+            input,
+        }),
+    }
+}
