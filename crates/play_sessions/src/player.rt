@@ -153,10 +153,14 @@ impl<'a> Player<'a> {
 
     /// Adds a text, which is spelled, so many times to the file of a name, or to none: `TIMES TEXT`.
     fn add(&mut self, name: &str, repeated: &str) {
+        let alloc = self.alloc;
         let (times, text) = word_off(repeated);
         let times = self.number_in(times);
-        let mut whole = joined(self.alloc, &[self.files.text(name).unwrap_or(b"")]);
-        put_repeated(&mut whole, &spelled(self.alloc, text), times);
+        let mut whole = match self.files.text(name) {
+            Some(front) => joined(alloc, &[front]),
+            None => Vec::new(alloc),
+        };
+        put_repeated(&mut whole, &spelled(alloc, text), times);
         self.files.put(name, whole);
     }
 
@@ -324,12 +328,13 @@ impl<'a> Player<'a> {
 
     /// Makes the output of the open call a file, which is its end, with the status that stands behind the file's name, or else 0.
     fn keep(&mut self, line: &str, rest: &str) {
+        let alloc = self.alloc;
         let (name, status) = word_off(rest);
         let status = if status.is_empty() { "0" } else { status };
         let status = self.number_in(status);
         self.want(line, Wanted::Kept(status));
         if let Some(made) = self.open.first() {
-            let text = joined(self.alloc, &[made.out.bytes()]);
+            let text = joined(alloc, &[made.out.bytes()]);
             self.files.put(name, text);
         }
         self.open.clear();
