@@ -334,7 +334,7 @@ impl<'a> Player<'a> {
         let status = self.number_in(status);
         self.want(line, Wanted::Kept(status));
         if let Some(made) = self.open.first() {
-            let text = joined(alloc, &[made.out.bytes()]);
+            let text = made.output(alloc);
             self.files.put(name, text);
         }
         self.open.clear();

@@ -10,7 +10,7 @@ use vcp_base::{Memory, kind_name};
 use vcp_core::vcp;
 use vcp_outside::{MemFiles, MemSink};
 use vcp_study_core::vcp_study;
-use worked_texts::{Told, text_of};
+use worked_texts::{Told, joined, text_of};
 
 /// For how many bytes of output and of errors there is room, where nothing else is said.
 pub(crate) const ROOM: u32 = 1 << 20;
@@ -228,6 +228,11 @@ impl<'a> ProgramCall<'a> {
     /// Whether the call has this status and error, and no more output.
     fn ends(&self, status: u32, error: &[u8]) -> bool {
         self.is_told(error) && self.status as u32 == status && self.rest().is_empty()
+    }
+
+    /// A copy of its output.
+    pub(crate) fn output(&self, alloc: Global) -> Vec<u8> {
+        joined(alloc, &[self.out.bytes()])
     }
 
     /// Tells what came where something else was wanted.
