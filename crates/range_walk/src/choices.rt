@@ -3,13 +3,14 @@
 ghost use Rattle.std.specs.Prelude.{◌≡◌, ◌≢◌, ◌<◌, ◌≤◌, ℤ, Bool, pos, true, false, List, length};
 ghost use Rattle.vcp_base.specs.Kinds.{divides_by_zero, truth as truth_of, value as value_of};
 ghost use Rattle.vcp_base.specs.Values.{at};
+ghost use Rattle.op_graph.specs.Rules.{IsGraph};
 ghost use Rattle.range_walk.specs.Intervals.{IsIn, Fit};
 ghost use Rattle.range_walk.specs.Walking.{Given, Taken, Said, Parts, Compares};
 
 use crate::operand_ranges::{first_operand, second_operand};
-use crate::operations::operation_at;
 use crate::range::{Range, earlier_range};
-use op_graph::{Graph, Op};
+use crate::values::negated;
+use op_graph::{Graph, Op, entries_keep_their_rules, operands_are_there};
 use vcp_base::Kind;
 
 /// How many conditions deep is looked, each time into the first of the two that one joins.
@@ -17,6 +18,9 @@ const DEPTH: u32 = 8;
 
 /// How many deep into the second of them. So few conditions are looked into of many that share their parts.
 const SECOND_DEPTH: u32 = 2;
+
+/// Through how many operations is looked from a value that is compared to what it was made of.
+const MADE_DEPTH: u32 = 2;
 
 /// Whether the two numbers are one.
 fn is_one(n: u32, m: u32) -> bool
@@ -67,13 +71,17 @@ fn is_comparison(kind: Kind) -> bool
 
 /// The range of operation `n` where the comparison `c` is `truth`; of what is no comparison nothing is said.
 fn by_comparison(graph: &Graph, known: &[Range], c: u32, truth: bool, n: u32) -> Range
+    requires graph { IsGraph graph.now }
     requires condition { c < length known.now }
     requires there { n < length known.now }
     requires many { length known.now ≤ length graph.now.operations }
     ensures { (held row vs : List ℤ) → Given graph.now.operations held row vs → Fit known.now vs → length known.now ≤ length vs → Said truth (at vs c)
         → IsIn result (at vs n) }
 {
-    let op = operation_at(graph, c);
+    // What a comparison reads are earlier operations.
+    operands_are_there();
+    entries_keep_their_rules();
+    let op = graph.operation(c);
     let r = earlier_range(known, n);
     let pair = is_comparison(op.kind);
     if pair {
@@ -83,6 +91,92 @@ fn by_comparison(graph: &Graph, known: &[Range], c: u32, truth: bool, n: u32) ->
         return compared(&op, value, a, b, n, r);
     }
     r
+}
+
+/// The range of operation `n`, which is in `no` where condition `c` is false, and in `yes` where it is true.
+fn either_case(graph: &Graph, known: &[Range], c: u32, n: u32, no: Range, yes: Range) -> Range
+    requires graph { IsGraph graph.now }
+    requires condition { c < length known.now }
+    requires there { n < length known.now }
+    requires many { length known.now ≤ length graph.now.operations }
+    ensures { (held row vs : List ℤ) → Given graph.now.operations held row vs → Fit known.now vs → length known.now ≤ length vs
+        → (at vs c ≡ pos 0 → IsIn no (at vs n)) → (at vs c ≢ pos 0 → IsIn yes (at vs n)) → IsIn result (at vs n) }
+{
+    let condition = earlier_range(known, c);
+    let is_truth = condition.is_truth();
+    if is_truth {
+        let when_no = by_comparison(graph, known, c, false, n);
+        let when_yes = by_comparison(graph, known, c, true, n);
+        let no_bounds = when_no.bounds();
+        let yes_bounds = when_yes.bounds();
+        let in_no = no.met(no_bounds);
+        let in_yes = yes.met(yes_bounds);
+        return in_no.joined(in_yes);
+    }
+    earlier_range(known, n)
+}
+
+/// The range of operation `n` where operation `m` is in `value`: by what `m` was made of, through so many operations.
+fn made_of(graph: &Graph, known: &[Range], m: u32, value: Range, n: u32, depth: u32) -> Range
+    requires graph { IsGraph graph.now }
+    requires made { m < length known.now }
+    requires there { n < length known.now }
+    requires many { length known.now ≤ length graph.now.operations }
+    ensures { (held row vs : List ℤ) → Given graph.now.operations held row vs → Fit known.now vs → length known.now ≤ length vs
+        → IsIn value (at vs m) → IsIn result (at vs n) }
+{
+    let r = earlier_range(known, n);
+    let same = is_one(n, m);
+    if same {
+        let bounds = value.bounds();
+        return r.met(bounds);
+    }
+    if depth == 0 {
+        return r;
+    }
+    // What an operation reads are earlier ones.
+    operands_are_there();
+    entries_keep_their_rules();
+    let op = graph.operation(m);
+    let less = depth - 1;
+    match op.kind {
+        Kind::Neg => {
+            let opposite = negated(value);
+            let a = earlier_range(known, op.a);
+            made_of(graph, known, op.a, a.met(opposite), n, less)
+        }
+        Kind::Sel => {
+            let no = made_of(graph, known, op.b, value, n, less);
+            let yes = made_of(graph, known, op.c, value, n, less);
+            either_case(graph, known, op.a, n, no, yes)
+        }
+        _ => r,
+    }
+}
+
+/// The range of operation `n` where comparison `c` is `truth`, by what the two values that it compares were made of.
+fn through_comparison(graph: &Graph, known: &[Range], c: u32, truth: bool, n: u32) -> Range
+    requires graph { IsGraph graph.now }
+    requires condition { c < length known.now }
+    requires there { n < length known.now }
+    requires many { length known.now ≤ length graph.now.operations }
+    ensures { (held row vs : List ℤ) → Given graph.now.operations held row vs → Fit known.now vs → length known.now ≤ length vs → Said truth (at vs c)
+        → IsIn result (at vs n) }
+{
+    // What a comparison reads are earlier operations.
+    operands_are_there();
+    entries_keep_their_rules();
+    let op = graph.operation(c);
+    let pair = is_comparison(op.kind);
+    if pair {
+        let a = by_comparison(graph, known, c, truth, op.a);
+        let b = by_comparison(graph, known, c, truth, op.b);
+        let first = made_of(graph, known, op.a, a, n, MADE_DEPTH);
+        let second = made_of(graph, known, op.b, b, n, MADE_DEPTH);
+        let bounds = second.bounds();
+        return first.met(bounds);
+    }
+    earlier_range(known, n)
 }
 
 /// The range of a value that is in both ranges, or in one of the two.
@@ -109,6 +203,7 @@ fn second_depth(depth: u32) -> u32
 
 /// The range of operation `n` where condition `c` is `truth`, by the conditions that `c` joins, so many deep.
 fn case_within(graph: &Graph, known: &[Range], c: u32, truth: bool, n: u32, depth: u32) -> Range
+    requires graph { IsGraph graph.now }
     requires condition { c < length known.now }
     requires there { n < length known.now }
     requires many { length known.now ≤ length graph.now.operations }
@@ -116,9 +211,12 @@ fn case_within(graph: &Graph, known: &[Range], c: u32, truth: bool, n: u32, dept
         → IsIn result (at vs n) }
 {
     if depth == 0 {
-        return by_comparison(graph, known, c, truth, n);
+        return through_comparison(graph, known, c, truth, n);
     }
-    let op = operation_at(graph, c);
+    // What a condition joins are earlier operations.
+    operands_are_there();
+    entries_keep_their_rules();
+    let op = graph.operation(c);
     let less = depth - 1;
     match op.kind {
         Kind::Not => {
@@ -138,12 +236,13 @@ fn case_within(graph: &Graph, known: &[Range], c: u32, truth: bool, n: u32, dept
             let other = case_within(graph, known, op.b, truth, n, second_depth(less));
             connected(!truth, one, other)
         }
-        _ => by_comparison(graph, known, c, truth, n),
+        _ => through_comparison(graph, known, c, truth, n),
     }
 }
 
 /// The range of operation `n` in the case that condition `c` is `truth`.
 pub(crate) fn case_range(graph: &Graph, known: &[Range], c: u32, truth: bool, n: u32) -> Range
+    requires graph { IsGraph graph.now }
     requires condition { c < length known.now }
     requires there { n < length known.now }
     requires many { length known.now ≤ length graph.now.operations }

@@ -6,7 +6,7 @@ use Rattle.range_audit.proofs.known.asked_range.Goals as goal
 pub range_by_cases-requires : goal.range_by_cases-requires
 range_by_cases-requires c =
     let count : length c.deref.result.now ≡ c.args.i + 1 = ap length c.deref.ensures.value ∙ c.in_ok-ranges.ensures.many in
-    record { there = omega (arith, count); many = omega (arith, count, c.requires.there); cells = c.requires.cells }
+    record { graph = c.requires.graph; there = omega (arith, count); many = omega (arith, count, c.requires.there); cells = c.requires.cells }
 
 pub returns : goal.returns
 returns c = λ held row vs hold given lt fit.

@@ -5,5 +5,5 @@ pub returns-clause-fits : goal.returns-clause-fits
 returns-clause-fits c = λ held row vs hold given whole fit.
     let valued = c.settle_value.ensures.fits held row vs hold given whole fit in
     let second = whole ∙ sym c.settle_value.ensures.many in
-    let sized = c.settle_size.ensures.fits held row vs given second valued in
-    c.settle_operands.ensures.fits held row vs hold given (second ∙ sym c.settle_size.ensures.many) sized
+    let chosen = c.settle_choices.ensures.fits held row vs given second valued in
+    c.settle_operands.ensures.fits held row vs hold given (second ∙ sym c.settle_choices.ensures.many) chosen

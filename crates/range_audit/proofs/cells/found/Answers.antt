@@ -2,7 +2,7 @@ use Rattle.std.proofs.Common.{subst}
 use Rattle.range_audit.specs.Searching.{AreKept}
 use Rattle.range_walk.specs.Walking.{IsWalk}
 use Rattle.range_audit.proofs.Cycles.{kept_settled}
-use Rattle.range_audit.proofs.cells.settled.Goals as goal
+use Rattle.range_audit.proofs.cells.found.Goals as goal
 
 pub returns-then-are_kept-clause-settled : goal.returns-then-are_kept-clause-settled
 returns-then-are_kept-clause-settled c =
