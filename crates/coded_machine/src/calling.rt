@@ -33,7 +33,7 @@ pub struct Setting<'a> {
 /// What an operation reads.
 ///
 /// An operand that the kind does not have is `Word::ZERO` by custom; no answer depends on it.
-#[derive(Clone, Copy, PartialEq, Eq)]
+#[derive(Clone, Copy)]
 pub struct Operands {
     /// The word of the first operand.
     pub a: Word,

@@ -18,7 +18,7 @@ use signature_table::Table;
 use vcp_base::{Residue, StopKind, fits};
 
 /// How a cycle ends.
-#[derive(Clone, Copy, Debug, PartialEq, Eq)]
+#[derive(Clone, Copy, PartialEq, Eq)]
 pub enum CycleEnd {
     /// Its outputs are released.
     Released,

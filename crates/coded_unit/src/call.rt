@@ -6,7 +6,7 @@ use vcp_base::{Kind, Profile, Residue, Ty};
 /// One elementary operation, with all that a unit gets of it.
 ///
 /// An operand that the kind does not have is `Word::ZERO` by custom; no answer depends on it.
-#[derive(Clone, Copy, PartialEq, Eq)]
+#[derive(Clone, Copy)]
 pub struct Call {
     /// The code of its words.
     pub profile: Profile,
@@ -36,7 +36,7 @@ pub struct Call {
 }
 
 /// What a unit answers to a call.
-#[derive(Clone, Copy, Debug, PartialEq, Eq)]
+#[derive(Clone, Copy, PartialEq, Eq)]
 pub enum Answer {
     /// The word of the value and its residue.
     Word(Word),

@@ -23,7 +23,7 @@ const MIDDLE: i128 = 4611686018427387904;
 
 /// A coded word, seen as an integer w with |w| < 2^126. In a code with the constant `A`, `A*v + r` is
 /// the word of the value `v` and the residue `r`, which is below `A`.
-#[derive(Clone, Copy, Debug, PartialEq, Eq)]
+#[derive(Clone, Copy, PartialEq, Eq)]
 pub struct Word {
     code: i128,
 }

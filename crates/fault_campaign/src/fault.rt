@@ -7,7 +7,7 @@ use vcp_base::Memory;
 use vcp_outside::Failed;
 
 /// Why a campaign was given up before its end.
-#[derive(Clone, Copy, Debug, PartialEq, Eq)]
+#[derive(Clone, Copy)]
 pub enum CampaignFault {
     /// A line couldn't be written.
     Write,

@@ -1,7 +1,7 @@
 //! Classes of faults.
 
 /// What the faults of a class do.
-#[derive(Clone, Copy, PartialEq, Eq)]
+#[derive(Clone, Copy)]
 pub enum CoverClass {
     /// A number of which nothing is known is added to the result, or to an operand.
     Add,
@@ -20,7 +20,7 @@ pub enum CoverClass {
 }
 
 /// One class, or all.
-#[derive(Clone, Copy, PartialEq, Eq)]
+#[derive(Clone, Copy)]
 pub enum CoverClasses {
     /// One class.
     One(CoverClass),

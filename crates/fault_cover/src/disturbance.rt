@@ -4,7 +4,7 @@ use fault_script::Act;
 
 /// What is amiss at an operation, in whatever cycle. Operands and readings count from 0. Where a number is added of which nothing is known, it is
 /// any but a multiple of the constant of the graph's code.
-#[derive(Clone, Copy, PartialEq, Eq)]
+#[derive(Clone, Copy)]
 pub enum Disturbance {
     /// A number of which nothing is known is added to the result.
     AddToResult,

@@ -1,7 +1,7 @@
 //! What a fault is reported as.
 
 /// What becomes of a fault in every run, over all rows that fit and whatever is added.
-#[derive(Clone, Copy, PartialEq, Eq)]
+#[derive(Clone, Copy)]
 pub enum Effect {
     /// No wrong output is released, and no stop is passed: an output refuses what arrives at it.
     Refused {

@@ -19,7 +19,7 @@ use std::alloc::Global;
 use vcp_base::Memory;
 
 /// An operation that is reached, and across how many cycle borders.
-#[derive(Clone, Copy, PartialEq, Eq)]
+#[derive(Clone, Copy)]
 pub(crate) struct Nearest {
     pub(crate) borders: u32,
     pub(crate) op: u32,

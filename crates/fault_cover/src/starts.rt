@@ -22,7 +22,7 @@ use std::marker::Model;
 use vcp_base::{Kind, Memory, Profile, Residue, multiplier};
 
 /// Words of an operation differ, so many cycle borders behind the fault: by this residue, or by it for each 1 of a number of which nothing is known.
-#[derive(Clone, Copy, PartialEq, Eq)]
+#[derive(Clone, Copy)]
 pub(crate) struct Start {
     pub(crate) op: u32,
     pub(crate) borders: u32,

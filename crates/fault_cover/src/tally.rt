@@ -7,7 +7,7 @@ ghost use Rattle.fault_cover.specs.Counts.{counted, together};
 use crate::effect::Effect;
 
 /// How many faults are reported as what. A graph has fewer than 2^40 faults of a class.
-#[derive(Clone, Copy, PartialEq, Eq)]
+#[derive(Clone, Copy)]
 pub struct Tally {
     /// Refused.
     pub refused: u64,

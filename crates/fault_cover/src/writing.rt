@@ -31,7 +31,7 @@ use vcp_base::Memory;
 use vcp_outside::{Failed, Line, Sink};
 
 /// Why a cover isn't written, or not whole.
-#[derive(Clone, Copy, PartialEq, Eq)]
+#[derive(Clone, Copy)]
 pub enum Uncovered {
     /// Memory was wanted; nothing is written.
     Memory,

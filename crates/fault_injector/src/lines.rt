@@ -15,7 +15,7 @@ use vcp_base::{StopKind, Text};
 use vcp_outside::{Failed, Line, Sink, begin};
 
 /// How many faults of a script have which verdict.
-#[derive(Clone, Copy, PartialEq, Eq)]
+#[derive(Clone, Copy)]
 pub struct Totals {
     /// Those that show nowhere.
     pub same: u32,

@@ -5,7 +5,7 @@ use vcp_base::{Residue, StopKind};
 /// How a run with a fault differs from the run without it, in the first cycle in which one of these
 /// holds: the run with the fault stops, an output is refused, the run without the fault stops, a
 /// value differs. Cycles, outputs and operations count from 0.
-#[derive(Clone, Copy, Debug, PartialEq, Eq)]
+#[derive(Clone, Copy)]
 pub enum Verdict {
     /// It doesn't: both release the same values to the end, or to the same stop.
     Same,

@@ -1,7 +1,7 @@
 //! Why a text of named faults is refused.
 
 /// Why a line is refused.
-#[derive(Clone, Copy, Debug, PartialEq, Eq)]
+#[derive(Clone, Copy)]
 pub enum Why {
     /// The line is none of the forms.
     Form,
@@ -24,7 +24,7 @@ pub enum Why {
 }
 
 /// The first line that is refused.
-#[derive(Clone, Copy, Debug, PartialEq, Eq)]
+#[derive(Clone, Copy)]
 pub struct Refused {
     /// The number of the line, counted from 1.
     pub line: u32,

@@ -11,7 +11,7 @@ use fault_script::{cycle_number, index_number};
 use script_text::WordsLeft;
 
 /// Cycles, from one to another, which may be the same.
-#[derive(Clone, Copy, PartialEq, Eq)]
+#[derive(Clone, Copy)]
 pub struct Span {
     /// The first, below 1,000,000.
     pub first: u32,
@@ -20,7 +20,7 @@ pub struct Span {
 }
 
 /// What is behind the cycles.
-#[derive(Clone, Copy, Debug, PartialEq, Eq)]
+#[derive(Clone, Copy)]
 pub enum Ending {
     /// Nothing: each cycle has a group of its own.
     Alone,

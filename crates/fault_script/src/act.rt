@@ -3,7 +3,7 @@
 use vcp_base::Kind;
 
 /// What a fault does to one operation in one cycle. Operands count from 0.
-#[derive(Clone, Copy, Debug, PartialEq, Eq)]
+#[derive(Clone, Copy)]
 pub enum Act {
     /// The word of an operand has a number added.
     OperandAdd {
@@ -39,7 +39,7 @@ pub enum Act {
 }
 
 /// A fault of a script.
-#[derive(Clone, Copy, Debug, PartialEq, Eq)]
+#[derive(Clone, Copy)]
 pub struct Fault {
     /// The number of its line, counted from 1.
     pub line: u32,

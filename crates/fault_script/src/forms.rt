@@ -24,7 +24,7 @@ pub struct Change {
 }
 
 /// What a line is, by its words.
-#[derive(Clone, Copy, Debug)]
+#[derive(Clone, Copy)]
 pub enum Mark {
     /// The line begins a group.
     Begin,

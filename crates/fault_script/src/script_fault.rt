@@ -6,7 +6,7 @@ ghost use Rattle.fault_script.specs.declared.script_fault.ScriptFault.TheVariant
 use vcp_base::Memory;
 
 /// Why a script is refused, with the number of the refused line, counted from 1.
-#[derive(Clone, Copy, Debug, PartialEq, Eq)]
+#[derive(Clone, Copy)]
 pub enum ScriptFault {
     /// The line is none of the forms.
     Form {

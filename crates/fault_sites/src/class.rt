@@ -1,7 +1,7 @@
 //! Classes of single faults.
 
 /// What the faults of a class do.
-#[derive(Clone, Copy, PartialEq, Eq)]
+#[derive(Clone, Copy)]
 pub enum Class {
     /// The result, or an operand, has plus or minus a power of two from 2^0 to 2^61 added.
     Bits,
@@ -16,7 +16,7 @@ pub enum Class {
 }
 
 /// One class, or all.
-#[derive(Clone, Copy, PartialEq, Eq)]
+#[derive(Clone, Copy)]
 pub enum Classes {
     /// One class.
     One(Class),

@@ -1,7 +1,7 @@
 //! Parts of sites.
 
 /// A part of the sites, in their order.
-#[derive(Clone, Copy, PartialEq, Eq)]
+#[derive(Clone, Copy)]
 pub struct Part {
     /// How many sites come before it.
     pub skip: u64,

@@ -3,7 +3,7 @@
 use fault_script::Act;
 
 /// An act at an operation in a cycle: a fault that has no line yet.
-#[derive(Clone, Copy, PartialEq, Eq)]
+#[derive(Clone, Copy)]
 pub struct Site {
     /// The cycle, counted from 0.
     pub cycle: u32,

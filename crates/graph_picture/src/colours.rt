@@ -6,7 +6,7 @@ ghost use Rattle.graph_picture.specs.Colours.{seen_then, seen_after, colour_of a
 use weight_audit::{Weights, is_blind};
 
 /// How an operation shows at the outputs, within a number of cycle borders.
-#[derive(Clone, Copy, PartialEq, Eq)]
+#[derive(Clone, Copy)]
 pub enum Colour {
     /// No path leads from it to an output.
     Unreached,

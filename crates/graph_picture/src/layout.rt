@@ -11,7 +11,7 @@ use std::marker::Model;
 use vcp_base::Memory;
 
 /// The place of a box: its column from the left and its row from above, counted from 0.
-#[derive(Clone, Copy, PartialEq, Eq)]
+#[derive(Clone, Copy)]
 pub struct BoxPlace {
     /// The column.
     pub column: u32,

@@ -10,7 +10,7 @@ use op_graph::Graph;
 use weight_audit::Weights;
 
 /// The worst that comes of faults, from the worst on.
-#[derive(Clone, Copy, PartialEq, Eq)]
+#[derive(Clone, Copy)]
 pub enum Worst {
     /// A wrong value was released.
     Wrong,
@@ -25,7 +25,7 @@ pub enum Worst {
 }
 
 /// How the box of an operation looks.
-#[derive(Clone, Copy, PartialEq, Eq)]
+#[derive(Clone, Copy)]
 pub enum Look {
     /// As it shows at the outputs, by weights.
     Shown(Colour),

@@ -12,7 +12,7 @@ use vcp_base::{Memory, Spot};
 ///
 /// The text is read as tokens first, then its head as Structured Text; then the names are looked at, then the lines, then
 /// the limits. A lower call's want of memory is `Memory`, never wrapped.
-#[derive(Clone, Copy, Debug, PartialEq, Eq, Drop)]
+#[derive(Clone, Copy, Drop)]
 pub enum IlFault {
     /// The text can't be read on as tokens.
     Lex(LexFault),

@@ -3,7 +3,7 @@
 use vcp_base::Residue;
 
 /// Why bytes are no image, and at which offset, from 0. `stored` and `expected` are residues of the code.
-#[derive(Clone, Copy, Debug, PartialEq, Eq)]
+#[derive(Clone, Copy)]
 pub enum ImageFault {
     /// A byte of the magic differs.
     Magic {

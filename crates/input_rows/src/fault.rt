@@ -7,7 +7,7 @@ use vcp_base::Memory;
 
 /// Why rows are refused. Records count from 1, the header's; columns count from 1, in a record's own
 /// order.
-#[derive(Clone, Copy, Debug, PartialEq, Eq)]
+#[derive(Clone, Copy)]
 pub enum RowFault {
     /// The first record isn't there, or it isn't each column's name once and nothing else.
     Header,

@@ -9,7 +9,7 @@ use vcp_base::Memory;
 use vcp_outside::Failed;
 
 /// Why a run was given up before its end.
-#[derive(Clone, Copy, Debug, PartialEq, Eq)]
+#[derive(Clone, Copy)]
 pub enum RunFault {
     /// A row of inputs is refused, after the cycles of the rows before it. It is never want of memory.
     Rows(RowFault),

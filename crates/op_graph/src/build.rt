@@ -7,7 +7,7 @@ use std::alloc::AllocFailed;
 use vcp_base::Memory;
 
 /// Why an operation was not added. The builder is unchanged.
-#[derive(Clone, Copy, Debug, PartialEq, Eq)]
+#[derive(Clone, Copy)]
 pub enum Build {
     /// There are 65,536 operations already.
     Full,

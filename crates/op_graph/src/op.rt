@@ -3,7 +3,7 @@
 use vcp_base::{Kind, Spot, Ty};
 
 /// One operation.
-#[derive(Clone, Copy, PartialEq, Eq)]
+#[derive(Clone, Copy)]
 pub struct Op {
     /// What the operation does, and so how many operands it has.
     pub kind: Kind,
@@ -27,7 +27,7 @@ pub struct Op {
 }
 
 /// An input.
-#[derive(Clone, Copy, Debug, PartialEq, Eq)]
+#[derive(Clone, Copy, PartialEq, Eq)]
 pub struct Var {
     /// The number of its name.
     pub name: u32,
@@ -36,7 +36,7 @@ pub struct Var {
 }
 
 /// An output.
-#[derive(Clone, Copy, Debug, PartialEq, Eq)]
+#[derive(Clone, Copy, PartialEq, Eq)]
 pub struct Outlet {
     /// The number of its name.
     pub name: u32,
@@ -47,7 +47,7 @@ pub struct Outlet {
 }
 
 /// A cell, which keeps a value from one cycle to the next.
-#[derive(Clone, Copy, Debug, PartialEq, Eq)]
+#[derive(Clone, Copy)]
 pub struct Cell {
     /// The number of its name.
     pub name: u32,
@@ -75,7 +75,7 @@ pub struct Loaded {
 }
 
 /// One turn of a FOR. Turn nodes are counted from 1.
-#[derive(Clone, Copy, Debug, PartialEq, Eq)]
+#[derive(Clone, Copy, PartialEq, Eq)]
 pub struct TurnNode {
     /// The turn node of the turn round it; 0 for none.
     pub parent: u32,

@@ -4,7 +4,7 @@ use coded_machine::CycleEnd;
 use vcp_base::StopKind;
 
 /// How a cycle of two channels ends.
-#[derive(Clone, Copy, PartialEq, Eq)]
+#[derive(Clone, Copy)]
 pub enum PairEnd {
     /// Both channels released the same row of outputs.
     Released,

@@ -2,7 +2,7 @@
 
 use crate::row_call::RowCall;
 use std::alloc::Global;
-use vcp_base::{Columns, Memory};
+use vcp_base::{Columns, Memory, Profile, Spot, ty_name};
 use worked_texts::{Told, word_off};
 
 /// Goes on with a part, with a number in the place of each `@`.
@@ -39,13 +39,28 @@ pub fn unrolled(alloc: Global, text: &str, open: char, close: char) -> Told {
     out
 }
 
+/// The word of a code, as calls have it among their arguments.
+pub fn code_word(profile: Profile) -> &'static str {
+    match profile {
+        Profile::Narrow => "narrow",
+        Profile::Wide => "wide",
+    }
+}
+
+/// Tells a place in a source: its line and its column.
+pub fn tell_spot(told: &mut Told, spot: Spot) {
+    told.item(spot.line);
+    told.text(":");
+    told.item(spot.col);
+}
+
 /// Tells the names and types of columns, a line each.
 pub fn tell_columns(row: &mut RowCall<'_>, columns: Result<Columns, Memory>) {
     if let Some(columns) = row.made(columns, "no memory") {
         for i in 0..columns.len() {
             let column = columns.at(i);
             row.told.name(column.name.bytes());
-            row.told.shown(&column.ty);
+            row.told.name(ty_name(column.ty));
             row.told.text("\n");
         }
     }

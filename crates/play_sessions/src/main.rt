@@ -42,7 +42,7 @@ fn main(rt: HostRuntime) -> Result<ExitCode, Fail> {
         tell_lacking(&rt, &name, &mut lacking);
         let mut files = HostFiles::new(&rt);
         if let Ok(session) = read_all(rt.alloc(), &mut files, name.as_bytes(), MOST_BYTES)
-            && lacking.as_str() == "[Ok(())][Err(Failed)][][Err(Failed)]"
+            && lacking.as_str() == "[begun][failed][][failed]"
         {
             let mut player = Player::new(rt.alloc(), &name);
             player.play(text_of(session.bytes()));

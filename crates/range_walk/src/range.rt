@@ -9,7 +9,7 @@ use vcp_base::{Ty, greatest, least};
 
 /// The integers from `low` to `high`, without 0 where `nonzero`. Where `low` is above `high` there is none.
 /// It has no value where its greatest is below its least.
-#[derive(Clone, Copy, PartialEq, Eq)]
+#[derive(Clone, Copy)]
 pub struct Range {
     /// The least of them.
     pub low: i64,
@@ -20,7 +20,7 @@ pub struct Range {
 }
 
 /// Why an operation may stop.
-#[derive(Clone, Copy, PartialEq, Eq)]
+#[derive(Clone, Copy)]
 pub struct Stops {
     /// Its value may be outside its type.
     pub range: bool,

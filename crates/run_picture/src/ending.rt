@@ -8,7 +8,7 @@ use itoa::Buffer;
 use vcp_base::Text;
 
 /// How a run ended.
-#[derive(Clone, Copy, Debug, PartialEq, Eq)]
+#[derive(Clone, Copy)]
 pub enum Mark {
     /// It came to the end of its rows.
     Ended,
@@ -19,7 +19,7 @@ pub enum Mark {
 }
 
 /// How a run ended, and the words of its last line.
-#[derive(Debug, Drop)]
+#[derive(Drop)]
 pub struct Ending {
     /// How the run ended.
     pub mark: Mark,

@@ -6,7 +6,7 @@ ghost use Rattle.run_picture.specs.declared.fault.RunTextFault.TheVariants as fa
 use vcp_base::Memory;
 
 /// Why a text is no run. Records count from 1, the header's; columns count from 1.
-#[derive(Clone, Copy, Debug, PartialEq, Eq)]
+#[derive(Clone, Copy)]
 pub enum RunTextFault {
     /// The first record isn't there, or doesn't begin with `cycle`.
     Header,

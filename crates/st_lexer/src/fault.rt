@@ -18,7 +18,7 @@ pub enum Reason {
 
 /// The first place at which a text can't be read on, or want of memory. A text has at most one such
 /// place, and none where it has a reading.
-#[derive(Clone, Copy, Debug, PartialEq, Eq)]
+#[derive(Clone, Copy)]
 pub enum LexFault {
     /// No token begins with this byte.
     Byte { spot: Spot },

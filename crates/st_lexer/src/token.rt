@@ -3,7 +3,7 @@
 use vcp_base::{Spot, Ty};
 
 /// A reserved word, those that no form of the language uses too.
-#[derive(Clone, Copy, Debug, PartialEq, Eq)]
+#[derive(Clone, Copy)]
 pub enum Key {
     Program,
     EndProgram,
@@ -60,7 +60,7 @@ pub enum Key {
 }
 
 /// A symbol.
-#[derive(Clone, Copy, Debug, PartialEq, Eq)]
+#[derive(Clone, Copy)]
 pub enum Sym {
     /// `:=`
     Assign,
@@ -99,7 +99,7 @@ pub enum Sym {
 }
 
 /// What a token is.
-#[derive(Clone, Copy, Debug, PartialEq, Eq)]
+#[derive(Clone, Copy)]
 pub enum Tok {
     /// A name: its bytes are those of the token in the text.
     Name,
@@ -112,7 +112,7 @@ pub enum Tok {
 }
 
 /// A token: its bytes are those of the text from `from` up to `to`, and `spot` is the place of the first.
-#[derive(Clone, Copy, PartialEq, Eq)]
+#[derive(Clone, Copy)]
 pub struct Token {
     pub tok: Tok,
     pub from: u32,

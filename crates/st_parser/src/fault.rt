@@ -5,7 +5,7 @@ ghost use Rattle.std.specs.Prelude.{◌≡◌};
 use vcp_base::{Memory, Spot};
 
 /// Why tokens are no program, or want of memory.
-#[derive(Clone, Copy, Debug, PartialEq, Eq, Drop)]
+#[derive(Clone, Copy, Drop)]
 pub enum SyntaxFault {
     /// The tokens through the one at this spot begin no program; or the spot is that of the end, and
     /// the tokens are no whole program.

@@ -3,7 +3,7 @@
 use vcp_base::{Spot, StopKind};
 
 /// A stop of a cycle.
-#[derive(Clone, Copy, Debug, PartialEq, Eq)]
+#[derive(Clone, Copy)]
 pub struct Stop {
     /// `Range` for a value outside its type, or `DivZero` for a division by 0.
     pub kind: StopKind,

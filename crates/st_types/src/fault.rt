@@ -33,7 +33,7 @@ pub struct Fault {
 }
 
 /// Why a tree has no checked program, or want of memory.
-#[derive(Clone, Copy, Debug, PartialEq, Eq, Drop)]
+#[derive(Clone, Copy, Drop)]
 pub enum TypeFault {
     /// The name is declared before.
     Duplicate { spot: Spot },

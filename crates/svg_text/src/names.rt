@@ -4,7 +4,7 @@ ghost use Rattle.std.specs.Prelude.{◌≡◌};
 ghost use Rattle.svg_text.specs.Elements.{tag_name as tag_name_of, attribute_name as attribute_name_of};
 
 /// A kind of element.
-#[derive(Clone, Copy, PartialEq, Eq)]
+#[derive(Clone, Copy)]
 pub enum Tag {
     /// The whole picture.
     Svg,
@@ -19,7 +19,7 @@ pub enum Tag {
 }
 
 /// A kind of attribute.
-#[derive(Clone, Copy, PartialEq, Eq)]
+#[derive(Clone, Copy)]
 pub enum Name {
     /// The name space of the picture.
     Xmlns,

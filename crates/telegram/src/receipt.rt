@@ -4,7 +4,7 @@ use vcp_base::Residue;
 
 /// What a receiver answers to a telegram: the value that it delivers, or the first cause why it
 /// delivers none, in the order in which the causes are looked for.
-#[derive(Clone, Copy, PartialEq, Eq)]
+#[derive(Clone, Copy)]
 pub enum Receipt {
     /// The telegram is accepted.
     Delivered {

@@ -1,7 +1,7 @@
 //! Wires.
 
 /// The senders of a wire, and what hears one of them.
-#[derive(Clone, Copy, PartialEq, Eq)]
+#[derive(Clone, Copy)]
 pub struct Wire {
     /// How many senders there are, 1 to 16. They are numbered from 0.
     pub senders: u32,

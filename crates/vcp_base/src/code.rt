@@ -10,7 +10,7 @@ use crate::ty::Ty;
 pub type Residue = u64;
 
 /// A code. Each graph has one.
-#[derive(Clone, Copy, Debug, PartialEq, Eq)]
+#[derive(Clone, Copy, PartialEq, Eq)]
 pub enum Profile {
     /// The code with the constant 2^31 - 1, which has no words of LINT.
     Narrow,

@@ -6,7 +6,7 @@ ghost use Rattle.vcp_base.specs.Kinds.{operands as operands_of, operand_type as 
 use crate::ty::Ty;
 
 /// What an elementary operation does. The variants are in the order of their codes, from 0.
-#[derive(Clone, Copy, Debug, PartialEq, Eq)]
+#[derive(Clone, Copy, PartialEq, Eq)]
 pub enum Kind {
     /// The value of an input in this cycle.
     Input,
@@ -49,7 +49,7 @@ pub enum Kind {
 }
 
 /// Why an operation, and with it the run, stops.
-#[derive(Clone, Copy, Debug, PartialEq, Eq)]
+#[derive(Clone, Copy, PartialEq, Eq)]
 pub enum StopKind {
     /// The result is outside its type.
     Range,

@@ -3,7 +3,7 @@
 use std::alloc::{AllocError, AllocFailed};
 
 /// An allocation failed. It is merged with no other cause.
-#[derive(Clone, Copy, Debug, PartialEq, Eq)]
+#[derive(Clone, Copy)]
 pub struct Memory;
 
 impl From<AllocError> for Memory {

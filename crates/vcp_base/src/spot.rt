@@ -1,7 +1,7 @@
 //! Places in a source.
 
 /// A place in a source.
-#[derive(Clone, Copy, Debug, PartialEq, Eq)]
+#[derive(Clone, Copy)]
 pub struct Spot {
     /// The line, from 1; 0 where there is no such place.
     pub line: u32,

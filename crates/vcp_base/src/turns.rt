@@ -7,7 +7,7 @@ use std::alloc::Global;
 use std::marker::Model;
 
 /// One turn of a FOR.
-#[derive(Clone, Copy, Debug, PartialEq, Eq)]
+#[derive(Clone, Copy)]
 pub struct Turn {
     /// The place of the control variable's name in a list of names, from 0.
     pub name: u32,

@@ -6,7 +6,7 @@ ghost use Rattle.vcp_base.specs.Types.{least as least_of, greatest as greatest_o
 ghost use Rattle.vcp_base.specs.Types.{same_type as same_type_of, is_bool as is_bool_of, is_number as is_number_of};
 
 /// An elementary type of IEC 61131-3, which is a range of integers.
-#[derive(Clone, Copy, Debug, PartialEq, Eq)]
+#[derive(Clone, Copy, PartialEq, Eq)]
 pub enum Ty {
     /// 0 and 1.
     Bool,

@@ -11,7 +11,7 @@ use vcp_inputs::NoInput;
 use vcp_outside::Failed;
 
 /// How a command came to its end.
-#[derive(Clone, Copy, Debug, PartialEq, Eq)]
+#[derive(Clone, Copy)]
 pub enum Ending {
     /// All was printed; a run came to the end of its rows.
     Done,

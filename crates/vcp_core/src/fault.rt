@@ -3,16 +3,17 @@
 ghost use Rattle.std.specs.Prelude.{◌≡◌};
 ghost use Rattle.vcp_core.specs.declared.fault.Fault.TheVariants as fault;
 
+use std::fmt;
 use thiserror::Error;
 use vcp_base::Memory;
 use vcp_inputs::NoInput;
 
 /// Why a command ends before all is written.
-#[derive(Debug, Drop, Error)]
+#[derive(Drop, Error)]
 pub enum Fault<'a> {
     /// There is nothing of what lines tell by this name: of a file, of ROWS or of what was made; or no
     /// row for the next cycle, and what earlier cycles gave was written.
-    #[error("no input: {input:?}")]
+    #[error("no input")]
     Input {
         /// The name.
         name: &'a [u8],
@@ -25,6 +26,12 @@ pub enum Fault<'a> {
     /// An allocation failed.
     #[error("an allocation failed")]
     Memory,
+}
+
+impl<'a> fmt::Debug for Fault<'a> {
+    fn fmt<W: fmt::Write>(&self, f: &mut fmt::Formatter<W>) -> fmt::Result {
+        fmt::Display::fmt(self, f)
+    }
 }
 
 impl<'a> From<Memory> for Fault<'a> {

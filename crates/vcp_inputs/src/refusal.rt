@@ -17,7 +17,7 @@ use vcp_outside::ReadAll;
 
 /// Why a file is refused. Where its bytes are looked at, the fault is one of the layer that looks, and
 /// never its want of memory.
-#[derive(Clone, Copy, Debug, PartialEq, Eq)]
+#[derive(Clone, Copy)]
 pub enum Refusal {
     /// The file has more bytes than its limit.
     Bytes,
@@ -46,7 +46,7 @@ pub enum Refusal {
 }
 
 /// Why there is nothing of a file.
-#[derive(Clone, Copy, Debug, PartialEq, Eq)]
+#[derive(Clone, Copy)]
 pub enum NoInput {
     /// The file couldn't be begun or read, as where its name is lacking.
     Unread,

@@ -1,5 +1,5 @@
 //! The failure of a file or a sink.
 
 /// A file or a sink failed. Its count of faults rose in that call.
-#[derive(Clone, Copy, Debug, PartialEq, Eq)]
+#[derive(Clone, Copy)]
 pub struct Failed;

@@ -16,7 +16,7 @@ use std::sync::ledger::{Blank, Ledger};
 use vcp_base::{Steps, Text};
 
 /// Why a whole file isn't answered.
-#[derive(Clone, Copy, Debug, PartialEq, Eq)]
+#[derive(Clone, Copy)]
 pub enum ReadAll {
     /// The files failed, as for a name that is lacking; their count of faults rose.
     Failed,

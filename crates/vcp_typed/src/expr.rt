@@ -12,7 +12,7 @@ use std::boxed::Box;
 use vcp_base::{Memory, Spot, Ty};
 
 /// A function of the language.
-#[derive(Clone, Copy, PartialEq, Eq, Drop)]
+#[derive(Clone, Copy, Drop)]
 pub enum Fun {
     /// ABS
     Abs,

@@ -13,7 +13,7 @@ use std::alloc::Global;
 use vcp_base::{Memory, Spot};
 
 /// A label of a CASE: the values from `first` to `last`, written as a range or as one value.
-#[derive(Clone, Copy, PartialEq, Eq, Drop)]
+#[derive(Clone, Copy, Drop)]
 pub struct TLabel {
     pub first: i64,
     pub last: i64,

@@ -12,7 +12,7 @@ pub enum RowsWord<'a> {
 }
 
 /// The code of a run: what the signatures of its operations and the stamps of its cycles are made of.
-#[derive(Clone, Copy, PartialEq, Eq)]
+#[derive(Clone, Copy)]
 pub struct Code {
     /// The seed of the signatures: `--seed N`, below 2^30.
     pub seed: u32,

@@ -6,7 +6,7 @@ ghost use Rattle.verdict_tables.specs.declared.fault.VerdictsFault.TheVariants a
 use vcp_base::Memory;
 
 /// Why a text doesn't tell the verdicts of a script's groups, with the number of its first refused line, counted from 1.
-#[derive(Clone, Copy, Debug, PartialEq, Eq)]
+#[derive(Clone, Copy)]
 pub enum VerdictsFault {
     /// The line doesn't begin with the number of the line of the group whose verdict is to be there.
     Group {

@@ -10,7 +10,7 @@ use op_graph::Graph;
 use vcp_base::MOST_CYCLES;
 
 /// What verdicts are counted by.
-#[derive(Clone, Copy, PartialEq, Eq)]
+#[derive(Clone, Copy)]
 pub enum Table {
     /// By what a fault does.
     Acts,

@@ -8,7 +8,7 @@ use std::marker::Model;
 use vcp_base::{Memory, Residue};
 
 /// Why weights are not given.
-#[derive(Clone, Copy, Debug, PartialEq, Eq)]
+#[derive(Clone, Copy)]
 pub enum AuditFault {
     /// There are more of them than may be kept: operations times outputs times one more than the
     /// horizon, which is `cells`.

@@ -1,7 +1,7 @@
 //! What a call tells.
 
 use std::alloc::Global;
-use std::fmt::{Debug, Display, Write};
+use std::fmt::{Display, Write};
 use std::str::from_utf8;
 
 /// What has been told so far: texts as they are, and items, each with a blank before it where it stands behind another item. Nobody has to ask
@@ -65,11 +65,11 @@ impl Told {
         }
     }
 
-    /// Tells an item as it is printed for a programmer.
-    pub fn shown<D: Debug>(&mut self, item: &D) {
-        self.begin_item();
-        if write!(self.text, "{item:?}").is_err() {
-            self.is_whole = false;
+    /// Tells an item as it is printed, or that there is none.
+    pub fn item_or_none<D: Display + Drop>(&mut self, item: Option<D>) {
+        match item {
+            Some(item) => self.item(item),
+            None => self.item("none"),
         }
     }
 

@@ -11,7 +11,7 @@ use fault_injector::then_count;
 use vcp_outside::{Failed, Line, Sink, begin};
 
 /// How many groups of a script have which verdict.
-#[derive(Clone, Copy, PartialEq, Eq)]
+#[derive(Clone, Copy)]
 pub struct PairTotals {
     /// Those in which the channels agree to the end.
     pub same: u32,

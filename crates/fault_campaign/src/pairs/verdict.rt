@@ -6,7 +6,7 @@ ghost use Rattle.fault_campaign.specs.PairVerdicts.{verdict_at as verdict_at_of}
 use pair_channel::PairEnd;
 
 /// What a pair makes of a group of faults in its first channel.
-#[derive(Clone, Copy, PartialEq, Eq)]
+#[derive(Clone, Copy)]
 pub enum PairVerdict {
     /// The channels agree in every cycle, to the end of the rows or to a stop that both have.
     Same,

@@ -7,7 +7,7 @@ use vcp_base::Memory;
 use vcp_outside::Failed;
 
 /// Why what is chosen isn't written whole.
-#[derive(Clone, Copy, PartialEq, Eq)]
+#[derive(Clone, Copy)]
 pub enum Unwritten {
     /// The script would have more than 10,000 faults; nothing was written.
     TooMany,

@@ -7,7 +7,7 @@ use std::alloc::{AllocError, AllocFailed};
 use vcp_base::{Memory as NoMemory, Residue};
 
 /// The first fault of the bytes. `left` counts the bytes from the fault's first byte on.
-#[derive(Clone, Copy, Debug, PartialEq, Eq)]
+#[derive(Clone, Copy)]
 pub enum FieldFault {
     /// A byte of the magic differs.
     Magic {
@@ -40,7 +40,7 @@ pub enum FieldFault {
 }
 
 /// Why the bytes were not read.
-#[derive(Clone, Copy, Debug, PartialEq, Eq)]
+#[derive(Clone, Copy)]
 pub enum ReadError {
     /// An allocation failed.
     Memory,

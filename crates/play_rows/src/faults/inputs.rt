@@ -3,11 +3,13 @@
 ghost use Rattle.std.specs.Prelude.{◌≡◌, ◌≤◌, All, IfSome, length, true};
 ghost use Rattle.vcp_base.specs.Limits.{most_cycles};
 
+use crate::refusals::tell_refused;
 use crate::row_call::RowCall;
 use fault_script::{Script, read_script};
 use input_rows::{RowList, Rows, collect_rows};
 use op_graph::Graph;
 use vcp_base::{Columns, MOST_CYCLES, MOST_NAMES, MOST_SOURCE_BYTES};
+use vcp_inputs::NoInput;
 use worked_texts::spelled;
 
 /// The script that a text spells; where it is refused, that is told.
@@ -16,7 +18,7 @@ pub fn script_of(row: &mut RowCall<'_>, graph: &Graph, text: &str) -> Option<Scr
     if text.len() as u64 <= MOST_SOURCE_BYTES {
         match read_script(row.alloc, &text, graph) {
             Ok(script) => return Some(script),
-            Err(fault) => row.told.shown(&fault),
+            Err(fault) => tell_refused(row, NoInput::from(fault)),
         }
     }
     None

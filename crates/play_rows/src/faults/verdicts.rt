@@ -1,20 +1,24 @@
 //! Verdicts on groups of faults, and how groups end that show nowhere.
 
 ghost use Rattle.std.specs.Prelude.{◌≡◌, ◌≤◌, All, length};
+ghost use Rattle.fault_injector.specs.Names.{Names};
 ghost use Rattle.signature_table.specs.Signatures.{IsTableOf};
 ghost use Rattle.vcp_base.specs.Limits.{most_cycles};
 
 use crate::faults::inputs::{fits, rows_of, script_of};
+use crate::refusals::line_sink;
 use crate::row_call::RowCall;
 use crate::sources::programs::graph_of;
 use crate::values::units::{KEPT, bad_unit, calls_of};
 use coded_unit::BadUnit;
+use fault_injector::{Verdict, verdict_line};
 use fault_reruns::{Reference, verdict};
 use fault_script::Group;
 use input_rows::RowList;
 use op_graph::Graph;
 use signature_table::Table;
-use verdict_tables::{group_ending, words_left};
+use verdict_tables::{SameEnding, group_ending, words_left};
+use worked_texts::text_of;
 
 /// What is asked of a script of faults over rows.
 #[derive(Clone, Copy)]
@@ -60,6 +64,27 @@ fn tell_places(row: &mut RowCall<'_>, unit: &BadUnit, first: u32) {
     }
 }
 
+/// Tells the line of the verdict on a group.
+fn tell_verdict(row: &mut RowCall<'_>, graph: &Graph, group: &Group, verdict: &Verdict)
+    requires names { Names (length graph.now.outputs) (length graph.now.operations) verdict.now }
+{
+    if group.len() > 0
+        && let Some(mut sink) = line_sink(row)
+    {
+        row.done(verdict_line(&mut sink, graph, group.line(), verdict));
+        row.told.item(text_of(sink.bytes()).trim_ascii());
+    }
+}
+
+/// How a group ends that shows nowhere, as the tables of a campaign have it.
+fn ending_word(ending: SameEnding) -> &'static str {
+    match ending {
+        SameEnding::NeverReached => "never reached",
+        SameEnding::DiedOut => "died out",
+        SameEnding::Stands => "stands in a cell",
+    }
+}
+
 /// Tells the verdict by a rerun, the places of its calls, and how many answers were wrong.
 fn judge(
     row: &mut RowCall<'_>,
@@ -76,7 +101,7 @@ fn judge(
     if let Ok(reference) = Reference::new(row.alloc, graph, table, rows, unit) {
         let first = calls_of(unit);
         if let Ok(verdict) = reference.verdict(row.alloc, group, unit) {
-            row.told.shown(&verdict);
+            tell_verdict(row, graph, group, &verdict);
             tell_places(row, unit, first);
             row.told.text(", ");
             row.told.item(unit.wrong());
@@ -99,7 +124,7 @@ fn judge_alone(
     requires few { length rows.now ≤ most_cycles }
 {
     if let Ok(verdict) = verdict(row.alloc, graph, table, rows, group, unit) {
-        row.told.shown(&verdict);
+        tell_verdict(row, graph, group, &verdict);
         row.told.text(", ");
         row.told.item(calls_of(unit));
         row.told.text(" calls");
@@ -114,6 +139,6 @@ fn tell_ending(row: &mut RowCall<'_>, graph: &Graph, table: &Table, rows: &RowLi
     if let Ok(without) = words_left(row.alloc, graph, table, rows)
         && let Ok(ending) = group_ending(row.alloc, graph, table, rows, &without, group)
     {
-        row.told.shown(&ending);
+        row.told.item(ending_word(ending));
     }
 }

@@ -36,17 +36,28 @@ fn filled(alloc: Global) -> Result<GraphBuilder, Build>
     Ok(builder)
 }
 
+/// What became of an operation that was to be added.
+fn pushed(done: Result<u32, Build>) -> &'static str {
+    match done {
+        Ok(_) => "added",
+        Err(Build::Full) => "full",
+        Err(Build::Memory) => "no memory",
+    }
+}
+
 /// How many operations a filled builder has, what it answers to one more, how many its graph has, and whether the last is the constant 5.
 pub fn tell_filled(row: &mut RowCall<'_>) {
     let Ok(mut builder) = filled(row.alloc) else {
         return row.told.lack_memory();
     };
     row.told.item(builder.len());
-    row.told.shown(&builder.push(constant(6)));
+    row.told.item(pushed(builder.push(constant(6))));
     let graph = builder.finish();
     let length = graph.len();
     row.told.item(length);
     if length > 0 {
-        row.told.item(graph.operation(length - 1) == constant(5));
+        let last = graph.operation(length - 1);
+        row.told
+            .item(matches!(last.kind, Kind::Const) && last.imm == 5);
     }
 }

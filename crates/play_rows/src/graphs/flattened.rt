@@ -4,10 +4,12 @@ use crate::graphs::images::{bytes_of, read};
 use crate::graphs::lines::tell_lines;
 use crate::row_call::RowCall;
 use crate::sources::programs::{checked, graph_of};
-use crate::texts::{tell_columns, unrolled};
+use crate::texts::{code_word, tell_columns, unrolled};
 use flat_stmt::flatten;
 use graph_passes::{fold, prune, reduce, share};
-use op_graph::Graph;
+use op_graph::{Cell, Graph, Outlet, TurnNode, Var};
+use vcp_base::ty_name;
+use worked_texts::Told;
 
 /// The bytes with which each image begins, as hexadecimal digits.
 const MAGIC: &str = "564350414e42440a";
@@ -36,9 +38,30 @@ pub fn listed(row: &mut RowCall<'_>) {
 /// The code of the given graph, and that of the same graph widened.
 pub fn codes(row: &mut RowCall<'_>) {
     if let Some(graph) = given_graph(row) {
-        row.told.shown(&graph.profile());
-        row.told.shown(&graph.widened().profile());
+        row.told.item(code_word(graph.profile()));
+        row.told.item(code_word(graph.widened().profile()));
     }
+}
+
+/// An input, an output, a cell and a turn node, each with the fields that it has, in their order.
+fn tell_entries(told: &mut Told, input: &Var, output: &Outlet, cell: &Cell, turn: &TurnNode) {
+    told.item(input.name);
+    told.name(ty_name(input.ty));
+    told.text(", ");
+    told.item(output.name);
+    told.name(ty_name(output.ty));
+    told.item(output.op);
+    told.text(", ");
+    told.item(cell.name);
+    told.name(ty_name(cell.ty));
+    told.item(cell.init);
+    told.item(cell.load);
+    told.item(cell.store);
+    told.text(", ");
+    told.item(turn.parent);
+    told.item(turn.name);
+    told.item(turn.value);
+    told.text("\n");
 }
 
 /// The first entry of each list of the given graph, where each has one, and its columns.
@@ -49,11 +72,13 @@ pub fn entries(row: &mut RowCall<'_>) {
         && graph.cells() > 0
         && graph.turn_nodes() > 0
     {
-        row.told.shown(&graph.input(0));
-        row.told.shown(&graph.output(0));
-        row.told.shown(&graph.cell(0));
-        row.told.shown(&graph.turn_node(1));
-        row.told.text("\n");
+        tell_entries(
+            &mut row.told,
+            &graph.input(0),
+            &graph.output(0),
+            &graph.cell(0),
+            &graph.turn_node(1),
+        );
         tell_columns(row, graph.columns(row.alloc));
         tell_columns(row, graph.output_columns(row.alloc));
     }

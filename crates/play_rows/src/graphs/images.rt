@@ -3,6 +3,7 @@
 ghost use Rattle.std.specs.Prelude.{IfOk};
 ghost use Rattle.signature_table.specs.Signatures.{IsTableOf};
 
+use crate::refusals::tell_refused;
 use crate::row_call::RowCall;
 use crate::sources::programs::graph_of;
 use hex::encode;
@@ -11,6 +12,7 @@ use op_graph::Graph;
 use signature_table::Table;
 use std::alloc::Global;
 use vcp_base::MOST_IMAGE_BYTES;
+use vcp_inputs::NoInput;
 use worked_texts::{digit, joined, put};
 
 /// The bytes that lower hexadecimal digits spell, two a byte; what is no digit is passed over.
@@ -58,7 +60,7 @@ pub fn tell_image(row: &mut RowCall<'_>, bytes: &[u8]) {
     match is_image(row.alloc, bytes) {
         Ok(true) => row.told.text("an image"),
         Ok(false) => row.told.text("written otherwise"),
-        Err(fault) => row.told.shown(&fault),
+        Err(fault) => tell_refused(row, NoInput::from(fault)),
     }
 }
 
@@ -108,7 +110,7 @@ pub fn fronts(row: &mut RowCall<'_>) {
 fn is_refused_or_written(alloc: Global, bytes: &[u8]) -> bool {
     match is_image(alloc, bytes) {
         Ok(is_image) => is_image,
-        Err(fault) => fault != ImageFault::Memory,
+        Err(fault) => !matches!(fault, ImageFault::Memory),
     }
 }
 

@@ -8,7 +8,7 @@ use worked_texts::Told;
 
 /// The operands of an operation, but for a LOAD, which reads its cell.
 fn tell_operands(told: &mut Told, op: &Op) {
-    if op.kind == Kind::Load {
+    if matches!(op.kind, Kind::Load) {
         return;
     }
     let count = operands(op.kind);

@@ -4,12 +4,13 @@ ghost use Rattle.std.specs.Prelude.{◌≡◌, ◌≤◌, ◌<◌, ◌+◌, fals
 
 use crate::row_call::RowCall;
 use crate::sources::programs::graph_of;
-use crate::values::units::{bad_unit, calls_of};
+use crate::values::units::{bad_unit, calls_of, tell_given};
 use coded_machine::{CycleEnd, Machine};
 use coded_unit::BadUnit;
 use op_graph::Graph;
 use signature_table::Table;
-use vcp_base::Row;
+use vcp_base::{Row, stop_name};
+use worked_texts::Told;
 
 /// How many calls of a unit are kept.
 const KEPT: u32 = 15;
@@ -33,17 +34,39 @@ pub enum Part {
     Calls,
 }
 
+/// Tells the end of a cycle.
+fn tell_end(told: &mut Told, end: CycleEnd) {
+    match end {
+        CycleEnd::Released => told.item("released"),
+        CycleEnd::Stopped { op, kind } => {
+            told.item("stopped");
+            told.item(op);
+            told.name(stop_name(kind));
+        }
+        CycleEnd::Refused {
+            output,
+            found,
+            expected,
+        } => {
+            told.item("refused");
+            told.item(output);
+            told.item("found");
+            told.item(found);
+            told.item("expected");
+            told.item(expected);
+        }
+    }
+}
+
 /// Tells the end of a cycle, the value of the output, and the first words.
 pub fn tell_cycle(row: &mut RowCall<'_>, end: CycleEnd, y: i64, machine: &Machine<'_>) {
-    row.told.shown(&end);
+    tell_end(&mut row.told, end);
     row.told.item(y);
-    row.told.shown(&[
-        word(machine, 0),
-        word(machine, 1),
-        word(machine, 2),
-        word(machine, 3),
-        word(machine, 4),
-    ]);
+    row.told.text(":");
+    for i in 0..5 {
+        row.told.text(" ");
+        row.told.item(word(machine, i));
+    }
     row.told.text("\n");
 }
 
@@ -71,7 +94,7 @@ fn cycle(
     match part {
         Part::Words => tell_cycle(row, end, out.at(0), machine),
         Part::Ends => {
-            row.told.shown(&end);
+            tell_end(&mut row.told, end);
             row.told.item(out.at(0));
             row.told.text("\n");
         }
@@ -98,7 +121,7 @@ fn tell_calls(row: &mut RowCall<'_>, unit: &BadUnit) {
         if let Some((call, given)) = unit.entry(i) {
             row.told.item(call.op);
             row.told.item(call.a.get());
-            row.told.shown(&given);
+            tell_given(&mut row.told, &given);
             row.told.text("\n");
         }
     }

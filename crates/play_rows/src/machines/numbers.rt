@@ -4,6 +4,7 @@ ghost use Rattle.std.specs.Prelude.{◌≡◌, ◌<◌, length};
 
 use crate::row_call::RowCall;
 use crate::sources::programs::graph_of;
+use crate::texts::code_word;
 use op_graph::Graph;
 use signature_table::Table;
 use vcp_base::{MOST_CYCLES, MOST_STEP, Profile, SEEDS};
@@ -26,8 +27,9 @@ pub fn numbers(row: &mut RowCall<'_>) {
     if let Some(graph) = graph_in_code(row)
         && let Ok(table) = Table::new(row.alloc, &graph, 0, 1)
     {
-        row.told
-            .shown(&(table.profile(), table.seed(), table.step()));
+        row.told.item(code_word(table.profile()));
+        row.told.item(table.seed());
+        row.told.item(table.step());
         row.told.text("\n");
         for i in 0..graph.len() {
             row.told.item(table.signature(i));

@@ -1,8 +1,10 @@
 //! The answers to texts of instructions.
 
+use crate::refusals::tell_refused;
 use crate::row_call::RowCall;
 use crate::texts::unrolled;
 use il_front::read_il;
+use vcp_inputs::NoInput;
 use worked_texts::{joined, spelled};
 
 /// The most bytes of a text of instructions.
@@ -22,6 +24,6 @@ pub fn answered(row: &mut RowCall<'_>) {
             row.told.item(program.slots().len());
             row.told.item(program.size());
         }
-        Err(why) => row.told.shown(&why),
+        Err(fault) => tell_refused(row, NoInput::from(fault)),
     }
 }

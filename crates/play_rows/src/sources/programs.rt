@@ -72,7 +72,7 @@ pub fn held(row: &mut RowCall<'_>) {
         row.told.text(", wide ");
         row.told.item(program.wide());
         row.told.text(", sets ");
-        row.told.shown(&assigned(program.body()));
+        row.told.item_or_none(assigned(program.body()));
     }
 }
 

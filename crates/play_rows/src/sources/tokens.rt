@@ -1,9 +1,11 @@
 //! The tokens of texts, with their bytes and spots.
 
+use crate::refusals::tell_refused;
 use crate::row_call::RowCall;
-use crate::texts::unrolled;
+use crate::texts::{tell_spot, unrolled};
 use st_lexer::{Tok, Token, Tokens, key_spelling, lex, symbol_spelling};
 use vcp_base::{MOST_SOURCE_BYTES, Spot, ty_name};
+use vcp_inputs::NoInput;
 use worked_texts::Told;
 
 /// Tells what a token is: a name as `name`, a number as its type and value.
@@ -26,7 +28,7 @@ fn tokens_of(row: &mut RowCall<'_>, text: &[u8]) -> Option<Tokens> {
     if text.len() as u64 <= MOST_SOURCE_BYTES {
         match lex(row.alloc, text) {
             Ok(tokens) => return Some(tokens),
-            Err(fault) => row.told.shown(&fault),
+            Err(fault) => tell_refused(row, NoInput::from(fault)),
         }
     }
     None
@@ -46,14 +48,14 @@ pub fn of_text(row: &mut RowCall<'_>) {
 fn tell_list(told: &mut Told, tokens: &Tokens) {
     for i in 0..tokens.len() {
         let token = tokens.at(i);
-        told.shown(&token.tok);
+        tell_token(told, token.tok);
         told.item(token.from);
         told.text("..");
         told.item(token.to);
-        told.shown(&token.spot);
+        tell_spot(told, token.spot);
         told.text("\n");
     }
-    told.shown(&tokens.end());
+    tell_spot(told, tokens.end());
     told.text("\n");
 }
 
@@ -85,6 +87,6 @@ pub fn counted(row: &mut RowCall<'_>) {
     if let Some(tokens) = tokens_of(row, text.as_str().as_bytes()) {
         row.told.item(tokens.len());
         row.told.text(" tokens to ");
-        row.told.shown(&tokens.end());
+        tell_spot(&mut row.told, tokens.end());
     }
 }

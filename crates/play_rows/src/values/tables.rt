@@ -2,9 +2,9 @@
 
 use crate::row_call::RowCall;
 use vcp_base::{
-    Row, StopKind, Text, Turn, Turns, fits, greatest, kind_code, kind_of_code, least, multiplier,
-    number_in, numeral, operand_type, operands, same_name, stop_name, ty_code, ty_name, ty_of_code,
-    within, without_first_blanks,
+    Row, StopKind, Text, Turn, Turns, fits, greatest, kind_code, kind_name, kind_of_code, least,
+    multiplier, number_in, numeral, operand_type, operands, same_name, stop_name, ty_code, ty_name,
+    ty_of_code, within, without_first_blanks,
 };
 
 /// Makes a call on types, kinds and numbers, or on lists; false where the name is another call's.
@@ -17,7 +17,7 @@ pub fn make(row: &mut RowCall<'_>, name: &str) -> bool {
         "operand" => operand(row),
         "code" => code(row),
         "stops" => stops(row),
-        "numeral" => row.told.shown(&numeral(row.rest.as_bytes())),
+        "numeral" => row.told.item_or_none(numeral(row.rest.as_bytes())),
         "number" => number(row),
         "blanks" => blanks(row),
         "texts" => texts(row),
@@ -33,7 +33,8 @@ fn ty(row: &mut RowCall<'_>) {
     let ty = row.ty();
     row.told.item(ty_code(ty));
     row.told.name(ty_name(ty));
-    row.told.shown(&(least(ty), greatest(ty)));
+    row.told.item(least(ty));
+    row.told.item(greatest(ty));
 }
 
 /// Whether a value is of a type.
@@ -53,12 +54,11 @@ fn inside(row: &mut RowCall<'_>) {
 /// A kind's code, the number of its operands, and their multipliers.
 fn kind(row: &mut RowCall<'_>) {
     let kind = row.kind();
-    row.told.shown(&(kind_code(kind), operands(kind)));
-    row.told.shown(&[
-        multiplier(kind, 0),
-        multiplier(kind, 1),
-        multiplier(kind, 2),
-    ]);
+    row.told.item(kind_code(kind));
+    row.told.item(operands(kind));
+    row.told.item(multiplier(kind, 0));
+    row.told.item(multiplier(kind, 1));
+    row.told.item(multiplier(kind, 2));
 }
 
 /// The type of an operand of a kind over a type.
@@ -66,13 +66,20 @@ fn operand(row: &mut RowCall<'_>) {
     let kind = row.kind();
     let j = row.u32();
     let ty = row.ty();
-    row.told.shown(&operand_type(kind, j, ty));
+    row.told.name(ty_name(operand_type(kind, j, ty)));
 }
 
 /// The kind and the type of a code.
 fn code(row: &mut RowCall<'_>) {
     let code = u8::try_from(row.u32()).unwrap_or(255);
-    row.told.shown(&(kind_of_code(code), ty_of_code(code)));
+    match kind_of_code(code) {
+        Some(kind) => row.told.name(kind_name(kind)),
+        None => row.told.item("none"),
+    }
+    match ty_of_code(code) {
+        Some(ty) => row.told.name(ty_name(ty)),
+        None => row.told.item("none"),
+    }
 }
 
 /// The names of the stops.
@@ -85,7 +92,7 @@ fn stops(row: &mut RowCall<'_>) {
 /// The number of a type that a text writes.
 fn number(row: &mut RowCall<'_>) {
     let ty = row.ty();
-    row.told.shown(&number_in(ty, row.rest.as_bytes()));
+    row.told.item_or_none(number_in(ty, row.rest.as_bytes()));
 }
 
 /// A spelled text without its first blanks, between brackets.
@@ -115,7 +122,10 @@ fn zeros(row: &mut RowCall<'_>) {
         values.set(1, row.i64());
         let last = row.i64();
         row.done(values.push(last));
-        row.told.shown(&values.into_vec());
+        let values = values.into_vec();
+        for value in &values {
+            row.told.item(*value);
+        }
     }
 }
 
@@ -126,6 +136,8 @@ fn turns(row: &mut RowCall<'_>) {
     let mut turns = Turns::new(row.alloc);
     if turns.push(Turn { name, value }).is_ok() {
         row.told.item(turns.len());
-        row.told.shown(&turns.at(0));
+        let turn = turns.at(0);
+        row.told.item(turn.name);
+        row.told.item(turn.value);
     }
 }

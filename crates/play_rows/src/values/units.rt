@@ -3,6 +3,8 @@
 use crate::row_call::RowCall;
 use crate::values::words::{call_of, tell_answer};
 use coded_unit::{Answer, BadUnit, Call, CpuUnit, LogUnit, Unit, Word};
+use vcp_base::{StopKind, stop_name};
+use worked_texts::Told;
 
 /// How many calls of a unit are kept and told at the most.
 pub const KEPT: u32 = 64;
@@ -23,6 +25,16 @@ fn word_of(answer: &Answer) -> Word {
     match answer {
         Answer::Word(word) => *word,
         _ => Word::ZERO,
+    }
+}
+
+/// Tells an answer: the integer of its word, or the name of its stop.
+pub fn tell_given(told: &mut Told, answer: &Answer) {
+    match answer {
+        Answer::Word(word) => told.item(word.get()),
+        Answer::Range => told.name(stop_name(StopKind::Range)),
+        Answer::DivZero => told.name(stop_name(StopKind::DivZero)),
+        Answer::Operand => told.name(stop_name(StopKind::Operand)),
     }
 }
 
@@ -74,9 +86,9 @@ fn logged(row: &mut RowCall<'_>) {
 /// The answer that is written so.
 fn answer_in(row: &mut RowCall<'_>, text: &str) -> Answer {
     match text {
-        "Range" => Answer::Range,
-        "DivZero" => Answer::DivZero,
-        "Operand" => Answer::Operand,
+        "RANGE" => Answer::Range,
+        "DIVZERO" => Answer::DivZero,
+        "OPERAND" => Answer::Operand,
         _ => {
             let code = row.number_in(text);
             Answer::Word(row.coded(code))

@@ -4,6 +4,7 @@ ghost use Rattle.std.specs.Prelude.{◌≡◌, IfSome, true};
 ghost use Rattle.coded_unit.specs.Asked.{Asked};
 
 use crate::row_call::RowCall;
+use crate::values::units::tell_given;
 use coded_unit::{Answer, Call, Word, table};
 use vcp_base::{MOST_STAMP, Profile, admits, modulus};
 
@@ -80,15 +81,12 @@ fn is_asked(call: &Call) -> bool
 
 /// Tells an answer in a line: its word, with its value and its residue, or why there is none.
 pub fn tell_answer(row: &mut RowCall<'_>, profile: Profile, answer: &Answer) {
-    match answer {
-        Answer::Word(word) => {
-            let (value, residue) = word.split(profile);
-            row.told.item(word.get());
-            row.told.item(value);
-            row.told.text(":");
-            row.told.item(residue);
-        }
-        _ => row.told.shown(answer),
+    tell_given(&mut row.told, answer);
+    if let Answer::Word(word) = answer {
+        let (value, residue) = word.split(profile);
+        row.told.item(value);
+        row.told.text(":");
+        row.told.item(residue);
     }
     row.told.text("\n");
 }

@@ -2,7 +2,7 @@
 
 use crate::single::number;
 use std::alloc::Global;
-use vcp_outside::{Failed, Files, MemFiles, read_all};
+use vcp_outside::{Failed, Files, MemFiles, ReadAll, read_all};
 use worked_texts::{Told, spelled, text_of, word_off};
 
 /// Tells what files in memory answer to these steps, between which `; ` stands: `put NAME TEXT` and `fail_call N`, which answer nothing, and
@@ -34,7 +34,10 @@ pub(crate) fn file_step<F: Files>(
 ) {
     told.text("[");
     match call {
-        "begin" => told.shown(&files.begin(&spelled(alloc, words))),
+        "begin" => match files.begin(&spelled(alloc, words)) {
+            Ok(()) => told.text("begun"),
+            Err(Failed) => told.text("failed"),
+        },
         "read" => read(files, words, told),
         _ => read_whole(alloc, files, words, told),
     }
@@ -51,7 +54,7 @@ fn read<F: Files>(files: &mut F, room: &str, told: &mut Told) {
     };
     match read {
         Ok(count) => told.bytes(buf.get(..count).unwrap_or(b"")),
-        Err(Failed) => told.text("Err(Failed)"),
+        Err(Failed) => told.text("failed"),
     }
 }
 
@@ -60,6 +63,8 @@ fn read_whole<F: Files>(alloc: Global, files: &mut F, words: &str, told: &mut To
     let (name, limit) = word_off(words);
     match read_all(alloc, files, name.as_bytes(), number(limit) as u64) {
         Ok(text) => told.item(text.len()),
-        Err(why) => told.shown(&why),
+        Err(ReadAll::Failed) => told.text("failed"),
+        Err(ReadAll::TooLong) => told.text("too long"),
+        Err(ReadAll::Memory) => told.lack_memory(),
     }
 }

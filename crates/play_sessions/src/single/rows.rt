@@ -3,11 +3,12 @@
 ghost use Rattle.std.specs.Prelude.{◌≡◌, length, IfOk};
 
 use crate::single::number;
-use input_rows::Rows;
+use input_rows::{RowFault, Rows};
 use std::alloc::Global;
 use vcp_base::{Column, Columns, Memory, Row, Text, Ty};
-use vcp_outside::{MemFiles, read_all};
-use worked_texts::{Told, word_off};
+use vcp_inputs::{NoInput, tell_input};
+use vcp_outside::{MemFiles, MemSink, read_all};
+use worked_texts::{Told, text_of, word_off};
 
 /// One column, `x` of type DINT.
 fn one_column(alloc: Global) -> Result<Columns, Memory>
@@ -21,6 +22,34 @@ fn one_column(alloc: Global) -> Result<Columns, Memory>
     Ok(columns)
 }
 
+/// Tells what a call for a row answers: a row, the end of the rows, or the line of what is refused, from the place in it on.
+fn tell_answer(alloc: Global, answer: Result<bool, RowFault>, told: &mut Told) {
+    told.text(", ");
+    match answer {
+        Ok(true) => told.text("a row"),
+        Ok(false) => told.text("the end"),
+        Err(fault) => tell_refused(alloc, fault, told),
+    }
+}
+
+/// Tells the line of refused rows, from the place in it on.
+fn tell_refused(alloc: Global, fault: RowFault, told: &mut Told) {
+    if let Ok(mut sink) = MemSink::new(alloc, 80)
+        && tell_input(&mut sink, b"", &NoInput::from(fault)).is_ok()
+    {
+        let line = text_of(sink.bytes()).trim_ascii();
+        told.text(line.strip_prefix(":").unwrap_or(line));
+    }
+}
+
+/// Tells the values of a row.
+fn tell_values(values: &[i64], told: &mut Told) {
+    for value in values {
+        told.text(", ");
+        told.item(*value);
+    }
+}
+
 /// Tells how many rows are taken, what the call behind them answers, what the next call answers, and what the row holds then.
 fn tell_taken(alloc: Global, rows: &mut Rows<'_>, mut row: Row, told: &mut Told)
     requires { length row ≡ length rows.old.types }
@@ -28,16 +57,16 @@ fn tell_taken(alloc: Global, rows: &mut Rows<'_>, mut row: Row, told: &mut Told)
     let mut answer = rows.next(alloc, &mut row);
     let mut taken = 0u32;
     'rows: for _call in 0..1000000u32 {
-        if answer != Ok(true) {
+        if !matches!(answer, Ok(true)) {
             break;
         }
         taken = taken.saturating_add(1);
         answer = rows.next(alloc, &mut row);
     }
     told.item(taken);
-    told.shown(&answer);
-    told.shown(&rows.next(alloc, &mut row));
-    told.shown(&row.into_vec());
+    tell_answer(alloc, answer, told);
+    tell_answer(alloc, rows.next(alloc, &mut row), told);
+    tell_values(&row.into_vec(), told);
 }
 
 /// The same of a file with one column `x`, through a cycle: `NAME CYCLE`.

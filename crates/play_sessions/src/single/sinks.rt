@@ -3,7 +3,7 @@
 use crate::single::number;
 use std::alloc::Global;
 use std::io::{self, Write};
-use vcp_outside::{HostSink, MemSink, Sink, write_all};
+use vcp_outside::{Failed, HostSink, MemSink, Sink, write_all};
 use worked_texts::{Told, word_off};
 
 /// Tells what a sink in memory with this room answers to the steps behind it, between which `; ` stands, and what was written to it:
@@ -25,13 +25,29 @@ pub(crate) fn room_steps(alloc: Global, words: &str, told: &mut Told) {
     }
 }
 
+/// Tells whether all was written.
+fn tell_all(written: Result<(), Failed>, told: &mut Told) {
+    match written {
+        Ok(()) => told.text("written"),
+        Err(Failed) => told.text("failed"),
+    }
+}
+
+/// Tells how many bytes were written.
+fn tell_count(written: Result<usize, Failed>, told: &mut Told) {
+    match written {
+        Ok(count) => told.item(count),
+        Err(Failed) => told.text("failed"),
+    }
+}
+
 /// Tells what a sink answers to a call, in brackets: `write TEXT` or `write_all TEXT`.
 fn sink_step<O: Sink>(sink: &mut O, call: &str, piece: &str, told: &mut Told) {
     told.text("[");
     if call == "write_all" {
-        told.shown(&write_all(sink, piece.as_bytes()));
+        tell_all(write_all(sink, piece.as_bytes()), told);
     } else {
-        told.shown(&sink.write(piece.as_bytes()));
+        tell_count(sink.write(piece.as_bytes()), told);
     }
     told.text("]");
 }

@@ -7,7 +7,7 @@ use vcp_base::Memory;
 use vcp_outside::Failed;
 
 /// How a run over a wire ended.
-#[derive(Clone, Copy, PartialEq, Eq)]
+#[derive(Clone, Copy)]
 pub enum WireEnd {
     /// With the script.
     Complete,
@@ -21,7 +21,7 @@ pub enum WireEnd {
 }
 
 /// Why a run over a wire was given up.
-#[derive(Clone, Copy, Debug, PartialEq, Eq)]
+#[derive(Clone, Copy)]
 pub enum WireRunFault {
     /// A line couldn't be written.
     Write,

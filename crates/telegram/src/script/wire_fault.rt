@@ -6,7 +6,7 @@ ghost use Rattle.telegram.specs.declared.script.wire_fault.WireFault.TheVariants
 use vcp_base::Memory;
 
 /// Why a script of a wire is refused, with the number of the refused line, counted from 1.
-#[derive(Clone, Copy, Debug, PartialEq, Eq)]
+#[derive(Clone, Copy)]
 pub enum WireFault {
     /// The line is none of the forms, or it is no first line where that is wanted, or a second one.
     Form {

@@ -17,7 +17,7 @@ use std::alloc::Global;
 use vcp_base::Memory;
 
 /// What becomes of a group of faults of which no output tells.
-#[derive(Clone, Copy, Debug, PartialEq, Eq)]
+#[derive(Clone, Copy)]
 pub enum SameEnding {
     /// No cycle of the run reaches an operation of the group in its cycle.
     NeverReached,
