@@ -86,8 +86,9 @@ operands_of s op answers = record {
 abbrev pub call_of : Setting → Op → List Answer → Call
 call_of s op answers = operation_call s.graph s.table s.cycle (length answers) op (operands_of s op answers)
 
--- the call has its operation's own number, where the inputs have these values
+-- the call has the graph's code and its operation's own number, where the inputs have these values
 pub record HasOwnNumber (g : Lists) (row : List ℤ) (call : Call) : Type 0 where
+  pub profile : call.profile ≡ g.profile
   pub op : Op
   pub there : slice_get g.operations call.op ≡ Some op
   pub number : call.imm ≡ own_number op.kind op.imm (at row (unsigned_abs op.imm))

@@ -134,13 +134,16 @@ fn own_number(op: &Op, input: i64) -> i64
     }
 }
 
-/// Whether the call of an INPUT or a CONST has its number, which is read anew. It has, says the proof; where the
-/// processor erred, it may not.
-#[inline(always)]
+/// Whether a call has its graph's code, and that of an INPUT or a CONST its number, which are read anew. It has, says the
+/// proof; where the processor erred, it may not. It stands apart, so that it sees the call that the unit was given.
+#[inline(never)]
 pub(crate) fn has_own_number(graph: &Graph, row: &Row, call: &Call) -> bool
     requires { HasOwnNumber graph.now row.now call.now }
     ensures { result ≡ true }
 {
+    if call.profile != graph.profile() {
+        return false;
+    }
     let op = graph.operation(call.op);
     match op.kind {
         Kind::Input => call.imm == input_at(row, op.imm.unsigned_abs()),

@@ -359,9 +359,9 @@ impl<'a> Machine<'a> {
     }
 
     /// Carries the calls of a cycle through a unit, up to the first answer that is no word. It answers whether each
-    /// call of an INPUT or a CONST had its number. Each has, says the proof; where the processor erred, it may not. It stands
-    /// apart, so that the machine's address, which changes in a register, isn't that by which the cycle is ended.
-    #[inline(never)]
+    /// call had the graph's code, and each of an INPUT or a CONST its number. Each has, says the proof; where the processor
+    /// erred, it may not.
+    #[inline(always)]
     fn carry<U: Unit>(&mut self, unit: &mut U, row: &Row) -> bool
         requires cycle { self.old.cycles < most_cycles }
         requires between { self.old.under_way ≡ false }

@@ -16,7 +16,7 @@ returns-in-Some-clause-next c =
 pub returns-in-Some-clause-own : goal.returns-in-Some-clause-own
 returns-in-Some-clause-own c =
     subst (λ call. HasOwnNumber c.args.self.now.graph c.args.row.now call) (sym c.call.ensures.call)
-    (record { op = c.in-Some.op; there = c.in-Some.ensures.some.1; number = refl })
+    (record { profile = refl; op = c.in-Some.op; there = c.in-Some.ensures.some.1; number = refl })
 
 pub returns-in-None-clause-some : goal.returns-in-None-clause-some
 returns-in-None-clause-some c = (λ e. absurd cc, λ w. absurd (finished_not_awaits c.args.self.now (c.pending.ensures.none c.in-None.is) w))
