@@ -1,6 +1,6 @@
 //! The loop over the cycles of a run.
 
-ghost use Rattle.std.specs.Prelude.{◌≡◌, ◌≢◌, ◌<◌, ◌≤◌, ◌++◌, ℕ, ℤ, List, None, false, Ok, Err, OnOk, length};
+ghost use Rattle.std.specs.Prelude.{◌≡◌, ◌≢◌, ◌<◌, ◌≤◌, ◌+◌, ◌++◌, ℕ, ℤ, List, None, false, true, Ok, Err, OnOk, length};
 ghost use Rattle.vcp_base.specs.Limits.{most_cycles};
 ghost use Rattle.vcp_base.specs.declared.kind.StopKind.{StopKind};
 ghost use Rattle.vcp_outside.specs.Counts.{Rose};
@@ -25,6 +25,16 @@ use op_graph::entries_keep_their_rules;
 use std::alloc::Global;
 use vcp_base::Row;
 use vcp_outside::{Failed, Sink};
+
+/// Whether a count is one more than it was. It is after a release, says the proof; where the processor erred, it may not be.
+#[inline(always)]
+fn is_next(before: u32, after: u32) -> bool
+    requires few { before < most_cycles }
+    requires next { after ≡ before + 1 }
+    ensures { result ≡ true }
+{
+    after == before + 1
+}
 
 /// Carries one cycle of a machine, and hands on its outputs where they are released. It answers how the
 /// cycle ended, or that the outputs of a released cycle couldn't be written.
@@ -52,6 +62,9 @@ fn run_cycle<U: Unit, O: Sink, R: ReleasedRows>(
     let cycle = machine.cycles();
     match machine.cycle(unit, inputs, outputs) {
         CycleEnd::Released => {
+            if !is_next(cycle, machine.cycles()) {
+                return Err(Failed);
+            }
             released.take(out, cycle, outputs)?;
             Ok(CycleEnd::Released)
         }

@@ -1,7 +1,7 @@
-use Rattle.std.proofs.Common.{◌≡◌, ◌∙◌, ap, subst}
+use Rattle.std.proofs.Common.{◌≡◌, ◌∙◌, ◌+◌, ap, subst, sym}
 use Rattle.vcp_outside.specs.Written.{WritesTo}
 use Rattle.coded_machine.specs.CycleEnds.{outputs_of}
-use Rattle.coded_machine.specs.State.{with_answers, row_after}
+use Rattle.coded_machine.specs.State.{State, with_answers, after_end, row_after}
 use Rattle.machine_run.proofs.Failing.{failed_row}
 use Rattle.machine_run.proofs.run.run_cycle.Goals as goal
 
@@ -18,3 +18,11 @@ returns-in_err-take-in-Released-clause-written g c =
     (subst (λ r. WritesTo (g.O.Sink.seen c.args.out.now) (g.O.Sink.seen c.take.new.out)
     (text c.cycles-cycle.result c.cycle.new.out) r)
     c.in_err-take-in-Released.was c.take.ensures.writes)
+
+pub is_next-requires-clause-next : goal.is_next-requires-clause-next
+is_next-requires-clause-next g c =
+    let m = c.args.machine.now in
+    let answers = c.cycle.new.self.answers in
+    let counted : c.cycle.new.self.cycles ≡ m.cycles + 1 =
+    ap (λ (s : State). s.cycles) (c.cycle.ensures.machine c.requires.going ∙ ap (after_end (with_answers m answers)) c.in-Released.is) in
+    c.cycles.ensures.value ∙ counted ∙ ap (λ n. n + 1) (sym c.cycles-cycle.ensures.value)
