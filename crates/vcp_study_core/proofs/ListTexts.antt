@@ -1,5 +1,6 @@
 -- ListTexts: a program with a list's graph, but for places, runs as the list.
-use Rattle.std.proofs.Common.{◌≡◌, ℕ, ℤ, Bool, true, false, cond, refl, sym, ap, subst, ◌∙◌, List, [], ◌∷◌, map}
+use Rattle.std.proofs.Common.{◌≡◌, ◌≤◌, ℕ, ℤ, Bool, true, false, cond, refl, sym, ap, subst, ◌∙◌, List, [], ◌∷◌, length, map, Some, Result, Ok, Err, IfOk, IsTrue}
+use Rattle.vcp_base.specs.Limits.{most_source_bytes}
 use Rattle.vcp_base.specs.declared.columns.Column.{Column}
 use Rattle.vcp_base.specs.declared.ty.Ty.{Ty}
 use Rattle.op_graph.specs.Lists.{Lists, column, output_column}
@@ -10,10 +11,11 @@ use Rattle.vcp_typed.specs.SourceRun.{Program, is_input}
 use Rattle.il_front.specs.Accumulator.{Il}
 use Rattle.il_front.specs.Answers.{IsIl}
 use Rattle.il_front.specs.TypedForm.{typed_il}
+use Rattle.vcp_inputs.specs.Programs.{TypedOf}
 use Rattle.command_meaning.specs.GraphsOf.{StandsFor}
 use Rattle.command_meaning.specs.ListRuns.{HasListColumns, ListsAreTold}
 use Rattle.command_meaning.specs.Reports.{told_listed}
-use Rattle.vcp_study_core.specs.ListTexts.{IsTextFor, IsTextOfList, RunsAsListed}
+use Rattle.vcp_study_core.specs.ListTexts.{HasSameGraph, HaveSameGraph, IsTextFor, IsTextOfList, RunsAsListed}
 use Rattle.vcp_study_core.specs.SameGraphs.{AreSameButForPlaces, told_anywhere}
 use Rattle.vcp_study_core.proofs.SameGraphs.{told_alike}
 
@@ -65,3 +67,18 @@ is_text_of columns law list i p text is same (own, (q, typed, (g, h, list_stands
       runs = runs_as_listed columns law list i is q g h stands.means beside.means alike;
       graph = (g, h, stands, beside, alike);
     }
+
+-- ---- what is found of graphs
+
+pub both_graphs : {E : Type 0} (p q : Program) (g : Lists) (r : Result Bool E) → StandsFor p g
+    → IfOk r (λ is. IsTrue is → (h : Lists) × StandsFor q h × AreSameButForPlaces g h) → IfOk r (λ is. IsTrue is → HaveSameGraph p q)
+both_graphs p q g (Ok is) stands found = λ yes. let (h, beside, same) = found yes in (g, h, stands, beside, same)
+both_graphs p q g (Err e) stands found = tt
+
+pub same_graph_of : {E : Type 0} (p : Program) (text : List ℕ) (q : Program) (r : Result Bool E)
+    → ((found : List ℕ) × (Some text ≡ Some found) × (length found ≤ most_source_bytes) × TypedOf found q)
+    → IfOk r (λ is. IsTrue is → HaveSameGraph p q) → IfOk r (λ is. IsTrue is → HasSameGraph p text)
+same_graph_of p text q (Ok is) (found, held, few, typed) same = λ yes.
+    let here : found ≡ text = cc in
+    (q, subst (λ (t : List ℕ). TypedOf t q) here typed, same yes)
+same_graph_of p text q (Err e) loaded same = tt

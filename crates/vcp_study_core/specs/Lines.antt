@@ -34,16 +34,19 @@ verdicts_text name (verdicts.Rest line) = place_text name line (codes "U6 Rest")
 verdicts_text name verdicts.Memory = memory_text
 
 -- of a line that names faults
+abbrev pub refused_words : Why → List ℕ
+refused_words reason.Form = codes "F1 Form"
+refused_words reason.Site = codes "F2 Site"
+refused_words reason.Early = codes "F3 Early"
+refused_words reason.Kind = codes "F4 Kind"
+refused_words reason.Faults = codes "L5 Faults"
+refused_words reason.Unknown = codes "N1 Unknown"
+refused_words reason.Several = codes "N2 Several"
+refused_words reason.Held = codes "N3 Held"
+refused_words reason.Image = codes "N4 Image"
+
 abbrev pub refused_line_text : List ℕ → ℕ → Why → List ℕ
-refused_line_text name line reason.Form = place_text name line (codes "F1 Form")
-refused_line_text name line reason.Site = place_text name line (codes "F2 Site")
-refused_line_text name line reason.Early = place_text name line (codes "F3 Early")
-refused_line_text name line reason.Kind = place_text name line (codes "F4 Kind")
-refused_line_text name line reason.Faults = place_text name line (codes "L5 Faults")
-refused_line_text name line reason.Unknown = place_text name line (codes "N1 Unknown")
-refused_line_text name line reason.Several = place_text name line (codes "N2 Several")
-refused_line_text name line reason.Held = place_text name line (codes "N3 Held")
-refused_line_text name line reason.Image = place_text name line (codes "N4 Image")
+refused_line_text name line r = place_text name line (refused_words r)
 
 -- of the file under a name, by the reason
 abbrev pub own_text : List ℕ → StudyRefusal → List ℕ

@@ -72,6 +72,26 @@ fn write_surveyed<'a, O: Sink>(
     }
 }
 
+/// Writes the cover of a surveyed image; whether a fault is reported neither as refused nor as nothing.
+fn write_survey<'a, O: Sink>(
+    alloc: Global,
+    image: &Image,
+    horizon: u32,
+    survey: &Survey,
+    classes: CoverClasses,
+    out: &mut O,
+) -> Result<bool, Fault<'a>>
+    requires table { image.now.table ≡ table_of image.now.table.seed image.now.table.step image.now.graph }
+    requires survey { IsSurveyOf image.now.graph horizon survey.now }
+    requires mapped { IsMapped image.now.graph survey.now }
+    ensures { WritesSo (WritesOne (IsCover image.now horizon classes)) (O.seen out.old) (O.seen out.new) (told_line result) (told_status result) }
+{
+    match image_digest(alloc, &image.graph, &image.table) {
+        Ok(digest) => write_surveyed(alloc, image, horizon, survey, classes, &digest, out),
+        Err(_) => Err(Fault::Memory),
+    }
+}
+
 /// Writes the cover of an image, which has this name; whether a fault is reported neither as refused nor as nothing.
 pub(crate) fn write_cover<'a, O: Sink>(
     alloc: Global,
@@ -86,17 +106,11 @@ pub(crate) fn write_cover<'a, O: Sink>(
     ensures { WritesSo (Weighed horizon name.now image.now (IsCover image.now horizon classes))
         (O.seen out.old) (O.seen out.new) (told_line result) (told_status result) }
 {
-    let survey = match surveyed(alloc, image, horizon) {
-        Ok(survey) => survey,
-        Err(input) => {
-            return Err(Fault::Input {
-                name: name.bytes(),
-                input,
-            });
-        }
-    };
-    match image_digest(alloc, &image.graph, &image.table) {
-        Ok(digest) => write_surveyed(alloc, image, horizon, &survey, classes, &digest, out),
-        Err(_) => Err(Fault::Memory),
+    match surveyed(alloc, image, horizon) {
+        Ok(survey) => write_survey(alloc, image, horizon, &survey, classes, out),
+        Err(input) => Err(Fault::Input {
+            name: name.bytes(),
+            input,
+        }),
     }
 }

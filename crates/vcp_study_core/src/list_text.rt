@@ -2,11 +2,15 @@
 
 ghost use Rattle.std.specs.Prelude.{◌≤◌, IfOk, IfSome, IsTrue, length};
 ghost use Rattle.il_front.specs.Answers.{most_il_bytes};
-ghost use Rattle.vcp_study_core.specs.ListTexts.{IsCanonicalOf, IsItsCanonical, IsTextFor, HasSameGraph};
+ghost use Rattle.op_graph.specs.Lists.{Lists};
+ghost use Rattle.command_meaning.specs.GraphsOf.{StandsFor};
+ghost use Rattle.vcp_study_core.specs.ListTexts.{IsCanonicalOf, IsItsCanonical, IsTextFor, HasSameGraph, HaveSameGraph};
+ghost use Rattle.vcp_study_core.specs.SameGraphs.{AreSameButForPlaces};
 
 use crate::rough_text::rough_text;
 use crate::same_graphs::same_but_for_places;
 use command_meaning::graph_of;
+use op_graph::Graph;
 use st_writer::write_program;
 use std::alloc::Global;
 use vcp_base::{MOST_SOURCE_BYTES, Memory, Text};
@@ -41,18 +45,35 @@ fn is_canonical(alloc: Global, text: &Text) -> Result<bool, Memory>
     }
 }
 
+/// Whether a program has this graph, but for places, as far as is found.
+fn is_graph_of(alloc: Global, graph: &Graph, program: &Typed) -> Result<bool, Memory>
+    ensures { IfOk result (λ is. IsTrue is → (h : Lists) × StandsFor program.now h × AreSameButForPlaces graph.now h) }
+{
+    match graph_of(alloc, program) {
+        Ok(beside) => Ok(same_but_for_places(graph, &beside)),
+        Err(Memory) => Err(Memory),
+    }
+}
+
+/// Whether two programs have the same graph, but for places, as far as is found.
+fn have_same_graph(alloc: Global, program: &Typed, other: &Typed) -> Result<bool, Memory>
+    ensures { IfOk result (λ is. IsTrue is → HaveSameGraph program.now other.now) }
+{
+    match graph_of(alloc, program) {
+        Ok(graph) => is_graph_of(alloc, &graph, other),
+        Err(Memory) => Err(Memory),
+    }
+}
+
 /// Whether a text is a program in Structured Text with the graph that this one has, but for places, as far as is found.
 fn has_same_graph(alloc: Global, text: &Text, program: &Typed) -> Result<bool, Memory>
     ensures { IfOk result (λ is. IsTrue is → HasSameGraph program.now text.now) }
 {
-    let other = match typed_of(alloc, text) {
-        Ok(other) => other,
-        Err(NoInput::Memory) => return Err(Memory),
-        Err(_) => return Ok(false),
-    };
-    let graph = graph_of(alloc, program)?;
-    let beside = graph_of(alloc, &other)?;
-    Ok(same_but_for_places(&graph, &beside))
+    match typed_of(alloc, text) {
+        Ok(other) => have_same_graph(alloc, program, &other),
+        Err(NoInput::Memory) => Err(Memory),
+        Err(_) => Ok(false),
+    }
 }
 
 /// Whether a text is the canonical text of a program with this one's graph, but for places, as far as is found.
@@ -65,20 +86,35 @@ fn is_text_for(alloc: Global, text: &Text, program: &Typed) -> Result<bool, Memo
     has_same_graph(alloc, text, program)
 }
 
+/// A text, where it is one for this program, as far as is found; None where it isn't.
+fn if_text_for(alloc: Global, text: Text, program: &Typed) -> Result<Option<Text>, Memory>
+    ensures { IfOk result (λ found. IfSome found (IsTextFor program.now)) }
+{
+    if is_text_for(alloc, &text, program)? {
+        Ok(Some(text))
+    } else {
+        Ok(None)
+    }
+}
+
+/// The canonical text of the program that a rough text is, where that is one for this program; None where none is found.
+fn text_by(alloc: Global, rough: &Text, program: &Typed) -> Result<Option<Text>, Memory>
+    ensures { IfOk result (λ found. IfSome found (IsTextFor program.now)) }
+{
+    match canonical_of(alloc, rough) {
+        Ok(Some(text)) => if_text_for(alloc, text, program),
+        Ok(None) => Ok(None),
+        Err(Memory) => Err(Memory),
+    }
+}
+
 /// The canonical text of a program in Structured Text that has the run of a list with this text and this typed program; None where none is found.
 pub(crate) fn text_for(alloc: Global, list: &[u8], program: &Typed) -> Result<Option<Text>, Memory>
     requires { length list.now ≤ most_il_bytes }
     ensures { IfOk result (λ found. IfSome found (IsTextFor program.now)) }
 {
-    let rough = rough_text(alloc, list, program)?;
-    let text = match canonical_of(alloc, &rough) {
-        Ok(Some(text)) => text,
-        Ok(None) => return Ok(None),
-        Err(Memory) => return Err(Memory),
-    };
-    if is_text_for(alloc, &text, program)? {
-        Ok(Some(text))
-    } else {
-        Ok(None)
+    match rough_text(alloc, list, program) {
+        Ok(rough) => text_by(alloc, &rough, program),
+        Err(Memory) => Err(Memory),
     }
 }

@@ -4,16 +4,17 @@ ghost use Rattle.std.specs.Prelude.{◌≤◌, length};
 ghost use Rattle.il_front.specs.Answers.{most_il_bytes};
 
 use itoa::Buffer;
-use st_lexer::{LexFault, lex};
+use st_lexer::{LexFault, Token, lex};
 use st_tree::{BinOp, Section, UnOp};
 use std::alloc::Global;
 use vcp_base::{Memory, Text, Ty, ty_name};
 use vcp_typed::{Slot, TArm, TExpr, TStmt, Typed};
 
-/// A text that grows at its end. After `Memory` it is given up.
+/// A text that grows at its end, until memory is wanted: it is given up then, and nothing more is put to it.
 #[derive(Drop)]
 struct Growing {
     bytes: Vec<u8>,
+    is_given_up: bool,
 }
 
 /// The program that a list with this text and this typed program is, a statement an instruction, under the name that the list has.
@@ -22,17 +23,10 @@ pub(crate) fn rough_text(alloc: Global, list: &[u8], program: &Typed) -> Result<
 {
     let mut text = Growing {
         bytes: Vec::new(alloc),
+        is_given_up: false,
     };
-    let slots = program.slots().items.as_slice();
-    text.put(b"PROGRAM ")?;
-    text.program_name(alloc, list)?;
-    text.put(b"\n")?;
-    text.blocks(slots)?;
-    for stmt in &program.body().items {
-        text.statement(slots, stmt)?;
-    }
-    text.put(b"END_PROGRAM\n")?;
-    Ok(Text::from_vec(text.bytes))
+    text.program(alloc, list, program);
+    text.finish()
 }
 
 /// The word or sign of an operator, between blanks.
@@ -77,113 +71,147 @@ fn has_plain_form(ty: Ty, value: i64) -> bool {
 }
 
 impl Growing {
-    fn put(&mut self, bytes: &[u8]) -> Result<(), Memory> {
-        self.bytes.extend_from_slice(bytes)?;
-        Ok(())
+    /// The text, unless it was given up.
+    fn finish(self) -> Result<Text, Memory> {
+        if self.is_given_up {
+            Err(Memory)
+        } else {
+            Ok(Text::from_vec(self.bytes))
+        }
+    }
+
+    fn put(&mut self, bytes: &[u8]) {
+        if self.is_given_up {
+            return;
+        }
+        match self.bytes.extend_from_slice(bytes) {
+            Ok(()) => {}
+            Err(_) => self.is_given_up = true,
+        }
+    }
+
+    /// All of a program.
+    fn program(&mut self, alloc: Global, list: &[u8], program: &Typed)
+        requires { length list.now ≤ most_il_bytes }
+    {
+        let slots = program.slots().items.as_slice();
+        self.put(b"PROGRAM ");
+        self.program_name(alloc, list);
+        self.put(b"\n");
+        self.blocks(slots);
+        for stmt in &program.body().items {
+            self.statement(slots, stmt);
+        }
+        self.put(b"END_PROGRAM\n");
     }
 
     /// The name of the program whose text this is: its second word.
-    fn program_name(&mut self, alloc: Global, list: &[u8]) -> Result<(), Memory>
+    fn program_name(&mut self, alloc: Global, list: &[u8])
         requires { length list.now ≤ most_il_bytes }
     {
-        let tokens = match lex(alloc, list) {
-            Ok(tokens) => tokens,
-            Err(LexFault::Memory) => return Err(Memory),
-            Err(_) => return Ok(()),
-        };
-        if tokens.len() < 2 {
-            return Ok(());
+        match lex(alloc, list) {
+            Ok(tokens) => if tokens.len() >= 2 {
+                self.word(list, tokens.at(1));
+            },
+            Err(LexFault::Memory) => self.is_given_up = true,
+            Err(_) => {}
         }
-        let word = tokens.at(1);
-        match list.get(word.from as usize..word.to as usize) {
+    }
+
+    /// A token of a list's text.
+    fn word(&mut self, list: &[u8], token: Token) {
+        match list.get(token.from as usize..token.to as usize) {
             Some(bytes) => self.put(bytes),
-            None => Ok(()),
+            None => {}
         }
     }
 
     /// The declarations: a block for variables of one section that follow one another.
-    fn blocks(&mut self, slots: &[Slot]) -> Result<(), Memory> {
+    fn blocks(&mut self, slots: &[Slot]) {
         let mut open: &'static [u8] = b"";
         for slot in slots {
             let words = block_words(slot.section);
             if words != open {
-                self.end_block(open)?;
-                self.put(words)?;
-                self.put(b"\n")?;
+                self.begin_block(open, words);
                 open = words;
             }
-            self.declaration(slot)?;
+            self.declaration(slot);
         }
-        self.end_block(open)
+        self.end_block(open);
+    }
+
+    /// Begins a block, behind the one that is open.
+    fn begin_block(&mut self, open: &[u8], words: &[u8]) {
+        self.end_block(open);
+        self.put(words);
+        self.put(b"\n");
     }
 
     /// Ends a block, where one is open.
-    fn end_block(&mut self, open: &[u8]) -> Result<(), Memory> {
-        if open.is_empty() {
-            Ok(())
-        } else {
-            self.put(b"END_VAR\n")
+    fn end_block(&mut self, open: &[u8]) {
+        if !open.is_empty() {
+            self.put(b"END_VAR\n");
         }
     }
 
     /// A variable with its type and, where that isn't 0, its initial value.
-    fn declaration(&mut self, slot: &Slot) -> Result<(), Memory> {
-        self.put(slot.name.bytes())?;
-        self.put(b" : ")?;
-        self.put(ty_name(slot.ty))?;
+    fn declaration(&mut self, slot: &Slot) {
+        self.put(slot.name.bytes());
+        self.put(b" : ");
+        self.put(ty_name(slot.ty));
         if slot.init != 0 {
-            self.put(b" := ")?;
-            self.literal(slot.ty, slot.init, true)?;
+            self.put(b" := ");
+            self.literal(slot.ty, slot.init, true);
         }
-        self.put(b";\n")
+        self.put(b";\n");
     }
 
     /// A value; without its type where that is plain.
-    fn literal(&mut self, ty: Ty, value: i64, plain: bool) -> Result<(), Memory> {
+    fn literal(&mut self, ty: Ty, value: i64, plain: bool) {
         if ty == Ty::Bool {
             return self.put(if value == 0 { b"FALSE" } else { b"TRUE" });
         }
         if !plain {
-            self.put(ty_name(ty))?;
-            self.put(b"#")?;
+            self.put(ty_name(ty));
+            self.put(b"#");
         }
-        self.put(Buffer::new().format(value).as_bytes())
+        self.put(Buffer::new().format(value).as_bytes());
     }
 
     /// A variable's name.
-    fn variable(&mut self, slots: &[Slot], slot: u32) -> Result<(), Memory> {
+    fn variable(&mut self, slots: &[Slot], slot: u32) {
         match slots.get(slot as usize) {
             Some(slot) => self.put(slot.name.bytes()),
-            None => Ok(()),
+            None => {}
         }
     }
 
     /// A variable or a literal.
-    fn single(&mut self, slots: &[Slot], value: &TExpr) -> Result<(), Memory> {
+    fn single(&mut self, slots: &[Slot], value: &TExpr) {
         match value {
             TExpr::Lit { ty, value, .. } => self.literal(*ty, *value, has_plain_form(*ty, *value)),
             TExpr::Get { slot, .. } => self.variable(slots, *slot),
-            _ => Ok(()),
+            _ => {}
         }
     }
 
     /// One of them, behind a NOT where there is one.
-    fn turned(&mut self, slots: &[Slot], value: &TExpr) -> Result<(), Memory> {
+    fn turned(&mut self, slots: &[Slot], value: &TExpr) {
         match value {
             TExpr::Unary {
                 op: UnOp::Not,
                 arg,
                 ..
             } => {
-                self.put(b"NOT ")?;
-                self.single(slots, arg)
+                self.put(b"NOT ");
+                self.single(slots, arg);
             }
             _ => self.single(slots, value),
         }
     }
 
     /// An operand, which may be widened.
-    fn operand(&mut self, slots: &[Slot], value: &TExpr) -> Result<(), Memory> {
+    fn operand(&mut self, slots: &[Slot], value: &TExpr) {
         match value {
             TExpr::Widen { arg, .. } => self.turned(slots, arg),
             _ => self.turned(slots, value),
@@ -191,7 +219,7 @@ impl Growing {
     }
 
     /// What is assigned: an operand, or an operator between two.
-    fn value(&mut self, slots: &[Slot], value: &TExpr) -> Result<(), Memory> {
+    fn value(&mut self, slots: &[Slot], value: &TExpr) {
         match value {
             TExpr::Binary {
                 op,
@@ -199,44 +227,44 @@ impl Growing {
                 right,
                 ..
             } => {
-                self.operand(slots, left)?;
-                self.put(operator_sign(*op))?;
-                self.operand(slots, right)
+                self.operand(slots, left);
+                self.put(operator_sign(*op));
+                self.operand(slots, right);
             }
             _ => self.operand(slots, value),
         }
     }
 
     /// An assignment.
-    fn assignment(&mut self, slots: &[Slot], stmt: &TStmt) -> Result<(), Memory> {
+    fn assignment(&mut self, slots: &[Slot], stmt: &TStmt) {
         match stmt {
             TStmt::Assign { slot, value, .. } => {
-                self.variable(slots, *slot)?;
-                self.put(b" := ")?;
-                self.value(slots, value)?;
-                self.put(b";\n")
+                self.variable(slots, *slot);
+                self.put(b" := ");
+                self.value(slots, value);
+                self.put(b";\n");
             }
-            _ => Ok(()),
+            _ => {}
         }
     }
 
     /// IF with one condition, and assignments in its body.
-    fn conditional(&mut self, slots: &[Slot], arm: &TArm) -> Result<(), Memory> {
-        self.put(b"IF ")?;
-        self.value(slots, &arm.cond)?;
-        self.put(b" THEN\n")?;
+    fn conditional(&mut self, slots: &[Slot], arm: &TArm) {
+        self.put(b"IF ");
+        self.value(slots, &arm.cond);
+        self.put(b" THEN\n");
         for stmt in &arm.body.items {
-            self.assignment(slots, stmt)?;
+            self.assignment(slots, stmt);
         }
-        self.put(b"END_IF;\n")
+        self.put(b"END_IF;\n");
     }
 
     /// The statement of an instruction.
-    fn statement(&mut self, slots: &[Slot], stmt: &TStmt) -> Result<(), Memory> {
+    fn statement(&mut self, slots: &[Slot], stmt: &TStmt) {
         match stmt {
             TStmt::If { arms, .. } => match arms.items.as_slice() {
                 [arm] => self.conditional(slots, arm),
-                _ => Ok(()),
+                _ => {}
             },
             _ => self.assignment(slots, stmt),
         }

@@ -5,7 +5,7 @@ ghost use Rattle.vcp_outside.specs.Written.{WritesTo};
 ghost use Rattle.vcp_study_core.specs.Forms.{usage_text};
 ghost use Rattle.vcp_inputs.specs.Lines.{rows_text};
 ghost use Rattle.vcp_study_core.specs.FromFiles.{fault_answer};
-ghost use Rattle.vcp_study_core.specs.Lines.{own_text, refused_line_text, run_text, verdicts_text};
+ghost use Rattle.vcp_study_core.specs.Lines.{own_text, refused_line_text, refused_words as refused_words_of, run_text, verdicts_text};
 
 use crate::fault::{Fault, StudyRefusal};
 use fault_names::Why;
@@ -96,21 +96,28 @@ fn tell_no_verdicts<E: Sink>(err: &mut E, name: &[u8], why: VerdictsFault) -> Re
     }
 }
 
+/// What is said of a line that names faults, by why it is refused.
+fn refused_words(why: Why) -> &'static [u8]
+    ensures { result.now ≡ refused_words_of why }
+{
+    match why {
+        Why::Form => b"F1 Form",
+        Why::Site => b"F2 Site",
+        Why::Early => b"F3 Early",
+        Why::Kind => b"F4 Kind",
+        Why::Faults => b"L5 Faults",
+        Why::Unknown => b"N1 Unknown",
+        Why::Several => b"N2 Several",
+        Why::Held => b"N3 Held",
+        Why::Image => b"N4 Image",
+    }
+}
+
 /// Prints the line where a line that names faults is refused.
 fn tell_refused_line<E: Sink>(err: &mut E, name: &[u8], line: u32, why: Why) -> Result<(), Failed>
     ensures { WritesTo (E.seen err.old) (E.seen err.new) (refused_line_text name.now line why) result }
 {
-    match why {
-        Why::Form => tell_place(err, name, line, b"F1 Form"),
-        Why::Site => tell_place(err, name, line, b"F2 Site"),
-        Why::Early => tell_place(err, name, line, b"F3 Early"),
-        Why::Kind => tell_place(err, name, line, b"F4 Kind"),
-        Why::Faults => tell_place(err, name, line, b"L5 Faults"),
-        Why::Unknown => tell_place(err, name, line, b"N1 Unknown"),
-        Why::Several => tell_place(err, name, line, b"N2 Several"),
-        Why::Held => tell_place(err, name, line, b"N3 Held"),
-        Why::Image => tell_place(err, name, line, b"N4 Image"),
-    }
+    tell_place(err, name, line, refused_words(why))
 }
 
 /// Prints the line of what rows are refused for too.

@@ -1,17 +1,12 @@
 use Rattle.vcp_study_core.specs.Texts.{IsCover}
-use Rattle.vcp_study_core.proofs.Facts.{appends-nothing}
-use Rattle.vcp_study_core.proofs.Carrying.{no_memory}
 use Rattle.vcp_study_core.proofs.Weights.{unweighed, weighed}
 use Rattle.vcp_study_core.proofs.cover.write_cover.Goals as goal
+
+pub returns-in-Ok : goal.returns-in-Ok
+returns-in-Ok g c =
+    weighed c.args.horizon c.args.name.now c.args.image.now (IsCover c.args.image.now c.args.horizon c.args.classes) _ _ _ _ c.in-Ok.ensures.few
+    c.write_survey.ensures
 
 pub returns-in-Err : goal.returns-in-Err
 returns-in-Err g c =
     rw c.bytes.ensures (unweighed c.args.horizon c.args.name.now c.args.image.now _ (g.O.Sink.seen c.args.out.now) c.in-Err.input c.in-Err.ensures.fault)
-
-pub returns-in-Ok-image_digest : goal.returns-in-Ok-image_digest
-returns-in-Ok-image_digest g c =
-    weighed c.args.horizon c.args.name.now c.args.image.now (IsCover c.args.image.now c.args.horizon c.args.classes) _ _ _ _ c.in-Ok.ensures.few
-    c.write_surveyed.ensures
-
-pub returns : goal.returns
-returns g c = no_memory _ _ _ (appends-nothing _)
