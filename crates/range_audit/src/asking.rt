@@ -1,7 +1,6 @@
 //! Why one operation may stop, by what the operations before it gave in the same cycle, and by cases of conditions.
 
 ghost use Rattle.std.specs.Prelude.{◌≡◌, ◌<◌, ◌≤◌, ℤ, List, length, IfOk};
-ghost use Rattle.op_graph.specs.Rules.{IsGraph};
 ghost use Rattle.range_walk.specs.Intervals.{Fit, Hold};
 ghost use Rattle.range_audit.specs.Searching.{NamesFrom, StopsFrom, StopsIn};
 ghost use Rattle.range_walk.specs.Walking.{Given, IsWalk};
@@ -25,7 +24,6 @@ fn stops_by_cases(
     depth: u32,
     left: &mut u64,
 ) -> Result<Stops, Memory>
-    requires graph { IsGraph graph.now }
     requires there { i < length graph.now.operations }
     requires many { length ranges.now ≡ i }
     requires cells { length cells.now ≡ length graph.now.stores }
@@ -68,7 +66,6 @@ pub(crate) fn narrowed_before(
     known: &[Range],
     i: u32,
 ) -> Result<Vec<Range>, Memory>
-    requires graph { IsGraph graph.now }
     requires there { i ≤ length graph.now.operations }
     requires many { length known.now ≡ length graph.now.operations }
     requires cells { length cells.now ≡ length graph.now.stores }
@@ -91,7 +88,6 @@ fn stops_after(
     i: u32,
     left: &mut u64,
 ) -> Result<Stops, Memory>
-    requires graph { IsGraph graph.now }
     requires there { i < length graph.now.operations }
     requires many { length known.now ≡ length graph.now.operations }
     requires cells { length cells.now ≡ length graph.now.stores }
@@ -127,7 +123,6 @@ fn stops_of(
     asked: bool,
     left: &mut u64,
 ) -> Result<Stops, Memory>
-    requires graph { IsGraph graph.now }
     requires there { i < length graph.now.operations }
     requires cells { length cells.now ≡ length graph.now.stores }
     requires walk { IsWalk graph.now.operations cells.now inputs.now told.now }
@@ -158,7 +153,6 @@ pub(crate) fn closer_stops(
     done: &[Stops],
     left: &mut u64,
 ) -> Result<Vec<Stops>, Memory>
-    requires graph { IsGraph graph.now }
     requires cells { length cells.now ≡ length graph.now.stores }
     requires walk { IsWalk graph.now.operations cells.now inputs.now told.now }
     ensures many { IfOk result (λ found. length found.items ≡ length graph.now.operations) }

@@ -1,8 +1,7 @@
 //! What is found of all operations of a graph, in all runs.
 
-ghost use Rattle.std.specs.Prelude.{◌≡◌, ◌<◌, Some, length, slice_get, IfOk};
+ghost use Rattle.std.specs.Prelude.{◌≡◌, length, IfOk};
 ghost use Rattle.range_audit.specs.Audit.{Holds, NamesStops, EndsNamed, named_below, NeverStops, HoldsWithin, NamesStopsWithin, EndsNamedWithin, IsAuditWithin, NeverStopsWithin};
-ghost use Rattle.op_graph.specs.Rules.{IsGraph};
 ghost use Rattle.range_walk.specs.Intervals.{Hold};
 ghost use Rattle.range_walk.specs.Known.{NamesAble, LieInTypes};
 ghost use Rattle.range_audit.specs.Searching.{AreSettled};
@@ -21,7 +20,6 @@ fn ranges_in_one_box(
     inputs: &[Range],
     cells: &[Range],
 ) -> Result<Ranges, Memory>
-    requires graph { IsGraph graph.now }
     requires many { length cells.now ≡ length graph.now.stores }
     requires settled { AreSettled graph.now inputs.now (Hold cells.now) }
     ensures { IfOk result (λ a. IsAuditWithin graph.now inputs.now a) }
@@ -29,6 +27,7 @@ fn ranges_in_one_box(
     // No operation stops because an operand is outside its type.
     operands_are_in_their_types();
     entries_keep_their_rules();
+    let _operations = graph.len();
     let told = walk(alloc, graph, cells, inputs)?;
     Ok(told)
 }

@@ -1,9 +1,8 @@
 //! Boxes of cells: lists of ranges, one range for each cell, and one box behind another.
 
-ghost use Rattle.std.specs.Prelude.{◌≡◌, ◌<◌, ◌≤◌, ◌+◌, ℕ, ℤ, true, List, length, slice_get, Some, IfOk};
+ghost use Rattle.std.specs.Prelude.{◌≡◌, ◌<◌, ◌≤◌, ◌+◌, ℤ, true, List, length, IfOk};
 ghost use Rattle.op_graph.specs.GraphRun.{stored};
-ghost use Rattle.op_graph.specs.Rules.{IsGraph};
-ghost use Rattle.range_walk.specs.Intervals.{IsIn, Fit, Hold};
+ghost use Rattle.range_walk.specs.Intervals.{Fit, Hold};
 ghost use Rattle.range_audit.specs.Searching.{start_of, HoldAt, InBox};
 
 use crate::cells::stored_range;
@@ -85,7 +84,8 @@ pub(crate) fn is_in_one(cells: &[Range], boxes: &[Range], count: u32) -> bool
 
 /// Whether one of the ranges has no value.
 pub(crate) fn has_none(ranges: &[Range]) -> bool
-    ensures { result ≡ true → (j : ℕ) × (r : Range) × (slice_get ranges.now j ≡ Some r) × ((v : ℤ) → IsIn r v → ⊥) }
+    ensures fit { result ≡ true → (vs : List ℤ) → length ranges.now ≤ length vs → Fit ranges.now vs → ⊥ }
+    ensures hold { result ≡ true → (held : List ℤ) → Hold ranges.now held → ⊥ }
 {
     'places: for j in 0..ranges.len() {
         let range = range_at(ranges, j);
@@ -103,7 +103,6 @@ pub(crate) fn stored_cells(
     graph: &Graph,
     ranges: &[Range],
 ) -> Result<Vec<Range>, Memory>
-    requires graph { IsGraph graph.now }
     requires many { length ranges.now ≡ length graph.now.operations }
     ensures many { IfOk result (λ cells. length cells.items ≡ length graph.now.stores) }
     ensures holds { IfOk result (λ cells. (vs : List ℤ) → length vs ≡ length graph.now.operations → Fit ranges.now vs
@@ -111,6 +110,7 @@ pub(crate) fn stored_cells(
 {
     // The STORE of each cell is an operation.
     entries_keep_their_rules();
+    let _operations = graph.len();
     let count = cell_count(graph);
     let mut cells = Vec::with_capacity(alloc, count)?;
     'cells: for k in 0..count {

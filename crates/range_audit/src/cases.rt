@@ -1,10 +1,8 @@
 //! Where whole cycles end, by cases of the values of one operation.
 
 ghost use Rattle.std.specs.Prelude.{◌≡◌, ◌<◌, ◌≤◌, ℤ, true, List, length, IfOk};
-ghost use Rattle.vcp_base.specs.Values.{at};
 ghost use Rattle.op_graph.specs.GraphRun.{stored};
-ghost use Rattle.op_graph.specs.Rules.{IsGraph};
-ghost use Rattle.range_walk.specs.Intervals.{Fit, Hold};
+ghost use Rattle.range_walk.specs.Intervals.{Fit};
 ghost use Rattle.range_audit.specs.Searching.{IsHalved, IsValueIn, NarrowsTo, start_of, InBox, EndsIn};
 ghost use Rattle.range_walk.specs.Walking.{Narrows};
 
@@ -27,7 +25,6 @@ pub(crate) fn copied(alloc: Global, ranges: &[Range]) -> Result<Vec<Range>, Memo
 
 /// Makes the ranges of the operations of a cycle, in which the value of operation `n` is in `r`, narrower: of all, or of the first ones.
 fn narrow_to(graph: &Graph, cells: &[Range], ranges: &mut [Range], n: u32, r: Range)
-    requires graph { IsGraph graph.now }
     requires there { n < length ranges.old }
     requires many { length ranges.old ≤ length graph.now.operations }
     requires cells { length cells.now ≡ length graph.now.stores }
@@ -47,7 +44,6 @@ fn part(
     n: u32,
     r: Range,
 ) -> Result<Vec<Range>, Memory>
-    requires graph { IsGraph graph.now }
     requires there { n < length ranges.now }
     requires many { length ranges.now ≤ length graph.now.operations }
     requires cells { length cells.now ≡ length graph.now.stores }
@@ -76,7 +72,6 @@ pub(crate) fn halved(
     ranges: &[Range],
     q: u32,
 ) -> Result<Halves, Memory>
-    requires graph { IsGraph graph.now }
     requires there { q < length ranges.now }
     requires many { length ranges.now ≤ length graph.now.operations }
     requires cells { length cells.now ≡ length graph.now.stores }
@@ -118,7 +113,6 @@ pub(crate) fn range_by_cases(
     depth: u32,
     left: &mut u64,
 ) -> Result<Range, Memory>
-    requires graph { IsGraph graph.now }
     requires there { j < length ranges.now }
     requires many { length ranges.now ≤ length graph.now.operations }
     requires cells { length cells.now ≡ length graph.now.stores }
@@ -164,7 +158,6 @@ fn narrow_by_cases(
     wanted: Range,
     left: &mut u64,
 ) -> Result<(), Memory>
-    requires graph { IsGraph graph.now }
     requires there { j < length ranges.old }
     requires many { length ranges.old ≤ length graph.now.operations }
     requires cells { length cells.now ≡ length graph.now.stores }
@@ -186,7 +179,6 @@ fn narrow_stores(
     start: usize,
     left: &mut u64,
 ) -> Result<(), Memory>
-    requires graph { IsGraph graph.now }
     requires many { length ranges.old ≡ length graph.now.operations }
     requires cells { length cells.now ≡ length graph.now.stores }
     ensures many { length ranges.new ≡ length ranges.old }
@@ -213,7 +205,6 @@ fn closer_part(
     r: Range,
     left: &mut u64,
 ) -> Result<Vec<Range>, Memory>
-    requires graph { IsGraph graph.now }
     requires there { n < length graph.now.operations }
     requires many { length ranges.now ≡ length graph.now.operations }
     requires cells { length cells.now ≡ length graph.now.stores }
@@ -245,7 +236,6 @@ fn ends(
     count: u32,
     missed: &mut Vec<Range>,
 ) -> Result<bool, Memory>
-    requires graph { IsGraph graph.now }
     requires many { length ranges.now ≡ length graph.now.operations }
     requires boxes { start_of (length graph.now.stores) count ≤ length boxes.now }
     ensures { IfOk result (λ is. is ≡ true → (vs : List ℤ) → length vs ≡ length graph.now.operations → Fit ranges.now vs
@@ -274,7 +264,6 @@ pub(crate) fn ends_by_cases(
     left: &mut u64,
     missed: &mut Vec<Range>,
 ) -> Result<bool, Memory>
-    requires graph { IsGraph graph.now }
     requires there { n < length graph.now.operations }
     requires many { length ranges.now ≡ length graph.now.operations }
     requires cells { length cells.now ≡ length graph.now.stores }

@@ -1,8 +1,7 @@
 //! Ranges in which the cells are always.
 
-ghost use Rattle.std.specs.Prelude.{◌≡◌, ◌<◌, ℕ, ℤ, true, List, length, slice_get, Some, IfOk};
+ghost use Rattle.std.specs.Prelude.{◌≡◌, ◌<◌, ℕ, true, List, length, slice_get, Some, IfOk};
 ghost use Rattle.op_graph.specs.GraphRun.{initial};
-ghost use Rattle.op_graph.specs.Rules.{IsGraph};
 ghost use Rattle.range_walk.specs.declared.range.Range.{Range as Interval};
 ghost use Rattle.range_walk.specs.Intervals.{IsIn, Hold};
 ghost use Rattle.range_audit.specs.Searching.{AreKept, CellKept, KeptAt, AreSettled};
@@ -45,24 +44,24 @@ pub(crate) fn store_of(graph: &Graph, k: usize) -> u32
 
 /// The number of the STORE of the cell at `place`.
 pub(crate) fn store_at(graph: &Graph, place: usize) -> u32
-    requires graph { IsGraph graph.now }
     requires place { place < length graph.now.stores }
     ensures { result < length graph.now.operations }
 {
     // The STORE of each cell is an operation.
     entries_keep_their_rules();
+    let _count = graph.len();
     store_of(graph, place)
 }
 
 /// The range of what is stored in cell `k`.
 pub(crate) fn stored_range(graph: &Graph, known: &[Range], k: usize) -> Range
-    requires graph { IsGraph graph.now }
     requires there { k < length graph.now.stores }
     requires known { length known.now ≡ length graph.now.operations }
     ensures { (n : ℕ) → slice_get graph.now.stores k ≡ Some n → slice_get known.now n ≡ Some result }
 {
     // The STORE of each cell is an operation.
     entries_keep_their_rules();
+    let _count = graph.len();
     let store = store_of(graph, k);
     range_at(known, store as usize)
 }
@@ -76,12 +75,12 @@ fn is_kept(cell: Range, load: Loaded, stored: Range) -> bool
 
 /// Whether cell `k` is in its range at first, and stays there where the operations are in theirs.
 fn is_cell_kept(graph: &Graph, cells: &[Range], known: &[Range], k: usize) -> bool
-    requires graph { IsGraph graph.now }
     requires there { k < length graph.now.stores }
     requires cells { length cells.now ≡ length graph.now.stores }
     requires known { length known.now ≡ length graph.now.operations }
     ensures { result ≡ true → KeptAt graph.now cells.now known.now k }
 {
+    let _count = graph.len();
     let cell = range_at(cells, k);
     let load = load_of(graph, k);
     let stored = stored_range(graph, known, k);
@@ -90,13 +89,13 @@ fn is_cell_kept(graph: &Graph, cells: &[Range], known: &[Range], k: usize) -> bo
 
 /// Whether the cells are in their ranges at first, and stay there where the operations are in theirs.
 fn are_kept(graph: &Graph, cells: &[Range], known: &[Range]) -> bool
-    requires graph { IsGraph graph.now }
     requires cells { length cells.now ≡ length graph.now.stores }
     requires known { length known.now ≡ length graph.now.operations }
     ensures { result ≡ true → AreKept graph.now cells.now known.now }
 {
     // The STORE of each cell is an operation.
     entries_keep_their_rules();
+    let _count = graph.len();
     'cells: for k in 0..cells.len() {
         let kept = is_cell_kept(graph, cells, known, k);
         if !kept {
@@ -172,11 +171,11 @@ pub(crate) fn widened(cell: Range, stored: Range, ty: Ty, step: Step, numbers: &
 
 /// The ranges of the cells for the next round.
 fn renew(graph: &Graph, cells: &mut [Range], known: &[Range], step: Step, numbers: &[i64])
-    requires graph { IsGraph graph.now }
     requires cells { length cells.old ≡ length graph.now.stores }
     requires known { length known.now ≡ length graph.now.operations }
     ensures { length cells.new ≡ length cells.old }
 {
+    let _count = graph.len();
     'cells: for k in 0..cells.len() {
         let stored = stored_range(graph, known, k);
         let load = load_of(graph, k);
@@ -208,12 +207,12 @@ pub(crate) fn initial_cells(alloc: Global, graph: &Graph) -> Result<Vec<Range>, 
 
 /// The type of each cell, as a range.
 fn typed_cells(alloc: Global, graph: &Graph) -> Result<Vec<Range>, Memory>
-    requires { IsGraph graph.now }
     ensures many { IfOk result (λ cells. length cells.items ≡ length graph.now.loads) }
     ensures settled { IfOk result (λ cells. (inputs : List Interval) → AreSettled graph.now inputs (Hold cells.items)) }
 {
     // Each cell always has a value of its type.
     operands_are_in_their_types();
+    let _count = graph.len();
     let count = graph.cells() as usize;
     let mut cells = Vec::with_capacity(alloc, count)?;
     'cells: for k in 0..count {
@@ -226,7 +225,6 @@ fn typed_cells(alloc: Global, graph: &Graph) -> Result<Vec<Range>, Memory>
 
 /// Ranges in which the cells are always, on rows whose inputs are in these. Where none are found in the rounds that are tried, these are the types.
 fn found(alloc: Global, graph: &Graph, inputs: &[Range]) -> Result<Vec<Range>, Memory>
-    ensures graph { IsGraph graph.now }
     ensures many { IfOk result (λ cells. length cells.items ≡ length graph.now.stores) }
     ensures settled { IfOk result (λ cells. AreSettled graph.now inputs.now (Hold cells.items)) }
 {
@@ -244,51 +242,20 @@ fn found(alloc: Global, graph: &Graph, inputs: &[Range]) -> Result<Vec<Range>, M
     Ok(typed)
 }
 
-/// Whether the cells are always in these ranges, as far as that is seen.
-fn are_settled(
-    alloc: Global,
-    graph: &Graph,
-    inputs: &[Range],
-    cells: &[Range],
-) -> Result<bool, Memory>
-    requires graph { IsGraph graph.now }
-    requires many { length cells.now ≡ length graph.now.stores }
-    ensures { IfOk result (λ is. is ≡ true → AreSettled graph.now inputs.now (Hold cells.now)) }
-{
-    let told = walk(alloc, graph, cells, inputs)?;
-    Ok(are_kept(graph, cells, told.known()))
-}
-
-/// Ranges in which the cells are always, where these are some: the values at first and those that are stored where the cells are in
-/// these. They are no wider, and narrower where a round took an end of the type that no value comes to.
-fn closer(
-    alloc: Global,
-    graph: &Graph,
-    inputs: &[Range],
-    cells: Vec<Range>,
-) -> Result<Vec<Range>, Memory>
-    requires graph { IsGraph graph.now }
-    requires many { length cells.items ≡ length graph.now.stores }
-    requires settled { AreSettled graph.now inputs.now (Hold cells.items) }
-    ensures many { IfOk result (λ found. length found.items ≡ length graph.now.stores) }
-    ensures settled { IfOk result (λ found. AreSettled graph.now inputs.now (Hold found.items)) }
-{
-    let told = walk(alloc, graph, &cells, inputs)?;
-    let mut next = initial_cells(alloc, graph)?;
-    renew(graph, &mut next, told.known(), Step::Near, &[]);
-    let is = are_settled(alloc, graph, inputs, &next)?;
-    if is {
-        return Ok(next);
-    }
-    Ok(cells)
-}
-
-/// Ranges in which the cells are always, on rows whose inputs are in these.
+/// Ranges in which the cells are always, on rows whose inputs are in these: the values at first and those that are stored where the cells are in the
+/// ranges that the rounds find, where that still holds them. So they are narrower where a round took an end of the type that no value comes to.
 pub(crate) fn settled(alloc: Global, graph: &Graph, inputs: &[Range]) -> Result<Vec<Range>, Memory>
-    ensures graph { IsGraph graph.now }
     ensures many { IfOk result (λ cells. length cells.items ≡ length graph.now.stores) }
     ensures settled { IfOk result (λ cells. AreSettled graph.now inputs.now (Hold cells.items)) }
 {
+    let _operations = graph.len();
     let cells = found(alloc, graph, inputs)?;
-    closer(alloc, graph, inputs, cells)
+    let told = walk(alloc, graph, &cells, inputs)?;
+    let mut next = initial_cells(alloc, graph)?;
+    renew(graph, &mut next, told.known(), Step::Near, &[]);
+    let again = walk(alloc, graph, &next, inputs)?;
+    if are_kept(graph, &next, again.known()) {
+        return Ok(next);
+    }
+    Ok(cells)
 }

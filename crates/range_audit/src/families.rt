@@ -1,7 +1,6 @@
 //! Boxes in one of which the cells always are: a box for each value of one cell.
 
 ghost use Rattle.std.specs.Prelude.{◌≡◌, ◌<◌, ◌≤◌, ◌+◌, ℕ, true, length, IfOk, IfSome};
-ghost use Rattle.op_graph.specs.Rules.{IsGraph};
 ghost use Rattle.range_audit.specs.Audit.{IsAuditWithin};
 ghost use Rattle.range_walk.specs.Intervals.{Hold};
 ghost use Rattle.range_audit.specs.Searching.{start_of, InBox, EndsFrom, AreSettled};
@@ -50,7 +49,6 @@ fn is_box_kept(
     left: &mut u64,
     missed: &mut Vec<Range>,
 ) -> Result<bool, Memory>
-    requires graph { IsGraph graph.now }
     requires there { n < length graph.now.operations }
     requires boxes { start_of (length graph.now.stores) count ≤ length boxes.now }
     requires start { start + length graph.now.stores ≤ length boxes.now }
@@ -82,7 +80,6 @@ fn are_boxes_kept(
     left: &mut u64,
     missed: &mut Vec<Range>,
 ) -> Result<bool, Memory>
-    requires graph { IsGraph graph.now }
     requires there { n < length graph.now.operations }
     requires boxes { start_of (length graph.now.stores) count ≤ length boxes.now }
     ensures { IfOk result (λ is. is ≡ true → (k : ℕ) → k < count → EndsFrom graph.now inputs.now boxes.now count (start_of (length graph.now.stores) k)) }
@@ -109,11 +106,11 @@ fn is_family(
     left: &mut u64,
     missed: &mut Vec<Range>,
 ) -> Result<bool, Memory>
-    requires graph { IsGraph graph.now }
     requires there { n < length graph.now.operations }
     requires boxes { start_of (length graph.now.stores) count ≤ length boxes.now }
     ensures { IfOk result (λ is. is ≡ true → AreSettled graph.now inputs.now (InBox boxes.now (length graph.now.stores) count)) }
 {
+    let _operations = graph.len();
     let first = initial_cells(alloc, graph)?;
     let begins = is_in_one(&first, boxes, count);
     let kept = are_boxes_kept(alloc, graph, inputs, boxes, count, n, left, missed)?;
@@ -237,7 +234,6 @@ fn family(
     left: &mut u64,
     numbers: &[i64],
 ) -> Result<Option<Vec<Range>>, Memory>
-    requires graph { IsGraph graph.now }
     requires place { place < length graph.now.stores }
     ensures room { IfOk result (λ found. IfSome found (λ boxes. start_of (length graph.now.stores) count ≤ length boxes.items)) }
     ensures settled { IfOk result (λ found. IfSome found (λ boxes. AreSettled graph.now inputs.now (InBox boxes.items (length graph.now.stores) count))) }
@@ -291,7 +287,6 @@ fn with_family(
     asked: &mut u64,
     answers: &mut u64,
 ) -> Result<Ranges, Memory>
-    requires graph { IsGraph graph.now }
     requires room { start_of (length graph.now.stores) count ≤ length boxes.now }
     requires settled { AreSettled graph.now inputs.now (InBox boxes.now (length graph.now.stores) count) }
     requires audit { IsAuditWithin graph.now inputs.now ranges.now }
@@ -300,6 +295,7 @@ fn with_family(
     // No operation stops because an operand is outside its type.
     operands_are_in_their_types();
     entries_keep_their_rules();
+    let _operations = graph.len();
     let named = ranges.stops();
     let others = named_from(alloc, graph, inputs, boxes, count, named, asked)?;
     let stops = named_by(alloc, true, named, &others)?;
@@ -363,7 +359,6 @@ fn closer_by_family(
     numbers: &[i64],
     answers: &mut u64,
 ) -> Result<Ranges, Memory>
-    requires graph { IsGraph graph.now }
     requires place { place < length graph.now.stores }
     requires audit { IsAuditWithin graph.now inputs.now ranges }
     ensures { IfOk result (λ a. IsAuditWithin graph.now inputs.now a) }
@@ -395,7 +390,6 @@ fn closer_by(
     numbers: &[i64],
     answers: &mut u64,
 ) -> Result<Ranges, Memory>
-    requires graph { IsGraph graph.now }
     requires place { place < length graph.now.stores }
     requires audit { IsAuditWithin graph.now inputs.now ranges }
     ensures { IfOk result (λ a. IsAuditWithin graph.now inputs.now a) }
@@ -428,7 +422,6 @@ fn closer_by_each(
     numbers: &[i64],
     answers: &mut u64,
 ) -> Result<Ranges, Memory>
-    requires graph { IsGraph graph.now }
     requires audit { IsAuditWithin graph.now inputs.now ranges }
     ensures { IfOk result (λ a. IsAuditWithin graph.now inputs.now a) }
 {
@@ -454,7 +447,6 @@ fn closer_in_one(
     numbers: &[i64],
     answers: &mut u64,
 ) -> Result<Ranges, Memory>
-    requires graph { IsGraph graph.now }
     requires audit { IsAuditWithin graph.now inputs.now ranges }
     ensures { IfOk result (λ a. IsAuditWithin graph.now inputs.now a) }
 {
@@ -479,7 +471,6 @@ pub(crate) fn closer(
     cells: &[Range],
     closely: bool,
 ) -> Result<Ranges, Memory>
-    requires graph { IsGraph graph.now }
     requires audit { IsAuditWithin graph.now inputs.now ranges }
     requires many { length cells.now ≡ length graph.now.stores }
     requires settled { AreSettled graph.now inputs.now (Hold cells.now) }

@@ -1,8 +1,7 @@
 //! The ranges of operations over several boxes of cells, and of two searches the closer ones.
 
-ghost use Rattle.std.specs.Prelude.{◌≡◌, ◌⊎◌, ◌≤ℤ◌, ◌<◌, ◌≤◌, ◌+◌, ℤ, List, length, IfOk};
+ghost use Rattle.std.specs.Prelude.{◌≡◌, ◌≤ℤ◌, ◌<◌, ◌≤◌, ◌+◌, ℤ, List, length, IfOk};
 ghost use Rattle.op_graph.specs.declared.op.Op.{Op as Operation};
-ghost use Rattle.op_graph.specs.Rules.{IsGraph};
 ghost use Rattle.range_walk.specs.Intervals.{IsIn, Fit, Hold};
 ghost use Rattle.range_walk.specs.Known.{LieInTypes};
 ghost use Rattle.range_walk.specs.Walking.{Given};
@@ -103,7 +102,6 @@ fn asked_range(
     i: u32,
     left: &mut u64,
 ) -> Result<Range, Memory>
-    requires graph { IsGraph graph.now }
     requires there { i < length graph.now.operations }
     requires many { length known.now ≡ length graph.now.operations }
     requires cells { length cells.now ≡ length graph.now.stores }
@@ -125,7 +123,6 @@ fn output_range(
     i: u32,
     left: &mut u64,
 ) -> Result<Range, Memory>
-    requires graph { IsGraph graph.now }
     requires there { i < length graph.now.operations }
     requires many { length known.now ≡ length graph.now.operations }
     requires cells { length cells.now ≡ length graph.now.stores }
@@ -150,7 +147,6 @@ fn closer_outputs(
     known: &[Range],
     left: &mut u64,
 ) -> Result<Vec<Range>, Memory>
-    requires graph { IsGraph graph.now }
     requires many { length known.now ≡ length graph.now.operations }
     requires cells { length cells.now ≡ length graph.now.stores }
     ensures many { IfOk result (λ closer. length closer.items ≡ length graph.now.operations) }
@@ -176,7 +172,6 @@ fn with_known_box(
     known: Vec<Range>,
     left: &mut u64,
 ) -> Result<Vec<Range>, Memory>
-    requires graph { IsGraph graph.now }
     requires start { start + length graph.now.stores ≤ length boxes.now }
     requires many { length known.items ≡ length graph.now.operations }
     ensures many { IfOk result (λ more. length more.items ≡ length graph.now.operations) }
@@ -205,7 +200,6 @@ pub(crate) fn known_from(
     count: u32,
     left: &mut u64,
 ) -> Result<Vec<Range>, Memory>
-    requires graph { IsGraph graph.now }
     requires boxes { start_of (length graph.now.stores) count ≤ length boxes.now }
     ensures many { IfOk result (λ known. length known.items ≡ length graph.now.operations) }
     ensures fits { IfOk result (λ known. FitsFrom graph.now.operations inputs.now (InBox boxes.now (length graph.now.stores) count) known.items) }

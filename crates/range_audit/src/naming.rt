@@ -2,7 +2,6 @@
 
 ghost use Rattle.std.specs.Prelude.{◌≡◌, ◌<◌, ◌≤◌, ◌+◌, ℕ, true, false, length, slice_get, IfOk, Some};
 ghost use Rattle.vcp_base.specs.declared.kind.StopKind.{StopKind};
-ghost use Rattle.op_graph.specs.Rules.{IsGraph};
 ghost use Rattle.range_walk.specs.Known.{may_stop, is_named};
 ghost use Rattle.range_audit.specs.Searching.{start_of, HoldAt, InBox, NamesFrom};
 ghost use Rattle.range_walk.specs.Walking.{Parts};
@@ -94,7 +93,6 @@ fn with_box(
     wanted: &[Stops],
     left: &mut u64,
 ) -> Result<Vec<Stops>, Memory>
-    requires graph { IsGraph graph.now }
     requires start { start + length graph.now.stores ≤ length boxes.now }
     requires many { length stops.items ≡ length graph.now.operations }
     ensures many { IfOk result (λ more. length more.items ≡ length graph.now.operations) }
@@ -125,7 +123,6 @@ pub(crate) fn named_from(
     wanted: &[Stops],
     left: &mut u64,
 ) -> Result<Vec<Stops>, Memory>
-    requires graph { IsGraph graph.now }
     requires boxes { start_of (length graph.now.stores) count ≤ length boxes.now }
     ensures many { IfOk result (λ stops. length stops.items ≡ length graph.now.operations) }
     ensures named { IfOk result (λ stops. NamesFrom graph.now.operations inputs.now (InBox boxes.now (length graph.now.stores) count) stops.items) }

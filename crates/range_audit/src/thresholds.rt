@@ -1,6 +1,6 @@
 //! Numbers at which the range of a cell may come to rest: those that comparisons read, and their neighbours.
 
-ghost use Rattle.std.specs.Prelude.{◌≡◌, ◌<◌, ◌≤◌, length};
+ghost use Rattle.std.specs.Prelude.{◌<◌, ◌≤◌, length};
 
 use op_graph::{Graph, Op};
 use std::alloc::Global;

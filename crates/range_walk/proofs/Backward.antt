@@ -68,18 +68,3 @@ zero_by x y z r false e i out = absurd (out i)
 -- what is taken can't be the second of the two, so the condition is 0
 pub must_be_zero : (x y z : ℤ) (r : Range) → IsIn r (cond (same x (pos 0)) y z) → (IsIn r z → ⊥) → x ≡ pos 0
 must_be_zero x y z r i out = zero_by x y z r (same x (pos 0)) refl i out
-
-chosen_from : (b : Bool) (y z v : ℤ) (r : Range) → v ≡ cond b y z → IsIn r v → (IsIn r y → ⊥) → (IsIn r z → ⊥) → ⊥
-chosen_from true y z v r e i out other = out (subst (λ w. IsIn r w) e i)
-chosen_from false y z v r e i out other = other (subst (λ w. IsIn r w) e i)
-
--- a value that is one of two, neither of which can be
-pub taken_nowhere : (r : Range) (x y z v : ℤ) → v ≡ cond (same x (pos 0)) y z → IsIn r v → (IsIn r y → ⊥) → (IsIn r z → ⊥) → ⊥
-taken_nowhere r x y z v e i out other = chosen_from (same x (pos 0)) y z v r e i out other
-
--- what is taken isn't the first of the two, so the condition isn't 0
-pub not_taken_first : (r : Range) (x y z v : ℤ) → v ≡ cond (same x (pos 0)) y z → IsIn r v → (IsIn r y → ⊥) → x ≢ pos 0
-not_taken_first r x y z v e i out zero = out (no_taken r x y z (subst (λ w. IsIn r w) e i) zero)
-
-pub not_taken_second : (r : Range) (x y z v : ℤ) → v ≡ cond (same x (pos 0)) y z → IsIn r v → (IsIn r z → ⊥) → x ≡ pos 0
-not_taken_second r x y z v e i out = must_be_zero x y z r (subst (λ w. IsIn r w) e i) out

@@ -9,7 +9,7 @@ use Rattle.vcp_base.specs.Kinds.{operands, value, truth, same, divides_by_zero}
 use Rattle.vcp_base.specs.Values.{at}
 use Rattle.op_graph.specs.declared.op.Op.{Op}
 use Rattle.op_graph.specs.GraphRun.{own, read, outcome_of}
-use Rattle.range_walk.specs.Walking.{Taken, Said, Parts, Compares, OperandIs}
+use Rattle.range_walk.specs.Walking.{Taken, Said, Parts, Compares, reads_earlier}
 use Rattle.range_walk.proofs.Outcomes.{ok_says}
 use Rattle.range_walk.proofs.ValueBounds.{same_is, is_same, true_false, refuted}
 
@@ -80,8 +80,11 @@ denied true x zero_or_one h = λ e. let no : pos 1 -ℤ pos 1 ≡ pos 1 = ap (λ
 denied false x (inl zero) h = absurd (h (ap (λ v. pos 1 -ℤ v) zero))
 denied false x (inr one) h = one
 
-twice_negated : (x : ℤ) → neg_ℤ (neg_ℤ x) ≡ x
+pub twice_negated : (x : ℤ) → neg_ℤ (neg_ℤ x) ≡ x
 twice_negated x = omega (arith, ints)
+
+pub twice_by : (y x : ℤ) → neg_ℤ y ≡ x → y ≡ neg_ℤ x
+twice_by y x e = sym (twice_negated y) ∙ ap neg_ℤ e
 
 -- ---- operations of a cycle
 
@@ -102,25 +105,19 @@ module _ (held row vs : List ℤ) (op : Op) (c : ℕ) (e : outcome_of held row (
   earlier f first second =
       ap (λ x. f x (at (take c vs) op.b)) (get_or-take c vs op.a (pos 0) first) ∙ ap (λ y. f (at vs op.a) y) (get_or-take c vs op.b (pos 0) second)
 
-  pub comparison : op.kind ≡ kind.Lt → op.a < c → op.b < c → at vs c ≡ truth (int_lt (at vs op.a) (at vs op.b))
-  comparison is first second = valued kind.Lt is ∙ earlier (λ x y. truth (int_lt x y)) first second
-
-  pub equality : op.kind ≡ kind.Eq → op.a < c → op.b < c → at vs c ≡ truth (same (at vs op.a) (at vs op.b))
-  equality is first second = valued kind.Eq is ∙ earlier (λ x y. truth (same x y)) first second
-
   -- what a comparison gives, and its value over these operands
   pub compares : Compares op.kind → op.a < c → op.b < c
       → (b : Bool) × (at vs c ≡ truth b) × (value op.kind op.imm (at vs op.a) (at vs op.b) (at vs op.b) ≡ truth b)
       × (divides_by_zero op.kind (at vs op.b) ≡ false)
   compares (inl is) first second = (
     int_lt (at vs op.a) (at vs op.b),
-    comparison is first second,
+    valued kind.Lt is ∙ earlier (λ x y. truth (int_lt x y)) first second,
     subst (λ k. value k op.imm (at vs op.a) (at vs op.b) (at vs op.b) ≡ truth (int_lt (at vs op.a) (at vs op.b))) (sym is) refl,
     subst (λ k. divides_by_zero k (at vs op.b) ≡ false) (sym is) refl,
   )
   compares (inr is) first second = (
     same (at vs op.a) (at vs op.b),
-    equality is first second,
+    valued kind.Eq is ∙ earlier (λ x y. truth (same x y)) first second,
     subst (λ k. value k op.imm (at vs op.a) (at vs op.b) (at vs op.b) ≡ truth (same (at vs op.a) (at vs op.b))) (sym is) refl,
     subst (λ k. divides_by_zero k (at vs op.b) ≡ false) (sym is) refl,
   )
@@ -165,17 +162,7 @@ not_one x zero one = let no : pos 0 ≡ pos 1 = sym zero ∙ one in absurd cc
 pub not_zero : (x : ℤ) → x ≡ pos 1 → x ≢ pos 0
 not_zero x one zero = let no : pos 0 ≡ pos 1 = sym zero ∙ one in absurd cc
 
--- an operand that a kind has is there
-pub there : (cells count : ℕ) (k : Kind) (imm : ℤ) (n j : ℕ) (is : Kind) → k ≡ is → nat_lt j (operands is) ≡ true
-    → (nat_lt j (operands k) ≡ true → OperandIs cells count k imm n) → OperandIs cells count is imm n
-there cells count k imm n j is e has h =
-    subst (λ t. (nat_lt j (operands t) ≡ true → OperandIs cells count t imm n) → OperandIs cells count is imm n) (sym e) (λ f. f has) h
-
--- both operands of a comparison are there
-pub compares_first : (cells count : ℕ) (k : Kind) (imm : ℤ) (n : ℕ) → Compares k → (nat_lt 0 (operands k) ≡ true → OperandIs cells count k imm n) → n < count
-compares_first cells count k imm n (inl is) h = there cells count k imm n 0 kind.Lt is refl h
-compares_first cells count k imm n (inr is) h = there cells count k imm n 0 kind.Eq is refl h
-
-pub compares_second : (cells count : ℕ) (k : Kind) (imm : ℤ) (n : ℕ) → Compares k → (nat_lt 1 (operands k) ≡ true → OperandIs cells count k imm n) → n < count
-compares_second cells count k imm n (inl is) h = there cells count k imm n 1 kind.Lt is refl h
-compares_second cells count k imm n (inr is) h = there cells count k imm n 1 kind.Eq is refl h
+-- a comparison reads two earlier operations
+pub compares_reads : (k : Kind) → Compares k → (reads_earlier k 0 ≡ true) × (reads_earlier k 1 ≡ true)
+compares_reads k (inl is) = (ap (λ t. reads_earlier t 0) is, ap (λ t. reads_earlier t 1) is)
+compares_reads k (inr is) = (ap (λ t. reads_earlier t 0) is, ap (λ t. reads_earlier t 1) is)

@@ -11,7 +11,7 @@ use Rattle.op_graph.specs.GraphRun.{operand, read}
 use Rattle.range_walk.specs.declared.range.Range.{Range}
 use Rattle.range_walk.specs.declared.range.Bounds.{Bounds}
 use Rattle.range_walk.specs.Intervals.{IsIn, IsWithin}
-use Rattle.range_walk.specs.Walking.{OperandIs, OperandsAre}
+use Rattle.range_walk.specs.Walking.{OperandIs, reads_earlier}
 
 pub other_there : (cells count : ℕ) (k : Kind) (imm : ℤ) (n : ℕ) → (k ≡ kind.Load → ⊥) → OperandIs cells count k imm n → n < count
 other_there cells count kind.Load imm n other h = absurd (other refl)
@@ -57,14 +57,8 @@ choice_value r held vs op is h =
     subst (λ k. IsWithin r (value k op.imm (cond (nat_lt 0 (operands k)) (read held vs k op.imm op.a) (pos 0))
     (cond (nat_lt 1 (operands k)) (read held vs k op.imm op.b) (pos 0)) (cond (nat_lt 2 (operands k)) (read held vs k op.imm op.c) (pos 0)))) (sym is) h
 
--- they are earlier operations
-choice_read : (cells count : ℕ) (k : Kind) (imm : ℤ) (n j : ℕ) → k ≡ kind.Sel → nat_lt j 3 ≡ true
-    → (nat_lt j (operands k) ≡ true → OperandIs cells count k imm n) → n < count
-choice_read cells count k imm n j is there h = subst (λ t. (nat_lt j (operands t) ≡ true → OperandIs cells count t imm n) → n < count) (sym is) (λ f. f there) h
+-- ---- operations that are read
 
-pub choice_reads : (cells count : ℕ) (op : Op) → op.kind ≡ kind.Sel → OperandsAre cells count op → (op.a < count) × (op.b < count) × (op.c < count)
-choice_reads cells count op is are = (
-  choice_read cells count op.kind op.imm op.a 0 is refl are.first,
-  choice_read cells count op.kind op.imm op.b 1 is refl are.second,
-  choice_read cells count op.kind op.imm op.c 2 is refl are.third,
-)
+pub earlier_is : (k : Kind) (j cells i : ℕ) (imm : ℤ) (n : ℕ) → reads_earlier k j ≡ true → (nat_lt j (operands k) ≡ true → OperandIs cells i k imm n) → n < i
+earlier_is kind.Load j cells i imm n reads is = absurd cc
+earlier_is _ j cells i imm n reads is = is reads

@@ -5,15 +5,12 @@ use Rattle.vcp_base.specs.declared.kind.Kind.TheVariants as kind
 use Rattle.vcp_base.specs.Kinds.{operands, value, divides_by_zero}
 use Rattle.vcp_base.specs.Values.{at}
 use Rattle.op_graph.specs.declared.op.Op.{Op}
-use Rattle.op_graph.specs.Lists.{Lists}
-use Rattle.op_graph.specs.Laws.{EntryLaws, ReadLaws}
-use Rattle.op_graph.specs.Rules.{IsGraph}
 use Rattle.op_graph.specs.GraphRun.{own, read, operand, outcome_of}
 use Rattle.range_walk.specs.declared.range.Range.{Range}
 use Rattle.range_walk.specs.Intervals.{IsIn, Fit}
 use Rattle.range_walk.specs.Walking.{OperandIs, OperandsAre}
 use Rattle.range_walk.proofs.Outcomes.{ok_says}
-use Rattle.range_walk.proofs.Steps.{operands_are, fit_front}
+use Rattle.range_walk.proofs.Steps.{fit_front}
 
 -- ---- lists
 
@@ -52,15 +49,12 @@ operand_more : (cells count more : ℕ) (k : Kind) (imm : ℤ) (n : ℕ) → cou
 operand_more cells count more kind.Load imm n le h = h
 operand_more cells count more _ imm n le h = omega (arith, le, h)
 
-pub operands_there : (g : Lists) (i : ℕ) (op : Op) (cells count : ℕ) → EntryLaws → ReadLaws → IsGraph g → slice_get g.operations i ≡ Some op
-    → cells ≡ length g.stores → i ≤ count → OperandsAre cells count op
-operands_there g i op cells count entries reads graph there many le =
-    let are = operands_are g i op cells entries reads graph there (sym many) in
-    record {
-      first = λ h. operand_more cells i count op.kind op.imm op.a le (are.first h);
-      second = λ h. operand_more cells i count op.kind op.imm op.b le (are.second h);
-      third = λ h. operand_more cells i count op.kind op.imm op.c le (are.third h);
-    }
+pub operands_there : (stores cells i count : ℕ) (op : Op) → OperandsAre stores i op → cells ≡ stores → i ≤ count → OperandsAre cells count op
+operands_there stores cells i count op are many le = rw many (record {
+  first = λ h. operand_more stores i count op.kind op.imm op.a le (are.first h);
+  second = λ h. operand_more stores i count op.kind op.imm op.b le (are.second h);
+  third = λ h. operand_more stores i count op.kind op.imm op.c le (are.third h);
+})
 
 read_front : (held vs : List ℤ) (cells i : ℕ) (k : Kind) (imm : ℤ) (n : ℕ) → OperandIs cells i k imm n → read held (take i vs) k imm n ≡ read held vs k imm n
 read_front held vs cells i kind.Load imm n h = refl

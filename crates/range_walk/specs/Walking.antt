@@ -63,6 +63,17 @@ pub record OperandsAre (cells count : ℕ) (op : Op) : Type 0 where
   pub second : nat_lt 1 (operands op.kind) ≡ true → OperandIs cells count op.kind op.imm op.b
   pub third : nat_lt 2 (operands op.kind) ≡ true → OperandIs cells count op.kind op.imm op.c
 
+-- the kind reads an earlier operation as its operand j: a LOAD reads a cell
+abbrev pub reads_earlier : Kind → ℕ → Bool
+reads_earlier kind.Load j = false
+reads_earlier k j = nat_lt j (operands k)
+
+-- the operations that operation i reads are before it
+pub record ReadsEarlier (i : ℕ) (op : Op) : Type 0 where
+  pub first : reads_earlier op.kind 0 ≡ true → op.a < i
+  pub second : reads_earlier op.kind 1 ≡ true → op.b < i
+  pub third : reads_earlier op.kind 2 ≡ true → op.c < i
+
 -- what a walk over the operations tells, from cells in these ranges, of rows whose inputs are in these
 pub record IsWalk (ops : List Op) (cells inputs : List Range) (a : KnownRanges) : Type 0 where
   pub known_many : length a.known ≡ length ops

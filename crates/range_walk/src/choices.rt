@@ -1,16 +1,16 @@
 //! What a condition tells of the values that it compares, where a SEL takes one of them by it.
 
-ghost use Rattle.std.specs.Prelude.{◌≡◌, ◌≢◌, ◌<◌, ◌≤◌, ℤ, Bool, pos, true, false, List, length};
+ghost use Rattle.std.specs.Prelude.{◌≡◌, ◌<◌, ◌≤◌, ℤ, Bool, neg_ℤ, true, false, List, length};
 ghost use Rattle.vcp_base.specs.Kinds.{divides_by_zero, truth as truth_of, value as value_of};
 ghost use Rattle.vcp_base.specs.Values.{at};
-ghost use Rattle.op_graph.specs.Rules.{IsGraph};
 ghost use Rattle.range_walk.specs.Intervals.{IsIn, Fit};
 ghost use Rattle.range_walk.specs.Walking.{Given, Taken, Said, Parts, Compares};
 
 use crate::operand_ranges::{first_operand, second_operand};
-use crate::range::{Range, earlier_range};
+use crate::operations::operation_at;
+use crate::range::{Range, both_hold, earlier_range};
 use crate::values::negated;
-use op_graph::{Graph, Op, entries_keep_their_rules, operands_are_there};
+use op_graph::{Graph, Op};
 use vcp_base::Kind;
 
 /// How many conditions deep is looked, each time into the first of the two that one joins.
@@ -18,9 +18,6 @@ const DEPTH: u32 = 8;
 
 /// How many deep into the second of them. So few conditions are looked into of many that share their parts.
 const SECOND_DEPTH: u32 = 2;
-
-/// Through how many operations is looked from a value that is compared to what it was made of.
-const MADE_DEPTH: u32 = 2;
 
 /// Whether the two numbers are one.
 fn is_one(n: u32, m: u32) -> bool
@@ -71,17 +68,13 @@ fn is_comparison(kind: Kind) -> bool
 
 /// The range of operation `n` where the comparison `c` is `truth`; of what is no comparison nothing is said.
 fn by_comparison(graph: &Graph, known: &[Range], c: u32, truth: bool, n: u32) -> Range
-    requires graph { IsGraph graph.now }
     requires condition { c < length known.now }
     requires there { n < length known.now }
     requires many { length known.now ≤ length graph.now.operations }
     ensures { (held row vs : List ℤ) → Given graph.now.operations held row vs → Fit known.now vs → length known.now ≤ length vs → Said truth (at vs c)
         → IsIn result (at vs n) }
 {
-    // What a comparison reads are earlier operations.
-    operands_are_there();
-    entries_keep_their_rules();
-    let op = graph.operation(c);
+    let op = operation_at(graph, c);
     let r = earlier_range(known, n);
     let pair = is_comparison(op.kind);
     if pair {
@@ -93,62 +86,57 @@ fn by_comparison(graph: &Graph, known: &[Range], c: u32, truth: bool, n: u32) ->
     r
 }
 
-/// The range of operation `n`, which is in `no` where condition `c` is false, and in `yes` where it is true.
-fn either_case(graph: &Graph, known: &[Range], c: u32, n: u32, no: Range, yes: Range) -> Range
-    requires graph { IsGraph graph.now }
-    requires condition { c < length known.now }
-    requires there { n < length known.now }
-    requires many { length known.now ≤ length graph.now.operations }
-    ensures { (held row vs : List ℤ) → Given graph.now.operations held row vs → Fit known.now vs → length known.now ≤ length vs
-        → (at vs c ≡ pos 0 → IsIn no (at vs n)) → (at vs c ≢ pos 0 → IsIn yes (at vs n)) → IsIn result (at vs n) }
+/// Whether the first operation takes what operation `n` gives where its condition is 0, and the second one is the negative of that.
+fn is_size_of(op: &Op, other: &Op, n: u32) -> bool
+    ensures takes { result ≡ true → op.now.b ≡ n }
+    ensures kind { result ≡ true → other.now.kind ≡ Kind.Neg }
+    ensures of { result ≡ true → other.now.a ≡ n }
 {
-    let condition = earlier_range(known, c);
-    let is_truth = condition.is_truth();
-    if is_truth {
-        let when_no = by_comparison(graph, known, c, false, n);
-        let when_yes = by_comparison(graph, known, c, true, n);
-        let no_bounds = when_no.bounds();
-        let yes_bounds = when_yes.bounds();
-        let in_no = no.met(no_bounds);
-        let in_yes = yes.met(yes_bounds);
-        return in_no.joined(in_yes);
+    match other.kind {
+        Kind::Neg => op.b == n && other.a == n,
+        _ => false,
     }
-    earlier_range(known, n)
 }
 
-/// The range of operation `n` where operation `m` is in `value`: by what `m` was made of, through so many operations.
-fn made_of(graph: &Graph, known: &[Range], m: u32, value: Range, n: u32, depth: u32) -> Range
-    requires graph { IsGraph graph.now }
+/// The range of x, which is in `no` where a value in `r` is x, and in `yes` where it is -x.
+fn of_either_sign(r: Range, no: Range, yes: Range) -> Range
+    ensures same { (x : ℤ) → IsIn r x → IsIn no x → IsIn result x }
+    ensures opposite { (x : ℤ) → IsIn r (neg_ℤ x) → IsIn yes x → IsIn result x }
+{
+    let bounds = r.bounds();
+    let opposite = negated(r);
+    let positive = no.met(bounds);
+    let negative = yes.met(opposite);
+    positive.joined(negative)
+}
+
+/// The range of operation `n` where operation `m` is in `value`: where that is `n`, or a SEL that takes what `n` gives or its negative, as ABS does.
+fn made_of(graph: &Graph, known: &[Range], m: u32, value: Range, n: u32) -> Range
     requires made { m < length known.now }
     requires there { n < length known.now }
     requires many { length known.now ≤ length graph.now.operations }
     ensures { (held row vs : List ℤ) → Given graph.now.operations held row vs → Fit known.now vs → length known.now ≤ length vs
         → IsIn value (at vs m) → IsIn result (at vs n) }
 {
-    let r = earlier_range(known, n);
     let same = is_one(n, m);
     if same {
-        let bounds = value.bounds();
-        return r.met(bounds);
+        return value;
     }
-    if depth == 0 {
-        return r;
-    }
-    // What an operation reads are earlier ones.
-    operands_are_there();
-    entries_keep_their_rules();
-    let op = graph.operation(m);
-    let less = depth - 1;
+    let r = earlier_range(known, n);
+    let op = operation_at(graph, m);
     match op.kind {
-        Kind::Neg => {
-            let opposite = negated(value);
-            let a = earlier_range(known, op.a);
-            made_of(graph, known, op.a, a.met(opposite), n, less)
-        }
         Kind::Sel => {
-            let no = made_of(graph, known, op.b, value, n, less);
-            let yes = made_of(graph, known, op.c, value, n, less);
-            either_case(graph, known, op.a, n, no, yes)
+            let other = operation_at(graph, op.c);
+            let condition = earlier_range(known, op.a);
+            let is_truth = condition.is_truth();
+            let is_size = is_size_of(&op, &other, n);
+            let found = both_hold(is_truth, is_size);
+            if found {
+                let no = by_comparison(graph, known, op.a, false, n);
+                let yes = by_comparison(graph, known, op.a, true, n);
+                return of_either_sign(value, no, yes);
+            }
+            r
         }
         _ => r,
     }
@@ -156,23 +144,19 @@ fn made_of(graph: &Graph, known: &[Range], m: u32, value: Range, n: u32, depth: 
 
 /// The range of operation `n` where comparison `c` is `truth`, by what the two values that it compares were made of.
 fn through_comparison(graph: &Graph, known: &[Range], c: u32, truth: bool, n: u32) -> Range
-    requires graph { IsGraph graph.now }
     requires condition { c < length known.now }
     requires there { n < length known.now }
     requires many { length known.now ≤ length graph.now.operations }
     ensures { (held row vs : List ℤ) → Given graph.now.operations held row vs → Fit known.now vs → length known.now ≤ length vs → Said truth (at vs c)
         → IsIn result (at vs n) }
 {
-    // What a comparison reads are earlier operations.
-    operands_are_there();
-    entries_keep_their_rules();
-    let op = graph.operation(c);
+    let op = operation_at(graph, c);
     let pair = is_comparison(op.kind);
     if pair {
         let a = by_comparison(graph, known, c, truth, op.a);
         let b = by_comparison(graph, known, c, truth, op.b);
-        let first = made_of(graph, known, op.a, a, n, MADE_DEPTH);
-        let second = made_of(graph, known, op.b, b, n, MADE_DEPTH);
+        let first = made_of(graph, known, op.a, a, n);
+        let second = made_of(graph, known, op.b, b, n);
         let bounds = second.bounds();
         return first.met(bounds);
     }
@@ -203,7 +187,6 @@ fn second_depth(depth: u32) -> u32
 
 /// The range of operation `n` where condition `c` is `truth`, by the conditions that `c` joins, so many deep.
 fn case_within(graph: &Graph, known: &[Range], c: u32, truth: bool, n: u32, depth: u32) -> Range
-    requires graph { IsGraph graph.now }
     requires condition { c < length known.now }
     requires there { n < length known.now }
     requires many { length known.now ≤ length graph.now.operations }
@@ -213,10 +196,7 @@ fn case_within(graph: &Graph, known: &[Range], c: u32, truth: bool, n: u32, dept
     if depth == 0 {
         return through_comparison(graph, known, c, truth, n);
     }
-    // What a condition joins are earlier operations.
-    operands_are_there();
-    entries_keep_their_rules();
-    let op = graph.operation(c);
+    let op = operation_at(graph, c);
     let less = depth - 1;
     match op.kind {
         Kind::Not => {
@@ -242,7 +222,6 @@ fn case_within(graph: &Graph, known: &[Range], c: u32, truth: bool, n: u32, dept
 
 /// The range of operation `n` in the case that condition `c` is `truth`.
 pub(crate) fn case_range(graph: &Graph, known: &[Range], c: u32, truth: bool, n: u32) -> Range
-    requires graph { IsGraph graph.now }
     requires condition { c < length known.now }
     requires there { n < length known.now }
     requires many { length known.now ≤ length graph.now.operations }

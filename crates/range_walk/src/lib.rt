@@ -8,6 +8,7 @@ mod choices;
 mod inputs;
 mod narrowing;
 mod operand_ranges;
+mod operations;
 mod range;
 mod ranges;
 mod told;

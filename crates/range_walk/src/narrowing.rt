@@ -1,25 +1,21 @@
 //! Ranges of the operations of a cycle, of all or of the first ones, made narrower by what each operation gives and reads.
 
-ghost use Rattle.std.specs.Prelude.{◌≡◌, ◌≢◌, ◌<◌, ◌≤◌, ℕ, ℤ, true, false, List, length, take, nat_lt};
-ghost use Rattle.vcp_base.specs.Kinds.{operands as operands_of, same, truth as truth_of};
+ghost use Rattle.std.specs.Prelude.{◌≡◌, ◌<◌, ◌≤◌, ℕ, ℤ, true, List, length, take, nat_lt};
+ghost use Rattle.vcp_base.specs.Kinds.{operands as operands_of};
 ghost use Rattle.vcp_base.specs.Values.{at};
 ghost use Rattle.op_graph.specs.GraphRun.{operand};
-ghost use Rattle.op_graph.specs.Rules.{IsGraph};
 ghost use Rattle.range_walk.specs.Intervals.{IsIn, Fit, Hold};
 ghost use Rattle.range_walk.specs.Walking.{Given, OperandIs, Narrows, ReadsCell};
 
-use crate::operand_ranges::{condition_where, first_operand, second_operand, third_operand};
+use crate::operand_ranges::{first_operand, second_operand, third_operand};
+use crate::operations::operation_at;
 use crate::range::{Range, earlier_range};
 use crate::told::{has_operand, operand_range, tell};
-use crate::values::are_apart;
-use op_graph::{Graph, Op, entries_keep_their_rules, operands_are_there};
+use op_graph::{Graph, Op};
 use vcp_base::Kind;
 
 /// How often the operations are gone through at most, each time from the last to the first and back.
 const PASSES: u32 = 3;
-
-/// Through how many SELs is looked for what a value may be.
-const CHOICES: u32 = 4;
 
 /// Makes the range of operation `n`, whose value is in `r`, narrower.
 pub fn put(ranges: &mut [Range], n: u32, r: Range)
@@ -43,7 +39,6 @@ pub fn first_ranges(ranges: &[Range], i: u32) -> &[Range]
 
 /// The range of operation `i` by what it reads.
 fn told_range(graph: &Graph, cells: &[Range], ranges: &[Range], i: u32) -> Range
-    requires graph { IsGraph graph.now }
     requires there { i < length ranges.now }
     requires many { length ranges.now ≤ length graph.now.operations }
     requires cells { length cells.now ≡ length graph.now.stores }
@@ -57,7 +52,6 @@ fn told_range(graph: &Graph, cells: &[Range], ranges: &[Range], i: u32) -> Range
 
 /// Makes the range of operation `i` narrower by what it reads.
 fn settle_value(graph: &Graph, cells: &[Range], ranges: &mut [Range], i: u32)
-    requires graph { IsGraph graph.now }
     requires there { i < length ranges.old }
     requires many { length ranges.old ≤ length graph.now.operations }
     requires cells { length cells.now ≡ length graph.now.stores }
@@ -93,17 +87,13 @@ fn put_operand(cells: &[Range], ranges: &mut [Range], op: &Op, j: u32, n: u32, r
 
 /// Makes the ranges of what operation `i` reads narrower by its own.
 fn settle_operands(graph: &Graph, cells: &[Range], ranges: &mut [Range], i: u32)
-    requires graph { IsGraph graph.now }
     requires there { i < length ranges.old }
     requires many { length ranges.old ≤ length graph.now.operations }
     requires cells { length cells.now ≡ length graph.now.stores }
     ensures many { length ranges.new ≡ length ranges.old }
     ensures fits { Narrows graph.now.operations cells.now ranges.old ranges.new }
 {
-    // What an operation reads is an earlier one, or a cell.
-    operands_are_there();
-    entries_keep_their_rules();
-    let op = graph.operation(i);
+    let op = operation_at(graph, i);
     let r = earlier_range(ranges, i);
     let a = operand_range(cells, ranges, &op, 0, op.a);
     let b = operand_range(cells, ranges, &op, 1, op.b);
@@ -116,86 +106,8 @@ fn settle_operands(graph: &Graph, cells: &[Range], ranges: &mut [Range], i: u32)
     put_operand(cells, ranges, &op, 2, op.c, third);
 }
 
-/// Whether operation `m` never has a value in `r`, by the values of which it takes one, so many deep.
-fn is_never_in(graph: &Graph, ranges: &[Range], m: u32, r: Range, depth: u32) -> bool
-    requires graph { IsGraph graph.now }
-    requires made { m < length ranges.now }
-    requires many { length ranges.now ≤ length graph.now.operations }
-    ensures { result ≡ true → (held row vs : List ℤ) → Given graph.now.operations held row vs → Fit ranges.now vs → length ranges.now ≤ length vs
-        → IsIn r (at vs m) → ⊥ }
-{
-    let value = earlier_range(ranges, m);
-    let apart = are_apart(value, r);
-    if apart {
-        return true;
-    }
-    if depth == 0 {
-        return false;
-    }
-    // What an operation reads are earlier ones.
-    operands_are_there();
-    entries_keep_their_rules();
-    let op = graph.operation(m);
-    let less = depth - 1;
-    match op.kind {
-        Kind::Sel => {
-            let first = is_never_in(graph, ranges, op.b, r, less);
-            if !first {
-                return false;
-            }
-            let second = is_never_in(graph, ranges, op.c, r, less);
-            second
-        }
-        _ => false,
-    }
-}
-
-/// The range of what says whether two values are equal, where they can't be.
-fn equality_where(apart: bool, r: Range) -> Range
-    ensures { (x y : ℤ) → (apart ≡ true → x ≢ y) → IsIn r (truth_of (same x y)) → IsIn result (truth_of (same x y)) }
-{
-    if apart {
-        return Range::only(0);
-    }
-    r
-}
-
-/// Makes ranges narrower where a value is taken by SELs: of operation `i`, an EQ, where its first operand can't have a value of its second,
-/// and of the condition by which operation `i`, a SEL, takes a value, where one of the two can't be what it takes.
-fn settle_choices(graph: &Graph, ranges: &mut [Range], i: u32)
-    requires graph { IsGraph graph.now }
-    requires there { i < length ranges.old }
-    requires many { length ranges.old ≤ length graph.now.operations }
-    ensures many { length ranges.new ≡ length ranges.old }
-    ensures fits { (held row vs : List ℤ) → Given graph.now.operations held row vs → length vs ≡ length ranges.old
-        → Fit ranges.old vs → Fit ranges.new vs }
-{
-    // What an operation reads are earlier ones.
-    operands_are_there();
-    entries_keep_their_rules();
-    let op = graph.operation(i);
-    let r = earlier_range(ranges, i);
-    match op.kind {
-        Kind::Sel => {
-            let a = earlier_range(ranges, op.a);
-            let not_first = is_never_in(graph, ranges, op.b, r, CHOICES);
-            let not_second = is_never_in(graph, ranges, op.c, r, CHOICES);
-            let condition = condition_where(a, not_first, not_second);
-            put(ranges, op.a, condition);
-        }
-        Kind::Eq => {
-            let b = earlier_range(ranges, op.b);
-            let apart = is_never_in(graph, ranges, op.a, b, CHOICES);
-            let value = equality_where(apart, r);
-            put(ranges, i, value);
-        }
-        _ => (),
-    }
-}
-
 /// Makes the range of operation `i` narrower by what it reads, and then what it reads by its own.
 fn settle(graph: &Graph, cells: &[Range], ranges: &mut [Range], i: u32)
-    requires graph { IsGraph graph.now }
     requires there { i < length ranges.old }
     requires many { length ranges.old ≤ length graph.now.operations }
     requires cells { length cells.now ≡ length graph.now.stores }
@@ -203,7 +115,6 @@ fn settle(graph: &Graph, cells: &[Range], ranges: &mut [Range], i: u32)
     ensures fits { Narrows graph.now.operations cells.now ranges.old ranges.new }
 {
     settle_value(graph, cells, ranges, i);
-    settle_choices(graph, ranges, i);
     settle_operands(graph, cells, ranges, i);
 }
 
@@ -226,7 +137,6 @@ fn place_of(k: u32, count: u32, back: bool) -> u32
 
 /// Does so for each operation: from the last to the first, or from the first to the last.
 fn go_through(graph: &Graph, cells: &[Range], ranges: &mut [Range], back: bool)
-    requires graph { IsGraph graph.now }
     requires many { length ranges.old ≤ length graph.now.operations }
     requires cells { length cells.now ≡ length graph.now.stores }
     ensures many { length ranges.new ≡ length ranges.old }
@@ -260,7 +170,6 @@ fn sizes(ranges: &[Range]) -> i128 {
 /// Makes the ranges of the operations of a cycle, at whose beginning the cells are in these ranges, narrower by one another: of all, or of
 /// the first ones.
 pub fn narrow(graph: &Graph, cells: &[Range], ranges: &mut [Range])
-    requires graph { IsGraph graph.now }
     requires many { length ranges.old ≤ length graph.now.operations }
     requires cells { length cells.now ≡ length graph.now.stores }
     ensures many { length ranges.new ≡ length ranges.old }

@@ -261,16 +261,3 @@ pub(crate) fn third_operand(kind: Kind, r: Range, a: Range, c: Range) -> Range
         _ => c,
     }
 }
-
-/// The range of a condition that takes what isn't the first of two values, or isn't the second.
-pub(crate) fn condition_where(a: Range, not_first: bool, not_second: bool) -> Range
-    ensures { (x : ℤ) → IsIn a x → (not_first ≡ true → x ≢ pos 0) → (not_second ≡ true → x ≡ pos 0) → IsIn result x }
-{
-    if not_first {
-        return a.without_zero();
-    }
-    if not_second {
-        return Range::only(0);
-    }
-    a
-}

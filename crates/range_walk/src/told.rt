@@ -4,14 +4,15 @@ ghost use Rattle.std.specs.Prelude.{◌≡◌, ℕ, ℤ, List, Some, true, false
 ghost use Rattle.vcp_base.specs.Kinds.{operands as operands_of, divides_by_zero, value as value_of};
 ghost use Rattle.op_graph.specs.declared.op.Op.{Op as Operation};
 ghost use Rattle.op_graph.specs.GraphRun.{operand, read};
-ghost use Rattle.op_graph.specs.Rules.{is_input, IsGraph};
+ghost use Rattle.op_graph.specs.Rules.{is_input};
 ghost use Rattle.range_walk.specs.Intervals.{IsIn, IsWithin, Fit, Hold};
 ghost use Rattle.range_walk.specs.Walking.{Given, Tells, OperandIs};
 
 use crate::choices::case_range;
+use crate::operations::operation_at;
 use crate::range::{Bounds, Range, Stops, both_hold, earlier_range, range_at};
 use crate::values::{chosen, twice_bounds, value_bounds};
-use op_graph::{Graph, Op, entries_keep_their_rules, operands_are_there};
+use op_graph::{Graph, Op};
 use vcp_base::{Kind, operands};
 
 /// What is found of an operation: the range of its values, and why it may stop.
@@ -153,7 +154,6 @@ pub(crate) fn operand_range(cells: &[Range], known: &[Range], op: &Op, j: u32, n
 
 /// What is found of a SEL, by what its condition says of what it takes.
 fn choice(graph: &Graph, known: &[Range], op: &Op) -> Told
-    requires graph { IsGraph graph.now }
     requires many { length known.now ≤ length graph.now.operations }
     requires kind { op.now.kind ≡ Kind.Sel }
     requires first { op.now.a < length known.now }
@@ -172,7 +172,6 @@ fn choice(graph: &Graph, known: &[Range], op: &Op) -> Told
 
 /// What is found of operation `i` by the ranges of its operands.
 fn by_operands(graph: &Graph, cells: &[Range], known: &[Range], i: u32) -> Told
-    requires graph { IsGraph graph.now }
     requires there { i < length graph.now.operations }
     requires many { length known.now ≡ i }
     requires cells { length cells.now ≡ length graph.now.stores }
@@ -180,10 +179,7 @@ fn by_operands(graph: &Graph, cells: &[Range], known: &[Range], i: u32) -> Told
         → Given graph.now.operations held row vs
         → Fit known.now vs → length vs ≡ i → Tells held row vs op result }
 {
-    // What an operation reads is an earlier one, or a cell.
-    operands_are_there();
-    entries_keep_their_rules();
-    let op = graph.operation(i);
+    let op = operation_at(graph, i);
     let a = operand_range(cells, known, &op, 0, op.a);
     let b = operand_range(cells, known, &op, 1, op.b);
     let c = operand_range(cells, known, &op, 2, op.c);
@@ -192,7 +188,6 @@ fn by_operands(graph: &Graph, cells: &[Range], known: &[Range], i: u32) -> Told
 
 /// What is found of operation `i`, where the cells are in these ranges, and so are the operations before it.
 pub fn tell(graph: &Graph, cells: &[Range], known: &[Range], i: u32) -> Told
-    requires graph { IsGraph graph.now }
     requires there { i < length graph.now.operations }
     requires many { length known.now ≡ i }
     requires cells { length cells.now ≡ length graph.now.stores }
@@ -200,10 +195,7 @@ pub fn tell(graph: &Graph, cells: &[Range], known: &[Range], i: u32) -> Told
         → Given graph.now.operations held row vs
         → Fit known.now vs → length vs ≡ i → Tells held row vs op result }
 {
-    // What an operation reads is an earlier one, or a cell.
-    operands_are_there();
-    entries_keep_their_rules();
-    let op = graph.operation(i);
+    let op = operation_at(graph, i);
     match op.kind {
         Kind::Sel => choice(graph, known, &op),
         _ => by_operands(graph, cells, known, i),

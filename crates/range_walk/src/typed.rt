@@ -3,7 +3,6 @@
 ghost use Rattle.std.specs.Prelude.{◌≡◌, ◌<◌, ℤ, true, List, Some, length, slice_get};
 ghost use Rattle.vcp_base.specs.declared.kind.StopKind.{StopKind};
 ghost use Rattle.op_graph.specs.declared.op.Op.{Op as Operation};
-ghost use Rattle.op_graph.specs.Rules.{IsGraph};
 ghost use Rattle.range_walk.specs.Intervals.{LiesIn};
 ghost use Rattle.range_walk.specs.Known.{may_stop, can_stop_so, can_leave as can_leave_of, divides as divides_of};
 ghost use Rattle.range_walk.specs.Walking.{Tells};
@@ -36,8 +35,7 @@ fn can_leave(op: &Op) -> bool
 
 /// What is found of operation `i`, without values outside its type, and without reasons to stop that its kind and types rule out.
 pub(crate) fn told_by_type(graph: &Graph, i: u32, told: Told) -> Told
-    requires graph { IsGraph graph.now }
-    requires there { i < length graph.now.operations }
+    requires { i < length graph.now.operations }
     ensures tells { (held row vs : List ℤ) (op : Operation) → slice_get graph.now.operations i ≡ Some op → Tells held row vs op told
         → Tells held row vs op result }
     ensures able { (op : Operation) (why : StopKind) → slice_get graph.now.operations i ≡ Some op → may_stop why result.stops ≡ true
@@ -47,6 +45,7 @@ pub(crate) fn told_by_type(graph: &Graph, i: u32, told: Told) -> Told
     // A value of a type is one of each wider type, and the types of an operation keep the rules of its kind.
     operands_are_in_their_types();
     entries_keep_their_rules();
+    let _count = graph.len();
     let op = graph.operation(i);
     let range = told.range.in_type(op.ty);
     let leaves = can_leave(&op);

@@ -1,9 +1,8 @@
 //! The lines of outputs and of variables that are kept.
 
-ghost use Rattle.std.specs.Prelude.{◌≡◌, ◌<◌, ◌++◌, Some, length, slice_get};
+ghost use Rattle.std.specs.Prelude.{◌<◌, length, slice_get};
 ghost use Rattle.vcp_outside.specs.Gathering.{GathersTo};
 ghost use Rattle.op_graph.specs.Lists.{cells as cells_of};
-ghost use Rattle.run_report.specs.Variables.{output_name as output_name_of, cell_name as cell_name_of};
 ghost use Rattle.range_audit.specs.RangeText.{variable_text, output_text, outputs_text, cell_text, cells_text, variables_text};
 
 use crate::report::lines::then_there;

@@ -1,15 +1,11 @@
 use Rattle.std.proofs.Common.{◌≡◌, ◌⊎◌, true, inl, inr, sym, subst, ◌∙◌, arith}
-use Rattle.std.proofs.lemmas.Option.{slice_get_within}
-use Rattle.vcp_base.specs.Values.{at}
 use Rattle.range_walk.specs.Known.{may_stop}
 use Rattle.range_walk.specs.Intervals.{Fit}
 use Rattle.range_audit.proofs.asking.+stops_by_cases.Goals as goal
 
 pub returns-then-none : goal.returns-then-none
 returns-then-none t c = λ held row vs op why hold given whole fit there own no e.
-    let n = c.has_none-none.ensures c.if-none.true in
-    let within = slice_get_within c.args.ranges.now n.0 n.1 n.2 in
-    absurd (n.3 (at vs n.0) (fit n.0 n.1 (omega (arith, within, whole, c.requires.many)) n.2))
+    absurd (c.has_none-none.ensures.fit c.if-none.true vs (omega (arith, whole, c.requires.many)) fit)
 
 pub returns-then-depth-eq0 : goal.returns-then-depth-eq0
 returns-then-depth-eq0 t c = λ held row vs op why hold given whole fit there own no e.

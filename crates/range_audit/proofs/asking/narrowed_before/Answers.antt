@@ -13,7 +13,7 @@ narrow-requires c =
     let le : c.args.i ≤ length c.args.known.now = omega (arith, c.requires.there, c.requires.many) in
     let count : length c.deref_mut.result.now ≡ c.args.i =
     ap length (c.deref_mut.ensures.value ∙ c.in_ok-ranges.ensures ∙ c.first_ranges-first.ensures.first) ∙ length-take-le c.args.i c.args.known.now le in
-    record { graph = c.requires.graph; many = omega (arith, count, c.requires.there); cells = c.requires.cells }
+    record { many = omega (arith, count, c.requires.there); cells = c.requires.cells }
 
 pub returns-clause-many : goal.returns-clause-many
 returns-clause-many c =

@@ -12,7 +12,7 @@ returns c =
     let settled = c.requires.settled in
     let laws = c.operands_are_in_their_types.ensures in
     let rules = c.entries_keep_their_rules.ensures in
-    let graph = c.requires.graph in
+    let graph = c.len-operations.ensures.rules in
     record {
       known = walk.known_many;
       stops = walk.stops_many;

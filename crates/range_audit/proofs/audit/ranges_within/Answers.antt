@@ -9,7 +9,6 @@ ranges_in_one_box-requires c =
     let cells = c.in_ok-cells.ensures in
     let same = c.deref.ensures.value in
     record {
-      graph = cells.graph;
       many = ap length same ∙ cells.many;
       settled = subst (λ rs. AreSettled c.args.graph.now c.args.inputs.now (Hold rs)) (sym same) cells.settled;
     }
@@ -19,7 +18,6 @@ closer-requires c =
     let cells = c.in_ok-cells.ensures in
     let same = c.deref-2.ensures.value in
     record {
-      graph = cells.graph;
       audit = c.in_ok-ranges.ensures;
       many = ap length same ∙ cells.many;
       settled = subst (λ rs. AreSettled c.args.graph.now c.args.inputs.now (Hold rs)) (sym same) cells.settled;

@@ -24,4 +24,4 @@ returns-clause-holds c = λ vs whole fit.
     let g = c.args.graph.now in
     let i = c.cells.invariant in
     let many : length c.cells.cells.items ≡ length g.stores = omega (arith, i.many, c.cell_count-count.ensures) in
-    stored_hold g c.cells.cells.items c.args.ranges.now c.entries_keep_their_rules.ensures c.requires.graph many i.each vs whole fit
+    stored_hold g c.cells.cells.items c.args.ranges.now c.entries_keep_their_rules.ensures c.len-operations.ensures.rules many i.each vs whole fit

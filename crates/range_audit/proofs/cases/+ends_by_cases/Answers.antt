@@ -1,6 +1,5 @@
 use Rattle.std.proofs.Common.{◌≡◌, ◌<◌, ◌≤ℤ◌, ◌<ℤ◌, ◌&&◌, SFits, w64, rules, true, inl, inr, length, sym, subst, ◌∙◌, arith}
 use Rattle.std.proofs.lemmas.Int.{to_z-of_z}
-use Rattle.std.proofs.lemmas.Option.{slice_get_within}
 use Rattle.std.proofs.lemmas.Bool.{and_parts}
 use Rattle.vcp_base.specs.Values.{at}
 use Rattle.range_walk.specs.Intervals.{Fit}
@@ -16,9 +15,7 @@ returns-then-depth-eq0 t c = λ e held row vs hold given whole fit.
 
 pub returns-then-none : goal.returns-then-none
 returns-then-none t c = λ e held row vs hold given whole fit.
-    let n = c.has_none-none.ensures c.if-none.true in
-    let within = slice_get_within c.args.ranges.now n.0 n.1 n.2 in
-    absurd (n.3 (at vs n.0) (fit n.0 n.1 (omega (arith, within, whole, c.requires.many)) n.2))
+    absurd (c.has_none-none.ensures.fit c.if-none.true vs (omega (arith, whole, c.requires.many)) fit)
 
 pub returns : goal.returns
 returns t c = λ e held row vs hold given whole fit.

@@ -1,16 +1,12 @@
 use Rattle.std.proofs.Common.{length, sym, subst, ◌∙◌, ap, arith}
-use Rattle.std.proofs.lemmas.Option.{slice_get_within}
 use Rattle.op_graph.specs.GraphRun.{stored}
-use Rattle.vcp_base.specs.Values.{at}
 use Rattle.range_audit.specs.Searching.{InBox}
 use Rattle.range_walk.specs.Intervals.{Hold}
 use Rattle.range_audit.proofs.cases.ends.Goals as goal
 
 pub returns-then-none : goal.returns-then-none
 returns-then-none c = λ e vs whole fit.
-    let n = c.has_none-none.ensures c.if-none.true in
-    let within = slice_get_within c.args.ranges.now n.0 n.1 n.2 in
-    absurd (n.3 (at vs n.0) (fit n.0 n.1 (omega (arith, within, whole, c.requires.many)) n.2))
+    absurd (c.has_none-none.ensures.fit c.if-none.true vs (omega (arith, whole, c.requires.many)) fit)
 
 pub returns : goal.returns
 returns c = λ e vs whole fit.

@@ -8,7 +8,6 @@ narrow_to-requires c =
     let before : length c.deref_mut.result.now ≡ length c.args.ranges.now =
     ap length c.deref_mut.ensures.value ∙ ap length c.in_ok-part.ensures in
     record {
-      graph = c.requires.graph;
       there = omega (arith, before, c.requires.there);
       many = omega (arith, before, c.requires.many);
       cells = c.requires.cells;

@@ -11,5 +11,5 @@ cells-preserved c =
 
 pub returns : goal.returns
 returns c = λ e.
-    all_kept c.args.graph.now c.args.cells.now c.args.known.now c.entries_keep_their_rules.ensures c.requires.graph c.requires.cells c.requires.known
+    all_kept c.args.graph.now c.args.cells.now c.args.known.now c.entries_keep_their_rules.ensures c.len-count.ensures.rules c.requires.cells c.requires.known
     (λ k lt. c.cells.invariant k (omega (arith, lt, c.requires.cells)))

@@ -5,7 +5,7 @@ pub range_at-requires : goal.range_at-requires
 range_at-requires c =
     let g = c.args.graph.now in
     let within : c.store_of-store.result < length g.operations =
-    (c.entries_keep_their_rules.ensures.store g c.args.k c.store_of-store.result c.requires.graph.part c.store_of-store.ensures).store in
+    (c.entries_keep_their_rules.ensures.store g c.args.k c.store_of-store.result c.len-count.ensures.rules.part c.store_of-store.ensures).store in
     omega (arith, within, c.requires.known)
 
 pub returns : goal.returns

@@ -26,4 +26,4 @@ returns-clause-settled c =
     let g = c.args.graph.now in
     let i = c.cells.invariant in
     let many : length c.cells.cells.items ≡ length g.loads = omega (arith, i.many) in
-    λ inputs. typed_settled g inputs c.cells.cells.items c.operands_are_in_their_types.ensures c.requires many i.typed
+    λ inputs. typed_settled g inputs c.cells.cells.items c.operands_are_in_their_types.ensures c.len-count.ensures.rules many i.typed

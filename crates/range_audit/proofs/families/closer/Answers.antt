@@ -9,7 +9,6 @@ with_family-requires c =
     let cells = c.args.cells.now in
     let one : start_of (length g.stores) 1 ≡ 0 + length g.stores = refl in
     record {
-      graph = c.requires.graph;
       room = omega (arith, one, c.requires.many);
       settled = one_box g c.args.inputs.now cells c.requires.many c.requires.settled;
       audit = c.requires.audit;

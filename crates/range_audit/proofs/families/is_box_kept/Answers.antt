@@ -1,15 +1,12 @@
 use Rattle.std.proofs.Common.{sym, subst}
-use Rattle.vcp_base.specs.Values.{at}
 use Rattle.range_walk.specs.Intervals.{Fit, Hold}
 use Rattle.range_audit.specs.Searching.{HoldAt}
 use Rattle.range_audit.proofs.families.is_box_kept.Goals as goal
 
 pub returns-then-none : goal.returns-then-none
 returns-then-none c = λ e held row vs inside row_in given whole.
-    let n = c.has_none-none.ensures c.if-none.true in
     let boxed = subst (λ m. HoldAt c.args.boxes.now m c.args.start held) (sym c.cell_count-many.ensures) inside in
-    let hold = subst (λ rs. Hold rs held) (sym c.deref.ensures.value) (c.in_ok-cells.ensures.holds held boxed) in
-    absurd (n.3 (at held n.0) (hold n.0 n.1 n.2))
+    absurd (c.has_none-none.ensures.hold c.if-none.true held (subst (λ rs. Hold rs held) (sym c.deref.ensures.value) (c.in_ok-cells.ensures.holds held boxed)))
 
 pub returns : goal.returns
 returns c = λ e held row vs inside row_in given whole.

@@ -12,7 +12,7 @@ returns c = λ e.
     let boxes = c.args.boxes.now in
     let both : (c.is_in_one-begins.result && c.in_ok-kept.kept) ≡ true = sym c.both_hold-both.ensures ∙ e in
     let first = subst (λ rs. Hold rs (initial g)) (sym c.deref.ensures.value) c.in_ok-first.ensures.holds in
-    let many : length c.in_ok-first.first.items ≡ length g.stores = omega (arith, c.in_ok-first.ensures.many, c.requires.graph.all_stored) in
+    let many : length c.in_ok-first.first.items ≡ length g.stores = omega (arith, c.in_ok-first.ensures.many, c.len-operations.ensures.rules.all_stored) in
     record {
       at_first = subst (λ n. InBox boxes n c.args.count (initial g)) (ap length c.deref.ensures.value ∙ many)
           (c.is_in_one-begins.ensures (and_parts c.is_in_one-begins.result c.in_ok-kept.kept both).0 (initial g) first);

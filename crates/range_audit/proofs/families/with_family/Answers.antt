@@ -31,8 +31,8 @@ returns c =
     let named = c.in_ok-others.ensures.named in
     let stops = c.in_ok-stops.stops.items in
     let known = c.in_ok-known.known.items in
-    let more = names g inputs Kept others named c.requires.settled laws rules c.requires.graph in
-    let end = ends g inputs Kept others named c.requires.settled laws rules c.requires.graph in
+    let more = names g inputs Kept others named c.requires.settled laws rules c.len-operations.ensures.rules in
+    let end = ends g inputs Kept others named c.requires.settled laws rules c.len-operations.ensures.rules in
     let both : (why : StopKind) (i : ℕ) → is_named why (slice_get before.stops i) ≡ true → is_named why (slice_get others i) ≡ true
     → is_named why (slice_get stops i) ≡ true = λ why i p q.
     c.in_ok-stops.ensures.named why i (
@@ -41,7 +41,7 @@ returns c =
           (sym c.deref.ensures.value) q,
     ) in
     let boxed = c.in_ok-boxed.boxed.items in
-    let held = holds_from g inputs Kept boxed c.in_ok-boxed.ensures.fits c.requires.settled laws c.requires.graph in
+    let held = holds_from g inputs Kept boxed c.in_ok-boxed.ensures.fits c.requires.settled laws c.len-operations.ensures.rules in
     let within : HoldsWithin g inputs known = λ rows row rows_in row_in.
     let values = (cycle_after g rows row).values in
     c.in_ok-known.ensures.fits values (subst (λ ks. Fit ks values) (sym c.known-before.ensures) (audit.holds rows row rows_in row_in))

@@ -1,4 +1,4 @@
-use Rattle.std.proofs.Common.{◌≡◌, ◌+◌, ◌<◌, ◌≤◌, length, take, pos, ap, sym, subst, ◌∙◌, length-take-le, get_or-take, arith}
+use Rattle.std.proofs.Common.{◌≡◌, ◌+◌, ◌≤◌, length, take, pos, ap, sym, subst, ◌∙◌, length-take-le, get_or-take, arith}
 use Rattle.range_walk.specs.Intervals.{IsIn, Fit}
 use Rattle.range_audit.proofs.Closer.{given_first, fit_first}
 use Rattle.range_audit.proofs.known.asked_range.Goals as goal
@@ -6,7 +6,7 @@ use Rattle.range_audit.proofs.known.asked_range.Goals as goal
 pub range_by_cases-requires : goal.range_by_cases-requires
 range_by_cases-requires c =
     let count : length c.deref.result.now ≡ c.args.i + 1 = ap length c.deref.ensures.value ∙ c.in_ok-ranges.ensures.many in
-    record { graph = c.requires.graph; there = omega (arith, count); many = omega (arith, count, c.requires.there); cells = c.requires.cells }
+    record { there = omega (arith, count); many = omega (arith, count, c.requires.there); cells = c.requires.cells }
 
 pub returns : goal.returns
 returns c = λ held row vs hold given lt fit.

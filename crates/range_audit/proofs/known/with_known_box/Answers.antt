@@ -1,12 +1,10 @@
 use Rattle.std.proofs.Common.{length, sym, ap, subst, ◌∙◌}
-use Rattle.vcp_base.specs.Values.{at}
 use Rattle.range_walk.specs.Intervals.{Fit, Hold}
 use Rattle.range_audit.specs.Searching.{HoldAt}
 use Rattle.range_audit.proofs.known.with_known_box.Goals as goal
 
 pub closer_outputs-requires : goal.closer_outputs-requires
 closer_outputs-requires c = record {
-  graph = c.requires.graph;
   many = ap length c.known-walked.ensures ∙ c.in_ok-told.ensures.known_many;
   cells = ap length c.deref-3.ensures.value ∙ (c.in_ok-cells.ensures.many ∙ c.cell_count-many.ensures);
 }
@@ -20,10 +18,8 @@ returns-then-none-clause-kept c = λ vs fit. fit
 
 pub returns-then-none-clause-fits : goal.returns-then-none-clause-fits
 returns-then-none-clause-fits c = λ held row vs inside row_in given.
-    let n = c.has_none-none.ensures c.if-none.true in
     let boxed = subst (λ m. HoldAt c.args.boxes.now m c.args.start held) (sym c.cell_count-many.ensures) inside in
-    let hold = subst (λ rs. Hold rs held) (sym c.deref.ensures.value) (c.in_ok-cells.ensures.holds held boxed) in
-    absurd (n.3 (at held n.0) (hold n.0 n.1 n.2))
+    absurd (c.has_none-none.ensures.hold c.if-none.true held (subst (λ rs. Hold rs held) (sym c.deref.ensures.value) (c.in_ok-cells.ensures.holds held boxed)))
 
 pub returns-clause-kept : goal.returns-clause-kept
 returns-clause-kept c = λ vs fit. c.in_ok-more.ensures.first vs (subst (λ ks. Fit ks vs) (sym c.deref-4.ensures.value) fit)

@@ -1,5 +1,4 @@
 use Rattle.std.proofs.Common.{◌≡◌, true, inl, inr, length, slice_get, sym, ap, subst, ◌∙◌}
-use Rattle.vcp_base.specs.Values.{at}
 use Rattle.range_walk.specs.Known.{is_named}
 use Rattle.range_walk.specs.Intervals.{Hold}
 use Rattle.range_audit.specs.Searching.{HoldAt}
@@ -14,10 +13,8 @@ returns-then-none-clause-kept c = λ why i e. e
 
 pub returns-then-none-clause-named : goal.returns-then-none-clause-named
 returns-then-none-clause-named c = λ held row vs op why inside row_in given there own no e.
-    let n = c.has_none-none.ensures c.if-none.true in
     let boxed = subst (λ m. HoldAt c.args.boxes.now m c.args.start held) (sym c.cell_count-many.ensures) inside in
-    let hold = subst (λ rs. Hold rs held) (sym c.deref.ensures.value) (c.in_ok-cells.ensures.holds held boxed) in
-    absurd (n.3 (at held n.0) (hold n.0 n.1 n.2))
+    absurd (c.has_none-none.ensures.hold c.if-none.true held (subst (λ rs. Hold rs held) (sym c.deref.ensures.value) (c.in_ok-cells.ensures.holds held boxed)))
 
 pub returns-clause-kept : goal.returns-clause-kept
 returns-clause-kept c = λ why i e.

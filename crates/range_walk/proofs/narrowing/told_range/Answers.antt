@@ -9,7 +9,6 @@ pub tell-told-requires : goal.tell-told-requires
 tell-told-requires c =
     let le : c.args.i ≤ length c.args.ranges.now = omega (arith, c.requires.there) in
     record {
-      graph = c.requires.graph;
       there = omega (arith, c.requires.there, c.requires.many);
       many = ap length c.first_ranges-first.ensures.first ∙ length-take-le c.args.i c.args.ranges.now le;
       cells = c.requires.cells;

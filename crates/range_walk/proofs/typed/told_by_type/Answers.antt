@@ -10,7 +10,7 @@ returns c =
     let g = c.args.graph.now in
     let op = c.operation-op.result in
     let t = c.args.told in
-    let rules = c.entries_keep_their_rules.ensures.operation g c.args.i op c.requires.graph.part c.operation-op.ensures in
+    let rules = c.entries_keep_their_rules.ensures.operation g c.args.i op c.len-count.ensures.rules.part c.operation-op.ensures in
     let cut = is_cut op t.stops c.both_hold-by_range.result c.both_hold-by_zero.result c.can_leave-leaves.result c.divides-is_division.result
     c.can_leave-leaves.ensures c.divides-is_division.ensures c.both_hold-by_range.ensures c.both_hold-by_zero.ensures in
     record {
