@@ -1,3 +1,4 @@
+mod Digits
 pub mod OperationRows
 mod Rows
 mod Texts

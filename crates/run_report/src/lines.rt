@@ -1,14 +1,15 @@
 //! The lines of a run. Each call writes one line to a sink and takes no memory. It answers `Failed`
 //! only where the sink's count of faults rose, and then a part of the line is written.
 
-ghost use Rattle.std.specs.Prelude.{◌≡◌, ◌<◌, ◌+◌, ℤ, Some, Ok, true, length, slice_get, map, flat_map};
+ghost use Rattle.std.specs.Prelude.{◌≡◌, ◌<◌, ◌≤◌, ◌+◌, ℤ, Some, Ok, true, length, slice_get, map, flat_map};
+ghost use Rattle.std.specs.Fmt.{signed_decimal};
 ghost use Rattle.vcp_base.specs.Stops.{told_stop, told_turn};
 ghost use Rattle.vcp_outside.specs.Written.{WritesTo};
-ghost use Rattle.vcp_outside.specs.Gathering.{IsGathered, GathersTo};
+ghost use Rattle.vcp_outside.specs.Gathering.{IsGathered, GathersTo, EndsAt};
 ghost use Rattle.run_report.specs.Lines.{header_text, row_text, end_text, cause_text, stop_front, stop_text, refused_front, refused_text, place_text, turn_text, value_cell, AreNamed};
 
 use vcp_base::{Columns, Residue, Row, Spot, StopKind, Text, Turns, Words, stop_name};
-use vcp_outside::{Failed, Line, Sink, begin};
+use vcp_outside::{Failed, Line, ROOM, Sink, begin};
 
 /// Writes the header of a run: `cycle`, and the outputs' names as declared. After `Failed` a part of the line
 /// is written. So is every other line of this crate: exactly that line is written, or, where the sink's count
@@ -32,9 +33,16 @@ pub fn row_line<O: Sink>(out: &mut O, cycle: u32, row: &Row) -> Result<(), Faile
 {
     let mut line = Line::new();
     line.count(out, cycle as u64);
+    if !line.has_count(0, cycle as u64) {
+        return Err(Failed);
+    }
     let mut told = 0;
     'cells: for i in 0..row.len() {
+        let at = line.pending();
         told = then_cell(&mut line, out, row, i, told)?;
+        if !has_cell(&line, at, row, i) {
+            return Err(Failed);
+        }
     }
     if !are_all(row, told) {
         return Err(Failed);
@@ -57,6 +65,8 @@ fn then_cell<O: Sink>(
     requires told { told ≡ i }
     ensures gathers { (value : ℤ) → slice_get row.now i ≡ Some value → GathersTo (O.seen out.old) (O.seen out.new) line.old line.new (value_cell value) }
     ensures told { result ≡ Ok (i + 1) }
+    ensures digits { (value : ℤ) → slice_get row.now i ≡ Some value → length line.old.pending + 1 + length (signed_decimal value) ≤ ROOM
+        → EndsAt line.new.pending (length line.old.pending + 1) (signed_decimal value) }
 {
     if told != i || i >= row.len() {
         return Err(Failed);
@@ -64,6 +74,21 @@ fn then_cell<O: Sink>(
     line.mark(out, b',');
     line.value(out, row.at(i));
     Ok(told + 1)
+}
+
+// Whether the digits of the value at a place of a row, which is looked at anew, are behind a place of a line and a comma. They are,
+// says the proof; where the processor erred, they may not be.
+#[inline(never)]
+fn has_cell(line: &Line, at: usize, row: &Row, i: usize) -> bool
+    requires place { i < length row.now }
+    requires digits { (value : ℤ) → slice_get row.now i ≡ Some value → at + 1 + length (signed_decimal value) ≤ ROOM
+        → EndsAt line.now.pending (at + 1) (signed_decimal value) }
+    ensures { result ≡ true }
+{
+    if at >= ROOM {
+        return true;
+    }
+    i < row.len() && line.has_value(at + 1, row.at(i))
 }
 
 // Whether so many values are all of a row, whose length is looked at anew.

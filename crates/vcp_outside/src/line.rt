@@ -96,7 +96,7 @@ impl Line {
         requires piece { at + length piece.now ≤ ROOM → EndsAt self.old.pending at piece.now }
         ensures { self.new ≡ self.old }
     {
-        if at + piece.len() <= ROOM && !self.ends_at(at, piece) {
+        if !self.has_piece(at, piece) {
             self.so_far = Err(Failed);
         }
     }
@@ -107,6 +107,48 @@ impl Line {
         ensures { EndsAt self.now.pending at piece.now → result ≡ true }
     {
         self.pending.len() == at + piece.len() && self.pending.as_slice().ends_with(piece)
+    }
+
+    /// How many bytes are pending, at most `ROOM`.
+    pub fn pending(&self) -> usize
+        ensures value { result ≡ length self.now.pending }
+        ensures bound { result ≤ ROOM }
+    {
+        self.pending.len()
+    }
+
+    /// Whether from a place on the digits of a number are pending and nothing more. They are, as `count` says, where there was room for
+    /// them; where the processor erred, they may not be. It looks at the line by the address that its caller has, and makes the digits
+    /// anew.
+    #[inline(never)]
+    pub fn has_count(&self, at: usize, n: u64) -> bool
+        requires place { at ≤ ROOM }
+        requires digits { at + length (decimal n) ≤ ROOM → EndsAt self.now.pending at (decimal n) }
+        ensures { result ≡ true }
+    {
+        self.has_piece(at, Buffer::new().format(n).as_bytes())
+    }
+
+    /// The same of a number after `-` where it is negative, as `value` says.
+    #[inline(never)]
+    pub fn has_value(&self, at: usize, v: i64) -> bool
+        requires place { at ≤ ROOM }
+        requires digits { at + length (signed_decimal v) ≤ ROOM → EndsAt self.now.pending at (signed_decimal v) }
+        ensures { result ≡ true }
+    {
+        self.has_piece(at, Buffer::new().format(v).as_bytes())
+    }
+
+    // Whether a piece is pending from a place on and nothing more, where there was room for it.
+    fn has_piece(&self, at: usize, piece: &[u8]) -> bool
+        requires place { at ≤ ROOM }
+        requires piece { at + length piece.now ≤ ROOM → EndsAt self.now.pending at piece.now }
+        ensures { result ≡ true }
+    {
+        if at + piece.len() > ROOM {
+            return true;
+        }
+        self.ends_at(at, piece)
     }
 
     /// Goes on with one byte.
