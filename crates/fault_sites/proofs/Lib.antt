@@ -3,6 +3,7 @@ mod Bits
 mod Cells
 mod Counting
 mod Ended
+mod Few
 mod Gathering
 mod Going
 mod GroupsFit
@@ -17,7 +18,6 @@ mod Rising
 mod RunFit
 mod RunGoing
 mod RunOnce
-mod RunWritten
 mod Short
 mod SitesFit
 mod SitesHave

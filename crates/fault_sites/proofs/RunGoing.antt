@@ -1,25 +1,19 @@
 -- RunGoing: the sites that a run decides, cycle by cycle.
-use Rattle.std.proofs.Common.{◌≡◌, ℕ, ℤ, zero, suc, ◌+◌, ◌*◌, ◌≤◌, List, [], ◌∷◌, ◌++◌, length, drop, slice_get, Option, Some, None, All, refl, sym, ap, ◌∙◌, arith, append_assoc, length-append}
+use Rattle.std.proofs.Common.{◌≡◌, ℕ, ℤ, zero, suc, ◌+◌, ◌≤◌, List, [], ◌∷◌, ◌++◌, length, drop, slice_get, Option, Some, None, All, refl, sym, ap, ◌∙◌, append_assoc}
 use Rattle.std.proofs.lemmas.List.{append-nil}
 use Rattle.std.proofs.lemmas.List.Elements.{All-head, All-tail}
 use Rattle.vcp_base.specs.declared.kind.StopKind.{StopKind}
-use Rattle.vcp_base.specs.Values.{at}
 use Rattle.vcp_outside.specs.Seen.{SinkSeen}
 use Rattle.vcp_outside.specs.Gathering.{Gathered}
 use Rattle.op_graph.specs.Lists.{Lists}
 use Rattle.op_graph.specs.GraphRun.{Cycle, cycle}
 use Rattle.signature_table.specs.Signatures.{Numbers}
-use Rattle.fault_script.specs.declared.act.Act.TheVariants as act
 use Rattle.fault_sites.specs.declared.part.Part.{Part}
 use Rattle.fault_sites.specs.declared.run_class.RunClass.{RunClass}
 use Rattle.fault_sites.specs.declared.site.Site.{Site}
-use Rattle.fault_sites.specs.Flips.{flip, flips_in, flips_of, flipped_bits}
 use Rattle.fault_sites.specs.Run.{Moment, after, begun}
-use Rattle.fault_sites.specs.RunCycle.{RunCycle, expected_word}
 use Rattle.fault_sites.specs.RunSites.{cycle_of, in_cycle, run_sites, run_sites_from, unless_stopped}
-use Rattle.fault_sites.specs.Sites.{sited}
 use Rattle.fault_sites.specs.Telling.{Tells}
-use Rattle.fault_sites.proofs.Counting.{each_many, sited_many}
 use Rattle.fault_sites.proofs.Going.{tells_none, tells_both, tells_over, tells_same}
 use Rattle.fault_sites.proofs.Lists.{drop_there, drop_behind}
 
@@ -113,36 +107,3 @@ so_far_all class t g rows n now so none =
 pub so_far_over : {a b : SinkSeen} {l m : Gathered} {p q : Part} (class : RunClass) (t : Numbers) (g : Lists) (rows : List (List ℤ)) (n : ℕ) (now : Moment)
     → SoFar a b l m p q class t g rows n now → q.left ≡ 0 → Tells a b l m p q (run_sites class t g rows)
 so_far_over class t g rows n now so over = tells_same (tells_both so.tells (tells_over (left_at class t now n rows) over)) so.whole
-
--- ---- counting
-
-pub bits_many : (v : ℤ) → length (flips_of v) ≡ 32
-bits_many v = each_many (λ b. act.ResultAdd (flip v b) ∷ []) flipped_bits 1 (λ b. refl) ∙ omega arith
-
-pub flips_many : (c : RunCycle) → length (flips_in c) ≡ length c.graph.operations * 32
-flips_many c =
-    each_many (λ k. sited c.cycle k (flips_of (expected_word c.table c.cycle k (at c.values k)))) (length c.graph.operations) 32
-    (λ k. sited_many c.cycle k (flips_of (expected_word c.table c.cycle k (at c.values k))) ∙ bits_many (expected_word c.table c.cycle k (at c.values k)))
-
--- so many were counted, and these are left
-pub record Counted (count : ℕ) (class : RunClass) (t : Numbers) (g : Lists) (rows : List (List ℤ)) (n : ℕ) (now : Moment) : Type 0 where
-  pub graph : now.graph ≡ g
-  pub whole : length (run_sites class t g rows) ≡ count + length (left_at class t now n rows)
-
-pub counted_none : (class : RunClass) (t : Numbers) (g : Lists) (rows : List (List ℤ)) (now : Moment) → now ≡ begun g → Counted 0 class t g rows 0 now
-counted_none class t g rows now is = rw is record { graph = refl; whole = omega arith }
-
-pub counted_more : (count : ℕ) (class : RunClass) (t : Numbers) (g : Lists) (rows : List (List ℤ)) (n : ℕ) (now next : Moment) (row : List ℤ) (more : ℕ)
-    → Counted count class t g rows n now → slice_get rows n ≡ Some row → (cycle now.graph now.cells row).stop ≡ None
-    → next ≡ after now (cycle now.graph now.cells row) → more ≡ length (of_row class t now n row) → Counted (count + more) class t g rows (n + 1) next
-counted_more count class t g rows n now next row more so there on is here =
-    let these : List Site = of_row class t now n row in
-    let behind : List Site = left_at class t (after now (cycle now.graph now.cells row)) (n + 1) rows in
-    rw is record {
-      graph = so.graph;
-      whole = omega (arith, so.whole, here, ap length (left_on class t now n rows row there on), length-append these behind);
-    }
-
-pub counted_all : (count : ℕ) (class : RunClass) (t : Numbers) (g : Lists) (rows : List (List ℤ)) (n : ℕ) (now : Moment)
-    → Counted count class t g rows n now → left_at class t now n rows ≡ [] → count ≡ length (run_sites class t g rows)
-counted_all count class t g rows n now so none = omega (arith, so.whole, ap length none)

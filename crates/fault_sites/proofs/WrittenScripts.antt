@@ -1,16 +1,25 @@
--- Scripts: the part of all sites, and what is written where there is no memory.
-use Rattle.std.proofs.Common.{◌≡◌, ℕ, List, [], length, Option, Some, None, Err, sym, arith}
+-- WrittenScripts: the part of all sites, and what is written of them: their script, or nothing, where there is no memory.
+use Rattle.std.proofs.Common.{◌≡◌, ◌≤◌, ◌-◌, ◌++◌, ℕ, List, [], min, length, drop, Option, Some, None, Result, Ok, Err, decimal, codes, true, ap, sym, ◌∙◌, arith}
 use Rattle.std.specs.Io.KnownBytes.{Appends}
-use Rattle.std.proofs.lemmas.List.{append-nil, take_all}
+use Rattle.std.proofs.lemmas.List.{append-nil, length-take, length-drop, take_all}
+use Rattle.vcp_base.specs.Limits.{most_source_bytes}
+use Rattle.vcp_outside.specs.declared.failed.Failed.{Failed}
+use Rattle.vcp_outside.specs.Counts.{Rose}
+use Rattle.vcp_outside.specs.Written.{Writes}
 use Rattle.op_graph.specs.Lists.{Lists}
 use Rattle.signature_table.specs.Signatures.{Numbers}
+use Rattle.fault_script.specs.ScriptOf.{most_faults, script_of}
+use Rattle.fault_sites.specs.declared.part.Part.{Part}
 use Rattle.fault_sites.specs.declared.site.Site.{Site}
+use Rattle.fault_sites.specs.Digest.{digest_of}
 use Rattle.fault_sites.specs.Part.{kept}
-use Rattle.fault_sites.specs.Rests.{kept_groups}
+use Rattle.fault_sites.specs.Rests.{first_fits, fitting, kept_groups}
+use Rattle.fault_sites.specs.RestScript.{IsGroupScript, WritesGroups}
 use Rattle.fault_sites.specs.declared.scripts.chosen.Chosen.{Chosen}
 use Rattle.fault_sites.specs.declared.scripts.chosen.Chosen.TheVariants as chosen
 use Rattle.fault_sites.specs.declared.scripts.unwritten.Unwritten.TheVariants as unwritten
-use Rattle.fault_sites.specs.Script.{WritesChosen}
+use Rattle.fault_sites.specs.Script.{IsScript, WritesChosen, WritesNumber, WritesScript, outcome}
+use Rattle.fault_sites.specs.SiteText.{named_remark, said_from, site_lines}
 
 -- the part of all of them
 pub kept_whole : (xs : List Site) (n : ℕ) → n ≡ length xs → kept (record { skip = 0; left = n }) xs ≡ xs
@@ -29,3 +38,46 @@ pub none_written : (g : Lists) (t : Numbers) (name : List ℕ) (xs : List Site) 
 none_written g t name xs chosen.All old = appends_none old
 none_written g t name xs (chosen.Part part) old = appends_none old
 none_written g t name xs chosen.Number old = appends_none old
+
+-- ---- the script of a part
+
+kept_few : (p : Part) (xs : List Site) (size total : ℕ) → size ≡ min p.left (total - p.skip) → total ≡ length xs → size ≤ most_faults
+    → length (kept p xs) ≤ most_faults
+kept_few p xs size total is all few =
+    let many : length (kept p xs) ≡ size =
+    length-take p.left (drop p.skip xs) ∙ (ap (λ (m : ℕ). min p.left m) (length-drop p.skip xs)
+    ∙ (ap (λ (m : ℕ). min p.left (m - p.skip)) (sym all) ∙ sym is)) in
+    omega (arith, many, few)
+
+-- it has so many sites that it is read back, and that it is short
+pub is_script : (name digest : List ℕ) (t : Numbers) (g : Lists) (xs : List Site) (p : Part) (size total : ℕ) → digest ≡ digest_of g t.seed t.step
+    → size ≡ min p.left (total - p.skip) → total ≡ length xs → size ≤ most_faults
+    → (length (kept p xs) ≤ most_faults → script_of g (named_remark name digest ++ site_lines (kept p xs)) ≡ Ok (said_from 2 (kept p xs)))
+    → (length (kept p xs) ≤ most_faults → length (named_remark name digest ++ site_lines (kept p xs)) ≤ most_source_bytes)
+    → IsScript g t name (kept p xs) (named_remark name digest ++ site_lines (kept p xs))
+is_script name digest t g xs p size total is size_is total_is room read short =
+    let fits : length (kept p xs) ≤ most_faults = kept_few p xs size total size_is total_is room in
+    record { told = ap (λ (d : List ℕ). named_remark name d ++ site_lines (kept p xs)) is; few = fits; read = read fits; short = short fits }
+
+-- ---- what the sink answered
+
+pub script_written : {old new : Option (List ℕ)} {f h : ℕ} (g : Lists) (t : Numbers) (name : List ℕ) (xs : List Site) (text : List ℕ)
+    (r : Result (Unit {0}) Failed) → IsScript g t name xs text → Writes old new f h text r → WritesScript g t name xs old new (outcome r)
+script_written g t name xs text (Ok _) is writes = (text, is, writes.whole)
+script_written g t name xs text (Err _) is writes = (text, is, writes.part)
+
+pub groups_written : {old new : Option (List ℕ)} {f h : ℕ} (g : Lists) (t : Numbers) (gs : List (List Site)) (text : List ℕ)
+    (r : Result (Unit {0}) Failed) → first_fits most_faults gs ≡ true → IsGroupScript g t (fitting most_faults gs) text → Writes old new f h text r
+    → WritesGroups g t gs old new (outcome r)
+groups_written g t gs text (Ok _) first is writes = (first, text, is, writes.whole)
+groups_written g t gs text (Err _) first is writes = (first, text, is, writes.part)
+
+pub number_written : {old new : Option (List ℕ)} {f h : ℕ} (n : ℕ) (r : Result (Unit {0}) Failed) → Writes old new f h (decimal n ++ codes "\n") r
+    → WritesNumber n old new (outcome r)
+number_written n (Ok _) writes = writes.whole
+number_written n (Err _) writes = writes.part
+
+pub sink_failed : {old new : Option (List ℕ)} {f h : ℕ} {text : List ℕ} (r : Result (Unit {0}) Failed) → Writes old new f h text r
+    → outcome r ≡ Err unwritten.Failed → Rose f h
+sink_failed (Ok _) writes is = absurd cc
+sink_failed (Err _) writes is = writes.cause.failed

@@ -2,6 +2,7 @@
 use Rattle.std.specs.Prelude.{ℕ, ◌≡◌, ◌<◌, ◌≤◌, List, [], ◌++◌, length, decimal, codes, Option, Result, Ok, Err}
 use Rattle.std.specs.Io.KnownBytes.{Appends}
 use Rattle.vcp_base.specs.Limits.{most_source_bytes}
+use Rattle.vcp_outside.specs.declared.failed.Failed.{Failed}
 use Rattle.vcp_outside.specs.Written.{AppendsPart}
 use Rattle.op_graph.specs.Lists.{Lists}
 use Rattle.signature_table.specs.Signatures.{Numbers}
@@ -22,6 +23,11 @@ pub record IsScript (g : Lists) (t : Numbers) (name : List ℕ) (xs : List Site)
   pub few : length xs ≤ most_faults
   pub read : script_of g text ≡ Ok (said_from 2 xs)
   pub short : length text ≤ most_source_bytes
+
+-- the outcome of what is written, where the sink answered this
+abbrev pub outcome : Result (Unit {0}) Failed → Result (Unit {0}) Unwritten
+outcome (Ok done) = Ok done
+outcome (Err _) = Err unwritten.Failed
 
 -- how far the script of these sites is written: whole, or a part where the sink failed, or nothing, as where there are too many
 abbrev pub WritesScript : Lists → Numbers → List ℕ → List Site → Option (List ℕ) → Option (List ℕ) → Result (Unit {0}) Unwritten → Type 0

@@ -12,10 +12,10 @@ use op_graph::{Graph, Op};
 use vcp_base::{Kind, kind_code, kind_of_code, operand_type, operands, within};
 
 /// How many kinds there are.
-pub(crate) const KINDS: u8 = 19;
+pub const KINDS: u8 = 19;
 
 /// The operation that operand `j` names.
-pub(crate) fn named(op: &Op, j: u32) -> u32
+pub fn named(op: &Op, j: u32) -> u32
     ensures { result ≡ named_of op.now j }
 {
     match j {
@@ -43,7 +43,7 @@ fn may_replace(op: &Op, j: u32, r: u32, source: &Op) -> bool
 }
 
 /// Operand `j` as the word of operation `r`, where that may take its place.
-pub(crate) fn from_of(graph: &Graph, op: &Op, j: u32, r: u32) -> Option<Act>
+pub fn from_of(graph: &Graph, op: &Op, j: u32, r: u32) -> Option<Act>
     requires { r < length graph.now.operations }
     ensures { from_one op.now j r (slice_get graph.now.operations r) ≡ option_to_list result }
 {
@@ -62,8 +62,8 @@ fn may_stand(kind: Kind, other: Kind) -> bool
     operands(other) == operands(kind) && kind_code(other) != kind_code(kind)
 }
 
-/// The call as one of the kind with the code, where that may take its place.
-pub(crate) fn operator_of(kind: Kind, code: u8) -> Option<Act>
+/// The call as one of the kind with the code, where that may take its place: another one of as many operands.
+pub fn operator_of(kind: Kind, code: u8) -> Option<Act>
     ensures { operator_one kind (slice_get kinds code) ≡ option_to_list result }
 {
     let other = kind_of_code(code)?;

@@ -103,7 +103,7 @@ fn then_each_flip<O: Sink>(
 }
 
 /// How many flips there are in a cycle.
-pub(crate) fn count_flips_in(c: &CycleValues<'_>) -> u64
+fn count_flips_in(c: &CycleValues<'_>) -> u64
     ensures count { result ≡ length (flips_in (as_cycle c.now)) }
     ensures few { result ≤ 2097152 }
 {

@@ -11,7 +11,6 @@ ghost use Rattle.fault_sites.specs.Sites.{sited};
 ghost use Rattle.fault_sites.specs.Telling.{Tells};
 
 use crate::acts::named;
-use crate::counts::count_any;
 use crate::cycle_values::CycleValues;
 use crate::flips::expected_word;
 use crate::graph_values::{at, operand};
@@ -185,53 +184,4 @@ pub(crate) fn then_lates_in<O: Sink>(
         part = then_lates_of(line, out, part, c, k);
     }
     part
-}
-
-/// How many words of the cycle before operand `j` may be in a line.
-fn count_lates_at(c: &CycleValues<'_>, k: u32, op: &Op, j: u32) -> u64
-    requires later { 0 < c.now.cycle }
-    requires few { c.now.cycle < most_cycles }
-    requires there { k < length c.now.graph.now.operations }
-    requires within { length c.now.graph.now.operations ≤ 65536 }
-    ensures count { result ≡ length (lates_at (as_cycle c.now) k op.now j) }
-    ensures few { result ≤ 65536 }
-{
-    let mut count = 0;
-    'sources: for i in 0..c.graph.len() - k {
-        count += count_any(late_of(c, op, j, k + i));
-    }
-    count
-}
-
-/// The same of all operands of operation `k`.
-fn count_lates_of(c: &CycleValues<'_>, k: u32) -> u64
-    requires later { 0 < c.now.cycle }
-    requires few { c.now.cycle < most_cycles }
-    requires there { k < length c.now.graph.now.operations }
-    requires within { length c.now.graph.now.operations ≤ 65536 }
-    ensures count { result ≡ length (lates_of (as_cycle c.now) k (slice_get c.now.graph.now.operations k)) }
-    ensures few { result ≤ 196608 }
-{
-    let op = c.graph.operation(k);
-    let mut count = 0;
-    'operands: for j in 0..operands(op.kind) {
-        count += count_lates_at(c, k, &op, j);
-    }
-    count
-}
-
-/// How many there are in a cycle.
-pub(crate) fn count_lates_in(c: &CycleValues<'_>) -> u64
-    requires { c.now.cycle < most_cycles }
-    ensures count { result ≡ length (lates_in (as_cycle c.now)) }
-    ensures few { result ≤ 12884901888 }
-{
-    if c.cycle == 0 {
-        return 0;
-    }
-    let mut count = 0;
-    'operations: for k in 0..c.graph.len() {
-        count += count_lates_of(c, k);
-    }
-    count
 }

@@ -28,6 +28,7 @@ mod values;
 mod words_read;
 mod writing;
 
+pub use acts::{KINDS, from_of, named, operator_of};
 pub use class::{Class, Classes};
 pub use counts::count_sites;
 pub use digest::image_digest;
@@ -39,9 +40,10 @@ pub use laws::{
     each_reading_is_there, each_run_site_stands_once, each_site_fits, each_site_stands_once,
     parts_are_the_whole,
 };
-pub use lines::{classes_name, classes_named, then_site};
+pub use lines::{classes_name, classes_named, then_rest, then_site, verb};
 pub use part::Part;
 pub use reading::Reading;
+pub use rests::is_out;
 pub use run_class::RunClass;
 pub use run_sites::{count_run_sites, run_class_named, write_run_sites};
 pub use scripts::{

@@ -1,13 +1,13 @@
 //! The line of a site.
 
-ghost use Rattle.std.specs.Prelude.{◌≡◌, ◌++◌, codes, decimal};
+ghost use Rattle.std.specs.Prelude.{◌≡◌, ◌++◌, bytes_eq, codes, decimal};
 ghost use Rattle.vcp_outside.specs.Gathering.{GathersTo};
 ghost use Rattle.fault_sites.specs.SiteText.{class_name as class_name_of, classes_name as classes_name_of, classes_of, verb as verb_of, rest as rest_of, site_line};
 
 use crate::class::{Class, Classes};
 use crate::site::Site;
 use fault_script::Act;
-use vcp_base::kind_name;
+use vcp_base::{Kind, kind_name};
 use vcp_outside::{Line, Sink};
 
 /// The word that names a class.
@@ -33,33 +33,40 @@ pub fn classes_name(classes: Classes) -> &'static [u8]
     }
 }
 
+/// Whether a word is this one.
+pub(crate) fn is(word: &[u8], name: &[u8]) -> bool
+    ensures { result ≡ bytes_eq word.now name.now }
+{
+    word == name
+}
+
 /// The classes that a word names.
 pub fn classes_named(word: &[u8]) -> Option<Classes>
     ensures { result ≡ classes_of word.now }
 {
-    if word == b"bits".as_slice() {
+    if is(word, b"bits") {
         return Some(Classes::One(Class::Bits));
     }
-    if word == b"stale".as_slice() {
+    if is(word, b"stale") {
         return Some(Classes::One(Class::Stale));
     }
-    if word == b"skip".as_slice() {
+    if is(word, b"skip") {
         return Some(Classes::One(Class::Skip));
     }
-    if word == b"from".as_slice() {
+    if is(word, b"from") {
         return Some(Classes::One(Class::From));
     }
-    if word == b"operator".as_slice() {
+    if is(word, b"operator") {
         return Some(Classes::One(Class::Operator));
     }
-    if word == b"all".as_slice() {
+    if is(word, b"all") {
         return Some(Classes::All);
     }
     None
 }
 
-/// The first word of a line, and a space.
-fn verb(act: &Act) -> &'static [u8]
+/// The first word of the line of a fault that does this, and a space.
+pub fn verb(act: &Act) -> &'static [u8]
     ensures { result.now ≡ verb_of act.now }
 {
     match *act {
@@ -72,20 +79,20 @@ fn verb(act: &Act) -> &'static [u8]
     }
 }
 
-/// Goes on with the number of an operand and a word.
-fn then_operand<O: Sink>(line: &mut Line, out: &mut O, j: u32, word: &[u8])
-    ensures { GathersTo (O.seen out.old) (O.seen out.new) line.old line.new (codes " " ++ (decimal j ++ word.now)) }
+/// Goes on with the number of an operand.
+fn then_operand<O: Sink>(line: &mut Line, out: &mut O, j: u32)
+    ensures { GathersTo (O.seen out.old) (O.seen out.new) line.old line.new (codes " " ++ decimal j) }
 {
     line.text(out, b" ");
     line.count(out, j as u64);
-    line.text(out, word);
 }
 
 /// Goes on with a number that is added to operand `j`.
 fn then_operand_add<O: Sink>(line: &mut Line, out: &mut O, j: u32, e: i64)
     ensures { GathersTo (O.seen out.old) (O.seen out.new) line.old line.new (rest_of (Act.OperandAdd j e)) }
 {
-    then_operand(line, out, j, b" add ");
+    then_operand(line, out, j);
+    line.text(out, b" add ");
     line.value(out, e);
 }
 
@@ -101,23 +108,37 @@ fn then_result_add<O: Sink>(line: &mut Line, out: &mut O, e: i64)
 fn then_operand_from<O: Sink>(line: &mut Line, out: &mut O, j: u32, r: u32)
     ensures { GathersTo (O.seen out.old) (O.seen out.new) line.old line.new (rest_of (Act.OperandFrom j r)) }
 {
-    then_operand(line, out, j, b" from ");
+    then_operand(line, out, j);
+    line.text(out, b" from ");
     line.count(out, r as u64);
 }
 
-/// Goes on with what is behind the cycle and the operation.
-fn then_rest<O: Sink>(line: &mut Line, out: &mut O, act: &Act)
+/// Goes on with operand `j`, which is the word of the cycle before.
+fn then_operand_stale<O: Sink>(line: &mut Line, out: &mut O, j: u32)
+    ensures { GathersTo (O.seen out.old) (O.seen out.new) line.old line.new (rest_of (Act.OperandStale j)) }
+{
+    then_operand(line, out, j);
+    line.text(out, b" stale");
+}
+
+/// Goes on with the name of another kind.
+fn then_kind<O: Sink>(line: &mut Line, out: &mut O, kind: Kind)
+    ensures { GathersTo (O.seen out.old) (O.seen out.new) line.old line.new (rest_of (Act.Operator kind)) }
+{
+    line.text(out, b" ");
+    line.text(out, kind_name(kind));
+}
+
+/// Goes on with what is behind the cycle and the operation in the line of a fault that does this.
+pub fn then_rest<O: Sink>(line: &mut Line, out: &mut O, act: &Act)
     ensures { GathersTo (O.seen out.old) (O.seen out.new) line.old line.new (rest_of act.now) }
 {
     match *act {
         Act::OperandAdd { j, e } => then_operand_add(line, out, j, e),
         Act::OperandFrom { j, r } => then_operand_from(line, out, j, r),
-        Act::OperandStale { j } => then_operand(line, out, j, b" stale"),
+        Act::OperandStale { j } => then_operand_stale(line, out, j),
         Act::ResultAdd { e } => then_result_add(line, out, e),
-        Act::Operator { kind } => {
-            line.text(out, b" ");
-            line.text(out, kind_name(kind));
-        }
+        Act::Operator { kind } => then_kind(line, out, kind),
         Act::Skip => {}
     }
 }

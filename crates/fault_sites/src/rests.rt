@@ -179,7 +179,7 @@ fn count_by(rs: &[Reading]) -> u64
 }
 
 /// Whether an operation is an OUT.
-fn is_out(kind: Kind) -> bool
+pub fn is_out(kind: Kind) -> bool
     ensures { result ≡ is_out_of kind }
 {
     match kind {

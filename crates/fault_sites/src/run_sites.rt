@@ -1,20 +1,23 @@
 //! The sites of a class that the words of a run decide, and their script.
 
-ghost use Rattle.std.specs.Prelude.{◌≡◌, ◌<◌, ◌≤◌, ◌++◌, All, codes, length};
+ghost use Rattle.std.specs.Prelude.{◌≡◌, ◌<◌, ◌≤◌, All, length};
 ghost use Rattle.vcp_base.specs.Limits.{most_cycles};
 ghost use Rattle.vcp_outside.specs.Written.{WritesTo};
-ghost use Rattle.vcp_outside.specs.Gathering.{GathersTo};
 ghost use Rattle.fault_sites.specs.Run.{begun};
 ghost use Rattle.fault_sites.specs.RunCycle.{as_cycle};
 ghost use Rattle.fault_sites.specs.RunSites.{cycle_of, in_cycle, run_class_name as run_class_name_of, run_class_of, run_sites, run_text};
 ghost use Rattle.fault_sites.specs.Telling.{Tells};
 
 use crate::GraphValues;
+use crate::counts::BEHIND_ALL;
 use crate::cycle_values::CycleValues;
-use crate::flips::{count_flips_in, then_flips_in};
-use crate::late::{count_lates_in, then_lates_in};
+use crate::flips::then_flips_in;
+use crate::late::then_lates_in;
+use crate::lines::is;
+use crate::nowhere::Nowhere;
 use crate::part::Part;
 use crate::run_class::RunClass;
+use crate::writing::then_remark;
 use input_rows::RowList;
 use signature_table::Table;
 use vcp_base::Row;
@@ -34,10 +37,10 @@ fn run_class_name(class: RunClass) -> &'static [u8]
 pub fn run_class_named(word: &[u8]) -> Option<RunClass>
     ensures { result ≡ run_class_of word.now }
 {
-    if word == b"flips".as_slice() {
+    if is(word, b"flips") {
         return Some(RunClass::Flips);
     }
-    if word == b"late".as_slice() {
+    if is(word, b"late") {
         return Some(RunClass::Late);
     }
     None
@@ -57,18 +60,6 @@ fn then_cycle<O: Sink>(
     match class {
         RunClass::Flips => then_flips_in(line, out, part, c),
         RunClass::Late => then_lates_in(line, out, part, c),
-    }
-}
-
-/// How many sites a class has in a cycle.
-fn count_cycle(class: RunClass, c: &CycleValues<'_>) -> u64
-    requires { c.now.cycle < most_cycles }
-    ensures count { result ≡ length (in_cycle class (as_cycle c.now)) }
-    ensures few { result ≤ 12884901888 }
-{
-    match class {
-        RunClass::Flips => count_flips_in(c),
-        RunClass::Late => count_lates_in(c),
     }
 }
 
@@ -95,29 +86,6 @@ fn then_released<O: Sink>(
         values: run.values(),
     };
     then_cycle(line, out, part, class, &cycle)
-}
-
-/// How many sites there are in it.
-fn count_released(
-    class: RunClass,
-    n: u32,
-    run: &GraphValues<'_>,
-    past: &GraphValues<'_>,
-    table: &Table,
-) -> u64
-    requires { n < most_cycles }
-    ensures count { result ≡ length (in_cycle class (cycle_of table.now n past.now run.now.values)) }
-    ensures few { result ≤ 12884901888 }
-{
-    let cycle = CycleValues {
-        graph: past.graph(),
-        table,
-        cycle: n,
-        cells: past.cells(),
-        past: past.values(),
-        values: run.values(),
-    };
-    count_cycle(class, &cycle)
 }
 
 /// Goes on with the sites of a class in the run over all rows, or up to its stop. The second run goes a cycle behind.
@@ -170,28 +138,22 @@ pub fn count_run_sites(
     requires row { length row.old ≡ length run.old.graph.inputs }
     ensures { result ≡ length (run_sites class table.now run.old.graph rows.now) }
 {
-    let count = rows.len() as u32;
-    let mut found = 0;
-    'cycles: for n in 0..count {
-        rows.get(n, row);
-        match run.cycle(row) {
-            Some(_) => return found,
-            None => found += count_released(class, n, run, past, table),
-        }
-        past.cycle(row);
-    }
-    found
-}
-
-/// Goes on with the remark that names the class and the image, without its LF.
-fn then_remark<O: Sink>(line: &mut Line, out: &mut O, class: RunClass, digest: &[u8])
-    ensures { GathersTo (O.seen out.old) (O.seen out.new) line.old line.new
-        (codes "# sites " ++ (run_class_name_of class ++ (codes " of " ++ digest.now))) }
-{
-    line.text(out, b"# sites ");
-    line.text(out, run_class_name(class));
-    line.text(out, b" of ");
-    line.text(out, digest);
+    // A graph has at most 65,536 operations.
+    let _operations = run.graph().len();
+    let mut line = Line::new();
+    let mut nowhere = Nowhere {};
+    let behind = then_run(
+        &mut line,
+        &mut nowhere,
+        BEHIND_ALL,
+        class,
+        run,
+        past,
+        table,
+        rows,
+        row,
+    );
+    u64::MAX - behind.skip
 }
 
 /// Writes the script of a part of the sites of a class in a run over all rows, at most 1,000,000, or up to its stop: a remark with the digits of the
@@ -216,7 +178,7 @@ pub fn write_run_sites<O: Sink>(
     ensures { WritesTo (O.seen out.old) (O.seen out.new) (run_text class digest.now table.now run.old.graph rows.now part) result }
 {
     let mut line = Line::new();
-    then_remark(&mut line, out, class, digest);
+    then_remark(&mut line, out, run_class_name(class), digest);
     then_run(&mut line, out, part, class, run, past, table, rows, row);
     line.end(out)
 }

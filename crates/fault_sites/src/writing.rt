@@ -72,7 +72,7 @@ fn then_all<O: Sink>(line: &mut Line, out: &mut O, part: Part, graph: &Graph, cy
 }
 
 /// Goes on with the sites of one class, or of all.
-fn then_sites<O: Sink>(
+pub(crate) fn then_sites<O: Sink>(
     line: &mut Line,
     out: &mut O,
     part: Part,
@@ -88,13 +88,13 @@ fn then_sites<O: Sink>(
     }
 }
 
-/// Goes on with the remark that names the classes and the image, without its LF.
-fn then_remark<O: Sink>(line: &mut Line, out: &mut O, classes: Classes, digest: &[u8])
+/// Goes on with the remark that names what the sites are and the image, without its LF.
+pub(crate) fn then_remark<O: Sink>(line: &mut Line, out: &mut O, name: &[u8], digest: &[u8])
     ensures { GathersTo (O.seen out.old) (O.seen out.new) line.old line.new
-        (codes "# sites " ++ (classes_name_of classes ++ (codes " of " ++ digest.now))) }
+        (codes "# sites " ++ (name.now ++ (codes " of " ++ digest.now))) }
 {
     line.text(out, b"# sites ");
-    line.text(out, classes_name(classes));
+    line.text(out, name);
     line.text(out, b" of ");
     line.text(out, digest);
 }
@@ -113,7 +113,7 @@ pub fn write_sites<O: Sink>(
     ensures { WritesTo (O.seen out.old) (O.seen out.new) (sites_text classes digest.now graph.now cycles part) result }
 {
     let mut line = Line::new();
-    then_remark(&mut line, out, classes, digest);
+    then_remark(&mut line, out, classes_name(classes), digest);
     then_sites(&mut line, out, part, graph, classes, cycles);
     line.end(out)
 }

@@ -6,7 +6,7 @@ ghost use Rattle.vcp_outside.specs.Written.{WritesTo};
 ghost use Rattle.fault_sites.specs.Script.{WritesNumber};
 ghost use Rattle.fault_sites.specs.declared.scripts.unwritten.Unwritten.TheVariants as unwritten;
 
-use crate::scripts::unwritten::Unwritten;
+use crate::scripts::unwritten::{Unwritten, outcome};
 use vcp_outside::{Failed, Line, Sink};
 
 /// Writes a number in a line.
@@ -23,8 +23,5 @@ pub(crate) fn write_number<O: Sink>(out: &mut O, number: u64) -> Result<(), Unwr
     ensures writes { WritesNumber number (O.seen out.old).written (O.seen out.new).written result }
     ensures failed { result ≡ Err unwritten.Failed → Rose (O.seen out.old).faults (O.seen out.new).faults }
 {
-    match write_line(out, number) {
-        Ok(()) => Ok(()),
-        Err(Failed) => Err(Unwritten::Failed),
-    }
+    outcome(write_line(out, number))
 }

@@ -12,13 +12,13 @@ ghost use Rattle.fault_sites.specs.declared.scripts.unwritten.Unwritten.TheVaria
 
 use crate::scripts::chosen::{Chosen, size_of, whole};
 use crate::scripts::number::write_number;
-use crate::scripts::unwritten::Unwritten;
-use crate::{Classes, Part, a_script_is_read_back, count_sites, image_digest, write_sites};
+use crate::scripts::unwritten::{Unwritten, outcome};
+use crate::{Classes, Part, count_sites, image_digest, write_sites};
 use fault_script::MOST_FAULTS;
 use op_graph::Graph;
 use signature_table::Table;
 use std::alloc::Global;
-use vcp_outside::{Failed, Sink};
+use vcp_outside::Sink;
 
 /// Writes the script of a part of the sites of an image, unless it would have more than 10,000 faults. There are so many sites in all.
 fn write_part<O: Sink>(
@@ -38,16 +38,12 @@ fn write_part<O: Sink>(
         (O.seen out.new).written result }
     ensures failed { result ≡ Err unwritten.Failed → Rose (O.seen out.old).faults (O.seen out.new).faults }
 {
-    a_script_is_read_back();
     if size_of(part, total) > MOST_FAULTS as u64 {
         return Err(Unwritten::TooMany);
     }
     let _operations = graph.len();
     match image_digest(alloc, graph, table) {
-        Ok(digest) => match write_sites(out, &digest, graph, classes, cycles, part) {
-            Ok(()) => Ok(()),
-            Err(Failed) => Err(Unwritten::Failed),
-        },
+        Ok(digest) => outcome(write_sites(out, &digest, graph, classes, cycles, part)),
         Err(_) => Err(Unwritten::Memory),
     }
 }

@@ -1,9 +1,8 @@
 //! Groups in which a word changes between two of its readings.
 
-ghost use Rattle.std.specs.Prelude.{◌≡◌, ◌≤◌, ◌++◌, codes, length, Err};
+ghost use Rattle.std.specs.Prelude.{◌≡◌, ◌≤◌, length, Err};
 ghost use Rattle.vcp_base.specs.Limits.{most_cycles};
 ghost use Rattle.vcp_outside.specs.Counts.{Rose};
-ghost use Rattle.vcp_outside.specs.Gathering.{GathersTo};
 ghost use Rattle.vcp_outside.specs.Written.{WritesTo};
 ghost use Rattle.signature_table.specs.Signatures.{IsTableOf};
 ghost use Rattle.fault_script.specs.ScriptOf.{most_faults};
@@ -18,7 +17,8 @@ use crate::nowhere::Nowhere;
 use crate::rests::{RunReadings, count_rests, run_readings, then_rests};
 use crate::scripts::chosen::{Chosen, whole};
 use crate::scripts::number::write_number;
-use crate::scripts::unwritten::Unwritten;
+use crate::scripts::unwritten::{Unwritten, outcome};
+use crate::writing::then_remark;
 use crate::{Part, image_digest};
 use fault_script::MOST_FAULTS;
 use op_graph::{Graph, entries_keep_their_rules};
@@ -72,14 +72,6 @@ fn fits(graph: &Graph, readings: &RunReadings, cycles: u32, part: Part) -> bool
     has_begun(part, next)
 }
 
-/// Goes on with the remark that names the class and the image, without its LF.
-fn then_remark<O: Sink>(line: &mut Line, out: &mut O, digest: &[u8])
-    ensures { GathersTo (O.seen out.old) (O.seen out.new) line.old line.new (codes "# sites rest of " ++ digest.now) }
-{
-    line.text(out, b"# sites rest of ");
-    line.text(out, digest);
-}
-
 /// Writes the script of the first groups of a part, up to the one with which it would have more than 10,000 faults.
 fn write_rests<O: Sink>(
     out: &mut O,
@@ -95,7 +87,7 @@ fn write_rests<O: Sink>(
         (rest_text digest.now (fitting most_faults (kept_groups part (groups graph.now cycles)))) result }
 {
     let mut line = Line::new();
-    then_remark(&mut line, out, digest);
+    then_remark(&mut line, out, b"rest", digest);
     then_rests(&mut line, out, budget_of(part), graph, readings, cycles);
     line.end(out)
 }
@@ -121,10 +113,7 @@ fn write_part<O: Sink>(
     let _operations = graph.len();
     if fits(graph, readings, cycles, part) {
         match image_digest(alloc, graph, table) {
-            Ok(digest) => match write_rests(out, &digest, graph, readings, cycles, part) {
-                Ok(()) => Ok(()),
-                Err(Failed) => Err(Unwritten::Failed),
-            },
+            Ok(digest) => outcome(write_rests(out, &digest, graph, readings, cycles, part)),
             Err(_) => Err(Unwritten::Memory),
         }
     } else {

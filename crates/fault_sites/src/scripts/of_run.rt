@@ -5,24 +5,42 @@ ghost use Rattle.vcp_base.specs.Limits.{most_cycles};
 ghost use Rattle.vcp_outside.specs.Counts.{Rose};
 ghost use Rattle.signature_table.specs.Signatures.{IsTableOf};
 ghost use Rattle.fault_sites.specs.Part.{kept};
-ghost use Rattle.fault_sites.specs.RunSites.{run_class_name, run_sites};
-ghost use Rattle.fault_sites.specs.Script.{WritesScript, WritesChosen};
+ghost use Rattle.fault_sites.specs.Run.{begun};
+ghost use Rattle.fault_sites.specs.RunSites.{run_class_name, run_sites, run_text};
+ghost use Rattle.fault_sites.specs.Script.{IsScript, WritesScript, WritesChosen};
 ghost use Rattle.fault_sites.specs.declared.scripts.unwritten.Unwritten.TheVariants as unwritten;
 
 use crate::scripts::chosen::{Chosen, size_of, whole};
 use crate::scripts::number::write_number;
-use crate::scripts::unwritten::Unwritten;
-use crate::{
-    GraphValues, Part, RunClass, a_script_of_a_run_is_read_back, count_run_sites, image_digest,
-    write_run_sites,
-};
+use crate::scripts::unwritten::{Unwritten, outcome};
+use crate::{GraphValues, Part, RunClass, count_run_sites, image_digest, write_run_sites};
 use fault_script::MOST_FAULTS;
 use input_rows::RowList;
 use op_graph::Graph;
 use signature_table::Table;
 use std::alloc::Global;
 use vcp_base::{Memory, Row};
-use vcp_outside::{Failed, Sink};
+use vcp_outside::Sink;
+
+/// Two runs of a graph before their first cycle, and a row for its inputs.
+#[derive(Drop)]
+struct Runs<'a> {
+    run: GraphValues<'a>,
+    past: GraphValues<'a>,
+    row: Row,
+}
+
+/// Two runs of a graph.
+fn two_runs(alloc: Global, graph: &Graph) -> Result<Runs<'_>, Memory>
+    ensures run { IfOk result (λ r. r.run ≡ begun graph.now) }
+    ensures past { IfOk result (λ r. r.past ≡ begun graph.now) }
+    ensures row { IfOk result (λ r. length r.row ≡ length graph.now.inputs) }
+{
+    let run = GraphValues::new(alloc, graph)?;
+    let past = GraphValues::new(alloc, graph)?;
+    let row = Row::zeros(alloc, graph.inputs())?;
+    Ok(Runs { run, past, row })
+}
 
 /// How many sites a class has in the run over all rows, or up to its stop.
 fn count(
@@ -36,14 +54,48 @@ fn count(
     requires width { All (λ r. length r ≡ length graph.now.inputs) rows.now }
     ensures { IfOk result (λ n. n ≡ length (run_sites class table.now graph.now rows.now)) }
 {
-    let mut run = GraphValues::new(alloc, graph)?;
-    let mut past = GraphValues::new(alloc, graph)?;
-    let mut row = Row::zeros(alloc, graph.inputs())?;
+    let Runs {
+        mut run,
+        mut past,
+        mut row,
+    } = two_runs(alloc, graph)?;
     Ok(count_run_sites(class, &mut run, &mut past, table, rows, &mut row))
 }
 
-/// Writes the script of a part of the sites of a class in the run over all rows, unless it would have more than 10,000 faults. There are so many
-/// in all.
+/// Writes the script of a part of the sites of a class in the run over all rows.
+fn write_by<O: Sink>(
+    alloc: Global,
+    digest: &[u8],
+    graph: &Graph,
+    table: &Table,
+    class: RunClass,
+    rows: &RowList,
+    part: Part,
+    out: &mut O,
+) -> Result<(), Unwritten>
+    requires few { length rows.now ≤ most_cycles }
+    requires width { All (λ r. length r ≡ length graph.now.inputs) rows.now }
+    requires script { IsScript graph.now table.now (run_class_name class) (kept part (run_sites class table.now graph.now rows.now))
+        (run_text class digest.now table.now graph.now rows.now part) }
+    ensures writes { WritesScript graph.now table.now (run_class_name class) (kept part (run_sites class table.now graph.now rows.now))
+        (O.seen out.old).written (O.seen out.new).written result }
+    ensures failed { result ≡ Err unwritten.Failed → Rose (O.seen out.old).faults (O.seen out.new).faults }
+{
+    match two_runs(alloc, graph) {
+        Ok(
+            Runs {
+                mut run,
+                mut past,
+                mut row,
+            },
+        ) => outcome(write_run_sites(
+            out, digest, class, &mut run, &mut past, table, rows, &mut row, part,
+        )),
+        Err(_) => Err(Unwritten::Memory),
+    }
+}
+
+/// The same for an image, unless the script would have more than 10,000 faults. There are so many sites in all.
 fn write_part<O: Sink>(
     alloc: Global,
     graph: &Graph,
@@ -62,30 +114,12 @@ fn write_part<O: Sink>(
         (O.seen out.old).written (O.seen out.new).written result }
     ensures failed { result ≡ Err unwritten.Failed → Rose (O.seen out.old).faults (O.seen out.new).faults }
 {
-    a_script_of_a_run_is_read_back();
     if size_of(part, total) > MOST_FAULTS as u64 {
         return Err(Unwritten::TooMany);
     }
     let _operations = graph.len();
-    let mut run = match GraphValues::new(alloc, graph) {
-        Ok(run) => run,
-        Err(_) => return Err(Unwritten::Memory),
-    };
-    let mut past = match GraphValues::new(alloc, graph) {
-        Ok(past) => past,
-        Err(_) => return Err(Unwritten::Memory),
-    };
-    let mut row = match Row::zeros(alloc, graph.inputs()) {
-        Ok(row) => row,
-        Err(_) => return Err(Unwritten::Memory),
-    };
     match image_digest(alloc, graph, table) {
-        Ok(digest) => match write_run_sites(
-            out, &digest, class, &mut run, &mut past, table, rows, &mut row, part,
-        ) {
-            Ok(()) => Ok(()),
-            Err(Failed) => Err(Unwritten::Failed),
-        },
+        Ok(digest) => write_by(alloc, &digest, graph, table, class, rows, part, out),
         Err(_) => Err(Unwritten::Memory),
     }
 }

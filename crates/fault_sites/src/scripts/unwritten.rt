@@ -1,9 +1,8 @@
 //! Why what is chosen isn't written whole.
 
 ghost use Rattle.std.specs.Prelude.{◌≡◌};
-ghost use Rattle.fault_sites.specs.declared.scripts.unwritten.Unwritten.TheVariants as unwritten;
+ghost use Rattle.fault_sites.specs.Script.{outcome as outcome_of};
 
-use vcp_base::Memory;
 use vcp_outside::Failed;
 
 /// Why what is chosen isn't written whole.
@@ -17,18 +16,12 @@ pub enum Unwritten {
     Failed,
 }
 
-impl From<Failed> for Unwritten {
-    ghost from_gives = { λ _ e. e ≡ unwritten.Failed };
-
-    fn from(_: Failed) -> Unwritten {
-        Unwritten::Failed
-    }
-}
-
-impl From<Memory> for Unwritten {
-    ghost from_gives = { λ _ e. e ≡ unwritten.Memory };
-
-    fn from(_: Memory) -> Unwritten {
-        Unwritten::Memory
+/// What the sink answered to a script, as the outcome of what is chosen.
+pub(crate) fn outcome(written: Result<(), Failed>) -> Result<(), Unwritten>
+    ensures { result ≡ outcome_of written }
+{
+    match written {
+        Ok(()) => Ok(()),
+        Err(Failed) => Err(Unwritten::Failed),
     }
 }

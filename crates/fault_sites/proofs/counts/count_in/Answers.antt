@@ -1,17 +1,12 @@
-use Rattle.std.proofs.Common.{◌≡◌, length, slice_get, arith}
-use Rattle.fault_sites.specs.Sites.{sites_at}
-use Rattle.fault_sites.proofs.Counting.{count_more}
+use Rattle.std.proofs.Common.{◌≡◌, ◌-◌, length, ap}
+use Rattle.fault_sites.specs.declared.part.Part.{Part}
+use Rattle.fault_sites.specs.Sites.{sites_in}
+use Rattle.fault_sites.proofs.Few.{counted, cycle_few}
 use Rattle.fault_sites.proofs.counts.count_in.Goals as goal
 
-pub operations-preserved : goal.operations-preserved
-operations-preserved c =
-    record {
-      value =
-          count_more (λ k. sites_at c.args.class c.args.graph.now 1 k (slice_get c.args.graph.now.operations k))
-          c.operations.k _ _ c.operations.invariant.value c.count_at-count.ensures.count;
-      few = omega arith;
-    }
-
-pub returns-clause-count : goal.returns-clause-count
-returns-clause-count c =
-    let all : c.operations.k ≡ length c.args.graph.now.operations = omega arith in rw all at c.operations.invariant.value
+pub returns : goal.returns
+returns c =
+    let a = c.args in
+    let xs = sites_in a.class a.graph.now 1 in
+    let left : c.then_cycle-behind.result.skip ≡ 18446744073709551615 - length xs = ap (λ (p : Part). p.skip) c.then_cycle-behind.ensures.left in
+    counted xs c.then_cycle-behind.result.skip (cycle_few a.class a.graph.now 1 c.len-operations.ensures.rules.part.few_operations) left

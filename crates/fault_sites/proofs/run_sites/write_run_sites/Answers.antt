@@ -6,7 +6,7 @@ use Rattle.fault_sites.proofs.run_sites.write_run_sites.Goals as goal
 
 pub returns : goal.returns
 returns g c =
-    let remark = c.then_remark.ensures _ _ _ (c.new-line.ensures.begun _ _) in
+    let remark = (rw c.run_class_name.ensures at c.then_remark.ensures) _ _ _ (c.new-line.ensures.begun _ _) in
     let told = c.then_run.ensures.gathers _ _ _ remark in
     written_same (c.end.ensures.writes _ _ _ told)
     (ended_text (run_class_name c.args.class) c.args.digest.now (kept c.args.part (run_sites c.args.class c.args.table.now c.args.run.now.graph c.args.rows.now)))

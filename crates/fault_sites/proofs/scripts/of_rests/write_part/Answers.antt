@@ -1,31 +1,20 @@
-use Rattle.std.proofs.Common.{◌≡◌, ◌≤◌, ◌^◌, length, true, sym, ◌∙◌, arith, rules}
+use Rattle.std.proofs.Common.{◌≡◌, ◌≤◌, ◌^◌, length, true, sym, ◌∙◌, arith}
 use Rattle.fault_script.specs.ScriptOf.{most_faults}
 use Rattle.fault_sites.specs.Rests.{first_fits, fitting, groups, kept_groups, rest_text}
 use Rattle.fault_sites.proofs.GroupsShort.{rest_script}
+use Rattle.fault_sites.proofs.WrittenScripts.{groups_written, sink_failed}
 use Rattle.fault_sites.proofs.scripts.of_rests.write_part.Goals as goal
 
-pub returns-in-Ok-write_rests-clause-writes : goal.returns-in-Ok-write_rests-clause-writes
-returns-in-Ok-write_rests-clause-writes g c =
-    let gs = kept_groups c.args.part (groups c.args.graph.now c.args.cycles) in
-    let ops : length c.args.graph.now.operations ≤ 2 ^ 32 = omega (arith, c.len-operations.ensures.count) in
+pub returns-in-Ok-clause-writes : goal.returns-in-Ok-clause-writes
+returns-in-Ok-clause-writes g c =
+    let a = c.args in
+    let gs = kept_groups a.part (groups a.graph.now a.cycles) in
+    let ops : length a.graph.now.operations ≤ 2 ^ 32 = omega (arith, c.len-operations.ensures.count) in
     let first : first_fits most_faults gs ≡ true = sym c.fits.ensures ∙ c.if-fits.true in
-    let d = c.in-Ok.ensures in (
-      first,
-      rest_text c.in-Ok.digest (fitting most_faults gs),
-      rest_script c.in-Ok.digest c.args.table.now c.args.graph.now c.args.cycles c.args.part c.entries_keep_their_rules.ensures
-          c.len-operations.ensures.rules.part c.requires.few d.digits d.plain d.count ops,
-      search rules,
-    )
+    let d = c.in-Ok.ensures in
+    rw c.outcome.ensures (groups_written a.graph.now a.table.now gs (rest_text c.in-Ok.digest (fitting most_faults gs)) c.write_rests.result first
+    (rest_script c.in-Ok.digest a.table.now a.graph.now a.cycles a.part c.entries_keep_their_rules.ensures c.len-operations.ensures.rules.part c.requires.few
+    d.digits d.plain d.count ops) c.write_rests.ensures)
 
-pub returns-in-Err-write_rests-clause-writes : goal.returns-in-Err-write_rests-clause-writes
-returns-in-Err-write_rests-clause-writes g c =
-    let gs = kept_groups c.args.part (groups c.args.graph.now c.args.cycles) in
-    let ops : length c.args.graph.now.operations ≤ 2 ^ 32 = omega (arith, c.len-operations.ensures.count) in
-    let first : first_fits most_faults gs ≡ true = sym c.fits.ensures ∙ c.if-fits.true in
-    let d = c.in-Ok.ensures in (
-      first,
-      rest_text c.in-Ok.digest (fitting most_faults gs),
-      rest_script c.in-Ok.digest c.args.table.now c.args.graph.now c.args.cycles c.args.part c.entries_keep_their_rules.ensures
-          c.len-operations.ensures.rules.part c.requires.few d.digits d.plain d.count ops,
-      search rules,
-    )
+pub returns-in-Ok-clause-failed : goal.returns-in-Ok-clause-failed
+returns-in-Ok-clause-failed g c = λ is. sink_failed c.write_rests.result c.write_rests.ensures (sym c.outcome.ensures ∙ is)
