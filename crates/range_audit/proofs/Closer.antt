@@ -1,5 +1,5 @@
 -- Closer: ranges of operations that are made of two lists of them, place by place.
-use Rattle.std.proofs.Common.{◌≡◌, ℕ, ◌<◌, ◌≤◌, ℤ, pos, ◌≤ℤ◌, List, length, take, slice_get, Some, Ok, sym, subst, length-take-le, get_or-take, take-take, arith}
+use Rattle.std.proofs.Common.{◌≡◌, ℕ, ◌<◌, ◌≤◌, ℤ, pos, ◌≤ℤ◌, Bool, true, false, inl, inr, List, length, take, slice_get, Some, Ok, sym, subst, length-take-le, get_or-take, take-take, arith}
 use Rattle.vcp_base.specs.Values.{at}
 use Rattle.std.proofs.lemmas.Int.{ints}
 use Rattle.std.proofs.lemmas.Option.{slice_get_within}
@@ -12,68 +12,49 @@ use Rattle.op_graph.specs.Lists.{Lists}
 use Rattle.op_graph.specs.Laws.{OperandLaws}
 use Rattle.op_graph.specs.Rules.{IsGraph}
 use Rattle.op_graph.specs.GraphRun.{outcome_of, cycle, initial, cells_after}
-use Rattle.range_walk.specs.Walking.{Given}
+use Rattle.range_walk.specs.Walking.{Given, Parts}
 use Rattle.range_audit.specs.Audit.{HoldsWithin}
 use Rattle.range_audit.specs.Fitting.{FitsFrom}
 use Rattle.range_audit.specs.Searching.{AreSettled}
 use Rattle.range_audit.proofs.Cycles.{cells_keep, given_cycle}
 use Rattle.range_audit.proofs.Steps.{get_there}
 
--- r has the values that both have, and lies between the ends of the first
-pub record IsCloser (x y r : Range) : Type 0 where
-  pub holds : (v : ℤ) → IsIn x v → IsIn y v → IsIn r v
-  pub low : x.low ≤ℤ r.low
-  pub high : r.high ≤ℤ x.high
+-- r has the values that both have, or one of the two; where both, it lies between the ends of the first
+pub record IsCloser (both : Bool) (x y r : Range) : Type 0 where
+  pub holds : (v : ℤ) → Parts both (IsIn x v) (IsIn y v) → IsIn r v
+  pub low : both ≡ true → x.low ≤ℤ r.low
+  pub high : both ≡ true → r.high ≤ℤ x.high
 
-abbrev pub CloserAt : List Range → List Range → ℕ → Range → Type 0
-CloserAt a b k r = (x y : Range) → slice_get a k ≡ Some x → slice_get b k ≡ Some y → IsCloser x y r
+abbrev pub CloserAt : Bool → List Range → List Range → ℕ → Range → Type 0
+CloserAt both a b k r = (x y : Range) → slice_get a k ≡ Some x → slice_get b k ≡ Some y → IsCloser both x y r
 
--- r has the values of both
-pub record IsJoined (x y r : Range) : Type 0 where
-  pub first : (v : ℤ) → IsIn x v → IsIn r v
-  pub second : (v : ℤ) → IsIn y v → IsIn r v
-
-abbrev pub JoinedAt : List Range → List Range → ℕ → Range → Type 0
-JoinedAt a b k r = (x y : Range) → slice_get a k ≡ Some x → slice_get b k ≡ Some y → IsJoined x y r
+parts_map : {P Q R S : Type 0} (b : Bool) → (P → R) → (Q → S) → Parts b P Q → Parts b R S
+parts_map true f g (p, q) = (f p, g q)
+parts_map false f g (inl p) = inl (f p)
+parts_map false f g (inr q) = inr (g q)
 
 between : (t : Ty) (x r : Range) → LiesIn t x → x.low ≤ℤ r.low → r.high ≤ℤ x.high → LiesIn t r
 between t x r lies low high = record { low = grind (arith, ints, lies.low, low); high = grind (arith, ints, lies.high, high) }
 
-module _ (a b known : List Range) (same : length a ≡ length b) (many : length known ≡ length a) where
-  pub closer_fits : ((k : ℕ) (r : Range) → slice_get known k ≡ Some r → CloserAt a b k r) → (vs : List ℤ) → Fit a vs → Fit b vs → Fit known vs
-  closer_fits each vs in_a in_b k r lt there =
+module _ (both : Bool) (a b known : List Range) (same : length a ≡ length b) (many : length known ≡ length a)
+    (each : (k : ℕ) (r : Range) → slice_get known k ≡ Some r → CloserAt both a b k r) where
+  pub closer_fits : (vs : List ℤ) → Parts both (Fit a vs) (Fit b vs) → Fit known vs
+  closer_fits vs p k r lt there =
       let within = slice_get_within known k r there in
       let x = get_there a k (omega (arith, within, many)) in
       let y = get_there b k (omega (arith, within, many, same)) in
-      (each k r there x.0 y.0 x.1 y.1).holds _ (in_a k x.0 lt x.1) (in_b k y.0 lt y.1)
+      (each k r there x.0 y.0 x.1 y.1).holds _ (parts_map both (λ fit. fit k x.0 lt x.1) (λ fit. fit k y.0 lt y.1) p)
 
-  pub closer_lies : ((k : ℕ) (r : Range) → slice_get known k ≡ Some r → CloserAt a b k r) → (ops : List Op) → LieInTypes ops a → LieInTypes ops known
-  closer_lies each ops lie i op r here there =
+  pub closer_lies : both ≡ true → (ops : List Op) → LieInTypes ops a → LieInTypes ops known
+  closer_lies is_both ops lie i op r here there =
       let within = slice_get_within known i r there in
       let x = get_there a i (omega (arith, within, many)) in
       let y = get_there b i (omega (arith, within, many, same)) in
       let is = each i r there x.0 y.0 x.1 y.1 in
-      between op.ty x.0 r (lie i op x.0 here x.1) is.low is.high
+      between op.ty x.0 r (lie i op x.0 here x.1) (is.low is_both) (is.high is_both)
 
-  pub joined_first : ((k : ℕ) (r : Range) → slice_get known k ≡ Some r → JoinedAt a b k r) → (vs : List ℤ) → Fit a vs → Fit known vs
-  joined_first each vs in_a k r lt there =
-      let within = slice_get_within known k r there in
-      let x = get_there a k (omega (arith, within, many)) in
-      let y = get_there b k (omega (arith, within, many, same)) in
-      (each k r there x.0 y.0 x.1 y.1).first _ (in_a k x.0 lt x.1)
-
-  pub joined_second : ((k : ℕ) (r : Range) → slice_get known k ≡ Some r → JoinedAt a b k r) → (vs : List ℤ) → Fit b vs → Fit known vs
-  joined_second each vs in_b k r lt there =
-      let within = slice_get_within known k r there in
-      let x = get_there a k (omega (arith, within, many)) in
-      let y = get_there b k (omega (arith, within, many, same)) in
-      (each k r there x.0 y.0 x.1 y.1).second _ (in_b k y.0 lt y.1)
-
-pub closer_same : (s t x y r : Range) → s ≡ x → t ≡ y → IsCloser s t r → IsCloser x y r
-closer_same s t x y r e f is = rw (← e, ← f) is
-
-pub joined_same : (s t x y r : Range) → s ≡ x → t ≡ y → IsJoined s t r → IsJoined x y r
-joined_same s t x y r e f is = rw (← e, ← f) is
+pub closer_same : (both : Bool) (s t x y r : Range) → s ≡ x → t ≡ y → IsCloser both s t r → IsCloser both x y r
+closer_same both s t x y r e f is = rw (← e, ← f) is
 
 -- ---- over runs
 

@@ -9,9 +9,10 @@ use Rattle.op_graph.specs.Lists.{Lists}
 use Rattle.op_graph.specs.GraphRun.{outcome_of, cycle, initial, stored, CellsFit}
 use Rattle.range_walk.specs.declared.range.Range.{Range}
 use Rattle.range_walk.specs.declared.range.Stops.{Stops}
-use Rattle.range_walk.specs.Known.{may_stop, is_named}
+use Rattle.range_walk.specs.Known.{KnownRanges, may_stop, is_named}
 use Rattle.range_walk.specs.Intervals.{IsIn, Fit, Hold, RowIn}
 use Rattle.range_walk.specs.Walking.{Given, OwnFits}
+use Rattle.range_audit.specs.Fitting.{FitsFrom}
 
 -- a cell's initial value is in its range, and so is each value that is stored
 pub record CellKept (cell : Range) (init : ℤ) (stored : Range) : Type 0 where
@@ -49,6 +50,11 @@ NamesFrom ops inputs Kept stops =
     (held row vs : List ℤ) (op : Op) (why : StopKind) → Kept held → RowIn inputs row → Given ops held row vs
     → slice_get ops (length vs) ≡ Some op → OwnFits row op → why ≢ stop.Operand → outcome_of held row vs op ≡ Err why
     → is_named why (slice_get stops (length vs)) ≡ true
+
+-- what is found of a cycle on such a row, where this holds of the cells
+pub record IsFound (ops : List Op) (inputs : List Range) (Kept : List ℤ → Type 0) (a : KnownRanges) : Type 0 where
+  pub fits : FitsFrom ops inputs Kept a.known
+  pub names : NamesFrom ops inputs Kept a.stops
 
 -- there the value of operation j is in r
 abbrev pub IsValueIn : List Op → List Range → List Range → ℕ → Range → Type 0

@@ -7,33 +7,29 @@ ghost use Rattle.range_walk.specs.Walking.{Given, IsWalk};
 
 use crate::boxes::has_none;
 use crate::cases::{CONDITIONS, copied, halved, spend};
+use crate::cycle::Cycle;
 use crate::naming::{joined_stops, stops_at};
 use crate::questions::open_condition;
-use op_graph::Graph;
 use range_walk::{Range, Ranges, Stops, first_ranges, narrow, tell};
-use std::alloc::Global;
 use vcp_base::Memory;
 
 /// Why operation `i` may stop, where the operations before it have values in these ranges, by the cases of conditions, so many at once.
 fn stops_by_cases(
-    alloc: Global,
-    graph: &Graph,
-    cells: &[Range],
+    cycle: &Cycle<'_>,
     ranges: &[Range],
     i: u32,
     depth: u32,
     left: &mut u64,
 ) -> Result<Stops, Memory>
-    requires there { i < length graph.now.operations }
+    requires there { i < length cycle.now.graph.now.operations }
     requires many { length ranges.now ≡ i }
-    requires cells { length cells.now ≡ length graph.now.stores }
-    ensures { IfOk result (λ s. StopsIn graph.now.operations cells.now ranges.now i s) }
+    ensures { IfOk result (λ s. StopsIn cycle.now.graph.now.operations cycle.now.cells.now ranges.now i s) }
 {
     let none = has_none(ranges);
     if none {
         return Ok(Stops::none());
     }
-    let told = tell(graph, cells, ranges, i);
+    let told = tell(cycle.graph, cycle.cells, ranges, i);
     if depth == 0 {
         return Ok(told.stops);
     }
@@ -41,60 +37,49 @@ fn stops_by_cases(
     if !any {
         return Ok(told.stops);
     }
-    let q = open_condition(graph, ranges, i);
+    let q = open_condition(cycle.graph, ranges, i);
     let nothing = q >= i;
     if nothing {
         return Ok(told.stops);
     }
-    let enough = spend(graph, left);
+    let enough = spend(cycle.graph, left);
     if !enough {
         return Ok(told.stops);
     }
     let less = depth - 1;
-    let two = halved(alloc, graph, cells, ranges, q)?;
-    let first = stops_by_cases(alloc, graph, cells, &two.low, i, less, left)?;
-    let second = stops_by_cases(alloc, graph, cells, &two.high, i, less, left)?;
+    let two = halved(cycle, ranges, q)?;
+    let first = stops_by_cases(cycle, &two.low, i, less, left)?;
+    let second = stops_by_cases(cycle, &two.high, i, less, left)?;
     let either = joined_stops(false, first, second);
     Ok(either)
 }
 
 /// The ranges of the first operations, as many as `i`, made narrower by one another.
 pub(crate) fn narrowed_before(
-    alloc: Global,
-    graph: &Graph,
-    cells: &[Range],
+    cycle: &Cycle<'_>,
     known: &[Range],
     i: u32,
 ) -> Result<Vec<Range>, Memory>
-    requires there { i ≤ length graph.now.operations }
-    requires many { length known.now ≡ length graph.now.operations }
-    requires cells { length cells.now ≡ length graph.now.stores }
+    requires there { i ≤ length cycle.now.graph.now.operations }
+    requires many { length known.now ≡ length cycle.now.graph.now.operations }
     ensures many { IfOk result (λ ranges. length ranges.items ≡ i) }
-    ensures fits { IfOk result (λ ranges. (held row vs : List ℤ) → Hold cells.now held → Given graph.now.operations held row vs → length vs ≡ i
-        → Fit known.now vs → Fit ranges.items vs) }
+    ensures fits { IfOk result (λ ranges. (held row vs : List ℤ) → Hold cycle.now.cells.now held → Given cycle.now.graph.now.operations held row vs
+        → length vs ≡ i → Fit known.now vs → Fit ranges.items vs) }
 {
     let first = first_ranges(known, i);
-    let mut ranges = copied(alloc, first)?;
-    narrow(graph, cells, &mut ranges);
+    let mut ranges = copied(cycle.alloc, first)?;
+    narrow(cycle.graph, cycle.cells, &mut ranges);
     Ok(ranges)
 }
 
 /// Why operation `i` may stop, where the operations before it have values in these ranges.
-fn stops_after(
-    alloc: Global,
-    graph: &Graph,
-    cells: &[Range],
-    known: &[Range],
-    i: u32,
-    left: &mut u64,
-) -> Result<Stops, Memory>
-    requires there { i < length graph.now.operations }
-    requires many { length known.now ≡ length graph.now.operations }
-    requires cells { length cells.now ≡ length graph.now.stores }
-    ensures { IfOk result (λ s. StopsIn graph.now.operations cells.now known.now i s) }
+fn stops_after(cycle: &Cycle<'_>, known: &[Range], i: u32, left: &mut u64) -> Result<Stops, Memory>
+    requires there { i < length cycle.now.graph.now.operations }
+    requires many { length known.now ≡ length cycle.now.graph.now.operations }
+    ensures { IfOk result (λ s. StopsIn cycle.now.graph.now.operations cycle.now.cells.now known.now i s) }
 {
-    let ranges = narrowed_before(alloc, graph, cells, known, i)?;
-    let stops = stops_by_cases(alloc, graph, cells, &ranges, i, CONDITIONS, left)?;
+    let ranges = narrowed_before(cycle, known, i)?;
+    let stops = stops_by_cases(cycle, &ranges, i, CONDITIONS, left)?;
     Ok(stops)
 }
 
@@ -114,26 +99,23 @@ fn is_any_at(stops: &[Stops], i: usize) -> bool {
 /// Why operation `i` may stop in a cycle from cells in these ranges, on a row whose inputs are in these, of which `told` tells: closer where
 /// that is asked for.
 fn stops_of(
-    alloc: Global,
-    graph: &Graph,
-    cells: &[Range],
+    cycle: &Cycle<'_>,
     inputs: &[Range],
     told: &Ranges,
     i: u32,
     asked: bool,
     left: &mut u64,
 ) -> Result<Stops, Memory>
-    requires there { i < length graph.now.operations }
-    requires cells { length cells.now ≡ length graph.now.stores }
-    requires walk { IsWalk graph.now.operations cells.now inputs.now told.now }
-    ensures { IfOk result (λ s. StopsFrom graph.now.operations inputs.now (Hold cells.now) i s) }
+    requires there { i < length cycle.now.graph.now.operations }
+    requires walk { IsWalk cycle.now.graph.now.operations cycle.now.cells.now inputs.now told.now }
+    ensures { IfOk result (λ s. StopsFrom cycle.now.graph.now.operations inputs.now (Hold cycle.now.cells.now) i s) }
 {
     let known = told.known();
     let stops = told.stops();
     if asked {
-        let enough = spend(graph, left);
+        let enough = spend(cycle.graph, left);
         if enough {
-            let closer = stops_after(alloc, graph, cells, known, i, left)?;
+            let closer = stops_after(cycle, known, i, left)?;
             return Ok(closer);
         }
     }
@@ -144,25 +126,22 @@ fn stops_of(
 /// Why each operation may stop in a cycle from cells in these ranges, on a row whose inputs are in these, of which `told` tells: closer for
 /// those that may, that are wanted and not done with.
 pub(crate) fn closer_stops(
-    alloc: Global,
-    graph: &Graph,
-    cells: &[Range],
+    cycle: &Cycle<'_>,
     inputs: &[Range],
     told: &Ranges,
     wanted: &[Stops],
     done: &[Stops],
     left: &mut u64,
 ) -> Result<Vec<Stops>, Memory>
-    requires cells { length cells.now ≡ length graph.now.stores }
-    requires walk { IsWalk graph.now.operations cells.now inputs.now told.now }
-    ensures many { IfOk result (λ found. length found.items ≡ length graph.now.operations) }
-    ensures named { IfOk result (λ found. NamesFrom graph.now.operations inputs.now (Hold cells.now) found.items) }
+    requires walk { IsWalk cycle.now.graph.now.operations cycle.now.cells.now inputs.now told.now }
+    ensures many { IfOk result (λ found. length found.items ≡ length cycle.now.graph.now.operations) }
+    ensures named { IfOk result (λ found. NamesFrom cycle.now.graph.now.operations inputs.now (Hold cycle.now.cells.now) found.items) }
 {
-    let count = graph.len();
-    let mut found = Vec::with_capacity(alloc, count as usize)?;
+    let count = cycle.graph.len();
+    let mut found = Vec::with_capacity(cycle.alloc, count as usize)?;
     'operations: for i in 0..count {
         let asked = is_asked(told.stops(), wanted, done, i as usize);
-        let stops = stops_of(alloc, graph, cells, inputs, told, i, asked, left)?;
+        let stops = stops_of(cycle, inputs, told, i, asked, left)?;
         found.push(stops)?;
     }
     Ok(found)

@@ -8,8 +8,8 @@ ghost use Rattle.range_audit.specs.Searching.{start_of, InBox, EndsFrom, AreSett
 use crate::boxes::{box_at, box_start, cell_count, has_none, is_in_one};
 use crate::cases::{copied, ends_by_cases};
 use crate::cells::{Step, initial_cells, step_of, store_at, widened};
-use crate::known::{closer_known, known_from};
-use crate::naming::{named_by, named_from};
+use crate::cycle::Cycle;
+use crate::naming::{Asking, found_by, found_from};
 use crate::thresholds::thresholds;
 use op_graph::{Graph, entries_keep_their_rules, operands_are_in_their_types};
 use range_walk::{Range, Ranges, Stops, both_hold, either_holds, walk};
@@ -31,6 +31,17 @@ const ANSWERS: u64 = 4_194_304;
 
 /// Graphs with more operations aren't searched so, and a line of the text says it.
 pub(crate) const MOST_SEARCHED: u32 = 8_192;
+
+/// How much may still be searched, and the numbers at which the range of a cell may come to rest.
+#[derive(Drop)]
+struct Budget<'a> {
+    /// How many operations may be gone through in cases of all cells.
+    left: u64,
+    /// How many where single ones are asked.
+    asking: Asking,
+    /// The numbers that comparisons read, and their neighbours.
+    numbers: &'a [i64],
+}
 
 /// By how many values the cases are told apart: none for one box.
 fn depth_of(count: u32) -> u32 {
@@ -60,12 +71,15 @@ fn is_box_kept(
     if none {
         return Ok(true);
     }
-    let told = walk(alloc, graph, &cells, inputs)?;
-    let known = told.known();
+    let cycle = Cycle {
+        alloc,
+        graph,
+        cells: &cells,
+    };
+    let told = walk(alloc, graph, cycle.cells, inputs)?;
     let depth = depth_of(count);
-    let is = ends_by_cases(
-        alloc, graph, &cells, known, boxes, count, n, depth, left, missed,
-    )?;
+    let known = told.known();
+    let is = ends_by_cases(&cycle, known, boxes, count, n, depth, left, missed)?;
     Ok(is)
 }
 
@@ -231,8 +245,7 @@ fn family(
     place: usize,
     base: i64,
     count: u32,
-    left: &mut u64,
-    numbers: &[i64],
+    budget: &mut Budget<'_>,
 ) -> Result<Option<Vec<Range>>, Memory>
     requires place { place < length graph.now.stores }
     ensures room { IfOk result (λ found. IfSome found (λ boxes. start_of (length graph.now.stores) count ≤ length boxes.items)) }
@@ -249,14 +262,15 @@ fn family(
         base,
         count,
         Step::Near,
-        numbers,
+        budget.numbers,
     );
     'rounds: for round in 0..ROUNDS {
-        let spent = *left == 0;
+        let spent = budget.left == 0;
         if spent {
             return Ok(None);
         }
         let mut missed = Vec::new(alloc);
+        let left = &mut budget.left;
         let is = is_family(alloc, graph, inputs, &boxes, count, n, left, &mut missed)?;
         if is {
             return Ok(Some(boxes));
@@ -269,7 +283,7 @@ fn family(
             base,
             count,
             step_of(round),
-            numbers,
+            budget.numbers,
         );
     }
     Ok(None)
@@ -284,8 +298,7 @@ fn with_family(
     ranges: &Ranges,
     boxes: &[Range],
     count: u32,
-    asked: &mut u64,
-    answers: &mut u64,
+    budget: &mut Budget<'_>,
 ) -> Result<Ranges, Memory>
     requires room { start_of (length graph.now.stores) count ≤ length boxes.now }
     requires settled { AreSettled graph.now inputs.now (InBox boxes.now (length graph.now.stores) count) }
@@ -297,12 +310,16 @@ fn with_family(
     entries_keep_their_rules();
     let _operations = graph.len();
     let named = ranges.stops();
-    let others = named_from(alloc, graph, inputs, boxes, count, named, asked)?;
-    let stops = named_by(alloc, true, named, &others)?;
-    let before = ranges.known();
-    let boxed = known_from(alloc, graph, inputs, boxes, count, answers)?;
-    let known = closer_known(alloc, before, &boxed)?;
-    let told = Ranges::new(known, stops);
+    let boxed = found_from(
+        alloc,
+        graph,
+        inputs,
+        boxes,
+        count,
+        named,
+        &mut budget.asking,
+    )?;
+    let told = found_by(alloc, true, ranges, &boxed)?;
     Ok(told)
 }
 
@@ -354,24 +371,21 @@ fn closer_by_family(
     place: usize,
     base: i64,
     count: u32,
-    left: &mut u64,
-    asked: &mut u64,
-    numbers: &[i64],
-    answers: &mut u64,
+    budget: &mut Budget<'_>,
 ) -> Result<Ranges, Memory>
     requires place { place < length graph.now.stores }
     requires audit { IsAuditWithin graph.now inputs.now ranges }
     ensures { IfOk result (λ a. IsAuditWithin graph.now inputs.now a) }
 {
     let any = names_any(ranges.stops());
-    let closely = *answers != 0;
+    let closely = budget.asking.answers != 0;
     let wanted = either_holds(any, closely);
     if !wanted {
         return Ok(ranges);
     }
-    let found = family(alloc, graph, inputs, place, base, count, left, numbers)?;
+    let found = family(alloc, graph, inputs, place, base, count, budget)?;
     match found {
-        Some(boxes) => with_family(alloc, graph, inputs, &ranges, &boxes, count, asked, answers),
+        Some(boxes) => with_family(alloc, graph, inputs, &ranges, &boxes, count, budget),
         None => Ok(ranges),
     }
 }
@@ -385,10 +399,7 @@ fn closer_by(
     known: &[Range],
     place: usize,
     bools: bool,
-    left: &mut u64,
-    asked: &mut u64,
-    numbers: &[i64],
-    answers: &mut u64,
+    budget: &mut Budget<'_>,
 ) -> Result<Ranges, Memory>
     requires place { place < length graph.now.stores }
     requires audit { IsAuditWithin graph.now inputs.now ranges }
@@ -404,7 +415,7 @@ fn closer_by(
         return Ok(ranges);
     }
     closer_by_family(
-        alloc, graph, inputs, ranges, place, range.low, count, left, asked, numbers, answers,
+        alloc, graph, inputs, ranges, place, range.low, count, budget,
     )
 }
 
@@ -417,10 +428,7 @@ fn closer_by_each(
     ranges: Ranges,
     known: &[Range],
     bools: bool,
-    left: &mut u64,
-    asked: &mut u64,
-    numbers: &[i64],
-    answers: &mut u64,
+    budget: &mut Budget<'_>,
 ) -> Result<Ranges, Memory>
     requires audit { IsAuditWithin graph.now inputs.now ranges }
     ensures { IfOk result (λ a. IsAuditWithin graph.now inputs.now a) }
@@ -428,9 +436,7 @@ fn closer_by_each(
     let count = cell_count(graph);
     let mut told = ranges;
     'cells: for place in 0..count {
-        let next = closer_by(
-            alloc, graph, inputs, told, known, place, bools, left, asked, numbers, answers,
-        )?;
+        let next = closer_by(alloc, graph, inputs, told, known, place, bools, budget)?;
         told = next;
     }
     Ok(told)
@@ -442,10 +448,7 @@ fn closer_in_one(
     graph: &Graph,
     inputs: &[Range],
     ranges: Ranges,
-    left: &mut u64,
-    asked: &mut u64,
-    numbers: &[i64],
-    answers: &mut u64,
+    budget: &mut Budget<'_>,
 ) -> Result<Ranges, Memory>
     requires audit { IsAuditWithin graph.now inputs.now ranges }
     ensures { IfOk result (λ a. IsAuditWithin graph.now inputs.now a) }
@@ -455,9 +458,7 @@ fn closer_in_one(
     if none {
         return Ok(ranges);
     }
-    closer_by_family(
-        alloc, graph, inputs, ranges, 0, 0, 1, left, asked, numbers, answers,
-    )
+    closer_by_family(alloc, graph, inputs, ranges, 0, 0, 1, budget)
 }
 
 /// What is told of the operations of a graph, whose cells are always in these ranges, by a closer look at those that are named: in these
@@ -480,55 +481,19 @@ pub(crate) fn closer(
         return Ok(ranges);
     }
     let numbers = thresholds(alloc, graph)?;
-    let mut left = STEPS;
-    let mut asked = STEPS;
-    let mut answers = if closely { ANSWERS } else { 0 };
+    let mut budget = Budget {
+        left: STEPS,
+        asking: Asking {
+            stops: STEPS,
+            answers: if closely { ANSWERS } else { 0 },
+        },
+        numbers: &numbers,
+    };
     // Which cells are looked at is told by the ranges that they had before, so that closer ones take no room from a cell that tells more.
     let before = ranges.known();
     let known = copied(alloc, before)?;
-    let here = with_family(
-        alloc,
-        graph,
-        inputs,
-        &ranges,
-        cells,
-        1,
-        &mut asked,
-        &mut answers,
-    )?;
-    let one = closer_in_one(
-        alloc,
-        graph,
-        inputs,
-        here,
-        &mut left,
-        &mut asked,
-        &numbers,
-        &mut answers,
-    )?;
-    let first = closer_by_each(
-        alloc,
-        graph,
-        inputs,
-        one,
-        &known,
-        false,
-        &mut left,
-        &mut asked,
-        &numbers,
-        &mut answers,
-    )?;
-    let second = closer_by_each(
-        alloc,
-        graph,
-        inputs,
-        first,
-        &known,
-        true,
-        &mut left,
-        &mut asked,
-        &numbers,
-        &mut answers,
-    )?;
-    Ok(second)
+    let here = with_family(alloc, graph, inputs, &ranges, cells, 1, &mut budget)?;
+    let one = closer_in_one(alloc, graph, inputs, here, &mut budget)?;
+    let first = closer_by_each(alloc, graph, inputs, one, &known, false, &mut budget)?;
+    closer_by_each(alloc, graph, inputs, first, &known, true, &mut budget)
 }

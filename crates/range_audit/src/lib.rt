@@ -10,6 +10,7 @@ mod audit;
 mod boxes;
 mod cases;
 mod cells;
+mod cycle;
 mod families;
 mod known;
 mod laws;

@@ -1,17 +1,30 @@
-//! Which operations are named, over several boxes of cells and by several searches.
+//! What is found of the operations over several boxes of cells, and by two searches.
 
-ghost use Rattle.std.specs.Prelude.{◌≡◌, ◌<◌, ◌≤◌, ◌+◌, ℕ, true, false, length, slice_get, IfOk, Some};
+ghost use Rattle.std.specs.Prelude.{◌≡◌, ◌≤ℤ◌, ◌<◌, ◌≤◌, ◌+◌, ℕ, ℤ, List, true, length, slice_get, IfOk, Some};
 ghost use Rattle.vcp_base.specs.declared.kind.StopKind.{StopKind};
-ghost use Rattle.range_walk.specs.Known.{may_stop, is_named};
-ghost use Rattle.range_audit.specs.Searching.{start_of, HoldAt, InBox, NamesFrom};
+ghost use Rattle.op_graph.specs.declared.op.Op.{Op as Operation};
+ghost use Rattle.range_walk.specs.Intervals.{IsIn, Fit};
+ghost use Rattle.range_walk.specs.Known.{may_stop, is_named, LieInTypes};
 ghost use Rattle.range_walk.specs.Walking.{Parts};
+ghost use Rattle.range_audit.specs.Searching.{start_of, HoldAt, InBox, IsFound};
 
 use crate::asking::closer_stops;
 use crate::boxes::{box_at, box_start, cell_count, has_none};
+use crate::cycle::Cycle;
+use crate::known::closer_outputs;
 use op_graph::Graph;
-use range_walk::{Range, Stops, both_hold, either_holds, walk};
+use range_walk::{Range, Ranges, Stops, both_hold, either_holds, range_at, walk};
 use std::alloc::Global;
 use vcp_base::Memory;
+
+/// How many operations may still be gone through where single ones are asked.
+#[derive(Drop)]
+pub(crate) struct Asking {
+    /// Where it is asked why they may stop.
+    pub(crate) stops: u64,
+    /// Where it is asked which values BOOL outputs have.
+    pub(crate) answers: u64,
+}
 
 /// Whether both hold, or one of the two.
 fn joined(both: bool, x: bool, y: bool) -> bool
@@ -42,13 +55,53 @@ pub(crate) fn stops_at(stops: &[Stops], i: usize) -> Stops
     stops[i]
 }
 
+/// The second of two ranges where it lies between the ends of the first, and else the first.
+fn closer_of(first: Range, second: Range) -> Range
+    ensures holds { (v : ℤ) → IsIn first v → IsIn second v → IsIn result v }
+    ensures low { first.low ≤ℤ result.low }
+    ensures high { result.high ≤ℤ first.high }
+{
+    if second.low < first.low {
+        return first;
+    }
+    if first.high < second.high {
+        return first;
+    }
+    second
+}
+
+/// The range of a value that is in both ranges, or in one of the two.
+fn range_by(both: bool, first: Range, second: Range) -> Range
+    ensures holds { (v : ℤ) → Parts both (IsIn first v) (IsIn second v) → IsIn result v }
+    ensures low { both ≡ true → first.low ≤ℤ result.low }
+    ensures high { both ≡ true → result.high ≤ℤ first.high }
+{
+    if both {
+        return closer_of(first, second);
+    }
+    first.joined(second)
+}
+
+/// Of each operation the range of a value that is in both lists' ranges, or in one of the two.
+fn known_by(alloc: Global, both: bool, a: &[Range], b: &[Range]) -> Result<Vec<Range>, Memory>
+    requires { length a.now ≡ length b.now }
+    ensures many { IfOk result (λ known. length known.items ≡ length a.now) }
+    ensures fits { IfOk result (λ known. (vs : List ℤ) → Parts both (Fit a.now vs) (Fit b.now vs) → Fit known.items vs) }
+    ensures types { IfOk result (λ known. both ≡ true → (ops : List Operation) → LieInTypes ops a.now → LieInTypes ops known.items) }
+{
+    let count = a.len();
+    let mut known = Vec::with_capacity(alloc, count)?;
+    'operations: for i in 0..count {
+        let first = range_at(a, i);
+        let second = range_at(b, i);
+        let range = range_by(both, first, second);
+        known.push(range)?;
+    }
+    Ok(known)
+}
+
 /// Which operations are named that both lists name, or one of the two.
-pub(crate) fn named_by(
-    alloc: Global,
-    both: bool,
-    a: &[Stops],
-    b: &[Stops],
-) -> Result<Vec<Stops>, Memory>
+fn named_by(alloc: Global, both: bool, a: &[Stops], b: &[Stops]) -> Result<Vec<Stops>, Memory>
     requires { length a.now ≡ length b.now }
     ensures many { IfOk result (λ stops. length stops.items ≡ length a.now) }
     ensures named { IfOk result (λ stops. (why : StopKind) (i : ℕ)
@@ -68,71 +121,105 @@ pub(crate) fn named_by(
     Ok(stops)
 }
 
-/// None of the operations named.
-fn none_named(alloc: Global, graph: &Graph) -> Result<Vec<Stops>, Memory>
-    ensures { IfOk result (λ stops. length stops.items ≡ length graph.now.operations) }
+/// What is found of each operation that both say, or one of the two.
+pub(crate) fn found_by(alloc: Global, both: bool, a: &Ranges, b: &Ranges) -> Result<Ranges, Memory>
+    requires known { length a.now.known ≡ length b.now.known }
+    requires stops { length a.now.stops ≡ length b.now.stops }
+    ensures known { IfOk result (λ r. length r.known ≡ length a.now.known) }
+    ensures stops { IfOk result (λ r. length r.stops ≡ length a.now.stops) }
+    ensures fits { IfOk result (λ r. (vs : List ℤ) → Parts both (Fit a.now.known vs) (Fit b.now.known vs) → Fit r.known vs) }
+    ensures named { IfOk result (λ r. (why : StopKind) (i : ℕ)
+        → Parts both (is_named why (slice_get a.now.stops i) ≡ true) (is_named why (slice_get b.now.stops i) ≡ true)
+        → is_named why (slice_get r.stops i) ≡ true) }
+    ensures types { IfOk result (λ r. both ≡ true → (ops : List Operation) → LieInTypes ops a.now.known → LieInTypes ops r.known) }
+    ensures first { IfOk result (λ r. both ≡ true → (why : StopKind) (i : ℕ) → is_named why (slice_get r.stops i) ≡ true
+        → is_named why (slice_get a.now.stops i) ≡ true) }
 {
-    let count = graph.len();
-    let mut stops = Vec::with_capacity(alloc, count as usize)?;
-    'operations: for i in 0..count {
-        stops.push(Stops::none())?;
-    }
-    Ok(stops)
+    let known = known_by(alloc, both, a.known(), b.known())?;
+    let stops = named_by(alloc, both, a.stops(), b.stops())?;
+    Ok(Ranges::new(known, stops))
 }
 
-/// The operations that are named already, and those that may stop in a cycle from cells in the box that begins there, on a row whose
-/// inputs are in these ranges. Those that are wanted
-/// are looked at closer.
+/// No value and no reason to stop of each operation.
+fn nothing_found(alloc: Global, graph: &Graph) -> Result<Ranges, Memory>
+    ensures known { IfOk result (λ r. length r.known ≡ length graph.now.operations) }
+    ensures stops { IfOk result (λ r. length r.stops ≡ length graph.now.operations) }
+{
+    let count = graph.len();
+    let mut known = Vec::with_capacity(alloc, count as usize)?;
+    let mut stops = Vec::with_capacity(alloc, count as usize)?;
+    'operations: for i in 0..count {
+        known.push(Range::none())?;
+        stops.push(Stops::none())?;
+    }
+    Ok(Ranges::new(known, stops))
+}
+
+/// What is found already, and what is found of a cycle from cells in the box that begins there, on a row whose inputs are in these ranges. The
+/// operations that are wanted are looked at closer.
 fn with_box(
     alloc: Global,
     graph: &Graph,
     inputs: &[Range],
     boxes: &[Range],
     start: usize,
-    stops: Vec<Stops>,
+    found: Ranges,
     wanted: &[Stops],
-    left: &mut u64,
-) -> Result<Vec<Stops>, Memory>
+    left: &mut Asking,
+) -> Result<Ranges, Memory>
     requires start { start + length graph.now.stores ≤ length boxes.now }
-    requires many { length stops.items ≡ length graph.now.operations }
-    ensures many { IfOk result (λ more. length more.items ≡ length graph.now.operations) }
-    ensures kept { IfOk result (λ more. (why : StopKind) (i : ℕ) → is_named why (slice_get stops.items i) ≡ true
-        → is_named why (slice_get more.items i) ≡ true) }
-    ensures named { IfOk result (λ more. NamesFrom graph.now.operations inputs.now (HoldAt boxes.now (length graph.now.stores) start) more.items) }
+    requires known { length found.known ≡ length graph.now.operations }
+    requires stops { length found.stops ≡ length graph.now.operations }
+    ensures known { IfOk result (λ more. length more.known ≡ length graph.now.operations) }
+    ensures stops { IfOk result (λ more. length more.stops ≡ length graph.now.operations) }
+    ensures fits { IfOk result (λ more. (vs : List ℤ) → Fit found.known vs → Fit more.known vs) }
+    ensures named { IfOk result (λ more. (why : StopKind) (i : ℕ) → is_named why (slice_get found.stops i) ≡ true
+        → is_named why (slice_get more.stops i) ≡ true) }
+    ensures here { IfOk result (λ more. IsFound graph.now.operations inputs.now (HoldAt boxes.now (length graph.now.stores) start) more) }
 {
     let many = cell_count(graph);
     let cells = box_at(alloc, boxes, many, start)?;
     let none = has_none(&cells);
     if none {
-        return Ok(stops);
+        return Ok(found);
     }
-    let told = walk(alloc, graph, &cells, inputs)?;
-    let others = closer_stops(alloc, graph, &cells, inputs, &told, wanted, &stops, left)?;
-    let more = named_by(alloc, false, &stops, &others)?;
+    let cycle = Cycle {
+        alloc,
+        graph,
+        cells: &cells,
+    };
+    let told = walk(alloc, graph, cycle.cells, inputs)?;
+    let done = found.stops();
+    let stops = closer_stops(&cycle, inputs, &told, wanted, done, &mut left.stops)?;
+    let walked = told.known();
+    let known = closer_outputs(&cycle, walked, &mut left.answers)?;
+    let here = Ranges::new(known, stops);
+    let more = found_by(alloc, false, &found, &here)?;
     Ok(more)
 }
 
-/// The operations that may stop in a cycle from cells in one of so many boxes, on a row whose inputs are in these ranges. Those
-/// that are wanted are looked at closer.
-pub(crate) fn named_from(
+/// What is found of a cycle from cells in one of so many boxes, on a row whose inputs are in these ranges. The operations that are wanted are looked
+/// at closer.
+pub(crate) fn found_from(
     alloc: Global,
     graph: &Graph,
     inputs: &[Range],
     boxes: &[Range],
     count: u32,
     wanted: &[Stops],
-    left: &mut u64,
-) -> Result<Vec<Stops>, Memory>
+    left: &mut Asking,
+) -> Result<Ranges, Memory>
     requires boxes { start_of (length graph.now.stores) count ≤ length boxes.now }
-    ensures many { IfOk result (λ stops. length stops.items ≡ length graph.now.operations) }
-    ensures named { IfOk result (λ stops. NamesFrom graph.now.operations inputs.now (InBox boxes.now (length graph.now.stores) count) stops.items) }
+    ensures known { IfOk result (λ found. length found.known ≡ length graph.now.operations) }
+    ensures stops { IfOk result (λ found. length found.stops ≡ length graph.now.operations) }
+    ensures found { IfOk result (λ found. IsFound graph.now.operations inputs.now (InBox boxes.now (length graph.now.stores) count) found) }
 {
     let many = cell_count(graph);
-    let mut stops = none_named(alloc, graph)?;
+    let mut found = nothing_found(alloc, graph)?;
     'boxes: for k in 0..count {
         let start = box_start(boxes, many, count, k);
-        let more = with_box(alloc, graph, inputs, boxes, start, stops, wanted, left)?;
-        stops = more;
+        let more = with_box(alloc, graph, inputs, boxes, start, found, wanted, left)?;
+        found = more;
     }
-    Ok(stops)
+    Ok(found)
 }

@@ -7,5 +7,5 @@ use Rattle.range_audit.proofs.asking.closer_stops.Given as goal
 abbrev pub invariant-operations : goal.invariant-operations
 invariant-operations l = record {
   many : length l.found.items ≡ l.i;
-  each : (k : ℕ) (s : Stops) → slice_get l.found.items k ≡ Some s → StopsFrom l.graph.operations l.inputs (Hold l.cells) k s;
+  each : (k : ℕ) (s : Stops) → slice_get l.found.items k ≡ Some s → StopsFrom l.cycle.graph.now.operations l.inputs (Hold l.cycle.cells.now) k s;
 }

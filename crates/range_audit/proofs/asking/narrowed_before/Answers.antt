@@ -13,7 +13,7 @@ narrow-requires c =
     let le : c.args.i ≤ length c.args.known.now = omega (arith, c.requires.there, c.requires.many) in
     let count : length c.deref_mut.result.now ≡ c.args.i =
     ap length (c.deref_mut.ensures.value ∙ c.in_ok-ranges.ensures ∙ c.first_ranges-first.ensures.first) ∙ length-take-le c.args.i c.args.known.now le in
-    record { many = omega (arith, count, c.requires.there); cells = c.requires.cells }
+    record { many = omega (arith, count, c.requires.there); cells = c.args.cycle.now.many }
 
 pub returns-clause-many : goal.returns-clause-many
 returns-clause-many c =
@@ -27,7 +27,7 @@ returns-clause-many c =
 
 pub returns-clause-fits : goal.returns-clause-fits
 returns-clause-fits c =
-    let g = c.args.graph.now in
+    let g = c.args.cycle.now.graph.now in
     let i = c.args.i in
     let known = c.args.known.now in
     let le : i ≤ length known = omega (arith, c.requires.there, c.requires.many) in
@@ -35,9 +35,9 @@ returns-clause-fits c =
     let count : length c.deref_mut.result.now ≡ i = ap length first ∙ length-take-le i known le in
     let ranges = c.in_ok-ranges.ranges in
     let new = c.narrow.new.ranges in
-    let fits : (held row vs : List ℤ) → Hold c.args.cells.now held → Given g.operations held row vs → length vs ≡ i → Fit known vs → Fit new vs =
+    let fits : (held row vs : List ℤ) → Hold c.args.cycle.now.cells.now held → Given g.operations held row vs → length vs ≡ i → Fit known vs → Fit new vs =
     λ held row vs hold given whole fit.
     c.narrow.ensures.fits held row vs hold given (whole ∙ sym count) (subst (λ rs. Fit rs vs) (sym (c.deref_mut.ensures.value ∙ c.in_ok-ranges.ensures)) (c.first_ranges-first.ensures.fits vs fit)) in
     let same : length new ≡ ranges.len = omega (arith, count, c.narrow.ensures.many, c.deref_mut.ensures.len) in
-    subst (λ (rs : List Range). (held row vs : List ℤ) → Hold c.args.cells.now held → Given g.operations held row vs → length vs ≡ i → Fit known vs → Fit rs vs)
+    subst (λ (rs : List Range). (held row vs : List ℤ) → Hold c.args.cycle.now.cells.now held → Given g.operations held row vs → length vs ≡ i → Fit known vs → Fit rs vs)
     (sym (with_items_is ranges new same)) fits

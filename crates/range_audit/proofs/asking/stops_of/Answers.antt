@@ -10,7 +10,7 @@ returns-then-enough c = λ held row vs op why hold row_in given whole there own 
 
 pub returns : goal.returns
 returns c = λ held row vs op why hold row_in given whole there own no e.
-    let here = subst (λ k. slice_get c.args.graph.now.operations k ≡ Some op) (sym whole) there in
+    let here = subst (λ k. slice_get c.args.cycle.now.graph.now.operations k ≡ Some op) (sym whole) there in
     let named = c.requires.walk.names held row vs op why hold row_in given here own no e in
     let at_place = subst (λ k. is_named why (slice_get c.args.told.now.stops k) ≡ true) whole named in
     let is = ap (λ ss. slice_get ss c.args.i) (sym c.stops-stops.ensures) ∙ c.stops_at-plain.ensures in

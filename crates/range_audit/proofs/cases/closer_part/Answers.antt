@@ -6,8 +6,8 @@ use Rattle.range_audit.proofs.cases.closer_part.Goals as goal
 
 pub returns-clause-fits : goal.returns-clause-fits
 returns-clause-fits c =
-    let g = c.args.graph.now in
-    let cells = c.args.cells.now in
+    let g = c.args.cycle.now.graph.now in
+    let cells = c.args.cycle.now.cells.now in
     let found = c.in_ok-found.found in
     let new = c.narrow_stores.new.ranges in
     let same_many : length c.deref_mut.result.now ≡ length c.args.ranges.now = ap length c.deref_mut.ensures.value ∙ c.in_ok-found.ensures.many in

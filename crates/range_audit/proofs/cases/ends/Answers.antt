@@ -10,7 +10,7 @@ returns-then-none c = λ e vs whole fit.
 
 pub returns : goal.returns
 returns c = λ e vs whole fit.
-    let g = c.args.graph.now in
+    let g = c.args.cycle.now.graph.now in
     let cells = c.in_ok-cells.cells.items in
     let hold = c.in_ok-cells.ensures.holds vs whole fit in
     let at_end = c.is_in_one-is.ensures e (stored g vs) (subst (λ rs. Hold rs (stored g vs)) (sym c.deref.ensures.value) hold) in

@@ -4,6 +4,6 @@ use Rattle.range_audit.proofs.cases.narrow_stores.Given as goal
 
 abbrev pub invariant-cells : goal.invariant-cells
 invariant-cells l = record {
-  many : length l.ranges ≡ length l.graph.operations;
-  fits : Narrows l.graph.operations l.cells l.fn.ranges l.ranges;
+  many : length l.ranges ≡ length l.cycle.graph.now.operations;
+  fits : Narrows l.cycle.graph.now.operations l.cycle.cells.now l.fn.ranges l.ranges;
 }

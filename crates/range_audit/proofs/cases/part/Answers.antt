@@ -10,13 +10,12 @@ narrow_to-requires c =
     record {
       there = omega (arith, before, c.requires.there);
       many = omega (arith, before, c.requires.many);
-      cells = c.requires.cells;
     }
 
 pub returns-clause-fits : goal.returns-clause-fits
 returns-clause-fits c =
-    let g = c.args.graph.now in
-    let cells = c.args.cells.now in
+    let g = c.args.cycle.now.graph.now in
+    let cells = c.args.cycle.now.cells.now in
     let part = c.in_ok-part.part in
     let new = c.narrow_to.new.ranges in
     let moved : NarrowsTo g.operations cells c.args.n c.args.r c.args.ranges.now new =

@@ -10,10 +10,7 @@ returns-then-none c = λ e held row vs inside row_in given whole.
 
 pub returns : goal.returns
 returns c = λ e held row vs inside row_in given whole.
-    let g = c.args.graph.now in
     let boxed = subst (λ m. HoldAt c.args.boxes.now m c.args.start held) (sym c.cell_count-many.ensures) inside in
-    let hold = c.in_ok-cells.ensures.holds held boxed in
-    let walked = subst (λ rs. Hold rs held) (sym c.deref-2.ensures.value) hold in
-    let cased = subst (λ rs. Hold rs held) (sym c.deref-3.ensures.value) hold in
-    let fit = subst (λ ks. Fit ks vs) (sym c.known-known.ensures) (c.in_ok-told.ensures.fits held row vs walked row_in given) in
-    c.in_ok-is.ensures e held row vs cased given whole fit
+    let hold = subst (λ rs. Hold rs held) (sym c.deref-2.ensures.value) (c.in_ok-cells.ensures.holds held boxed) in
+    let fit = subst (λ ks. Fit ks vs) (sym c.known-known.ensures) (c.in_ok-told.ensures.fits held row vs hold row_in given) in
+    c.in_ok-is.ensures e held row vs hold given whole fit

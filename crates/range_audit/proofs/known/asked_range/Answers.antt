@@ -6,14 +6,14 @@ use Rattle.range_audit.proofs.known.asked_range.Goals as goal
 pub range_by_cases-requires : goal.range_by_cases-requires
 range_by_cases-requires c =
     let count : length c.deref.result.now ≡ c.args.i + 1 = ap length c.deref.ensures.value ∙ c.in_ok-ranges.ensures.many in
-    record { there = omega (arith, count); many = omega (arith, count, c.requires.there); cells = c.requires.cells }
+    record { there = omega (arith, count); many = omega (arith, count, c.requires.there) }
 
 pub returns : goal.returns
 returns c = λ held row vs hold given lt fit.
     let i = c.args.i in
     let le : i + 1 ≤ length vs = omega (arith, lt) in
     let many : length (take (i + 1) vs) ≡ i + 1 = length-take-le (i + 1) vs le in
-    let first = given_first c.args.graph.now.operations held row vs (i + 1) le given in
+    let first = given_first c.args.cycle.now.graph.now.operations held row vs (i + 1) le given in
     let ranges = c.in_ok-ranges.ensures in
     let narrowed = ranges.fits held row (take (i + 1) vs) hold first many (fit_first c.args.known.now vs (i + 1) le fit) in
     let same = c.deref.ensures.value in

@@ -7,8 +7,8 @@ use Rattle.range_audit.proofs.known.closer_outputs.Goals as goal
 
 pub operations-preserved : goal.operations-preserved
 operations-preserved c =
-    let ops = c.args.graph.now.operations in
-    let cells = c.args.cells.now in
+    let ops = c.args.cycle.now.graph.now.operations in
+    let cells = c.args.cycle.now.cells.now in
     let known = c.args.known.now in
     let old = c.operations.closer.items in
     let i = c.operations.invariant in

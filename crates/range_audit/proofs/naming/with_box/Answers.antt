@@ -1,28 +1,43 @@
-use Rattle.std.proofs.Common.{◌≡◌, true, inl, inr, length, slice_get, sym, ap, subst, ◌∙◌}
-use Rattle.range_walk.specs.Known.{is_named}
-use Rattle.range_walk.specs.Intervals.{Hold}
+use Rattle.std.proofs.Common.{ℤ, List, inl, inr, length, sym, ap, subst, ◌∙◌}
+use Rattle.range_walk.specs.Intervals.{Fit, Hold}
 use Rattle.range_audit.specs.Searching.{HoldAt}
 use Rattle.range_audit.proofs.naming.with_box.Goals as goal
 
-pub named_by-requires : goal.named_by-requires
-named_by-requires c =
-    ap length c.deref-5.ensures.value ∙ c.requires.many ∙ sym (ap length c.deref-6.ensures.value ∙ c.in_ok-others.ensures.many)
+pub closer_outputs-requires : goal.closer_outputs-requires
+closer_outputs-requires c = record { many = ap length c.known-walked.ensures ∙ c.in_ok-told.ensures.known_many }
 
-pub returns-then-none-clause-kept : goal.returns-then-none-clause-kept
-returns-then-none-clause-kept c = λ why i e. e
+pub found_by-requires : goal.found_by-requires
+found_by-requires c = rw c.new-here.ensures (record {
+  known = c.requires.known ∙ sym c.in_ok-known.ensures.many;
+  stops = c.requires.stops ∙ sym c.in_ok-stops.ensures.many;
+})
 
-pub returns-then-none-clause-named : goal.returns-then-none-clause-named
-returns-then-none-clause-named c = λ held row vs op why inside row_in given there own no e.
+pub returns-then-none-clause-here : goal.returns-then-none-clause-here
+returns-then-none-clause-here c =
+    let none = λ (held : List ℤ) (inside : HoldAt c.args.boxes.now (length c.args.graph.now.stores) c.args.start held).
     let boxed = subst (λ m. HoldAt c.args.boxes.now m c.args.start held) (sym c.cell_count-many.ensures) inside in
-    absurd (c.has_none-none.ensures.hold c.if-none.true held (subst (λ rs. Hold rs held) (sym c.deref.ensures.value) (c.in_ok-cells.ensures.holds held boxed)))
+    c.has_none-none.ensures.hold c.if-none.true held (subst (λ rs. Hold rs held) (sym c.deref.ensures.value) (c.in_ok-cells.ensures.holds held boxed)) in
+    record {
+      fits = λ held row vs inside row_in given. absurd (none held inside);
+      names = λ held row vs op why inside row_in given there own no e. absurd (none held inside);
+    }
 
-pub returns-clause-kept : goal.returns-clause-kept
-returns-clause-kept c = λ why i e.
-    c.in_ok-more.ensures.named why i (inl (subst (λ ss. is_named why (slice_get ss i) ≡ true) (sym c.deref-5.ensures.value) e))
+pub returns-clause-fits : goal.returns-clause-fits
+returns-clause-fits c = λ vs fit. c.in_ok-more.ensures.fits vs (inl fit)
 
 pub returns-clause-named : goal.returns-clause-named
-returns-clause-named c = λ held row vs op why inside row_in given there own no e.
+returns-clause-named c = λ why i e. c.in_ok-more.ensures.named why i (inl e)
+
+pub returns-clause-here : goal.returns-clause-here
+returns-clause-here c =
+    let holds = λ (held : List ℤ) (inside : HoldAt c.args.boxes.now (length c.args.graph.now.stores) c.args.start held).
     let boxed = subst (λ m. HoldAt c.args.boxes.now m c.args.start held) (sym c.cell_count-many.ensures) inside in
-    let hold = subst (λ rs. Hold rs held) (sym c.deref-3.ensures.value) (c.in_ok-cells.ensures.holds held boxed) in
-    let named = c.in_ok-others.ensures.named held row vs op why hold row_in given there own no e in
-    c.in_ok-more.ensures.named why (length vs) (inr (subst (λ ss. is_named why (slice_get ss (length vs)) ≡ true) (sym c.deref-6.ensures.value) named))
+    subst (λ rs. Hold rs held) (sym c.deref-2.ensures.value) (c.in_ok-cells.ensures.holds held boxed) in
+    record {
+      fits = λ held row vs inside row_in given.
+          let walked = subst (λ ks. Fit ks vs) (sym c.known-walked.ensures) (c.in_ok-told.ensures.fits held row vs (holds held inside) row_in given) in
+          c.in_ok-more.ensures.fits vs (inr (rw c.new-here.ensures (c.in_ok-known.ensures.fits held row vs (holds held inside) given walked)));
+      names = λ held row vs op why inside row_in given there own no e.
+          c.in_ok-more.ensures.named why (length vs)
+          (inr (rw c.new-here.ensures (c.in_ok-stops.ensures.named held row vs op why (holds held inside) row_in given there own no e)));
+    }
