@@ -2,15 +2,18 @@
 
 ghost use Rattle.std.specs.Prelude.{◌≡◌, ◌⊎◌, ◌<◌, ◌≤◌, IfOk, IfErr, OnOk, List, Option, ℕ};
 ghost use Rattle.signature_table.specs.Signatures.{table_of};
-ghost use Rattle.vcp_base.specs.Limits.{most_horizon};
+ghost use Rattle.vcp_base.specs.Limits.{most_horizon, most_image_bytes};
+ghost use Rattle.vcp_outside.specs.Seen.{FilesSeen};
 ghost use Rattle.weight_audit.specs.Audit.{most_weights, weights_up_to, IsAudit};
 ghost use Rattle.vcp_words.specs.Forms.{audit};
+ghost use Rattle.vcp_inputs.specs.Images.{ImageOf, NotImage};
 ghost use Rattle.vcp_inputs.specs.declared.refusal.NoInput.TheVariants as input;
 ghost use Rattle.vcp_inputs.specs.declared.refusal.Refusal.TheVariants as refusal;
 ghost use Rattle.command_meaning.specs.Abouts.{about};
 ghost use Rattle.command_meaning.specs.Performing.{Performs};
 ghost use Rattle.coded_unit.specs.Seen.{UnitSeen};
 ghost use Rattle.machine_run.specs.Moments.{moment};
+ghost use Rattle.vcp_core.specs.Loading.{FirstRead};
 ghost use Rattle.vcp_core.specs.Tasks.{TaskOf};
 ghost use Rattle.vcp_core.specs.Reach.{told_line, told_status};
 
@@ -53,19 +56,33 @@ pub fn audit_command<'a, F: Files, O: Sink>(
         (F.seen files.old) (F.seen files.new) (moment unit (O.seen out.old)) (moment unit (O.seen out.new))
         (told_line result) (told_status result) }
 {
-    let loaded = match load_image(alloc, files, image) {
-        Ok(loaded) => loaded,
-        Err(input) => {
-            return Err(Fault::Input {
-                name: image.bytes(),
-                input,
-            });
-        }
-    };
-    match weights_of(alloc, &loaded, horizon) {
-        Ok(weights) => text_ended(write_audit(out, &loaded.graph, &weights, horizon)),
+    match load_image(alloc, files, image) {
+        Ok(loaded) => audit_image(alloc, image, &loaded, horizon, out),
         Err(input) => Err(Fault::Input {
             name: image.bytes(),
+            input,
+        }),
+    }
+}
+
+/// Writes the audit of the graph of an image, once its file, which has this name, was read.
+fn audit_image<'a, O: Sink>(
+    alloc: Global,
+    name: &'a Text,
+    image: &Image,
+    horizon: u32,
+    out: &mut O,
+) -> Result<Ending, Fault<'a>>
+    requires table { image.now.table ≡ table_of image.now.table.seed image.now.table.step image.now.graph }
+    requires horizon { horizon ≤ most_horizon }
+    ensures { (unit : UnitSeen) (files later : FilesSeen) → FirstRead ImageOf NotImage most_image_bytes name.now files later image.now →
+        Performs (about (audit name.now horizon)) (TaskOf (audit name.now horizon)) files later
+        (moment unit (O.seen out.old)) (moment unit (O.seen out.new)) (told_line result) (told_status result) }
+{
+    match weights_of(alloc, image, horizon) {
+        Ok(weights) => text_ended(write_audit(out, &image.graph, &weights, horizon)),
+        Err(input) => Err(Fault::Input {
+            name: name.bytes(),
             input,
         }),
     }
