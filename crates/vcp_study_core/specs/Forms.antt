@@ -187,17 +187,20 @@ faults_form words =
 abbrev pub script_form : List (List ℕ) → Option Study
 script_form words = option_and_then (λ n. at_end (script_named n.0) n.1) (name_and_rest words)
 
--- what a command's name and its words behind M say, a line a form
+-- what a command's name and its words behind M say, a line a form: of the studies of scripts of faults, and of all
+abbrev pub fault_study_of : List ℕ → List (List ℕ) → Option Study
+fault_study_of w words =
+    cond (bytes_eq w (codes "sites")) (sites_form words)
+    (cond (bytes_eq w (codes "sum")) (sum_form words)
+    (cond (bytes_eq w (codes "faults")) (faults_form words)
+    (cond (bytes_eq w (codes "script")) (script_form words) None)))
+
 abbrev pub study_of : List ℕ → List (List ℕ) → Option Study
 study_of w words =
     cond (bytes_eq w (codes "graph")) (horizon_form graph words)
     (cond (bytes_eq w (codes "dot")) (horizon_form dot words)
     (cond (bytes_eq w (codes "ranges")) (ranges_form words)
-    (cond (bytes_eq w (codes "cover")) (cover_form words)
-    (cond (bytes_eq w (codes "sites")) (sites_form words)
-    (cond (bytes_eq w (codes "sum")) (sum_form words)
-    (cond (bytes_eq w (codes "faults")) (faults_form words)
-    (cond (bytes_eq w (codes "script")) (script_form words) None)))))))
+    (cond (bytes_eq w (codes "cover")) (cover_form words) (fault_study_of w words))))
 
 -- of `waves`, behind FILE: `--cycle-time` and TIME may be said
 abbrev pub timed_form : List ℕ → List (List ℕ) → Option Form

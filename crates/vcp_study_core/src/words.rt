@@ -1,10 +1,10 @@
 //! From words to a command.
 
-ghost use Rattle.std.specs.Prelude.{ℕ, List, ◌≡◌, ◌≤◌, IfSome, Some, None, cond, drop, length};
+ghost use Rattle.std.specs.Prelude.{ℕ, List, ◌≡◌, ◌≤◌, IfSome, Some, None, bytes_eq, cond, drop, length};
 ghost use Rattle.std.specs.Option.{option_map};
 ghost use Rattle.vcp_base.specs.Limits.{most_cycles, most_horizon};
 ghost use Rattle.vcp_study_core.specs.Forms.{list_image, list_text};
-ghost use Rattle.vcp_study_core.specs.Forms.{form, form_of, waves_form, timed_form, study, study_of, graph, dot, horizon_form, ranges_form, all_form, inputs_form, cover_form, IsSound, IsSoundStudy};
+ghost use Rattle.vcp_study_core.specs.Forms.{form, form_of, named_form, waves_form, timed_form, study, study_of, fault_study_of, graph, dot, horizon_form, ranges_form, all_form, inputs_form, cover_form, IsSound, IsSoundStudy};
 ghost use Rattle.vcp_study_core.specs.Forms.{class_word as class_word_of, faults_form, sites_form, behind_form, class_form, cycles_in as cycles_in_of, rest_form, run_sites, names_of, next_of, behind_of, sum_with, sum_form, script_form, chosen_of, number_word, part_of};
 ghost use Rattle.vcp_study_core.specs.SumSteps.{as_next, as_behind, ended_of, IsFew, FewBehind};
 ghost use Rattle.verdict_tables.specs.Parts.{most_parts};
@@ -19,6 +19,13 @@ use vcp_base::{MOST_CYCLES, MOST_HORIZON, Text, Words, numeral};
 use vcp_words::{CommandWords, RowsWord};
 use verdict_tables::MOST_PARTS;
 
+/// Whether a word is this one.
+fn is_word(word: &[u8], name: &[u8]) -> bool
+    ensures { result ≡ bytes_eq word.now name.now }
+{
+    word == name
+}
+
 /// The command that the words say; None where they are none of the forms.
 pub fn command_of(words: &Words) -> Option<StudyCommand<'_>>
     ensures form { option_map form result ≡ form_of words.now }
@@ -27,16 +34,30 @@ pub fn command_of(words: &Words) -> Option<StudyCommand<'_>>
     let mut left = CommandWords::new(words);
     let command = left.next()?.bytes();
     let name = left.name()?;
-    if command == b"waves".as_slice() {
-        return waves_words(name, &mut left);
+    named_words(words, command, name, &mut left)
+}
+
+/// The command that a name, a file's name and, of all words, those behind it say.
+fn named_words<'a>(
+    all: &'a Words,
+    command: &[u8],
+    name: &'a Text,
+    words: &mut CommandWords<'a>,
+) -> Option<StudyCommand<'a>>
+    requires { words.old ≡ drop 2 all.now }
+    ensures form { option_map form result ≡ named_form command.now name.now words.old }
+    ensures sound { IfSome result (λ command. IsSound (form command)) }
+{
+    if is_word(command, b"waves") {
+        return waves_words(name, words);
     }
-    if command == b"image".as_slice() {
-        return list_image_words(name, &mut left);
+    if is_word(command, b"image") {
+        return list_image_words(name, words);
     }
-    if command == b"text".as_slice() {
-        return list_text_words(name, &left);
+    if is_word(command, b"text") {
+        return list_text_words(name, words);
     }
-    let study = study_words(words, command, &mut left)?;
+    let study = study_words(all, command, words)?;
     Some(StudyCommand::On { image: name, study })
 }
 
@@ -45,7 +66,7 @@ fn waves_words<'a>(file: &'a Text, words: &mut CommandWords<'a>) -> Option<Study
     ensures { option_map form result ≡ waves_form file.now words.old }
 {
     match words.next() {
-        Some(word) => if word.bytes() == b"--cycle-time".as_slice() {
+        Some(word) => if is_word(word.bytes(), b"--cycle-time") {
             timed_words(file, words)
         } else {
             None
@@ -99,28 +120,41 @@ fn study_words<'a>(
     ensures form { option_map study result ≡ study_of command.now words.old }
     ensures sound { IfSome result (λ s. IsSoundStudy (study s)) }
 {
-    if command == b"graph".as_slice() {
+    if is_word(command, b"graph") {
         return graph_words(words);
     }
-    if command == b"dot".as_slice() {
+    if is_word(command, b"dot") {
         return dot_words(words);
     }
-    if command == b"ranges".as_slice() {
+    if is_word(command, b"ranges") {
         return ranges_words(words);
     }
-    if command == b"cover".as_slice() {
+    if is_word(command, b"cover") {
         return cover_words(words);
     }
-    if command == b"sites".as_slice() {
+    fault_study_words(all, command, words)
+}
+
+/// The same of the studies of scripts of faults.
+fn fault_study_words<'a>(
+    all: &'a Words,
+    command: &[u8],
+    words: &mut CommandWords<'a>,
+) -> Option<ImageStudy<'a>>
+    requires { words.old ≡ drop 2 all.now }
+    ensures form { option_map study result ≡ fault_study_of command.now words.old }
+    ensures sound { IfSome result (λ s. IsSoundStudy (study s)) }
+{
+    if is_word(command, b"sites") {
         return sites_words(words);
     }
-    if command == b"sum".as_slice() {
+    if is_word(command, b"sum") {
         return sum_words(all, words);
     }
-    if command == b"faults".as_slice() {
+    if is_word(command, b"faults") {
         return faults_words(words);
     }
-    if command == b"script".as_slice() {
+    if is_word(command, b"script") {
         return script_words(words);
     }
     None
@@ -157,7 +191,7 @@ fn inputs_words<'a>(all: bool, word: &Text, words: &mut CommandWords<'a>) -> Opt
     ensures form { option_map study result ≡ inputs_form all word.now words.old }
     ensures sound { IfSome result (λ s. IsSoundStudy (study s)) }
 {
-    if word.bytes() != b"--inputs".as_slice() {
+    if !is_word(word.bytes(), b"--inputs") {
         return None;
     }
     let file = words.name()?;
@@ -190,7 +224,7 @@ fn ranges_words<'a>(words: &mut CommandWords<'a>) -> Option<ImageStudy<'a>>
     ensures sound { IfSome result (λ s. IsSoundStudy (study s)) }
 {
     match words.next() {
-        Some(word) => if word.bytes() == b"--all".as_slice() {
+        Some(word) => if is_word(word.bytes(), b"--all") {
             all_words(words)
         } else {
             inputs_words(false, word, words)
@@ -229,7 +263,7 @@ fn cover_words<'a>(words: &mut CommandWords<'a>) -> Option<ImageStudy<'a>>
 fn number_chosen(word: &Text) -> Option<Chosen>
     ensures { result ≡ number_word word.now }
 {
-    if word.bytes() == b"--count".as_slice() {
+    if is_word(word.bytes(), b"--count") {
         Some(Chosen::Number)
     } else {
         None
@@ -334,7 +368,7 @@ fn behind_words<'a>(rows: RowsWord<'a>, words: &mut CommandWords<'a>) -> Option<
     ensures sound { IfSome result (λ s. IsSoundStudy (study s)) }
 {
     let word = words.next()?;
-    if word.bytes() == b"rest".as_slice() {
+    if is_word(word.bytes(), b"rest") {
         return rest_words(rows, words);
     }
     match run_class_named(word.bytes()) {

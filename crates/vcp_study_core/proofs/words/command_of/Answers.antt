@@ -2,7 +2,7 @@ use Rattle.std.proofs.Common.{sym, ◌∙◌}
 use Rattle.vcp_study_core.proofs.SumWords.{behind_first, behind_name}
 use Rattle.vcp_study_core.proofs.words.command_of.Goals as goal
 
-pub study_words-requires : goal.study_words-requires
-study_words-requires c =
+pub named_words-requires : goal.named_words-requires
+named_words-requires c =
     sym (behind_name c.args.words.now c.next.new.self c.name.new.self c.in_ok-name.name.now
     (behind_first c.args.words.now c.next.new.self c.in_ok-next.field-0.now (sym c.new-left.ensures ∙ c.in_ok-next.ensures.some)) c.in_ok-name.ensures)
