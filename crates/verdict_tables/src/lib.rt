@@ -28,9 +28,11 @@ pub use counts::{shows_unseen, totals_in, totals_of_all, totals_of_parts, totals
 pub use endings::{Endings, EndingsOfParts, endings_of, endings_of_parts};
 pub use endless::{SameEnding, answers_over_rows_are_a_right_run, group_ending, words_left};
 pub use fault::VerdictsFault;
+pub use names::then_operation;
 pub use parts::{MOST_PARTS, Part, Parts};
 pub use reading::read_verdicts;
 pub use remark::is_for;
+pub use rows::then_delay;
 pub use tables::Table;
 pub use verdicts::Verdicts;
 pub use writing::{write_sum, write_sum_apart};

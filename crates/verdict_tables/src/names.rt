@@ -49,8 +49,8 @@ fn then_op<O: Sink>(line: &mut Line, out: &mut O, graph: &Graph, n: u32, op: &Op
     then_source(line, out, graph, n);
 }
 
-/// Goes on with operation `n`, where it is there.
-pub(crate) fn then_operation<O: Sink>(line: &mut Line, out: &mut O, graph: &Graph, n: u32)
+/// Goes on with operation `n`, where it is there: its number, kind, variable and place.
+pub fn then_operation<O: Sink>(line: &mut Line, out: &mut O, graph: &Graph, n: u32)
     ensures { GathersTo (O.seen out.old) (O.seen out.new) line.old line.new
         (operation_text graph.now n (slice_get graph.now.operations n)) }
 {

@@ -5,6 +5,7 @@ ghost use Rattle.std.specs.List.{list_any};
 ghost use Rattle.script_text.specs.Words.{words as words_of};
 ghost use Rattle.verdict_tables.specs.Remark.{digest_in, digest_of, is_for as is_for_of};
 
+use crate::words::is;
 use script_text::{WordsLeft, first_line};
 
 /// The digits of the digest in a remark of sites.
@@ -17,7 +18,7 @@ fn digest(line: &[u8]) -> Option<&[u8]>
     words.next()?;
     let of = words.next()?;
     let digest = words.next()?;
-    if mark == b"#".as_slice() && word == b"sites".as_slice() && of == b"of".as_slice() {
+    if is(mark, b"#") && is(word, b"sites") && is(of, b"of") {
         Some(digest)
     } else {
         None

@@ -46,8 +46,8 @@ fn or_more(n: u32) -> &'static [u8]
     if n < OWN_DELAYS { b"" } else { b" or more" }
 }
 
-/// Goes on with the row of a number of cycles.
-fn then_delay<O: Sink>(line: &mut Line, out: &mut O, n: u32)
+/// Goes on with what the row of a number of cycles counts; the last such row counts more cycles, too.
+pub fn then_delay<O: Sink>(line: &mut Line, out: &mut O, n: u32)
     ensures { GathersTo (O.seen out.old) (O.seen out.new) line.old line.new (delay_text n) }
 {
     line.text(out, b"after ");

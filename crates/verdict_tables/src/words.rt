@@ -1,6 +1,6 @@
 //! Which verdict the words of a line may mean.
 
-ghost use Rattle.std.specs.Prelude.{◌≡◌, ◌<◌, IfSome, length, option_map};
+ghost use Rattle.std.specs.Prelude.{◌≡◌, ◌<◌, IfSome, bytes_eq, length, option_map};
 ghost use Rattle.fault_script.specs.Forms.{number_below};
 ghost use Rattle.fault_injector.specs.Names.{Names};
 ghost use Rattle.verdict_tables.specs.Outcome.{value_of, numbers_of, named_then, output_named, shown_of, as_wrong, as_refused, stop_of, stopped_of, ran_on_of, meant as meant_of};
@@ -120,6 +120,13 @@ fn refused(shown: Shown) -> Verdict
     }
 }
 
+/// Whether a word is this one.
+pub(crate) fn is(word: &[u8], name: &[u8]) -> bool
+    ensures { result ≡ bytes_eq word.now name.now }
+{
+    word == name
+}
+
 /// The kind of a stop with this name.
 fn stop(word: &[u8]) -> Option<StopKind>
     ensures { result ≡ stop_of word.now }
@@ -195,19 +202,19 @@ pub(crate) fn meant(graph: &Graph, words: &mut WordsLeft<'_>) -> Option<Verdict>
     ensures names { IfSome result (Names (length graph.now.outputs) (length graph.now.operations)) }
 {
     let first = words.next()?;
-    if first == b"same".as_slice() {
+    if is(first, b"same") {
         return Some(Verdict::Same);
     }
-    if first == b"wrong".as_slice() {
+    if is(first, b"wrong") {
         return wrong_of(graph, words);
     }
-    if first == b"ran-on".as_slice() {
+    if is(first, b"ran-on") {
         return ran_on(words);
     }
-    if first == b"refused".as_slice() {
+    if is(first, b"refused") {
         return refused_of(graph, words);
     }
-    if first == b"stopped".as_slice() {
+    if is(first, b"stopped") {
         return stopped(graph, words);
     }
     None
