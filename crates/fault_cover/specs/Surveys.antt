@@ -46,6 +46,20 @@ pub record AreNumbers (g : Lists) (numbers : List ℕ) : Type 0 where
 abbrev pub AreAble : List Stops → List Bool → Type 0
 AreAble stops wanted = (q : ℕ) → is_wanted wanted q ≡ is_any_named (slice_get stops q)
 
+-- of the OUTs of outputs, the first that is reached from each operation
+pub record AreOutputs (g : Lists) (found : List (Option Nearest)) : Type 0 where
+  pub outs : List Bool
+  pub are : AreOuts g outs
+  pub nearest : AreNearest g outs found
+
+-- of the operations that may stop, the first that is reached from each operation
+pub record AreStops (g : Lists) (found : List (Option Nearest)) : Type 0 where
+  pub stops : List Stops
+  pub names : NamesStops g stops
+  pub able : List Bool
+  pub are : AreAble stops able
+  pub nearest : AreNearest g able found
+
 -- what the later readings of words are summed by
 pub record AreMaps (g : Lists) (v : Surveyed) : Type 0 where
   pub weights : IsAudit g v.horizon v.weights

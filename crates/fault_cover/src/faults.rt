@@ -3,13 +3,11 @@
 ghost use Rattle.std.specs.Option.{option_to_list};
 ghost use Rattle.std.specs.Prelude.{◌≡◌, ◌<◌, ◌≤◌, ◌+◌, ◌-◌, ◌∷◌, ◌++◌, [], ℕ, List, Some, map, length, slice_get};
 ghost use Rattle.vcp_base.specs.Kinds.{operands as operands_of};
-ghost use Rattle.vcp_base.specs.Spellings.{kinds};
 ghost use Rattle.vcp_outside.specs.Gathering.{GathersTo};
 ghost use Rattle.op_graph.specs.Lists.{Lists};
-ghost use Rattle.op_graph.specs.Rules.{is_out as is_out_of};
 ghost use Rattle.signature_table.specs.Signatures.{IsTableOf};
-ghost use Rattle.fault_sites.specs.Sites.{each_below, from as from_op, from_one, may_replace as may_replace_of, may_stand as may_stand_of};
-ghost use Rattle.fault_sites.specs.Sites.{operator as operator_op, operator_one, reads as reads_of, stale as stale_op};
+ghost use Rattle.fault_sites.specs.Sites.{each_below, from as from_op, from_one};
+ghost use Rattle.fault_sites.specs.Sites.{operator as operator_op, stale as stale_op};
 ghost use Rattle.fault_cover.specs.Classes.{act_at, additions, fault_at, late_one, lates, lates_at};
 ghost use Rattle.fault_cover.specs.Classes.{of_classes, of_classes_at, rests, singles, singles_of};
 ghost use Rattle.fault_cover.specs.CoverText.{Heard, heard_as};
@@ -22,18 +20,14 @@ ghost use Rattle.fault_cover.specs.declared.disturbance.Disturbance.TheVariants 
 use crate::class::CoverClass;
 use crate::disturbance::Disturbance;
 use crate::effect::Effect;
-use crate::starts::named;
 use crate::survey::Survey;
 use crate::telling::tell;
 use fault_script::Act;
-use fault_sites::may_be_late;
+use fault_sites::{KINDS, from_of, is_out, may_be_late, operator_of};
 use op_graph::{Graph, Op};
 use signature_table::Table;
-use vcp_base::{Kind, kind_code, kind_of_code, operand_type, operands, within};
+use vcp_base::operands;
 use vcp_outside::{Line, Sink};
-
-/// How many kinds there are.
-const KINDS: u8 = 19;
 
 /// A surveyed graph, and the numbers of its code.
 #[derive(Clone, Copy)]
@@ -219,16 +213,6 @@ fn then_rests_of<O: Sink, L: Listener>(
     }
 }
 
-/// Whether an operation is an OUT.
-fn is_out(kind: Kind) -> bool
-    ensures { result ≡ is_out_of kind }
-{
-    match kind {
-        Kind::Out => true,
-        _ => false,
-    }
-}
-
 /// A number is added between two readings, two or more of which are left.
 fn then_rests<O: Sink, L: Listener>(
     line: &mut Line,
@@ -270,36 +254,6 @@ fn then_stale<O: Sink, L: Listener>(
 {
     'operands: for j in 0..operands(op.kind) {
         then_act(line, out, listener, subject, k, Act::OperandStale { j });
-    }
-}
-
-/// Whether operand `j` is the word of operation `r`. A LOAD reads its cell, and no operation.
-fn reads(op: &Op, j: u32, r: u32) -> bool
-    ensures { result ≡ reads_of op.now j r }
-{
-    match op.kind {
-        Kind::Load => false,
-        _ => named(op, j) == r,
-    }
-}
-
-/// Whether the word of operation `r`, which is `source`, may take the place of operand `j`.
-fn may_replace(op: &Op, j: u32, r: u32, source: &Op) -> bool
-    ensures { result ≡ may_replace_of op.now j r source.now }
-{
-    within(source.ty, operand_type(op.kind, j, op.from)) && !reads(op, j, r)
-}
-
-/// Operand `j` as the word of operation `r`, where that may take its place.
-fn from_of(graph: &Graph, op: &Op, j: u32, r: u32) -> Option<Act>
-    requires { r < length graph.now.operations }
-    ensures { from_one op.now j r (slice_get graph.now.operations r) ≡ option_to_list result }
-{
-    let source = graph.operation(r);
-    if may_replace(op, j, r, &source) {
-        Some(Act::OperandFrom { j, r })
-    } else {
-        None
     }
 }
 
@@ -410,25 +364,6 @@ fn then_lates<O: Sink, L: Listener>(
 {
     'operands: for j in 0..operands(op.kind) {
         then_lates_at(line, out, listener, subject, k, op, j);
-    }
-}
-
-/// Whether another kind has as many operands.
-fn may_stand(kind: Kind, other: Kind) -> bool
-    ensures { result ≡ may_stand_of kind other }
-{
-    operands(other) == operands(kind) && kind_code(other) != kind_code(kind)
-}
-
-/// The call as one of the kind with the code, where that may take its place.
-fn operator_of(kind: Kind, code: u8) -> Option<Act>
-    ensures { operator_one kind (slice_get kinds code) ≡ option_to_list result }
-{
-    let other = kind_of_code(code)?;
-    if may_stand(kind, other) {
-        Some(Act::Operator { kind: other })
-    } else {
-        None
     }
 }
 

@@ -1,15 +1,12 @@
 //! The lines of a cover.
 
-ghost use Rattle.std.specs.Fmt.{signed_decimal};
-ghost use Rattle.std.specs.Prelude.{◌≡◌, ◌<◌, ◌≤◌, ◌^◌, ◌++◌, List, Some, codes, decimal, flat_map, length, replicate, slice_get, unsigned_abs};
+ghost use Rattle.std.specs.Prelude.{◌≡◌, ◌<◌, ◌≤◌, ◌^◌, ◌++◌, List, Some, bytes_eq, codes, decimal, flat_map, length, replicate, slice_get};
 ghost use Rattle.vcp_outside.specs.Gathering.{GathersTo};
-ghost use Rattle.fault_sites.specs.SiteText.{rest as rest_of_act};
-ghost use Rattle.verdict_tables.specs.Places.{operation_text, variable_text};
-ghost use Rattle.verdict_tables.specs.SumText.{delay_text, more_text};
+ghost use Rattle.verdict_tables.specs.SumText.{delay_text};
 ghost use Rattle.fault_cover.specs.Classes.{fault_at};
 ghost use Rattle.fault_cover.specs.CoverText.{back as back_of, class_name as class_name_of, classes_in, classes_name as classes_name_of, column_text};
 ghost use Rattle.fault_cover.specs.CoverText.{columns_text};
-ghost use Rattle.fault_cover.specs.CoverText.{front as front_of, heading_text, number_text, place_text, refused_only, remark, row_text, shows_text};
+ghost use Rattle.fault_cover.specs.CoverText.{front as front_of, heading_text, number_text, refused_only, remark, row_text, shows_text};
 ghost use Rattle.fault_cover.specs.CoverText.{single_text};
 ghost use Rattle.fault_cover.specs.CoverText.{sum_of, totals_line};
 ghost use Rattle.fault_cover.specs.Leftovers.{line_text};
@@ -21,12 +18,13 @@ use crate::effect::Effect;
 use crate::faults::Listener;
 use crate::left::LeftLine;
 use crate::tally::Tally;
-use fault_script::Act;
+use fault_sites::{then_rest, verb};
 use itoa::Buffer;
-use op_graph::{Graph, Op};
-use run_report::{then_source, variable_name};
-use vcp_base::{Kind, kind_name};
+use op_graph::Graph;
+use run_report::variable_name;
+use vcp_base::Kind;
 use vcp_outside::{Line, Sink};
+use verdict_tables::{then_delay, then_operation};
 
 /// The word that names a class.
 fn class_name(class: CoverClass) -> &'static [u8]
@@ -53,32 +51,39 @@ pub fn classes_name(classes: CoverClasses) -> &'static [u8]
     }
 }
 
+/// Whether a word is this one.
+fn is(word: &[u8], name: &[u8]) -> bool
+    ensures { result ≡ bytes_eq word.now name.now }
+{
+    word == name
+}
+
 /// The classes that a word names.
 pub fn classes_named(word: &[u8]) -> Option<CoverClasses>
     ensures { result ≡ classes_in word.now }
 {
-    if word == b"add".as_slice() {
+    if is(word, b"add") {
         return Some(CoverClasses::One(CoverClass::Add));
     }
-    if word == b"rest".as_slice() {
+    if is(word, b"rest") {
         return Some(CoverClasses::One(CoverClass::Rest));
     }
-    if word == b"stale".as_slice() {
+    if is(word, b"stale") {
         return Some(CoverClasses::One(CoverClass::Stale));
     }
-    if word == b"skip".as_slice() {
+    if is(word, b"skip") {
         return Some(CoverClasses::One(CoverClass::Skip));
     }
-    if word == b"from".as_slice() {
+    if is(word, b"from") {
         return Some(CoverClasses::One(CoverClass::From));
     }
-    if word == b"late".as_slice() {
+    if is(word, b"late") {
         return Some(CoverClasses::One(CoverClass::Late));
     }
-    if word == b"operator".as_slice() {
+    if is(word, b"operator") {
         return Some(CoverClasses::One(CoverClass::Operator));
     }
-    if word == b"all".as_slice() {
+    if is(word, b"all") {
         return Some(CoverClasses::All);
     }
     None
@@ -139,13 +144,6 @@ pub(crate) fn then_class_row<O: Sink>(
     line.text(out, b"\n");
 }
 
-/// What is behind a number of cycles that is the last of the table.
-fn or_more(n: u32) -> &'static [u8]
-    ensures { result.now ≡ more_text n }
-{
-    if n < 16 { b"" } else { b" or more" }
-}
-
 /// Goes on with the row of a number of cycles, where any fault is refused so late.
 pub(crate) fn then_delay_row<O: Sink>(line: &mut Line, out: &mut O, n: u32, refused: u64)
     ensures { refused < 2 ^ 63 → GathersTo (O.seen out.old) (O.seen out.new) line.old line.new (row_text (delay_text n) (refused_only refused)) }
@@ -155,9 +153,7 @@ pub(crate) fn then_delay_row<O: Sink>(line: &mut Line, out: &mut O, n: u32, refu
         return;
     }
     then_columns(line, out, &tally);
-    line.text(out, b"after ");
-    line.count(out, n as u64);
-    line.text(out, or_more(n));
+    then_delay(line, out, n);
     line.text(out, b"\n");
 }
 
@@ -193,70 +189,15 @@ pub(crate) fn then_totals<O: Sink>(line: &mut Line, out: &mut O, tally: &Tally)
     then_counted(line, out, b" beyond ", tally.beyond);
 }
 
-/// Goes on with a space and a name.
-fn then_name<O: Sink>(line: &mut Line, out: &mut O, name: &[u8])
-    ensures { GathersTo (O.seen out.old) (O.seen out.new) line.old line.new (codes " " ++ name.now) }
-{
-    line.text(out, b" ");
-    line.text(out, name);
-}
-
-/// Goes on with the variable of an operation, where it has one.
-fn then_variable<O: Sink>(line: &mut Line, out: &mut O, graph: &Graph, kind: Kind, n: u64)
-    ensures { GathersTo (O.seen out.old) (O.seen out.new) line.old line.new (variable_text graph.now kind n) }
-{
-    match kind {
-        Kind::Input | Kind::Load | Kind::Store | Kind::Out => {
-            then_name(line, out, variable_name(graph, kind, n))
-        }
-        _ => {}
-    }
-}
-
-/// The number of an operation's own input, cell or output.
-fn own_number(op: &Op) -> u64
-    ensures { result ≡ unsigned_abs op.now.imm }
-{
-    op.imm.unsigned_abs()
-}
-
-/// Goes on with operation `k`, which is `op`: its number, kind, variable and place.
-fn then_op<O: Sink>(line: &mut Line, out: &mut O, graph: &Graph, k: u32, op: &Op)
-    requires { slice_get graph.now.operations k ≡ Some op.now }
-    ensures { GathersTo (O.seen out.old) (O.seen out.new) line.old line.new (operation_text graph.now k (Some op.now)) }
-{
-    line.text(out, b"operation ");
-    line.count(out, k as u64);
-    line.text(out, b" ");
-    line.text(out, kind_name(op.kind));
-    then_variable(line, out, graph, op.kind, own_number(op));
-    then_source(line, out, graph, k);
-}
-
-/// Goes on with operation `k`, where it is there.
-fn then_operation<O: Sink>(line: &mut Line, out: &mut O, graph: &Graph, k: u32)
-    ensures { GathersTo (O.seen out.old) (O.seen out.new) line.old line.new (place_text graph.now k) }
-{
-    match graph.operations().get(k as usize) {
-        Some(op) => then_op(line, out, graph, k, op),
-        None => {}
-    }
-}
-
 /// The first word of a fault, and a space.
 fn front(disturbance: &Disturbance) -> &'static [u8]
     ensures { result.now ≡ front_of disturbance.now }
 {
     match *disturbance {
-        Disturbance::AddToResult | Disturbance::Does(Act::ResultAdd { e: _ }) => b"result ",
-        Disturbance::AddToOperand { j: _ }
-        | Disturbance::Late { j: _, r: _ }
-        | Disturbance::Does(Act::OperandAdd { j: _, e: _ })
-        | Disturbance::Does(Act::OperandFrom { j: _, r: _ })
-        | Disturbance::Does(Act::OperandStale { j: _ }) => b"operand ",
+        Disturbance::AddToResult => b"result ",
+        Disturbance::AddToOperand { j: _ } | Disturbance::Late { j: _, r: _ } => b"operand ",
         Disturbance::AddToRest { right: _ } => b"rest ",
-        Disturbance::Does(Act::Operator { kind: _ }) => b"operator ",
-        Disturbance::Does(Act::Skip) => b"skip ",
+        Disturbance::Does(act) => verb(&act),
     }
 }
 
@@ -279,36 +220,6 @@ fn then_numbers<O: Sink>(line: &mut Line, out: &mut O, n: u32, words: &[u8], m: 
     line.count(out, m as u64);
 }
 
-/// Goes on with what is added to an operand.
-fn then_added<O: Sink>(line: &mut Line, out: &mut O, j: u32, e: i64)
-    ensures { GathersTo (O.seen out.old) (O.seen out.new) line.old line.new (codes " " ++ (decimal j ++ (codes " add " ++ signed_decimal e))) }
-{
-    then_number(line, out, j, b" add ");
-    line.value(out, e);
-}
-
-/// Goes on with what is added to a result.
-fn then_result<O: Sink>(line: &mut Line, out: &mut O, e: i64)
-    ensures { GathersTo (O.seen out.old) (O.seen out.new) line.old line.new (codes " add " ++ signed_decimal e) }
-{
-    line.text(out, b" add ");
-    line.value(out, e);
-}
-
-/// Goes on with what is behind the operation of an act.
-fn then_act<O: Sink>(line: &mut Line, out: &mut O, act: &Act)
-    ensures { GathersTo (O.seen out.old) (O.seen out.new) line.old line.new (rest_of_act act.now) }
-{
-    match *act {
-        Act::OperandAdd { j, e } => then_added(line, out, j, e),
-        Act::OperandFrom { j, r } => then_numbers(line, out, j, b" from ", r),
-        Act::OperandStale { j } => then_number(line, out, j, b" stale"),
-        Act::ResultAdd { e } => then_result(line, out, e),
-        Act::Operator { kind } => then_name(line, out, kind_name(kind)),
-        Act::Skip => {}
-    }
-}
-
 /// Goes on with what is behind the operation of a fault.
 fn then_back<O: Sink>(line: &mut Line, out: &mut O, disturbance: &Disturbance)
     ensures { GathersTo (O.seen out.old) (O.seen out.new) line.old line.new (back_of disturbance.now) }
@@ -318,7 +229,7 @@ fn then_back<O: Sink>(line: &mut Line, out: &mut O, disturbance: &Disturbance)
         Disturbance::AddToOperand { j } => then_number(line, out, *j, b" add any"),
         Disturbance::AddToRest { right } => then_number(line, out, *right, b" add any"),
         Disturbance::Late { j, r } => then_numbers(line, out, *j, b" late ", *r),
-        Disturbance::Does(act) => then_act(line, out, act),
+        Disturbance::Does(act) => then_rest(line, out, act),
     }
 }
 
@@ -390,6 +301,33 @@ fn then_faults_of<O: Sink>(line: &mut Line, out: &mut O, graph: &Graph, k: u32, 
     line.text(out, b"\n");
 }
 
+/// Goes on with the line of faults of operation `at` that run on.
+fn then_runs_on<O: Sink>(
+    line: &mut Line,
+    out: &mut O,
+    graph: &Graph,
+    at: u32,
+    borders: u64,
+    op: u64,
+    faults: u64,
+)
+    ensures { GathersTo (O.seen out.old) (O.seen out.new) line.old line.new (line_text graph.now (LeftLine.RunsOn at borders op faults)) }
+{
+    line.text(out, b"runs-on ");
+    line.count(out, borders);
+    line.text(out, b" ");
+    line.count(out, op);
+    then_faults_of(line, out, graph, at, faults);
+}
+
+/// Goes on with the line of faults of operation `at` that are beyond the horizon.
+fn then_beyond<O: Sink>(line: &mut Line, out: &mut O, graph: &Graph, at: u32, faults: u64)
+    ensures { GathersTo (O.seen out.old) (O.seen out.new) line.old line.new (line_text graph.now (LeftLine.Beyond at faults)) }
+{
+    line.text(out, b"beyond");
+    then_faults_of(line, out, graph, at, faults);
+}
+
 /// Goes on with a line of an operation whose faults run on or are beyond.
 fn then_left_line<O: Sink>(line: &mut Line, out: &mut O, graph: &Graph, left: &LeftLine)
     ensures { GathersTo (O.seen out.old) (O.seen out.new) line.old line.new (line_text graph.now left.now) }
@@ -400,17 +338,8 @@ fn then_left_line<O: Sink>(line: &mut Line, out: &mut O, graph: &Graph, left: &L
             borders,
             op,
             faults,
-        } => {
-            line.text(out, b"runs-on ");
-            line.count(out, borders);
-            line.text(out, b" ");
-            line.count(out, op);
-            then_faults_of(line, out, graph, at, faults);
-        }
-        LeftLine::Beyond { at, faults } => {
-            line.text(out, b"beyond");
-            then_faults_of(line, out, graph, at, faults);
-        }
+        } => then_runs_on(line, out, graph, at, borders, op, faults),
+        LeftLine::Beyond { at, faults } => then_beyond(line, out, graph, at, faults),
     }
 }
 

@@ -14,7 +14,7 @@ ghost use Rattle.fault_cover.specs.Sources.{as_source};
 use crate::disturbance::Disturbance;
 use coded_unit::remainder;
 use fault_script::Act;
-use fault_sites::{Reading, WordReadings, readings as readings_of, store_of};
+use fault_sites::{Reading, WordReadings, named, readings as readings_of, store_of};
 use op_graph::{Graph, Op};
 use signature_table::{Table, signature_of};
 use std::alloc::Global;
@@ -144,17 +144,6 @@ fn origin(graph: &Graph, table: &Table, op: &Op, j: u32, n: u32) -> i64
     match op.kind {
         Kind::Load => stored(table, store_of(graph, op)),
         _ => signature_of(table.profile(), table.seed(), n) as i64,
-    }
-}
-
-/// The operation that operand `j` names.
-pub(crate) fn named(op: &Op, j: u32) -> u32
-    ensures { result ≡ named_of op.now j }
-{
-    match j {
-        0 => op.a,
-        1 => op.b,
-        _ => op.c,
     }
 }
 

@@ -6,7 +6,7 @@ ghost use Rattle.op_graph.specs.Rules.{IsGraph};
 ghost use Rattle.signature_table.specs.Signatures.{IsTableOf};
 ghost use Rattle.weight_audit.specs.Audit.{most_weights, weights_up_to, IsAudit};
 ghost use Rattle.weight_audit.specs.declared.kept.AuditFault.TheVariants as fault;
-ghost use Rattle.fault_cover.specs.Surveys.{AreAble, AreMaps, AreNumbers, AreOuts, IsMapped, IsSurveyOf};
+ghost use Rattle.fault_cover.specs.Surveys.{AreAble, AreMaps, AreNumbers, AreOutputs, AreOuts, AreStops, IsMapped, IsSurveyOf};
 
 use crate::nearest::{Nearest, find_nearest};
 use crate::rests::{Rests, word_rests};
@@ -155,17 +155,37 @@ fn stops_at(stops: &[Stops], i: usize) -> Stops
     stops[i]
 }
 
+/// Which output's OUT is reached first from each operation.
+fn first_outputs(alloc: Global, graph: &Graph) -> Result<Vec<Option<Nearest>>, Memory>
+    requires { IsGraph graph.now }
+    ensures { IfOk result (λ found. AreOutputs graph.now found.items) }
+{
+    let _operations = graph.len();
+    let outs = are_outputs(alloc, graph)?;
+    let found = find_nearest(alloc, graph, &outs)?;
+    Ok(found)
+}
+
+/// Which operation that may stop is reached first from each operation.
+fn first_stops(alloc: Global, graph: &Graph) -> Result<Vec<Option<Nearest>>, Memory>
+    requires { IsGraph graph.now }
+    ensures { IfOk result (λ found. AreStops graph.now found.items) }
+{
+    let _operations = graph.len();
+    let ranges = ranges_of(alloc, graph)?;
+    let able = may_stop(alloc, ranges.stops())?;
+    let found = find_nearest(alloc, graph, &able)?;
+    Ok(found)
+}
+
 /// The rest of a survey, where the weights are there.
 fn surveyed(alloc: Global, graph: &Graph, horizon: u32, weights: Weights) -> Result<Survey, Memory>
     requires { IsAudit graph.now horizon weights }
     ensures { IfOk result (λ v. IsSurveyOf graph.now horizon v) }
 {
-    let count = graph.len();
-    let ranges = ranges_of(alloc, graph)?;
-    let outs = are_outputs(alloc, graph)?;
-    let able = may_stop(alloc, ranges.stops())?;
-    let outputs = find_nearest(alloc, graph, &outs)?;
-    let stops = find_nearest(alloc, graph, &able)?;
+    let _operations = graph.len();
+    let outputs = first_outputs(alloc, graph)?;
+    let stops = first_stops(alloc, graph)?;
     let numbers = output_numbers(alloc, graph)?;
     let readings = readings(alloc, graph, graph.profile())?;
     let mut survey = Survey {
