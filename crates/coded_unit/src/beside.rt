@@ -72,7 +72,7 @@ pub(crate) fn packed_twice(
     requires value { outcome call.now.kind call.now.from call.now.ty call.now.imm first.value second.value third.value ≡ Ok value }
     ensures { result ≡ coded profile value residue }
 {
-    let beside = multiple_of_value(profile, call.kind, call.imm, first, second, third);
+    let beside = multiple_of_value(profile, call, first, second, third);
     let whole = own(profile, value as i128);
     Word::packed(profile, value as i128, residue).plus_nothing(apart(whole, beside))
 }
@@ -90,8 +90,7 @@ fn apart(a: i128, b: i128) -> i128
 #[inline(always)]
 pub(crate) fn multiple_of_value(
     profile: Profile,
-    kind: Kind,
-    imm: i64,
+    call: &Call,
     first: Twofold,
     second: Twofold,
     third: Twofold,
@@ -99,13 +98,13 @@ pub(crate) fn multiple_of_value(
     requires first { IsMultiple profile first.multiple first.value }
     requires second { IsMultiple profile second.multiple second.value }
     requires third { IsMultiple profile third.multiple third.value }
-    requires divisor { divides_by_zero kind second.value ≡ false }
-    requires low { negsuc (2 ^ 63) ≤ℤ value_of kind imm first.value second.value third.value }
-    requires high { value_of kind imm first.value second.value third.value ≤ℤ pos (2 ^ 63) }
-    ensures { result ≡ multiple profile (value_of kind imm first.value second.value third.value) }
+    requires divisor { divides_by_zero call.now.kind second.value ≡ false }
+    requires low { negsuc (2 ^ 63) ≤ℤ value_of call.now.kind call.now.imm first.value second.value third.value }
+    requires high { value_of call.now.kind call.now.imm first.value second.value third.value ≤ℤ pos (2 ^ 63) }
+    ensures { result ≡ multiple profile (value_of call.now.kind call.now.imm first.value second.value third.value) }
 {
-    match kind {
-        Kind::Input | Kind::Const => own(profile, imm as i128),
+    match call.kind {
+        Kind::Input | Kind::Const => own_number(profile, call),
         Kind::Load | Kind::Store | Kind::Out | Kind::Conv => first.multiple,
         Kind::Neg => negated(profile, first),
         Kind::Not => opposite(profile, first),
@@ -126,6 +125,19 @@ pub(crate) fn multiple_of_value(
         ),
         Kind::Xor => truth(profile, !are_equal(profile, first, second)),
         Kind::Sel => chosen(profile, first, second, third),
+    }
+}
+
+/// The number of an INPUT or a CONST times the constant. It stands apart, so that the number is read from the call once for each way,
+/// and after its kind, so that it is read here.
+#[inline(never)]
+fn own_number(profile: Profile, call: &Call) -> i128
+    ensures input { call.now.kind ≡ Kind.Input → IsMultiple profile result call.now.imm }
+    ensures constant { call.now.kind ≡ Kind.Const → IsMultiple profile result call.now.imm }
+{
+    match call.kind {
+        Kind::Input | Kind::Const => own(profile, call.imm as i128),
+        _ => 0,
     }
 }
 

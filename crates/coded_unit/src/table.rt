@@ -113,39 +113,40 @@ fn answer_from<C>(
     requires third_below { third.residue < modulus_of profile }
     ensures { result ≡ Right call.now }
 {
-    let carried = residue(
-        profile,
-        call.kind,
-        first.residue,
-        second.residue,
-        third.residue,
-        call.corr,
-        call.stamp,
-    );
     told::<C>(
         profile,
         call,
-        carried,
+        first.residue,
+        second.residue,
+        third.residue,
         found_twice(profile, call.a, first),
         found_twice(profile, call.b, second),
         found_twice(profile, call.c, third),
     )
 }
 
-/// The answer that tells what the kind gives, with this residue.
+/// The answer that tells what the kind gives, from the operands and their residues. The answer's residue is made after its value, so that
+/// where the processor takes another kind meanwhile, the residue isn't the right one's.
 #[inline(always)]
 fn told<C>(
     profile: Profile,
     call: &Call,
-    residue: Residue,
+    r: Residue,
+    s: Residue,
+    t: Residue,
     first: Twofold,
     second: Twofold,
     third: Twofold,
 ) -> Answer
+    requires r { r < modulus_of profile }
+    requires s { s < modulus_of profile }
+    requires t { t < modulus_of profile }
+    requires corr { call.now.corr < modulus_of profile }
     requires first { IsMultiple profile first.multiple first.value }
     requires second { IsMultiple profile second.multiple second.value }
     requires third { IsMultiple profile third.multiple third.value }
-    ensures { result ≡ answer_of profile (outcome_of call.now.kind call.now.from call.now.ty call.now.imm first.value second.value third.value) residue }
+    ensures { result ≡ answer_of profile (outcome_of call.now.kind call.now.from call.now.ty call.now.imm first.value second.value third.value)
+        (residue_of profile call.now.kind r s t call.now.corr call.now.stamp) }
 {
     match short_outcome(
         call.kind,
@@ -156,9 +157,10 @@ fn told<C>(
         second.value,
         third.value,
     ) {
-        Ok(value) => Answer::Word(packed_twice(
-            profile, call, value, residue, first, second, third,
-        )),
+        Ok(value) => {
+            let carried = residue(profile, call.kind, r, s, t, call.corr, call.stamp);
+            Answer::Word(packed_twice(profile, call, value, carried, first, second, third))
+        }
         Err(StopKind::Range) => Answer::Range,
         Err(StopKind::DivZero) => Answer::DivZero,
         Err(StopKind::Operand) => Answer::Operand,

@@ -1,4 +1,3 @@
-pub mod Again
 pub mod Flat
 pub mod Fuel
 pub mod Headers

@@ -1,5 +1,5 @@
 -- What is left of a file whose header was read.
-use Rattle.std.specs.Prelude.{ℕ, List, Option, Some, None, Result, Ok, Err, ℤ, ◌≡◌}
+use Rattle.std.specs.Prelude.{ℕ, List, Option, Some, None, Result, Ok, Err, ℤ, ◌≡◌, Bool, true, false, length}
 use Rattle.vcp_base.specs.declared.ty.Ty.{Ty}
 use Rattle.input_rows.specs.declared.fault.RowFault.{RowFault}
 use Rattle.input_rows.specs.declared.fault.RowFault.TheVariants as fault
@@ -19,3 +19,10 @@ left_from o cycle (Some records) = rows_from o.types o.places cycle records
 abbrev pub SetsRow : Result (List ℤ) RowFault → Result (Unit {0}) RowFault → List ℤ → Type 0
 SetsRow expected (Ok done) row = expected ≡ Ok row
 SetsRow expected (Err why) row = expected ≡ Err why
+
+-- what two readers have left, and the room for a row: the same, up to the end or a refusal
+pub record LeftTwice (first second : RowsLeft) (row : List ℤ) (going : Bool) : Type 0 where
+  pub same : going ≡ true → second ≡ first
+  pub types : second.types ≡ first.types
+  pub fresh : first.ended ≡ false
+  pub width : length row ≡ length first.types

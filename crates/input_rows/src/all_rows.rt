@@ -6,7 +6,7 @@ ghost use Rattle.vcp_base.specs.Types.{AreIn};
 ghost use Rattle.input_rows.specs.RowsOf.{IsOfRecord, rows_of, rows_of_cycles, types_of};
 
 use crate::fault::RowFault;
-use crate::table::Table;
+use crate::twice::Twice;
 use std::alloc::Global;
 use std::marker::Model;
 use vcp_base::{Columns, Row};
@@ -17,7 +17,7 @@ enum Source<'a> {
     // So many rows of no values are left.
     Cycles(u32),
     // The records of a file.
-    File(Table<'a>),
+    File(Twice<'a>),
 }
 
 /// The rows that are left of a file or of a number of cycles, from the front, and the refusal behind
@@ -56,7 +56,7 @@ impl<'a> AllRows<'a> {
         if columns.len() == 0 {
             return Err(RowFault::Form);
         }
-        let table = Table::new(alloc, bytes, columns)?;
+        let table = Twice::new(alloc, bytes, columns)?;
         Ok(AllRows {
             source: Source::File(table),
         })

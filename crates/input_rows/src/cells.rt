@@ -1,8 +1,7 @@
 //! The value that a cell spells.
 
-ghost use Rattle.std.specs.Prelude.{◌≡◌, Some, reverse, option_and_then};
+ghost use Rattle.std.specs.Prelude.{◌≡◌, Some, reverse};
 ghost use Rattle.vcp_base.specs.Blanks.{unindented};
-ghost use Rattle.vcp_base.specs.Numerals.{integer_of, in_type};
 ghost use Rattle.input_rows.specs.Cells.{trimmed, truth_of, value_of};
 
 use vcp_base::{Ty, is_same_name, number_in, without_first_blanks};
@@ -38,17 +37,6 @@ fn truth(text: &[u8]) -> Option<i64>
     }
 }
 
-// The value of the type that digits spell, if they spell one. It is found twice, so that an error of the processor in one of the two
-// refuses the cell and gives no other value. The second time it is found as one of LINT: the compiler would make one of two calls
-// that are the same.
-fn number_twice(ty: Ty, text: &[u8]) -> Option<i64>
-    ensures { result ≡ option_and_then (in_type ty) (integer_of text.now) }
-{
-    let found = number_in(ty, text)?;
-    let again = number_in(Ty::Lint, text)?;
-    if found == again { Some(found) } else { None }
-}
-
 /// The value of the type that a cell spells, if it spells one.
 pub fn value(ty: Ty, cell: &[u8]) -> Option<i64>
     ensures { result ≡ value_of ty cell.now }
@@ -56,6 +44,6 @@ pub fn value(ty: Ty, cell: &[u8]) -> Option<i64>
     let text = trim(cell);
     match ty {
         Ty::Bool => truth(text),
-        Ty::Int | Ty::Dint | Ty::Lint => number_twice(ty, text),
+        Ty::Int | Ty::Dint | Ty::Lint => number_in(ty, text),
     }
 }

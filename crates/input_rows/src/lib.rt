@@ -16,6 +16,7 @@ mod records;
 mod row_list;
 mod rows;
 mod table;
+mod twice;
 mod wanted;
 
 pub use fault::RowFault;

@@ -57,13 +57,6 @@ impl<'a> Records<'a> {
         }
     }
 
-    /// Whether the end was given.
-    pub fn ended(&self) -> bool
-        ensures { result ≡ self.now.ended }
-    {
-        self.ended
-    }
-
     /// Reads the next record, and answers whether there was one. After the end, and after `Memory`, each
     /// later call gives the same again and changes nothing. The records are those that `csv` gives, to their
     /// end; want of memory is the only refusal.

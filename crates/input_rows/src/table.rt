@@ -57,7 +57,6 @@ fn read_row(
     ensures more { IfOk result (λ found. found ≡ true → cycle < most_cycles) }
     ensures end { IfOk result (λ found. found ≡ false
         → (left_from layout.now cycle records.old.left ≡ no_rows layout.now.types None) × (records.new.left ≡ records.old.left)) }
-    ensures ended { IfOk result (λ found. found ≡ false → records.new.ended ≡ true) }
     ensures refusal { IfErr result (λ f. f ≢ RowFault.Memory → left_from layout.now cycle records.old.left ≡ no_rows layout.now.types (Some f)) }
     ensures width { length row.new ≡ length row.old }
 {
@@ -126,9 +125,7 @@ impl<'a> Table<'a> {
                 self.cycle += 1;
                 Ok(true)
             }
-            // That no row is left is looked at twice. The two agree, says the proof; where the processor erred, they may not.
-            Ok(false) if self.records.ended() => Ok(false),
-            Ok(false) => Err(RowFault::Memory),
+            Ok(false) => Ok(false),
             Err(fault) => Err(fault),
         }
     }

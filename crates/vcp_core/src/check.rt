@@ -14,7 +14,7 @@ use crate::ending::{Ending, text_ended};
 use crate::fault::Fault;
 use std::alloc::Global;
 use vcp_base::Text;
-use vcp_inputs::load_typed;
+use vcp_inputs::{HowOften, load_typed};
 use vcp_outside::{Failed, Files, Line, Sink};
 
 /// A program that is one of the language, with its Size.
@@ -39,7 +39,7 @@ pub fn check_command<'a, F: Files, O: Sink>(
         (F.seen files.old) (F.seen files.new) (moment unit (O.seen out.old)) (moment unit (O.seen out.new))
         (told_line result) (told_status result) }
 {
-    match load_typed(alloc, files, source) {
+    match load_typed(alloc, files, source, HowOften::Once) {
         Ok(program) => text_ended(ok_line(out, program.size())),
         Err(input) => Err(Fault::Input {
             name: source.bytes(),

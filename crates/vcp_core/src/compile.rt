@@ -14,7 +14,7 @@ use crate::fault::Fault;
 use command_meaning::image_for;
 use std::alloc::Global;
 use vcp_base::{Memory, Text};
-use vcp_inputs::load_typed;
+use vcp_inputs::{HowOften, load_typed};
 use vcp_outside::{Files, Sink, write_all};
 use vcp_words::Code;
 
@@ -34,7 +34,7 @@ pub fn compile_command<'a, F: Files, O: Sink>(
         (F.seen files.old) (F.seen files.new) (moment unit (O.seen out.old)) (moment unit (O.seen out.new))
         (told_line result) (told_status result) }
 {
-    match load_typed(alloc, files, source) {
+    match load_typed(alloc, files, source, HowOften::Twice) {
         Ok(program) => match image_for(alloc, &program, code) {
             Ok(image) => text_ended(write_all(out, image.bytes())),
             Err(Memory) => Err(Fault::Memory),

@@ -24,7 +24,7 @@ use program_maker::make;
 use run_report::summary_line;
 use std::alloc::Global;
 use vcp_base::{Columns, Row, Text};
-use vcp_inputs::{RowsSource, typed_of};
+use vcp_inputs::{HowOften, RowsSource, typed_of};
 use vcp_outside::{Failed, Sink};
 use vcp_typed::Typed;
 use vcp_words::DEFAULT_CODE;
@@ -113,7 +113,7 @@ pub fn demo_command<'a, U: Unit, O: Sink>(
         (moment (U.seen unit.old) (O.seen out.old)) (moment (U.seen unit.new) (O.seen out.new)) (told_line result) (told_status result) }
 {
     let made = make(alloc, number)?;
-    match typed_of(alloc, &made.source) {
+    match typed_of(alloc, &made.source, HowOften::Twice) {
         Ok(program) => run_made(alloc, number, &program, made.rows, unit, out),
         Err(input) => Err(Fault::Input { name: MADE, input }),
     }

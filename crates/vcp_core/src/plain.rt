@@ -18,7 +18,7 @@ use crate::plain_run::print_run;
 use crate::program_rows::{ProgramRows, load_program_rows};
 use std::alloc::Global;
 use vcp_base::Text;
-use vcp_inputs::load_typed;
+use vcp_inputs::{HowOften, load_typed};
 use vcp_outside::{Files, Sink};
 use vcp_typed::Typed;
 use vcp_words::RowsWord;
@@ -38,7 +38,7 @@ pub fn plain_command<'a, F: Files, O: Sink>(
         (F.seen files.old) (F.seen files.new) (moment unit (O.seen out.old)) (moment unit (O.seen out.new))
         (told_line result) (told_status result) }
 {
-    match load_typed(alloc, files, source) {
+    match load_typed(alloc, files, source, HowOften::Once) {
         Ok(program) => plain_read(alloc, program, rows, files, out),
         Err(input) => Err(Fault::Input {
             name: source.bytes(),

@@ -20,7 +20,7 @@ use coded_unit::Unit;
 use command_meaning::lists_are_told;
 use std::alloc::Global;
 use vcp_base::Text;
-use vcp_inputs::load_typed;
+use vcp_inputs::{HowOften, load_typed};
 use vcp_outside::{Files, Sink};
 use vcp_typed::Typed;
 use vcp_words::{Code, RowsWord};
@@ -42,7 +42,7 @@ pub fn run_command<'a, F: Files, U: Unit, O: Sink>(
         (F.seen files.old) (F.seen files.new) (moment (U.seen unit.old) (O.seen out.old)) (moment (U.seen unit.new) (O.seen out.new))
         (told_line result) (told_status result) }
 {
-    match load_typed(alloc, files, source) {
+    match load_typed(alloc, files, source, HowOften::Twice) {
         Ok(program) => run_read(alloc, program, rows, code, files, unit, out),
         Err(input) => Err(Fault::Input {
             name: source.bytes(),

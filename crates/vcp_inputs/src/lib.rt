@@ -1,6 +1,7 @@
 //! The files that commands read, each of which is accepted or rejected, and the lines of these faults.
 #![tactic(auto)]
 
+mod alike;
 mod images;
 mod listings;
 mod reading;
@@ -12,13 +13,14 @@ mod telling;
 mod whole;
 mod wires;
 
+pub use alike::are_alike;
 pub use images::{Image, load_image};
 pub use listings::{listed_program, load_il};
 pub use reading::read_file;
 pub use refusal::{NoInput, Refusal};
 pub use rows::{RowsSource, load_rows};
 pub use scripts::load_script;
-pub use sources::{load_program, load_typed, program_of, typed_of};
+pub use sources::{HowOften, load_program, load_typed, program_of, typed_of};
 pub use telling::{input_status, tell_input, tell_of, tell_place, tell_refusal};
 pub use whole::{graph_columns, whole_rows};
 pub use wires::load_wire;

@@ -12,6 +12,7 @@ ghost use Rattle.vcp_inputs.specs.declared.refusal.NoInput.TheVariants as input;
 ghost use Rattle.vcp_inputs.specs.declared.refusal.Refusal.{Refusal as RefusalOf};
 ghost use Rattle.vcp_inputs.specs.declared.refusal.Refusal.TheVariants as refusal;
 
+use crate::alike::have_same_operations;
 use crate::reading::read_file;
 use crate::refusal::NoInput;
 use il_front::{MOST_IL_BYTES, read_il};
@@ -28,6 +29,23 @@ pub fn listed_program(alloc: Global, text: &[u8]) -> Result<Typed, NoInput>
     ensures caused { IfErr result IsCaused }
 {
     Ok(read_il(alloc, text)?)
+}
+
+/// That program, made twice, and taken where both have the same operations, which they have. Where the processor erred in one of the
+/// two, they may not, and then it isn't taken, as for want of memory.
+fn listed_twice(alloc: Global, text: &[u8]) -> Result<Typed, NoInput>
+    requires short { length text.now ≤ most_il_bytes }
+    ensures ok { IfOk result (IsTypedIl text.now) }
+    ensures err { IfErr result (Untaken (NotListing text.now)) }
+    ensures caused { IfErr result IsCaused }
+{
+    let program = listed_program(alloc, text)?;
+    let again = listed_program(alloc, text)?;
+    if have_same_operations(alloc, &program, &again)? {
+        Ok(program)
+    } else {
+        Err(NoInput::Memory)
+    }
 }
 
 /// The typed program of the instruction list under a name, which is read whole, or why
@@ -50,5 +68,5 @@ pub fn load_il<F: Files>(alloc: Global, files: &mut F, name: &Text) -> Result<Ty
     ensures broken_later { (F.seen files.old).broken ≤ (F.seen files.new).broken }
 {
     let text = read_file(alloc, files, name, MOST_IL_BYTES)?;
-    listed_program(alloc, text.bytes())
+    listed_twice(alloc, text.bytes())
 }

@@ -12,6 +12,7 @@ ghost use Rattle.vcp_inputs.specs.declared.refusal.NoInput.TheVariants as input;
 ghost use Rattle.vcp_inputs.specs.declared.refusal.Refusal.{Refusal as RefusalOf};
 ghost use Rattle.vcp_inputs.specs.declared.refusal.Refusal.TheVariants as refusal;
 
+use crate::alike::have_same_operations;
 use crate::reading::read_file;
 use crate::refusal::{NoInput, Refusal};
 use st_lexer::lex;
@@ -36,8 +37,39 @@ pub fn program_of(alloc: Global, source: &[u8]) -> Result<Program, NoInput>
     Ok(program)
 }
 
+/// How often a typed program is made of its source before it is taken.
+#[derive(Clone, Copy)]
+pub enum HowOften {
+    /// Once.
+    Once,
+    /// Twice, and it is taken where both have the same operations, which they have. Where the processor erred in one of the two, they
+    /// may not, and then it isn't taken, as for want of memory.
+    Twice,
+}
+
+/// The typed program of a source, or why there is none, made as often as is wanted.
+fn typed_program(alloc: Global, source: &[u8], how_often: HowOften) -> Result<Typed, NoInput>
+    requires short { length source.now ≤ most_source_bytes }
+    ensures ok { IfOk result (TypedOf source.now) }
+    ensures err { IfErr result (Untaken (NotTyped source.now)) }
+    ensures caused { IfErr result IsCaused }
+{
+    let program = typed_once(alloc, source)?;
+    match how_often {
+        HowOften::Once => Ok(program),
+        HowOften::Twice => {
+            let again = typed_once(alloc, source)?;
+            if have_same_operations(alloc, &program, &again)? {
+                Ok(program)
+            } else {
+                Err(NoInput::Memory)
+            }
+        }
+    }
+}
+
 /// The typed program of a source, or why there is none.
-fn typed_program(alloc: Global, source: &[u8]) -> Result<Typed, NoInput>
+fn typed_once(alloc: Global, source: &[u8]) -> Result<Typed, NoInput>
     requires short { length source.now ≤ most_source_bytes }
     ensures ok { IfOk result (TypedOf source.now) }
     ensures err { IfErr result (Untaken (NotTyped source.now)) }
@@ -51,7 +83,7 @@ fn typed_program(alloc: Global, source: &[u8]) -> Result<Typed, NoInput>
 
 /// The typed program of a source that no file holds, taken through all refusals of a file's: first
 /// `Bytes`.
-pub fn typed_of(alloc: Global, source: &Text) -> Result<Typed, NoInput>
+pub fn typed_of(alloc: Global, source: &Text, how_often: HowOften) -> Result<Typed, NoInput>
     ensures loads { (name : List ℕ) (broken : ℕ) → Loads TypedOf NotTyped (λ _. Some source.now) name most_source_bytes broken broken result }
     ensures read { result ≢ Err input.Unread }
     ensures caused { IfErr result IsCaused }
@@ -59,7 +91,7 @@ pub fn typed_of(alloc: Global, source: &Text) -> Result<Typed, NoInput>
     if source.len() as u64 > MOST_SOURCE_BYTES {
         return Err(NoInput::Refused(Refusal::Bytes));
     }
-    typed_program(alloc, source.bytes())
+    typed_program(alloc, source.bytes(), how_often)
 }
 
 /// The program of the file under a name, which is read whole and checked for the faults of the lexer and
@@ -88,7 +120,12 @@ pub fn load_program<F: Files>(alloc: Global, files: &mut F, name: &Text) -> Resu
 /// The typed program of the file under a name, which is read whole, or why there is none. Its
 /// text and tokens are not kept. It is the checked program of the one program that the tokens spell; or the
 /// first fault is answered: its length, then the lexer's, the parser's, typing's.
-pub fn load_typed<F: Files>(alloc: Global, files: &mut F, name: &Text) -> Result<Typed, NoInput>
+pub fn load_typed<F: Files>(
+    alloc: Global,
+    files: &mut F,
+    name: &Text,
+    how_often: HowOften,
+) -> Result<Typed, NoInput>
     // What is answered: the file's typed program, or why there is none.
     ensures loads { IfSome (F.seen files.old).held (λ h. Loads TypedOf NotTyped h name.now most_source_bytes (F.seen files.old).broken (F.seen files.new).broken result) }
     ensures unread { result ≡ Err input.Unread → Rose (F.seen files.old).faults (F.seen files.new).faults }
@@ -105,5 +142,5 @@ pub fn load_typed<F: Files>(alloc: Global, files: &mut F, name: &Text) -> Result
     ensures broken_later { (F.seen files.old).broken ≤ (F.seen files.new).broken }
 {
     let source = read_file(alloc, files, name, MOST_SOURCE_BYTES)?;
-    typed_program(alloc, source.bytes())
+    typed_program(alloc, source.bytes(), how_often)
 }

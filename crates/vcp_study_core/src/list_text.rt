@@ -14,7 +14,7 @@ use op_graph::Graph;
 use st_writer::write_program;
 use std::alloc::Global;
 use vcp_base::{MOST_SOURCE_BYTES, Memory, Text};
-use vcp_inputs::{NoInput, program_of, typed_of};
+use vcp_inputs::{HowOften, NoInput, program_of, typed_of};
 use vcp_typed::Typed;
 
 /// The canonical text of the program that a text is; None where it is none.
@@ -69,7 +69,7 @@ fn have_same_graph(alloc: Global, program: &Typed, other: &Typed) -> Result<bool
 fn has_same_graph(alloc: Global, text: &Text, program: &Typed) -> Result<bool, Memory>
     ensures { IfOk result (λ is. IsTrue is → HasSameGraph program.now text.now) }
 {
-    match typed_of(alloc, text) {
+    match typed_of(alloc, text, HowOften::Once) {
         Ok(other) => have_same_graph(alloc, program, &other),
         Err(NoInput::Memory) => Err(Memory),
         Err(_) => Ok(false),

@@ -14,19 +14,15 @@ multiple_of_value-beside-requires-clause-divisor c =
 
 pub multiple_of_value-beside-requires-clause-low : goal.multiple_of_value-beside-requires-clause-low
 multiple_of_value-beside-requires-clause-low c =
-    let imm : to_z w64 (of_z w64 c.args.call.now.imm) ≡ c.args.call.now.imm = grind (arith, to_z-of_z) in
-    let is : value c.args.call.now.kind (to_z w64 (of_z w64 c.args.call.now.imm)) c.args.first.value c.args.second.value c.args.third.value ≡ c.args.value =
-    ap (λ i. value c.args.call.now.kind i c.args.first.value c.args.second.value c.args.third.value) imm
-    ∙ (gives c.args.call.now.kind c.args.call.now.from c.args.call.now.ty c.args.call.now.imm c.args.first.value c.args.second.value c.args.third.value c.args.value
+    let is : value c.args.call.now.kind c.args.call.now.imm c.args.first.value c.args.second.value c.args.third.value ≡ c.args.value =
+    (gives c.args.call.now.kind c.args.call.now.from c.args.call.now.ty c.args.call.now.imm c.args.first.value c.args.second.value c.args.third.value c.args.value
     c.requires.value).1 in
     subst (λ v. negsuc (2 ^ 63) ≤ℤ v) (sym is) (ends c.args.value c.ranges.value).0
 
 pub multiple_of_value-beside-requires-clause-high : goal.multiple_of_value-beside-requires-clause-high
 multiple_of_value-beside-requires-clause-high c =
-    let imm : to_z w64 (of_z w64 c.args.call.now.imm) ≡ c.args.call.now.imm = grind (arith, to_z-of_z) in
-    let is : value c.args.call.now.kind (to_z w64 (of_z w64 c.args.call.now.imm)) c.args.first.value c.args.second.value c.args.third.value ≡ c.args.value =
-    ap (λ i. value c.args.call.now.kind i c.args.first.value c.args.second.value c.args.third.value) imm
-    ∙ (gives c.args.call.now.kind c.args.call.now.from c.args.call.now.ty c.args.call.now.imm c.args.first.value c.args.second.value c.args.third.value c.args.value
+    let is : value c.args.call.now.kind c.args.call.now.imm c.args.first.value c.args.second.value c.args.third.value ≡ c.args.value =
+    (gives c.args.call.now.kind c.args.call.now.from c.args.call.now.ty c.args.call.now.imm c.args.first.value c.args.second.value c.args.third.value c.args.value
     c.requires.value).1 in
     subst (λ v. v ≤ℤ pos (2 ^ 63)) (sym is) (ends c.args.value c.ranges.value).1
 
@@ -35,10 +31,8 @@ apart-requires c =
     let w : to_z w128 (of_z w128 c.own-whole.result) ≡ c.own-whole.result = grind (arith, to_z-of_z) in
     let b : to_z w128 (of_z w128 c.multiple_of_value-beside.result) ≡ c.multiple_of_value-beside.result = grind (arith, to_z-of_z) in
     let v : to_z w128 (of_z w128 (to_z w64 (of_z w64 c.args.value))) ≡ c.args.value = grind (arith, to_z-of_z) in
-    let imm : to_z w64 (of_z w64 c.args.call.now.imm) ≡ c.args.call.now.imm = grind (arith, to_z-of_z) in
-    let is : value c.args.call.now.kind (to_z w64 (of_z w64 c.args.call.now.imm)) c.args.first.value c.args.second.value c.args.third.value ≡ c.args.value =
-    ap (λ i. value c.args.call.now.kind i c.args.first.value c.args.second.value c.args.third.value) imm
-    ∙ (gives c.args.call.now.kind c.args.call.now.from c.args.call.now.ty c.args.call.now.imm c.args.first.value c.args.second.value c.args.third.value c.args.value
+    let is : value c.args.call.now.kind c.args.call.now.imm c.args.first.value c.args.second.value c.args.third.value ≡ c.args.value =
+    (gives c.args.call.now.kind c.args.call.now.from c.args.call.now.ty c.args.call.now.imm c.args.first.value c.args.second.value c.args.third.value c.args.value
     c.requires.value).1 in
     w ∙ c.own-whole.ensures.0 ∙ ap (multiple c.args.profile) (v ∙ sym is) ∙ sym (b ∙ c.multiple_of_value-beside.ensures)
 

@@ -20,8 +20,8 @@ pub returns-clause-loads : goal.returns-clause-loads
 returns-clause-loads g c =
     if_some_weaker (g.F.Files.seen c.args.files.now).held _ _
     (λ h read. by_result IsTypedIl NotListing h c.args.name.now most_il_bytes (g.F.Files.seen c.args.files.now).broken
-    (g.F.Files.seen c.read_file.new.files).broken c.in_ok-text.text c.listed_program.result
-    read (rw c.bytes.ensures at c.listed_program.ensures.ok) (rw c.bytes.ensures at c.listed_program.ensures.err)) c.in_ok-text.ensures.reads
+    (g.F.Files.seen c.read_file.new.files).broken c.in_ok-text.text c.listed_twice.result
+    read (rw c.bytes.ensures at c.listed_twice.ensures.ok) (rw c.bytes.ensures at c.listed_twice.ensures.err)) c.in_ok-text.ensures.reads
 
 pub returns-in_err-text-clause-caused : goal.returns-in_err-text-clause-caused
 returns-in_err-text-clause-caused g c =
@@ -35,7 +35,7 @@ returns-in_err-text-clause-left g c = λ is.
 
 pub returns-clause-left : goal.returns-clause-left
 returns-clause-left g c = λ is.
-    absurd (never_long (NotListing c.in_ok-text.text) c.listed_program.result (listing_not_bytes c.in_ok-text.text) (rw c.bytes.ensures at c.listed_program.ensures.err) is)
+    absurd (never_long (NotListing c.in_ok-text.text) c.listed_twice.result (listing_not_bytes c.in_ok-text.text) (rw c.bytes.ensures at c.listed_twice.ensures.err) is)
 
 pub returns-in_err-text-clause-stayed : goal.returns-in_err-text-clause-stayed
 returns-in_err-text-clause-stayed g c =

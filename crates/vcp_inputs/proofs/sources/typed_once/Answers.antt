@@ -1,7 +1,7 @@
 use Rattle.std.proofs.lemmas.Result.{err_from_is_err_and}
 use Rattle.vcp_inputs.proofs.Taken.{has_names, without_tree, typing_refuses}
 use Rattle.vcp_inputs.proofs.Causes.{typing_caused}
-use Rattle.vcp_inputs.proofs.sources.typed_program.Goals as goal
+use Rattle.vcp_inputs.proofs.sources.typed_once.Goals as goal
 
 pub typed-requires : goal.typed-requires
 typed-requires c = record { names = has_names c.args.source.now _ c.spelled_names_are_declarable.ensures.names c.requires.short c.in_ok-program.ensures.ok }

@@ -1,5 +1,5 @@
 use Rattle.command_meaning.proofs.Reduced.{stands_for}
-use Rattle.command_meaning.proofs.graphs.graph_of.Goals as goal
+use Rattle.command_meaning.proofs.graphs.graph_once.Goals as goal
 
 pub returns : goal.returns
 returns c =

@@ -1,0 +1,70 @@
+//! Whether what was made twice is the same.
+
+use flat_stmt::flatten;
+use op_graph::{Graph, Op};
+use std::alloc::Global;
+use vcp_base::{Memory, Text};
+use vcp_typed::Typed;
+
+/// Whether two typed programs have the same operations before any of these is left out.
+pub(crate) fn have_same_operations(
+    alloc: Global,
+    program: &Typed,
+    other: &Typed,
+) -> Result<bool, Memory> {
+    let graph = flatten(alloc, program)?;
+    let beside = flatten(alloc, other)?;
+    Ok(are_alike(&graph, &beside))
+}
+
+/// Whether two graphs have the same lists.
+pub fn are_alike(graph: &Graph, other: &Graph) -> bool {
+    graph.profile() == other.profile()
+        && are_same_operations(graph.operations(), other.operations())
+        && graph.all_inputs() == other.all_inputs()
+        && graph.all_outputs() == other.all_outputs()
+        && graph.loads() == other.loads()
+        && graph.stores() == other.stores()
+        && graph.all_turn_nodes() == other.all_turn_nodes()
+        && are_same_names(graph.all_names(), other.all_names())
+}
+
+// Whether two lists of operations are the same.
+fn are_same_operations(operations: &[Op], others: &[Op]) -> bool {
+    if operations.len() != others.len() {
+        return false;
+    }
+    'operations: for i in 0..operations.len() {
+        if !are_same(&operations[i], &others[i]) {
+            return false;
+        }
+    }
+    true
+}
+
+// Whether two operations are the same, with the places that they come from.
+fn are_same(op: &Op, other: &Op) -> bool {
+    op.kind == other.kind
+        && op.from == other.from
+        && op.ty == other.ty
+        && op.a == other.a
+        && op.b == other.b
+        && op.c == other.c
+        && op.imm == other.imm
+        && op.spot.line == other.spot.line
+        && op.spot.col == other.spot.col
+        && op.turn == other.turn
+}
+
+// Whether two lists of names are the same.
+fn are_same_names(names: &[Text], others: &[Text]) -> bool {
+    if names.len() != others.len() {
+        return false;
+    }
+    'names: for i in 0..names.len() {
+        if names[i].bytes() != others[i].bytes() {
+            return false;
+        }
+    }
+    true
+}
