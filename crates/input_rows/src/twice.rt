@@ -40,15 +40,17 @@ impl<'a> Twice<'a> {
         ensures rows { IfOk result (λ t. rows_of_records columns.now (records_of default_config (strip_bom bytes.now)) ≡ Ok t) }
         ensures refusal { IfErr result (λ f. f ≢ RowFault.Memory → rows_of_records columns.now (records_of default_config (strip_bom bytes.now)) ≡ Err f) }
     {
-        let first = Table::new(alloc, bytes, columns)?;
-        let second = Table::new(alloc, bytes, columns)?;
         let row = Row::zeros(alloc, columns.len() as u32)?;
-        Ok(Twice {
-            first,
-            second,
-            row,
-            going: true,
-        })
+        let first = Table::new(alloc, bytes, columns)?;
+        match Table::new(alloc, bytes, columns) {
+            Ok(second) => Ok(Twice {
+                first,
+                second,
+                row,
+                going: true,
+            }),
+            Err(why) => Err(why),
+        }
     }
 
     /// How many values a row has.

@@ -15,9 +15,9 @@ invariant_of-result c =
     let room : length c.in_ok-row.row ≡ length c.args.columns.now = grind (arith, common_steps) in
     let all = records default_config (strip_bom c.args.bytes.now) in
     let first = of_records c.args.columns.now all c.in_ok-first.first c.in_ok-first.ensures.rows in
-    let second = of_records c.args.columns.now all c.in_ok-second.second c.in_ok-second.ensures.rows in
+    let second = of_records c.args.columns.now all c.in-Ok.second c.in-Ok.ensures.rows in
     record {
-      same = λ going. one_value _ _ _ c.in_ok-first.ensures.rows c.in_ok-second.ensures.rows;
+      same = λ going. one_value _ _ _ c.in_ok-first.ensures.rows c.in-Ok.ensures.rows;
       types = second.types ∙ sym first.types;
       fresh = first.fresh;
       width = room ∙ sym (ap length first.types ∙ length-map c.args.columns.now _);
