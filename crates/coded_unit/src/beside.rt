@@ -209,15 +209,41 @@ fn difference(profile: Profile, first: Twofold, second: Twofold) -> i128
     minus(first.multiple, second.multiple)
 }
 
-/// The product of two values.
+/// The product of two values. Of the second one its value is a factor, as in the other way: so how far this is from agreeing with its
+/// multiple is added.
 #[inline(always)]
 fn product(profile: Profile, first: Twofold, second: Twofold) -> i128
     requires first { IsMultiple profile first.multiple first.value }
+    requires second { IsMultiple profile second.multiple second.value }
     requires low { negsuc (2 ^ 63) ≤ℤ (first.value *ℤ second.value) }
     requires high { (first.value *ℤ second.value) ≤ℤ pos (2 ^ 63) }
     ensures { result ≡ multiple profile (first.value *ℤ second.value) }
 {
-    times(first.multiple, second.value as i128)
+    plus(
+        multiplied(profile, first, second.value),
+        disagreement(profile, second),
+    )
+}
+
+/// The product of an operand and a number.
+#[inline(always)]
+fn multiplied(profile: Profile, first: Twofold, by: i64) -> i128
+    requires first { IsMultiple profile first.multiple first.value }
+    requires low { negsuc (2 ^ 63) ≤ℤ (first.value *ℤ by) }
+    requires high { (first.value *ℤ by) ≤ℤ pos (2 ^ 63) }
+    ensures { IsMultiple profile result (first.value *ℤ by) }
+{
+    times(first.multiple, by as i128)
+}
+
+/// By how much an operand's value, times the constant, differs from its multiple. It doesn't, says the proof; where the processor erred
+/// in one of the two, it may.
+#[inline(always)]
+fn disagreement(profile: Profile, operand: Twofold) -> i128
+    requires { IsMultiple profile operand.multiple operand.value }
+    ensures { result ≡ pos 0 }
+{
+    minus(own(profile, operand.value as i128), operand.multiple)
 }
 
 /// The quotient of two values, cut towards zero.
