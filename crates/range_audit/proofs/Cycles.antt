@@ -1,9 +1,11 @@
 -- Cycles: the values of a cycle are given by its operations in turn, and what holds of the cells in each cycle holds in all.
-use Rattle.std.proofs.Common.{◌≡◌, ◌≢◌, ℕ, zero, suc, ◌+◌, ◌<◌, ◌≤◌, ℤ, pos, Bool, true, false, ◌&&◌, List, [], ◌∷◌, ◌++◌, length, take, slice_get, Option, Some, None, Ok, Err, IfSome, refl, sym, ap, subst, ◌∙◌, append_assoc, append-nil, length-append, arith, below_more, take_all}
+use Rattle.std.proofs.Common.{◌≡◌, ◌≢◌, ℕ, zero, suc, ◌+◌, ◌<◌, ◌≤◌, ℤ, pos, Bool, true, ◌&&◌, List, [], ◌∷◌, ◌++◌, length, take, slice_get, Option, Some, None, Ok, Err, IfSome, refl, sym, ap, subst, ◌∙◌, append_assoc, append-nil, length-append, arith, below_more, take_all}
 use Rattle.std.specs.Prelude.{unsigned_abs}
 use Rattle.std.specs.Option.{is_some}
+use Rattle.std.proofs.lemmas.Bool.{and_parts}
 use Rattle.std.proofs.lemmas.Bool.Decides.{Decides-int_eq}
-use Rattle.std.proofs.lemmas.List.{take-append-le, length_push}
+use Rattle.std.proofs.lemmas.List.{take-append-le, length_push, get_or_push}
+use Rattle.std.proofs.Math.ListN.{get_or-append}
 use Rattle.std.proofs.lemmas.Option.{slice_get_within}
 use Rattle.vcp_base.specs.declared.kind.Kind.{Kind}
 use Rattle.vcp_base.specs.declared.kind.Kind.TheVariants as kind
@@ -21,34 +23,26 @@ use Rattle.op_graph.specs.declared.rules.Place.{Place}
 use Rattle.op_graph.specs.Lists.{Lists}
 use Rattle.op_graph.specs.Laws.{OperandLaws, EntryLaws}
 use Rattle.op_graph.specs.Rules.{IsGraph, scope, place_of, numbered, entry_of, kind_fits, from_fits, ty_fits, imm_fits, is_input, same_type}
-use Rattle.op_graph.specs.GraphRun.{own, outcome_of, Stop, Cycle, after, cycle_from, cycle, initial, stored, Run, after_cycle, run_from, unless_stopped, cells_after, CellsFit}
+use Rattle.op_graph.specs.GraphRun.{own, outcome_of, Cycle, after, cycle_from, cycle, initial, stored, Run, after_cycle, run_from, unless_stopped, cells_after, CellsFit}
 use Rattle.range_walk.specs.declared.range.Range.{Range}
 use Rattle.range_walk.specs.declared.range.Stops.{Stops}
-use Rattle.range_audit.specs.Audit.{RowFits, RowsFit, RowsIn, HoldsWithin, NamesStopsWithin, EndsNamedWithin}
+use Rattle.range_audit.specs.Audit.{RowFits, RowsFit, RowsIn, IsAuditWithin}
 use Rattle.range_walk.specs.Known.{KnownRanges, is_named}
-use Rattle.range_walk.specs.Intervals.{Hold, RowIn}
-use Rattle.range_audit.specs.Searching.{AreKept, AreSettled, NamesFrom}
-use Rattle.range_walk.specs.Walking.{Given, OwnFits, IsWalk}
+use Rattle.range_walk.specs.Intervals.{RowIn}
+use Rattle.range_audit.specs.Searching.{HeldAfter, IsHeld, Always, IsSound}
+use Rattle.range_audit.proofs.Steps.{get_middle}
+use Rattle.range_walk.specs.Walking.{Given, OwnFits}
 
--- ---- lists
-
-get_middle : {X : Type 0} (xs : List X) (x : X) (ys : List X) → slice_get (xs ++ x ∷ ys) (length xs) ≡ Some x
-get_middle [] x ys = refl
-get_middle (z ∷ xs) x ys = get_middle xs x ys
-
-at_push : (values : List ℤ) (v : ℤ) (i : ℕ) → i < length values → at (values ++ v ∷ []) i ≡ at values i
-at_push [] v i lt = absurd (omega arith)
-at_push (x ∷ values) v zero lt = refl
-at_push (x ∷ values) v (suc i) lt = at_push values v i (omega arith)
-
-at_last : (values : List ℤ) (v : ℤ) → at (values ++ v ∷ []) (length values) ≡ v
-at_last [] v = refl
-at_last (x ∷ values) v = at_last values v
+-- ---- the values of a cycle
 
 take_push : (values : List ℤ) (v : ℤ) (i : ℕ) → i ≤ length values → take i (values ++ v ∷ []) ≡ take i values
 take_push values v i le = take-append-le i values (v ∷ []) le
 
--- ---- the values of a cycle
+at_push : (values : List ℤ) (v : ℤ) (i : ℕ) → i < length values → at (values ++ v ∷ []) i ≡ at values i
+at_push values v i lt = get_or-append values (v ∷ []) (pos 0) i lt
+
+at_last : (values : List ℤ) (v : ℤ) → at (values ++ v ∷ []) (length values) ≡ v
+at_last values v = get_or_push values v (pos 0) (length values) refl
 
 given_none : (ops : List Op) (held row : List ℤ) → Given ops held row []
 given_none ops held row = record { few = omega arith; each = λ i op lt there. absurd (omega arith) }
@@ -104,10 +98,6 @@ cycle_is held row values before (op ∷ ops) given len =
 of_cycle : (g : Lists) (held row : List ℤ) → IsCycle g.operations held row (cycle g held row)
 of_cycle g held row = cycle_is held row [] [] g.operations (given_none g.operations held row) refl
 
--- its values are given, also where it stops
-pub given_cycle : (g : Lists) (held row : List ℤ) → Given g.operations held row (cycle g held row).values
-given_cycle g held row = (of_cycle g held row).given
-
 -- a cycle without a stop gives each of its operations a value
 pub whole_cycle : (g : Lists) (held row : List ℤ) → (cycle g held row).stop ≡ None
     → Given g.operations held row (cycle g held row).values × (length (cycle g held row).values ≡ length g.operations)
@@ -115,61 +105,51 @@ whole_cycle g held row whole = let c = of_cycle g held row in (c.given, c.whole 
 
 -- ---- the cells
 
+kept_after : (g : Lists) (inputs : List Range) (Kept : List ℤ → Type 0) → Kept (initial g)
+    → ((held row : List ℤ) → Kept held → RowIn inputs row → (cycle g held row).stop ≡ None → Kept (stored g (cycle g held row).values))
+    → (n : ℕ) (held : List ℤ) → HeldAfter g inputs n held → Kept held
+kept_after g inputs Kept first next zero held is = subst Kept (sym is) first
+kept_after g inputs Kept first next (suc n) held is =
+    subst Kept (sym is.5) (next is.0 is.1 (kept_after g inputs Kept first next n is.0 is.2) is.3 is.4)
+
+-- what holds of the cells at first, and stays so in a cycle that doesn't stop, always holds
+pub always : (g : Lists) (inputs : List Range) (Kept : List ℤ → Type 0) → Kept (initial g)
+    → ((held row : List ℤ) → Kept held → RowIn inputs row → (cycle g held row).stop ≡ None → Kept (stored g (cycle g held row).values))
+    → Always g inputs Kept
+always g inputs Kept first next held is = kept_after g inputs Kept first next is.0 held is.1
+
+pub always_fit : (g : Lists) (inputs : List Range) → OperandLaws → IsGraph g → Always g inputs (CellsFit g)
+always_fit g inputs laws graph =
+    always g inputs (CellsFit g) (laws.cells_at_first g graph) (λ held row fit row_in whole. laws.cells_kept g held row graph fit whole)
+
 unless : (P : List ℤ → Type 0) (held next : List ℤ) (later : List ℤ → List ℤ) (s : Option StopKind) → P held → (s ≡ None → P (later next))
     → P (unless_stopped held next later s)
 unless P held next later None p q = q refl
 unless P held next later (Some why) p q = p
 
-pub kept_settled : (g : Lists) (inputs cells : List Range) (a : KnownRanges) → IsWalk g.operations cells inputs a → AreKept g cells a.known
-    → AreSettled g inputs (Hold cells)
-kept_settled g inputs cells a walk kept = record {
-  at_first = kept.at_first;
-  next = λ held row hold fit row_in whole.
-      let c = of_cycle g held row in
-      kept.next (cycle g held row).values (walk.fits held row (cycle g held row).values hold row_in c.given) (c.whole whole);
-}
+held_more : (g : Lists) (inputs : List Range) (held row : List ℤ) → IsHeld g inputs held → RowIn inputs row → (cycle g held row).stop ≡ None
+    → IsHeld g inputs (stored g (cycle g held row).values)
+held_more g inputs held row is row_in whole = (suc is.0, (held, row, is.1, row_in, whole, refl))
 
--- what is settled holds of the cells after each run
-pub cells_keep : (g : Lists) (inputs : List Range) (Kept : List ℤ → Type 0) → AreSettled g inputs Kept → OperandLaws → IsGraph g → (held : List ℤ) → Kept held
-    → CellsFit g held → (rows : List (List ℤ)) → RowsIn inputs rows → Kept (cells_after g held rows)
-cells_keep g inputs Kept settled laws graph held hold fit [] rows_in = hold
-cells_keep g inputs Kept settled laws graph held hold fit (row ∷ rows) rows_in =
-    unless Kept held (stored g (cycle g held row).values) (λ next. cells_after g next rows) (cycle g held row).stop hold
-    (λ whole. cells_keep g inputs Kept settled laws graph (stored g (cycle g held row).values) (settled.next held row hold fit (rows_in 0 row refl) whole)
-    (laws.cells_kept g held row graph fit whole) rows (λ n r e. rows_in (suc n) r e))
-
-cells_fit : (g : Lists) → OperandLaws → IsGraph g → (held : List ℤ) → CellsFit g held → (rows : List (List ℤ)) → CellsFit g (cells_after g held rows)
-cells_fit g laws graph held fit [] = fit
-cells_fit g laws graph held fit (row ∷ rows) =
-    unless (CellsFit g) held (stored g (cycle g held row).values) (λ next. cells_after g next rows) (cycle g held row).stop fit
-    (λ whole. cells_fit g laws graph (stored g (cycle g held row).values) (laws.cells_kept g held row graph fit whole) rows)
+held_rows : (g : Lists) (inputs : List Range) (held : List ℤ) → IsHeld g inputs held → (rows : List (List ℤ)) → RowsIn inputs rows
+    → IsHeld g inputs (cells_after g held rows)
+held_rows g inputs held is [] rows_in = is
+held_rows g inputs held is (row ∷ rows) rows_in =
+    unless (IsHeld g inputs) held (stored g (cycle g held row).values) (λ next. cells_after g next rows) (cycle g held row).stop is
+    (λ whole. held_rows g inputs (stored g (cycle g held row).values) (held_more g inputs held row is (rows_in 0 row refl) whole) rows
+    (λ n r e. rows_in (suc n) r e))
 
 -- ---- inputs
 
 same_fits : (s t : Ty) (v : ℤ) → same_type s t ≡ true → fits s v ≡ true → fits t v ≡ true
 same_fits ty.Bool ty.Bool v same h = h
-same_fits ty.Bool ty.Int v same h = absurd cc
-same_fits ty.Bool ty.Dint v same h = absurd cc
-same_fits ty.Bool ty.Lint v same h = absurd cc
-same_fits ty.Int ty.Bool v same h = absurd cc
 same_fits ty.Int ty.Int v same h = h
-same_fits ty.Int ty.Dint v same h = absurd cc
-same_fits ty.Int ty.Lint v same h = absurd cc
-same_fits ty.Dint ty.Bool v same h = absurd cc
-same_fits ty.Dint ty.Int v same h = absurd cc
 same_fits ty.Dint ty.Dint v same h = h
-same_fits ty.Dint ty.Lint v same h = absurd cc
-same_fits ty.Lint ty.Bool v same h = absurd cc
-same_fits ty.Lint ty.Int v same h = absurd cc
-same_fits ty.Lint ty.Dint v same h = absurd cc
 same_fits ty.Lint ty.Lint v same h = h
+same_fits _ _ v same h = absurd cc
 
 first_of_four : (a b c d : Bool) → (a && b && c && d) ≡ true → a ≡ true
-first_of_four true b c d h = refl
-first_of_four false true true true h = absurd cc
-first_of_four false true true false h = absurd cc
-first_of_four false true false d h = absurd cc
-first_of_four false false c d h = absurd cc
+first_of_four a b c d h = (and_parts a b (and_parts (a && b) c (and_parts (a && b && c) d h).0).0).0
 
 no_entry : (o : Option Entry) → o ≡ None → is_some o ≡ true → ⊥
 no_entry None is h = absurd cc
@@ -202,32 +182,6 @@ own_fits g row i op laws graph fit there =
 
 -- ---- the promises
 
-named_from : (g : Lists) (inputs : List Range) (Kept : List ℤ → Type 0) (stops : List Stops) → NamesFrom g.operations inputs Kept stops → OperandLaws
-    → EntryLaws → IsGraph g
-    → (held row : List ℤ) → Kept held → CellsFit g held → RowIn inputs row → RowFits g row → (why : StopKind) → (cycle g held row).stop ≡ Some why
-    → is_named why (slice_get stops (length (cycle g held row).values)) ≡ true
-named_from g inputs Kept stops named laws entries graph held row hold fit row_in row_fits why is =
-    let c = of_cycle g held row in
-    let next = c.stopped why is in
-    let values = (cycle g held row).values in
-    let no : why ≢ stop.Operand = λ e. laws.cycle g held row graph fit (is ∙ ap Some e) in
-    named held row values next.0 why hold row_in c.given next.1 (own_fits g row (length values) next.0 entries graph row_fits next.1) no next.2
-
-pub holds : (g : Lists) (inputs cells : List Range) (a : KnownRanges) → IsWalk g.operations cells inputs a → AreSettled g inputs (Hold cells) → OperandLaws
-    → IsGraph g → HoldsWithin g inputs a.known
-holds g inputs cells a walk settled laws graph = λ rows row rows_in row_in.
-    let held = cells_after g (initial g) rows in
-    let hold = cells_keep g inputs (Hold cells) settled laws graph (initial g) settled.at_first (laws.cells_at_first g graph) rows rows_in in
-    walk.fits held row (cycle g held row).values hold row_in (of_cycle g held row).given
-
-pub names : (g : Lists) (inputs : List Range) (Kept : List ℤ → Type 0) (stops : List Stops) → NamesFrom g.operations inputs Kept stops
-    → AreSettled g inputs Kept → OperandLaws → EntryLaws → IsGraph g → NamesStopsWithin g inputs stops
-names g inputs Kept stops named settled laws entries graph = λ rows row why rows_in row_in row_fits is.
-    let held = cells_after g (initial g) rows in
-    let hold = cells_keep g inputs Kept settled laws graph (initial g) settled.at_first (laws.cells_at_first g graph) rows rows_in in
-    let fit = cells_fit g laws graph (initial g) (laws.cells_at_first g graph) rows in
-    named_from g inputs Kept stops named laws entries graph held row hold fit row_in row_fits why is
-
 named_after : (g : Lists) (stops : List Stops) (values : List ℤ) (next : List ℤ → Run) (s : Option StopKind)
     → ((why : StopKind) → s ≡ Some why → is_named why (slice_get stops (length values)) ≡ true)
     → (s ≡ None → IfSome (next (stored g values)).end (λ e. is_named e.kind (slice_get stops e.op) ≡ true))
@@ -235,27 +189,36 @@ named_after : (g : Lists) (stops : List Stops) (values : List ℤ) (next : List 
 named_after g stops values next None named rest = rest refl
 named_after g stops values next (Some why) named rest = named why refl
 
-ends_from : (g : Lists) (inputs : List Range) (Kept : List ℤ → Type 0) (stops : List Stops) → NamesFrom g.operations inputs Kept stops
-    → AreSettled g inputs Kept → OperandLaws → EntryLaws → IsGraph g → (held : List ℤ) → Kept held → CellsFit g held → (rows : List (List ℤ))
-    → RowsIn inputs rows → RowsFit g rows
-    → IfSome (run_from g held rows).end (λ e. is_named e.kind (slice_get stops e.op) ≡ true)
-ends_from g inputs Kept stops named settled laws entries graph held hold fit [] rows_in rows_fit = tt
-ends_from g inputs Kept stops named settled laws entries graph held hold fit (row ∷ rows) rows_in rows_fit =
-    named_after g stops (cycle g held row).values (λ kept. run_from g kept rows) (cycle g held row).stop
-    (λ why is. named_from g inputs Kept stops named laws entries graph held row hold fit (rows_in 0 row refl) (rows_fit 0 row refl) why is)
-    (λ whole. ends_from g inputs Kept stops named settled laws entries graph (stored g (cycle g held row).values)
-    (settled.next held row hold fit (rows_in 0 row refl) whole) (laws.cells_kept g held row graph fit whole) rows (λ n r e. rows_in (suc n) r e)
-    (λ n r e. rows_fit (suc n) r e))
+module _ (g : Lists) (inputs : List Range) (a : KnownRanges) (laws : OperandLaws) (entries : EntryLaws) (graph : IsGraph g) (sound : IsSound g inputs a) where
+  named_from : (held row : List ℤ) → IsHeld g inputs held → RowIn inputs row → RowFits g row → (why : StopKind) → (cycle g held row).stop ≡ Some why
+      → is_named why (slice_get a.stops (length (cycle g held row).values)) ≡ true
+  named_from held row is row_in row_fits why stops =
+      let c = of_cycle g held row in
+      let next = c.stopped why stops in
+      let values = (cycle g held row).values in
+      let no : why ≢ stop.Operand = λ e. laws.cycle g held row graph (always_fit g inputs laws graph held is) (stops ∙ ap Some e) in
+      sound.found.names held row values next.0 why is row_in c.given next.1 (own_fits g row (length values) next.0 entries graph row_fits next.1) no next.2
 
-pub ends : (g : Lists) (inputs : List Range) (Kept : List ℤ → Type 0) (stops : List Stops) → NamesFrom g.operations inputs Kept stops
-    → AreSettled g inputs Kept → OperandLaws → EntryLaws → IsGraph g → EndsNamedWithin g inputs stops
-ends g inputs Kept stops named settled laws entries graph = λ rows rows_in rows_fit.
-    ends_from g inputs Kept stops named settled laws entries graph (initial g) settled.at_first (laws.cells_at_first g graph) rows rows_in rows_fit
+  ends_from : (held : List ℤ) → IsHeld g inputs held → (rows : List (List ℤ)) → RowsIn inputs rows → RowsFit g rows
+      → IfSome (run_from g held rows).end (λ e. is_named e.kind (slice_get a.stops e.op) ≡ true)
+  ends_from held is [] rows_in rows_fit = tt
+  ends_from held is (row ∷ rows) rows_in rows_fit =
+      named_after g a.stops (cycle g held row).values (λ kept. run_from g kept rows) (cycle g held row).stop
+      (λ why stops. named_from held row is (rows_in 0 row refl) (rows_fit 0 row refl) why stops)
+      (λ whole. ends_from (stored g (cycle g held row).values) (held_more g inputs held row is (rows_in 0 row refl) whole) rows
+      (λ n r e. rows_in (suc n) r e) (λ n r e. rows_fit (suc n) r e))
 
--- what two lists name where a run ends, a list names that names what both do
-pub both_end : (a b r : List Stops) (end : Option Stop)
-    → ((why : StopKind) (i : ℕ) → is_named why (slice_get a i) ≡ true → is_named why (slice_get b i) ≡ true → is_named why (slice_get r i) ≡ true)
-    → IfSome end (λ e. is_named e.kind (slice_get a e.op) ≡ true) → IfSome end (λ e. is_named e.kind (slice_get b e.op) ≡ true)
-    → IfSome end (λ e. is_named e.kind (slice_get r e.op) ≡ true)
-both_end a b r None both p q = tt
-both_end a b r (Some e) both p q = both e.kind e.op p q
+  -- what is found of each cycle is told of all runs
+  pub audit : IsAuditWithin g inputs a
+  audit = record {
+    known = sound.known;
+    stops = sound.stops;
+    holds = λ rows row rows_in row_in.
+        let held = cells_after g (initial g) rows in
+        sound.found.fits held row (cycle g held row).values (held_rows g inputs (initial g) (0, refl) rows rows_in) row_in (of_cycle g held row).given;
+    names = λ rows row why rows_in row_in row_fits stops.
+        named_from (cells_after g (initial g) rows) row (held_rows g inputs (initial g) (0, refl) rows rows_in) row_in row_fits why stops;
+    ends = λ rows rows_in rows_fit. ends_from (initial g) (0, refl) rows rows_in rows_fit;
+    able = sound.able;
+    types = sound.types;
+  }

@@ -1,6 +1,6 @@
 -- NoneNamed: where no operation is named, none stops.
-use Rattle.std.proofs.Common.{◌≡◌, ℕ, zero, suc, ◌+◌, ◌<◌, ◌⊎◌, inl, inr, Bool, true, false, ◌||◌, cond, ℤ, List, [], ◌∷◌, length, slice_get, Option, Some, None, IfSome, refl, sym, ◌∙◌, subst, arith}
-use Rattle.std.proofs.lemmas.Bool.{cases_order, false≢true}
+use Rattle.std.proofs.Common.{◌≡◌, ℕ, zero, suc, ◌+◌, ◌<◌, Bool, true, false, ◌||◌, cond, ℤ, List, [], ◌∷◌, length, slice_get, Option, Some, None, IfSome, refl, sym, ◌∙◌, subst, arith, below_more}
+use Rattle.std.proofs.lemmas.Bool.{false≢true}
 use Rattle.std.proofs.lemmas.Option.{slice_get_within}
 use Rattle.vcp_base.specs.declared.kind.StopKind.{StopKind}
 use Rattle.vcp_base.specs.declared.kind.StopKind.TheVariants as stop
@@ -17,20 +17,12 @@ not_counted : (b : Bool) (n : ℕ) → n + cond b 1 0 ≡ 0 → (n ≡ 0) × (b 
 not_counted true n e = absurd (omega (arith, e))
 not_counted false n e = (omega (arith, e), refl)
 
-last_or_before : (k n : ℕ) → k < suc n → (k < n) ⊎ (k ≡ n)
-last_or_before k n lt = elim (cases_order k n) [ inl e ↦ inr e | inr (inl l) ↦ inl l | inr (inr l) ↦ absurd (omega (arith, lt, l)) ]
-
-one_of : (stops : List Stops) (n k : ℕ) → is_any_named (slice_get stops n) ≡ false → (k < n → is_any_named (slice_get stops k) ≡ false)
-    → (k < n) ⊎ (k ≡ n) → is_any_named (slice_get stops k) ≡ false
-one_of stops n k last before (inl lt) = before lt
-one_of stops n k last before (inr same) = rw same last
-
 -- where none is counted, none is named
 none_counted : (stops : List Stops) (n k : ℕ) → named_below stops n ≡ 0 → k < n → is_any_named (slice_get stops k) ≡ false
 none_counted stops zero k e lt = absurd (omega (arith, lt))
 none_counted stops (suc n) k e lt =
     let parts = not_counted (is_any_named (slice_get stops n)) (named_below stops n) e in
-    one_of stops n k parts.1 (none_counted stops n k parts.0) (last_or_before k n lt)
+    below_more (λ j. is_any_named (slice_get stops j) ≡ false) n (λ j before. none_counted stops n j parts.0 before) parts.1 k (omega (arith, lt))
 
 right_holds : (x y : Bool) → y ≡ true → (x || y) ≡ true
 right_holds true y e = refl

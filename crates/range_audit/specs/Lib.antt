@@ -1,4 +1,3 @@
 pub mod Audit
-pub mod Fitting
 pub mod RangeText
 pub mod Searching

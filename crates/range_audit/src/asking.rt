@@ -2,16 +2,25 @@
 
 ghost use Rattle.std.specs.Prelude.{◌≡◌, ◌<◌, ◌≤◌, ℤ, List, length, IfOk};
 ghost use Rattle.range_walk.specs.Intervals.{Fit, Hold};
-ghost use Rattle.range_audit.specs.Searching.{NamesFrom, StopsFrom, StopsIn};
+ghost use Rattle.range_audit.specs.Searching.{IsFound, StopsFrom, StopsIn};
 ghost use Rattle.range_walk.specs.Walking.{Given, IsWalk};
 
 use crate::boxes::has_none;
-use crate::cases::{CONDITIONS, copied, halved, spend};
+use crate::cases::{CONDITIONS, cases_of, narrowed, spend};
 use crate::cycle::Cycle;
+use crate::known::output_range;
 use crate::naming::{joined_stops, stops_at};
-use crate::questions::open_condition;
-use range_walk::{Range, Ranges, Stops, first_ranges, narrow, tell};
+use range_walk::{Range, Ranges, Stops, first_ranges, tell};
 use vcp_base::Memory;
+
+/// How many operations may still be gone through where single ones are asked.
+#[derive(Drop)]
+pub(crate) struct Asking {
+    /// Where it is asked why they may stop.
+    pub(crate) stops: u64,
+    /// Where it is asked which values BOOL outputs have.
+    pub(crate) answers: u64,
+}
 
 /// Why operation `i` may stop, where the operations before it have values in these ranges, by the cases of conditions, so many at once.
 fn stops_by_cases(
@@ -30,46 +39,16 @@ fn stops_by_cases(
         return Ok(Stops::none());
     }
     let told = tell(cycle.graph, cycle.cells, ranges, i);
-    if depth == 0 {
-        return Ok(told.stops);
-    }
     let any = told.stops.are_any();
-    if !any {
+    let found = cases_of(cycle, ranges, i, depth, !any, left)?;
+    let Some(two) = found else {
         return Ok(told.stops);
-    }
-    let q = open_condition(cycle.graph, ranges, i);
-    let nothing = q >= i;
-    if nothing {
-        return Ok(told.stops);
-    }
-    let enough = spend(cycle.graph, left);
-    if !enough {
-        return Ok(told.stops);
-    }
+    };
     let less = depth - 1;
-    let two = halved(cycle, ranges, q)?;
     let first = stops_by_cases(cycle, &two.low, i, less, left)?;
     let second = stops_by_cases(cycle, &two.high, i, less, left)?;
     let either = joined_stops(false, first, second);
     Ok(either)
-}
-
-/// The ranges of the first operations, as many as `i`, made narrower by one another.
-pub(crate) fn narrowed_before(
-    cycle: &Cycle<'_>,
-    known: &[Range],
-    i: u32,
-) -> Result<Vec<Range>, Memory>
-    requires there { i ≤ length cycle.now.graph.now.operations }
-    requires many { length known.now ≡ length cycle.now.graph.now.operations }
-    ensures many { IfOk result (λ ranges. length ranges.items ≡ i) }
-    ensures fits { IfOk result (λ ranges. (held row vs : List ℤ) → Hold cycle.now.cells.now held → Given cycle.now.graph.now.operations held row vs
-        → length vs ≡ i → Fit known.now vs → Fit ranges.items vs) }
-{
-    let first = first_ranges(known, i);
-    let mut ranges = copied(cycle.alloc, first)?;
-    narrow(cycle.graph, cycle.cells, &mut ranges);
-    Ok(ranges)
 }
 
 /// Why operation `i` may stop, where the operations before it have values in these ranges.
@@ -78,7 +57,8 @@ fn stops_after(cycle: &Cycle<'_>, known: &[Range], i: u32, left: &mut u64) -> Re
     requires many { length known.now ≡ length cycle.now.graph.now.operations }
     ensures { IfOk result (λ s. StopsIn cycle.now.graph.now.operations cycle.now.cells.now known.now i s) }
 {
-    let ranges = narrowed_before(cycle, known, i)?;
+    let first = first_ranges(known, i);
+    let ranges = narrowed(cycle, first)?;
     let stops = stops_by_cases(cycle, &ranges, i, CONDITIONS, left)?;
     Ok(stops)
 }
@@ -123,26 +103,30 @@ fn stops_of(
     Ok(plain)
 }
 
-/// Why each operation may stop in a cycle from cells in these ranges, on a row whose inputs are in these, of which `told` tells: closer for
-/// those that may, that are wanted and not done with.
-pub(crate) fn closer_stops(
+/// What is found of each operation in a cycle from cells in these ranges, on a row whose inputs are in these, of which `told` tells: why it
+/// may stop, closer for those that may, that are wanted and not done with, and which values BOOL outputs have.
+pub(crate) fn closer_found(
     cycle: &Cycle<'_>,
     inputs: &[Range],
     told: &Ranges,
     wanted: &[Stops],
     done: &[Stops],
-    left: &mut u64,
-) -> Result<Vec<Stops>, Memory>
+    left: &mut Asking,
+) -> Result<Ranges, Memory>
     requires walk { IsWalk cycle.now.graph.now.operations cycle.now.cells.now inputs.now told.now }
-    ensures many { IfOk result (λ found. length found.items ≡ length cycle.now.graph.now.operations) }
-    ensures named { IfOk result (λ found. NamesFrom cycle.now.graph.now.operations inputs.now (Hold cycle.now.cells.now) found.items) }
+    ensures known { IfOk result (λ a. length a.known ≡ length cycle.now.graph.now.operations) }
+    ensures stops { IfOk result (λ a. length a.stops ≡ length cycle.now.graph.now.operations) }
+    ensures found { IfOk result (λ a. IsFound cycle.now.graph.now.operations inputs.now (Hold cycle.now.cells.now) a) }
 {
     let count = cycle.graph.len();
+    let mut known = Vec::with_capacity(cycle.alloc, count as usize)?;
     let mut found = Vec::with_capacity(cycle.alloc, count as usize)?;
     'operations: for i in 0..count {
+        let range = output_range(cycle, told.known(), i, &mut left.answers)?;
+        known.push(range)?;
         let asked = is_asked(told.stops(), wanted, done, i as usize);
-        let stops = stops_of(cycle, inputs, told, i, asked, left)?;
+        let stops = stops_of(cycle, inputs, told, i, asked, &mut left.stops)?;
         found.push(stops)?;
     }
-    Ok(found)
+    Ok(Ranges::new(known, found))
 }

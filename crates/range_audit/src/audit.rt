@@ -1,34 +1,26 @@
 //! What is found of all operations of a graph, in all runs.
 
 ghost use Rattle.std.specs.Prelude.{◌≡◌, length, IfOk};
-ghost use Rattle.range_audit.specs.Audit.{Holds, NamesStops, EndsNamed, named_below, NeverStops, HoldsWithin, NamesStopsWithin, EndsNamedWithin, IsAuditWithin, NeverStopsWithin};
-ghost use Rattle.range_walk.specs.Intervals.{Hold};
+ghost use Rattle.range_audit.specs.Audit.{Holds, NamesStops, EndsNamed, named_below, NeverStops, HoldsWithin, NamesStopsWithin, EndsNamedWithin, NeverStopsWithin};
 ghost use Rattle.range_walk.specs.Known.{NamesAble, LieInTypes};
-ghost use Rattle.range_audit.specs.Searching.{AreSettled};
+ghost use Rattle.range_audit.specs.Searching.{IsSound};
 
-use crate::cells::settled;
-use crate::families::closer;
+use crate::cells::loaded_cells;
+use crate::families::{closer, settled};
 use op_graph::{Graph, entries_keep_their_rules, operands_are_in_their_types};
 use range_walk::{Range, Ranges, walk};
 use std::alloc::Global;
 use vcp_base::Memory;
 
-/// What is found of the operations of a graph where the cells are always in these ranges, on rows whose inputs are in these.
-fn ranges_in_one_box(
-    alloc: Global,
-    graph: &Graph,
-    inputs: &[Range],
-    cells: &[Range],
-) -> Result<Ranges, Memory>
-    requires many { length cells.now ≡ length graph.now.stores }
-    requires settled { AreSettled graph.now inputs.now (Hold cells.now) }
-    ensures { IfOk result (λ a. IsAuditWithin graph.now inputs.now a) }
+/// What is found of the operations of a graph where nothing is known of its cells but their types, on rows whose inputs are in these ranges.
+fn typed_ranges(alloc: Global, graph: &Graph, inputs: &[Range]) -> Result<Ranges, Memory>
+    ensures { IfOk result (λ a. IsSound graph.now inputs.now a) }
 {
-    // No operation stops because an operand is outside its type.
+    // Each cell always has a value of its type.
     operands_are_in_their_types();
-    entries_keep_their_rules();
     let _operations = graph.len();
-    let told = walk(alloc, graph, cells, inputs)?;
+    let cells = loaded_cells(alloc, graph, true)?;
+    let told = walk(alloc, graph, &cells, inputs)?;
     Ok(told)
 }
 
@@ -50,9 +42,13 @@ pub fn ranges_within(
     ensures types { IfOk result (λ a. LieInTypes graph.now.operations a.known) }
     ensures never { IfOk result (λ a. named_below a.stops (length graph.now.operations) ≡ 0 → NeverStopsWithin graph.now inputs.now) }
 {
-    let cells = settled(alloc, graph, inputs)?;
-    let ranges = ranges_in_one_box(alloc, graph, inputs, &cells)?;
-    let told = closer(alloc, graph, inputs, ranges, &cells, closely)?;
+    // No operation stops because an operand is outside its type.
+    operands_are_in_their_types();
+    entries_keep_their_rules();
+    let _operations = graph.len();
+    let typed = typed_ranges(alloc, graph, inputs)?;
+    let boxes = settled(alloc, graph, inputs)?;
+    let told = closer(alloc, graph, inputs, &typed, &boxes, closely)?;
     Ok(told)
 }
 

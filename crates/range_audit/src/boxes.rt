@@ -1,9 +1,9 @@
-//! Boxes of cells: lists of ranges, one range for each cell, and one box behind another.
+//! Boxes of cells: lists of ranges, one range for each cell.
 
-ghost use Rattle.std.specs.Prelude.{◌≡◌, ◌<◌, ◌≤◌, ◌+◌, ℤ, true, List, length, IfOk};
+ghost use Rattle.std.specs.Prelude.{◌≡◌, ◌<◌, ◌≤◌, ◌+◌, ℤ, true, false, List, length, IfOk};
 ghost use Rattle.op_graph.specs.GraphRun.{stored};
 ghost use Rattle.range_walk.specs.Intervals.{Fit, Hold};
-ghost use Rattle.range_audit.specs.Searching.{start_of, HoldAt, InBox};
+ghost use Rattle.range_audit.specs.Searching.{IsInBox, InBox};
 
 use crate::cells::stored_range;
 use op_graph::{Graph, entries_keep_their_rules};
@@ -19,46 +19,17 @@ pub(crate) fn cell_count(graph: &Graph) -> usize
     stores.len()
 }
 
-/// The ranges of the box that begins there.
-pub(crate) fn box_at(
-    alloc: Global,
-    boxes: &[Range],
-    many: usize,
-    start: usize,
-) -> Result<Vec<Range>, Memory>
-    requires { start + many ≤ length boxes.now }
-    ensures many { IfOk result (λ cells. length cells.items ≡ many) }
-    ensures holds { IfOk result (λ cells. (held : List ℤ) → HoldAt boxes.now many start held → Hold cells.items held) }
+/// Whether each range is inside that of its cell in a box.
+fn is_inside(cells: &[Range], other: &[Range]) -> bool
+    ensures { result ≡ true → (held : List ℤ) → Hold cells.now held → IsInBox (length cells.now) other.now held }
 {
-    let mut cells = Vec::with_capacity(alloc, many)?;
-    'cells: for j in 0..many {
-        let range = range_at(boxes, start + j);
-        cells.push(range)?;
+    if other.len() != cells.len() {
+        return false;
     }
-    Ok(cells)
-}
-
-/// Where box `k` of so many begins.
-pub(crate) fn box_start(boxes: &[Range], many: usize, count: u32, k: u32) -> usize
-    requires there { k < count }
-    requires boxes { start_of many count ≤ length boxes.now }
-    ensures start { result ≡ start_of many k }
-    ensures room { result + many ≤ length boxes.now }
-{
-    let _count = boxes.len();
-    let start = k as usize * many;
-    start
-}
-
-/// Whether each range is inside that of its cell in the box that begins there.
-fn is_inside_at(cells: &[Range], boxes: &[Range], start: usize) -> bool
-    requires { start + length cells.now ≤ length boxes.now }
-    ensures { result ≡ true → (held : List ℤ) → Hold cells.now held → HoldAt boxes.now (length cells.now) start held }
-{
-    'cells: for j in 0..cells.len() {
+    'cells: for j in 0..other.len() {
         let cell = range_at(cells, j);
-        let other = range_at(boxes, start + j);
-        let is = cell.is_inside(other);
+        let wide = range_at(other, j);
+        let is = cell.is_inside(wide);
         if !is {
             return false;
         }
@@ -66,15 +37,12 @@ fn is_inside_at(cells: &[Range], boxes: &[Range], start: usize) -> bool
     true
 }
 
-/// Whether the ranges are inside one of so many boxes.
-pub(crate) fn is_in_one(cells: &[Range], boxes: &[Range], count: u32) -> bool
-    requires { start_of (length cells.now) count ≤ length boxes.now }
-    ensures { result ≡ true → (held : List ℤ) → Hold cells.now held → InBox boxes.now (length cells.now) count held }
+/// Whether the ranges are inside one of the boxes.
+pub(crate) fn is_in_one(cells: &[Range], boxes: &[Vec<Range>]) -> bool
+    ensures { result ≡ true → (held : List ℤ) → Hold cells.now held → InBox boxes.now (length cells.now) held }
 {
-    let many = cells.len();
-    'boxes: for k in 0..count {
-        let start = box_start(boxes, many, count, k);
-        let is = is_inside_at(cells, boxes, start);
+    'boxes: for k in 0..boxes.len() {
+        let is = is_inside(cells, &boxes[k]);
         if is {
             return true;
         }
@@ -95,6 +63,17 @@ pub(crate) fn has_none(ranges: &[Range]) -> bool
         }
     }
     false
+}
+
+/// Whether the cells can have values in a box.
+pub(crate) fn has_values(graph: &Graph, cells: &[Range]) -> bool
+    ensures many { result ≡ true → length cells.now ≡ length graph.now.stores }
+    ensures none { result ≡ false → (held : List ℤ) → IsInBox (length graph.now.stores) cells.now held → ⊥ }
+{
+    if cells.len() != cell_count(graph) {
+        return false;
+    }
+    !has_none(cells)
 }
 
 /// The ranges of what is stored in the cells.

@@ -1,9 +1,9 @@
 //! Where whole cycles end, by cases of the values of one operation.
 
-ghost use Rattle.std.specs.Prelude.{◌≡◌, ◌<◌, ◌≤◌, ℤ, true, List, length, IfOk};
+ghost use Rattle.std.specs.Prelude.{◌≡◌, ◌<◌, ◌≤◌, ℤ, true, List, length, IfOk, IfSome};
 ghost use Rattle.op_graph.specs.GraphRun.{stored};
 ghost use Rattle.range_walk.specs.Intervals.{Fit};
-ghost use Rattle.range_audit.specs.Searching.{IsHalved, IsValueIn, NarrowsTo, start_of, InBox, EndsIn};
+ghost use Rattle.range_audit.specs.Searching.{AreHalves, IsValueIn, NarrowsTo, InBox, EndsIn};
 ghost use Rattle.range_walk.specs.Walking.{Narrows};
 
 use crate::boxes::{cell_count, has_none, is_in_one, stored_cells};
@@ -21,6 +21,17 @@ pub(crate) fn copied(alloc: Global, ranges: &[Range]) -> Result<Vec<Range>, Memo
 {
     let mut copy = Vec::new(alloc);
     copy.extend_from_slice(ranges)?;
+    Ok(copy)
+}
+
+/// These ranges of the operations of a cycle, of all or of the first ones, made narrower by one another.
+pub(crate) fn narrowed(cycle: &Cycle<'_>, ranges: &[Range]) -> Result<Vec<Range>, Memory>
+    requires { length ranges.now ≤ length cycle.now.graph.now.operations }
+    ensures many { IfOk result (λ narrow. length narrow.items ≡ length ranges.now) }
+    ensures fits { IfOk result (λ narrow. Narrows cycle.now.graph.now.operations cycle.now.cells.now ranges.now narrow.items) }
+{
+    let mut copy = copied(cycle.alloc, ranges)?;
+    narrow(cycle.graph, cycle.cells, &mut copy);
     Ok(copy)
 }
 
@@ -47,26 +58,24 @@ fn part(cycle: &Cycle<'_>, ranges: &[Range], n: u32, r: Range) -> Result<Vec<Ran
     Ok(part)
 }
 
-/// The ranges of the operations of a cycle, of all or of the first ones, in the two cases of a condition.
+/// The ranges of the operations of a cycle, of all or of the first ones, in the two cases of the value of one.
 #[derive(Drop)]
 pub(crate) struct Halves {
-    /// Where it is 0, or less.
+    /// Where it is no more than a number.
     pub(crate) low: Vec<Range>,
     /// Where it is more.
     pub(crate) high: Vec<Range>,
 }
 
-/// The ranges of the operations of a cycle in the two cases of the value of operation `q`.
-pub(crate) fn halved(cycle: &Cycle<'_>, ranges: &[Range], q: u32) -> Result<Halves, Memory>
+/// The ranges of the operations of a cycle in the two cases of the value of operation `q`: no more than `m`, and more.
+fn halved(cycle: &Cycle<'_>, ranges: &[Range], q: u32, m: i64) -> Result<Halves, Memory>
     requires there { q < length ranges.now }
     requires many { length ranges.now ≤ length cycle.now.graph.now.operations }
-    ensures low { IfOk result (λ h. length h.low.items ≡ length ranges.now) }
-    ensures high { IfOk result (λ h. length h.high.items ≡ length ranges.now) }
-    ensures one { IfOk result (λ h. IsHalved cycle.now.graph.now.operations cycle.now.cells.now ranges.now h.low.items h.high.items) }
+    ensures { IfOk result (λ h. AreHalves cycle.now.graph.now.operations cycle.now.cells.now ranges.now h.low.items h.high.items) }
 {
     let r = earlier_range(ranges, q);
-    let at_most = r.up_to(0);
-    let rest = r.above(0);
+    let at_most = r.up_to(m);
+    let rest = r.above(m);
     let low = part(cycle, ranges, q, at_most)?;
     let high = part(cycle, ranges, q, rest)?;
     Ok(Halves { low, high })
@@ -84,6 +93,34 @@ pub(crate) fn spend(graph: &Graph, left: &mut u64) -> bool {
     }
     *left = *left - many;
     true
+}
+
+/// The two cases of an open condition on which the value of operation `j` depends; None where it is done, where none is open, or where no
+/// more are gone through.
+pub(crate) fn cases_of(
+    cycle: &Cycle<'_>,
+    ranges: &[Range],
+    j: u32,
+    depth: u32,
+    done: bool,
+    left: &mut u64,
+) -> Result<Option<Halves>, Memory>
+    requires { length ranges.now ≤ length cycle.now.graph.now.operations }
+    ensures depth { IfOk result (λ found. IfSome found (λ h. 0 < depth)) }
+    ensures halves { IfOk result (λ found. IfSome found (λ h. AreHalves cycle.now.graph.now.operations cycle.now.cells.now ranges.now h.low.items h.high.items)) }
+{
+    if done || depth == 0 {
+        return Ok(None);
+    }
+    let q = open_condition(cycle.graph, ranges, j);
+    if q >= count_of(cycle.graph, ranges) {
+        return Ok(None);
+    }
+    if !spend(cycle.graph, left) {
+        return Ok(None);
+    }
+    let two = halved(cycle, ranges, q, 0)?;
+    Ok(Some(two))
 }
 
 /// The range of operation `j` in cycles with values in these ranges, by the cases of conditions, so many at once, until it is inside
@@ -105,25 +142,12 @@ pub(crate) fn range_by_cases(
         return Ok(Range::none());
     }
     let known = earlier_range(ranges, j);
-    if depth == 0 {
-        return Ok(known);
-    }
     let is = known.is_inside(wanted);
-    if is {
+    let found = cases_of(cycle, ranges, j, depth, is, left)?;
+    let Some(two) = found else {
         return Ok(known);
-    }
-    let q = open_condition(cycle.graph, ranges, j);
-    let many = count_of(cycle.graph, ranges);
-    let nothing = q >= many;
-    if nothing {
-        return Ok(known);
-    }
-    let enough = spend(cycle.graph, left);
-    if !enough {
-        return Ok(known);
-    }
+    };
     let less = depth - 1;
-    let two = halved(cycle, ranges, q)?;
     let first = range_by_cases(cycle, &two.low, j, wanted, less, left)?;
     let second = range_by_cases(cycle, &two.high, j, wanted, less, left)?;
     let both = first.joined(second);
@@ -148,12 +172,11 @@ fn narrow_by_cases(
     Ok(())
 }
 
-/// Does so for each number that is stored, until it is inside its range of the box that begins there.
+/// Does so for each number that is stored, until it is inside its range of a box.
 fn narrow_stores(
     cycle: &Cycle<'_>,
     ranges: &mut [Range],
-    boxes: &[Range],
-    start: usize,
+    cells: &[Range],
     left: &mut u64,
 ) -> Result<(), Memory>
     requires many { length ranges.old ≡ length cycle.now.graph.now.operations }
@@ -163,87 +186,72 @@ fn narrow_stores(
     let count = cell_count(cycle.graph);
     'cells: for k in 0..count {
         let store = store_at(cycle.graph, k);
-        let wanted = wanted_at(cycle.graph, boxes, start, k);
+        let wanted = wanted_at(cycle.graph, cells, k);
         narrow_by_cases(cycle, ranges, store, wanted, left)?;
     }
     Ok(())
 }
 
-/// The ranges of the operations of a whole cycle in which the value of operation `n` is in `r`, also by cases of conditions.
-fn closer_part(
+/// Whether each whole cycle with values in these ranges ends in one of the boxes. Where that isn't seen, the ranges in which it ends are
+/// appended to `missed`.
+pub(crate) fn ends(
     cycle: &Cycle<'_>,
     ranges: &[Range],
-    boxes: &[Range],
-    count: u32,
-    n: u32,
-    r: Range,
-    left: &mut u64,
-) -> Result<Vec<Range>, Memory>
-    requires there { n < length cycle.now.graph.now.operations }
-    requires many { length ranges.now ≡ length cycle.now.graph.now.operations }
-    ensures many { IfOk result (λ part. length part.items ≡ length cycle.now.graph.now.operations) }
-    ensures fits { IfOk result (λ part. NarrowsTo cycle.now.graph.now.operations cycle.now.cells.now n r ranges.now part.items) }
-{
-    let mut found = part(cycle, ranges, n, r)?;
-    let start = box_of(cycle.graph, &found, boxes, count, n);
-    narrow_stores(cycle, &mut found, boxes, start, left)?;
-    Ok(found)
-}
-
-/// Appends the ranges to those that are missed, where they aren't in a box.
-fn note(cells: &[Range], is: bool, missed: &mut Vec<Range>) -> Result<(), Memory> {
-    if is {
-        return Ok(());
-    }
-    missed.extend_from_slice(cells)?;
-    Ok(())
-}
-
-/// Whether each whole cycle with values in these ranges ends in one of so many boxes. Where that isn't seen, the ranges in which it ends
-/// are appended to `missed`.
-fn ends(
-    cycle: &Cycle<'_>,
-    ranges: &[Range],
-    boxes: &[Range],
-    count: u32,
-    missed: &mut Vec<Range>,
+    boxes: &[Vec<Range>],
+    missed: &mut Vec<Vec<Range>>,
 ) -> Result<bool, Memory>
     requires many { length ranges.now ≡ length cycle.now.graph.now.operations }
-    requires boxes { start_of (length cycle.now.graph.now.stores) count ≤ length boxes.now }
     ensures { IfOk result (λ is. is ≡ true → (vs : List ℤ) → length vs ≡ length cycle.now.graph.now.operations → Fit ranges.now vs
-        → InBox boxes.now (length cycle.now.graph.now.stores) count (stored cycle.now.graph.now vs)) }
+        → InBox boxes.now (length cycle.now.graph.now.stores) (stored cycle.now.graph.now vs)) }
 {
     let none = has_none(ranges);
     if none {
         return Ok(true);
     }
     let cells = stored_cells(cycle.alloc, cycle.graph, ranges)?;
-    let is = is_in_one(&cells, boxes, count);
-    note(&cells, is, missed)?;
+    let is = is_in_one(&cells, boxes);
+    if is {
+        return Ok(true);
+    }
+    missed.push(cells)?;
+    Ok(false)
+}
+
+/// The same, where the ranges of the numbers that are stored are first made narrower by cases of conditions. Operation `n` stores the cell
+/// whose values the boxes tell apart.
+fn ends_closely(
+    cycle: &Cycle<'_>,
+    ranges: &mut [Range],
+    boxes: &[Vec<Range>],
+    n: u32,
+    left: &mut u64,
+    missed: &mut Vec<Vec<Range>>,
+) -> Result<bool, Memory>
+    requires many { length ranges.old ≡ length cycle.now.graph.now.operations }
+    ensures { IfOk result (λ is. is ≡ true → EndsIn cycle.now.graph.now cycle.now.cells.now ranges.old boxes.now) }
+{
+    let wanted = box_of(cycle.graph, ranges, boxes, n);
+    narrow_stores(cycle, ranges, wanted, left)?;
+    let is = ends(cycle, ranges, boxes, missed)?;
     Ok(is)
 }
 
-/// The same by the cases of the value of operation `n`, so many of them, in cycles from cells in these ranges.
+/// The same by the cases of the value of operation `n`, so many of them.
 pub(crate) fn ends_by_cases(
     cycle: &Cycle<'_>,
-    ranges: &[Range],
-    boxes: &[Range],
-    count: u32,
+    ranges: &mut [Range],
+    boxes: &[Vec<Range>],
     n: u32,
     depth: u32,
     left: &mut u64,
-    missed: &mut Vec<Range>,
+    missed: &mut Vec<Vec<Range>>,
 ) -> Result<bool, Memory>
     requires there { n < length cycle.now.graph.now.operations }
-    requires many { length ranges.now ≡ length cycle.now.graph.now.operations }
-    requires boxes { start_of (length cycle.now.graph.now.stores) count ≤ length boxes.now }
-    ensures { IfOk result (λ is. is ≡ true → EndsIn cycle.now.graph.now cycle.now.cells.now ranges.now boxes.now count) }
+    requires many { length ranges.old ≡ length cycle.now.graph.now.operations }
+    ensures { IfOk result (λ is. is ≡ true → EndsIn cycle.now.graph.now cycle.now.cells.now ranges.old boxes.now) }
 {
     if depth == 0 {
-        let whole = earlier_range(ranges, n);
-        let all = closer_part(cycle, ranges, boxes, count, n, whole, left)?;
-        let is = ends(cycle, &all, boxes, count, missed)?;
-        return Ok(is);
+        return ends_closely(cycle, ranges, boxes, n, left, missed);
     }
     let none = has_none(ranges);
     if none {
@@ -253,15 +261,11 @@ pub(crate) fn ends_by_cases(
     if !enough {
         return Ok(false);
     }
-    let r = earlier_range(ranges, n);
-    let m = r.low;
+    let least = earlier_range(ranges, n);
     let less = depth - 1;
-    let one = r.up_to(m);
-    let rest = r.above(m);
-    let low = closer_part(cycle, ranges, boxes, count, n, one, left)?;
-    let high = part(cycle, ranges, n, rest)?;
-    let first = ends(cycle, &low, boxes, count, missed)?;
-    let second = ends_by_cases(cycle, &high, boxes, count, n, less, left, missed)?;
+    let mut two = halved(cycle, ranges, n, least.low)?;
+    let first = ends_closely(cycle, &mut two.low, boxes, n, left, missed)?;
+    let second = ends_by_cases(cycle, &mut two.high, boxes, n, less, left, missed)?;
     let both = both_hold(first, second);
     Ok(both)
 }

@@ -1,19 +1,14 @@
-//! Ranges in which the cells are always.
+//! The cells of a graph, and their ranges at first and from round to round.
 
-ghost use Rattle.std.specs.Prelude.{◌≡◌, ◌<◌, ℕ, true, List, length, slice_get, Some, IfOk};
-ghost use Rattle.op_graph.specs.GraphRun.{initial};
-ghost use Rattle.range_walk.specs.declared.range.Range.{Range as Interval};
+ghost use Rattle.std.specs.Prelude.{◌≡◌, ◌<◌, ℕ, ℤ, List, length, slice_get, Some, IfOk};
 ghost use Rattle.range_walk.specs.Intervals.{IsIn, Hold};
-ghost use Rattle.range_audit.specs.Searching.{AreKept, CellKept, KeptAt, AreSettled};
+ghost use Rattle.range_audit.specs.Searching.{Loads, AreLoaded};
 
-use crate::thresholds::{next_above, next_below, thresholds};
-use op_graph::{Graph, Loaded, entries_keep_their_rules, operands_are_in_their_types};
-use range_walk::{Range, range_at, walk};
+use crate::thresholds::{next_above, next_below};
+use op_graph::{Graph, Loaded, entries_keep_their_rules};
+use range_walk::{Range, range_at};
 use std::alloc::Global;
 use vcp_base::{Memory, Ty, greatest, least};
-
-/// How many rounds are tried.
-const ROUNDS: u32 = 64;
 
 /// The first round in which an end that moves goes on to the next number beside one that a comparison reads.
 const FIRST_WIDENED: u32 = 3;
@@ -64,45 +59,6 @@ pub(crate) fn stored_range(graph: &Graph, known: &[Range], k: usize) -> Range
     let _count = graph.len();
     let store = store_of(graph, k);
     range_at(known, store as usize)
-}
-
-/// Whether the initial value and each value that is stored are in a cell's range.
-fn is_kept(cell: Range, load: Loaded, stored: Range) -> bool
-    ensures { result ≡ true → CellKept cell load.init stored }
-{
-    !cell.excludes(load.init) && stored.is_inside(cell)
-}
-
-/// Whether cell `k` is in its range at first, and stays there where the operations are in theirs.
-fn is_cell_kept(graph: &Graph, cells: &[Range], known: &[Range], k: usize) -> bool
-    requires there { k < length graph.now.stores }
-    requires cells { length cells.now ≡ length graph.now.stores }
-    requires known { length known.now ≡ length graph.now.operations }
-    ensures { result ≡ true → KeptAt graph.now cells.now known.now k }
-{
-    let _count = graph.len();
-    let cell = range_at(cells, k);
-    let load = load_of(graph, k);
-    let stored = stored_range(graph, known, k);
-    is_kept(cell, load, stored)
-}
-
-/// Whether the cells are in their ranges at first, and stay there where the operations are in theirs.
-fn are_kept(graph: &Graph, cells: &[Range], known: &[Range]) -> bool
-    requires cells { length cells.now ≡ length graph.now.stores }
-    requires known { length known.now ≡ length graph.now.operations }
-    ensures { result ≡ true → AreKept graph.now cells.now known.now }
-{
-    // The STORE of each cell is an operation.
-    entries_keep_their_rules();
-    let _count = graph.len();
-    'cells: for k in 0..cells.len() {
-        let kept = is_cell_kept(graph, cells, known, k);
-        if !kept {
-            return false;
-        }
-    }
-    true
 }
 
 /// How far an end that moves goes.
@@ -169,93 +125,28 @@ pub(crate) fn widened(cell: Range, stored: Range, ty: Ty, step: Step, numbers: &
     }
 }
 
-/// The ranges of the cells for the next round.
-fn renew(graph: &Graph, cells: &mut [Range], known: &[Range], step: Step, numbers: &[i64])
-    requires cells { length cells.old ≡ length graph.now.stores }
-    requires known { length known.now ≡ length graph.now.operations }
-    ensures { length cells.new ≡ length cells.old }
+/// The range of a cell at first: of its initial value, or else of the values of its type.
+fn loaded_range(load: Loaded, typed: bool) -> Range
+    ensures { (v : ℤ) → Loads typed load v → IsIn result v }
 {
-    let _count = graph.len();
-    'cells: for k in 0..cells.len() {
-        let stored = stored_range(graph, known, k);
-        let load = load_of(graph, k);
-        cells[k] = widened(cells[k], stored, load.ty, step, numbers);
+    if typed {
+        return Range::of_type(load.ty);
     }
-}
-
-/// The initial value of a cell, as a range.
-fn initial_range(load: Loaded) -> Range
-    ensures { IsIn result load.init }
-{
     Range::only(load.init)
 }
 
-/// The initial values of the cells, as ranges.
-pub(crate) fn initial_cells(alloc: Global, graph: &Graph) -> Result<Vec<Range>, Memory>
-    ensures many { IfOk result (λ cells. length cells.items ≡ length graph.now.loads) }
-    ensures holds { IfOk result (λ cells. Hold cells.items (initial graph.now)) }
+/// The initial values of the cells, or else the values of their types, as ranges.
+pub(crate) fn loaded_cells(alloc: Global, graph: &Graph, typed: bool) -> Result<Vec<Range>, Memory>
+    ensures many { IfOk result (λ cells. length cells.items ≡ length graph.now.stores) }
+    ensures holds { IfOk result (λ cells. (held : List ℤ) → AreLoaded typed graph.now.loads held → Hold cells.items held) }
 {
-    let count = graph.cells() as usize;
-    let mut cells = Vec::with_capacity(alloc, count)?;
-    'cells: for k in 0..count {
-        let load = load_of(graph, k);
-        let range = initial_range(load);
-        cells.push(range)?;
-    }
-    Ok(cells)
-}
-
-/// The type of each cell, as a range.
-fn typed_cells(alloc: Global, graph: &Graph) -> Result<Vec<Range>, Memory>
-    ensures many { IfOk result (λ cells. length cells.items ≡ length graph.now.loads) }
-    ensures settled { IfOk result (λ cells. (inputs : List Interval) → AreSettled graph.now inputs (Hold cells.items)) }
-{
-    // Each cell always has a value of its type.
-    operands_are_in_their_types();
     let _count = graph.len();
     let count = graph.cells() as usize;
     let mut cells = Vec::with_capacity(alloc, count)?;
     'cells: for k in 0..count {
         let load = load_of(graph, k);
-        let range = Range::of_type(load.ty);
+        let range = loaded_range(load, typed);
         cells.push(range)?;
-    }
-    Ok(cells)
-}
-
-/// Ranges in which the cells are always, on rows whose inputs are in these. Where none are found in the rounds that are tried, these are the types.
-fn found(alloc: Global, graph: &Graph, inputs: &[Range]) -> Result<Vec<Range>, Memory>
-    ensures many { IfOk result (λ cells. length cells.items ≡ length graph.now.stores) }
-    ensures settled { IfOk result (λ cells. AreSettled graph.now inputs.now (Hold cells.items)) }
-{
-    let _operations = graph.len();
-    let numbers = thresholds(alloc, graph)?;
-    let mut cells = initial_cells(alloc, graph)?;
-    'rounds: for round in 0..ROUNDS {
-        let told = walk(alloc, graph, &cells, inputs)?;
-        if are_kept(graph, &cells, told.known()) {
-            return Ok(cells);
-        }
-        renew(graph, &mut cells, told.known(), step_of(round), &numbers);
-    }
-    let typed = typed_cells(alloc, graph)?;
-    Ok(typed)
-}
-
-/// Ranges in which the cells are always, on rows whose inputs are in these: the values at first and those that are stored where the cells are in the
-/// ranges that the rounds find, where that still holds them. So they are narrower where a round took an end of the type that no value comes to.
-pub(crate) fn settled(alloc: Global, graph: &Graph, inputs: &[Range]) -> Result<Vec<Range>, Memory>
-    ensures many { IfOk result (λ cells. length cells.items ≡ length graph.now.stores) }
-    ensures settled { IfOk result (λ cells. AreSettled graph.now inputs.now (Hold cells.items)) }
-{
-    let _operations = graph.len();
-    let cells = found(alloc, graph, inputs)?;
-    let told = walk(alloc, graph, &cells, inputs)?;
-    let mut next = initial_cells(alloc, graph)?;
-    renew(graph, &mut next, told.known(), Step::Near, &[]);
-    let again = walk(alloc, graph, &next, inputs)?;
-    if are_kept(graph, &next, again.known()) {
-        return Ok(next);
     }
     Ok(cells)
 }

@@ -1,17 +1,17 @@
 //! Boxes in one of which the cells always are: a box for each value of one cell.
 
-ghost use Rattle.std.specs.Prelude.{◌≡◌, ◌<◌, ◌≤◌, ◌+◌, ℕ, true, length, IfOk, IfSome};
-ghost use Rattle.range_audit.specs.Audit.{IsAuditWithin};
-ghost use Rattle.range_walk.specs.Intervals.{Hold};
-ghost use Rattle.range_audit.specs.Searching.{start_of, InBox, EndsFrom, AreSettled};
+ghost use Rattle.std.specs.Prelude.{◌≡◌, ◌<◌, ℕ, true, List, length, slice_get, Some, IfOk, IfSome};
+ghost use Rattle.range_walk.specs.declared.range.Range.{Range as Interval};
+ghost use Rattle.range_audit.specs.Searching.{Box as Boxed, IsSound, InBox, EndsFrom, Always};
 
-use crate::boxes::{box_at, box_start, cell_count, has_none, is_in_one};
-use crate::cases::{copied, ends_by_cases};
-use crate::cells::{Step, initial_cells, step_of, store_at, widened};
+use crate::asking::Asking;
+use crate::boxes::{cell_count, has_values, is_in_one};
+use crate::cases::{copied, ends, ends_by_cases, narrowed};
+use crate::cells::{Step, loaded_cells, step_of, store_at, widened};
 use crate::cycle::Cycle;
-use crate::naming::{Asking, found_by, found_from};
+use crate::naming::{found_by, found_from};
 use crate::thresholds::thresholds;
-use op_graph::{Graph, entries_keep_their_rules, operands_are_in_their_types};
+use op_graph::{Graph, operands_are_in_their_types};
 use range_walk::{Range, Ranges, Stops, both_hold, either_holds, walk};
 use std::alloc::Global;
 use vcp_base::{Memory, Ty};
@@ -21,6 +21,9 @@ const VALUES: u32 = 16;
 
 /// How many rounds are tried.
 const ROUNDS: u32 = 32;
+
+/// How many are tried where cycles are gone through as they are.
+const PLAIN_ROUNDS: u32 = 64;
 
 /// How many operations are gone through at most in all cases of all cells, each of them six times; and as many where it is asked why single
 /// operations may stop.
@@ -43,66 +46,87 @@ struct Budget<'a> {
     numbers: &'a [i64],
 }
 
-/// By how many values the cases are told apart: none for one box.
-fn depth_of(count: u32) -> u32 {
-    if count == 1 { 0 } else { VALUES }
+/// What may be gone through, where it is searched, and where it is searched for closer ranges too.
+fn budget_of(numbers: &[i64], searched: bool, closely: bool) -> Budget<'_> {
+    let asking = Asking {
+        stops: if searched { STEPS } else { 0 },
+        answers: if searched && closely { ANSWERS } else { 0 },
+    };
+    Budget {
+        left: STEPS,
+        asking,
+        numbers,
+    }
 }
 
-/// Whether each whole cycle from cells in the box that begins there ends in one of so many boxes, by the cases of the value of operation `n`.
+/// The values of the cell at a place that boxes tell apart: so many from the least on.
+#[derive(Clone, Copy)]
+struct Values {
+    place: usize,
+    least: i64,
+    count: u32,
+}
+
+/// One box, that of all values.
+const ONE: Values = Values {
+    place: 0,
+    least: 0,
+    count: 1,
+};
+
+/// Whether each whole cycle from cells in this box ends in one of the boxes, by the cases of the value of operation `pivot`; of cycles as they
+/// are gone through where there is none. The ranges in which they end are appended to `missed` where that isn't seen.
 fn is_box_kept(
     alloc: Global,
     graph: &Graph,
     inputs: &[Range],
-    boxes: &[Range],
-    count: u32,
-    start: usize,
-    n: u32,
+    boxes: &[Vec<Range>],
+    cells: &[Range],
+    pivot: Option<u32>,
     left: &mut u64,
-    missed: &mut Vec<Range>,
+    missed: &mut Vec<Vec<Range>>,
 ) -> Result<bool, Memory>
-    requires there { n < length graph.now.operations }
-    requires boxes { start_of (length graph.now.stores) count ≤ length boxes.now }
-    requires start { start + length graph.now.stores ≤ length boxes.now }
-    ensures { IfOk result (λ is. is ≡ true → EndsFrom graph.now inputs.now boxes.now count start) }
+    requires there { IfSome pivot (λ n. n < length graph.now.operations) }
+    ensures { IfOk result (λ is. is ≡ true → EndsFrom graph.now inputs.now boxes.now cells.now) }
 {
-    let many = cell_count(graph);
-    let cells = box_at(alloc, boxes, many, start)?;
-    let none = has_none(&cells);
-    if none {
+    let any = has_values(graph, cells);
+    if !any {
         return Ok(true);
     }
     let cycle = Cycle {
         alloc,
         graph,
-        cells: &cells,
+        cells,
     };
     let told = walk(alloc, graph, cycle.cells, inputs)?;
-    let depth = depth_of(count);
     let known = told.known();
-    let is = ends_by_cases(&cycle, known, boxes, count, n, depth, left, missed)?;
+    let Some(n) = pivot else {
+        let plain = ends(&cycle, known, boxes, missed)?;
+        return Ok(plain);
+    };
+    let mut ranges = narrowed(&cycle, known)?;
+    let depth = if boxes.len() == 1 { 0 } else { VALUES };
+    let is = ends_by_cases(&cycle, &mut ranges, boxes, n, depth, left, missed)?;
     Ok(is)
 }
 
-/// Whether that is so of each of the boxes.
+/// Whether that is so of each of the boxes in `from`.
 fn are_boxes_kept(
     alloc: Global,
     graph: &Graph,
     inputs: &[Range],
-    boxes: &[Range],
-    count: u32,
-    n: u32,
+    boxes: &[Vec<Range>],
+    from: &[Vec<Range>],
+    pivot: Option<u32>,
     left: &mut u64,
-    missed: &mut Vec<Range>,
+    missed: &mut Vec<Vec<Range>>,
 ) -> Result<bool, Memory>
-    requires there { n < length graph.now.operations }
-    requires boxes { start_of (length graph.now.stores) count ≤ length boxes.now }
-    ensures { IfOk result (λ is. is ≡ true → (k : ℕ) → k < count → EndsFrom graph.now inputs.now boxes.now count (start_of (length graph.now.stores) k)) }
+    requires there { IfSome pivot (λ n. n < length graph.now.operations) }
+    ensures { IfOk result (λ is. is ≡ true → (k : ℕ) (b : Boxed) → slice_get from.now k ≡ Some b → EndsFrom graph.now inputs.now boxes.now b.items) }
 {
-    let many = cell_count(graph);
     let mut all = true;
-    'boxes: for k in 0..count {
-        let start = box_start(boxes, many, count, k);
-        let kept = is_box_kept(alloc, graph, inputs, boxes, count, start, n, left, missed)?;
+    'boxes: for k in 0..from.len() {
+        let kept = is_box_kept(alloc, graph, inputs, boxes, &from[k], pivot, left, missed)?;
         let both = both_hold(all, kept);
         all = both;
     }
@@ -114,63 +138,40 @@ fn is_family(
     alloc: Global,
     graph: &Graph,
     inputs: &[Range],
-    boxes: &[Range],
-    count: u32,
-    n: u32,
+    boxes: &[Vec<Range>],
+    pivot: Option<u32>,
     left: &mut u64,
-    missed: &mut Vec<Range>,
+    missed: &mut Vec<Vec<Range>>,
 ) -> Result<bool, Memory>
-    requires there { n < length graph.now.operations }
-    requires boxes { start_of (length graph.now.stores) count ≤ length boxes.now }
-    ensures { IfOk result (λ is. is ≡ true → AreSettled graph.now inputs.now (InBox boxes.now (length graph.now.stores) count)) }
+    requires there { IfSome pivot (λ n. n < length graph.now.operations) }
+    ensures { IfOk result (λ is. is ≡ true → Always graph.now inputs.now (InBox boxes.now (length graph.now.stores))) }
 {
+    operands_are_in_their_types();
     let _operations = graph.len();
-    let first = initial_cells(alloc, graph)?;
-    let begins = is_in_one(&first, boxes, count);
-    let kept = are_boxes_kept(alloc, graph, inputs, boxes, count, n, left, missed)?;
+    let first = loaded_cells(alloc, graph, false)?;
+    let begins = is_in_one(&first, boxes);
+    let kept = are_boxes_kept(alloc, graph, inputs, boxes, boxes, pivot, left, missed)?;
     let both = both_hold(begins, kept);
     Ok(both)
 }
 
-/// So many ranges without a value.
-fn empty_box(alloc: Global, many: usize) -> Result<Vec<Range>, Memory>
-    ensures { IfOk result (λ ranges. length ranges.items ≡ many) }
-{
-    let mut ranges = Vec::with_capacity(alloc, many)?;
-    'cells: for j in 0..many {
-        ranges.push(Range::none())?;
-    }
-    Ok(ranges)
-}
-
 /// So many boxes without a value.
-fn empty_boxes(alloc: Global, graph: &Graph, count: u32) -> Result<Vec<Range>, Memory>
-    ensures { IfOk result (λ boxes. length boxes.items ≡ start_of (length graph.now.stores) count) }
-{
-    let many = cell_count(graph);
-    let empty = empty_box(alloc, many)?;
+fn empty_boxes(alloc: Global, graph: &Graph, count: u32) -> Result<Vec<Vec<Range>>, Memory> {
     let mut boxes = Vec::new(alloc);
-    'boxes: for k in 0..count {
-        boxes.extend_from_slice(&empty)?;
+    'boxes: for _ in 0..count {
+        boxes.push(vec![in alloc; Range::none(); cell_count(graph)]?)?;
     }
     Ok(boxes)
 }
 
-/// The value of the cell at `place` in the ranges that begin at `first`.
-fn value_in(missed: &[Range], first: usize, place: usize) -> i64 {
-    match missed.get(first.saturating_add(place)) {
-        Some(range) => range.low,
-        None => 0,
+/// The number of the box for ranges of cells. One box is that of all values.
+fn box_number(cells: &[Range], values: Values) -> usize {
+    match cells.get(values.place) {
+        Some(range) if values.count != 1 => {
+            range.low.saturating_sub(values.least).unsigned_abs() as usize
+        }
+        _ => 0,
     }
-}
-
-/// Where cell `j` is in the box of a value, where the first of so many boxes is that of the value `base`. One box is that of all values.
-fn place_in_box(value: i64, base: i64, count: u32, many: usize, j: usize) -> usize {
-    if count == 1 {
-        return j;
-    }
-    let number = value.saturating_sub(base).unsigned_abs() as usize;
-    number.saturating_mul(many).saturating_add(j)
 }
 
 /// The type of cell `j`.
@@ -189,104 +190,139 @@ fn grown(cell: Range, more: Range, ty: Ty, step: Step, numbers: &[i64]) -> Range
     widened(cell, more, ty, step, numbers)
 }
 
-/// Widens one range of a box by range `i` of those that are missed.
-fn grow_one(
-    graph: &Graph,
-    boxes: &mut [Range],
-    missed: &[Range],
-    i: usize,
-    place: usize,
-    base: i64,
-    count: u32,
-    step: Step,
-    numbers: &[i64],
-)
-    ensures { length boxes.new ≡ length boxes.old }
-{
-    let many = cell_count(graph);
-    if i >= missed.len() {
-        return;
-    }
-    if many == 0 {
-        return;
-    }
-    let j = i % many;
-    let value = value_in(missed, i.saturating_sub(j), place);
-    let there = place_in_box(value, base, count, many, j);
-    if there < boxes.len() {
-        boxes[there] = grown(boxes[there], missed[i], cell_type(graph, j), step, numbers);
+/// Widens a box by ranges of the cells that are missed.
+fn grow_box(graph: &Graph, cells: &mut [Range], more: &[Range], step: Step, numbers: &[i64]) {
+    'cells: for j in 0..cells.len() {
+        if j < more.len() {
+            cells[j] = grown(cells[j], more[j], cell_type(graph, j), step, numbers);
+        }
     }
 }
 
 /// Widens the boxes by the ranges that are missed.
 fn grow(
     graph: &Graph,
-    boxes: &mut [Range],
-    missed: &[Range],
-    place: usize,
-    base: i64,
-    count: u32,
+    boxes: &mut [Vec<Range>],
+    missed: &[Vec<Range>],
+    values: Values,
     step: Step,
     numbers: &[i64],
-)
-    ensures { length boxes.new ≡ length boxes.old }
-{
-    'ranges: for i in 0..missed.len() {
-        grow_one(graph, boxes, missed, i, place, base, count, step, numbers);
+) {
+    'missed: for i in 0..missed.len() {
+        let k = box_number(&missed[i], values);
+        if k < boxes.len() {
+            grow_box(graph, &mut boxes[k], &missed[i], step, numbers);
+        }
     }
 }
 
-/// Boxes in one of which the cells always are, one for each of so many values of the cell at `place` from `base` on; None where none are
-/// found in the rounds that are tried, or with the operations that are left.
+/// Boxes in one of which the cells always are, one for each of these values, by the cases of operation `pivot`, which stores them; None where
+/// none are found in so many rounds, or with the operations that are left.
 fn family(
     alloc: Global,
     graph: &Graph,
     inputs: &[Range],
-    place: usize,
-    base: i64,
-    count: u32,
+    values: Values,
+    pivot: Option<u32>,
+    rounds: u32,
     budget: &mut Budget<'_>,
-) -> Result<Option<Vec<Range>>, Memory>
-    requires place { place < length graph.now.stores }
-    ensures room { IfOk result (λ found. IfSome found (λ boxes. start_of (length graph.now.stores) count ≤ length boxes.items)) }
-    ensures settled { IfOk result (λ found. IfSome found (λ boxes. AreSettled graph.now inputs.now (InBox boxes.items (length graph.now.stores) count))) }
+) -> Result<Option<Vec<Vec<Range>>>, Memory>
+    requires there { IfSome pivot (λ n. n < length graph.now.operations) }
+    ensures { IfOk result (λ found. IfSome found (λ boxes. Always graph.now inputs.now (InBox boxes.items (length graph.now.stores)))) }
 {
-    let n = store_at(graph, place);
-    let first = initial_cells(alloc, graph)?;
-    let mut boxes = empty_boxes(alloc, graph, count)?;
-    grow(
-        graph,
-        &mut boxes,
-        &first,
-        place,
-        base,
-        count,
-        Step::Near,
-        budget.numbers,
-    );
-    'rounds: for round in 0..ROUNDS {
+    let mut boxes = empty_boxes(alloc, graph, values.count)?;
+    let mut missed = Vec::new(alloc);
+    missed.push(loaded_cells(alloc, graph, false)?)?;
+    'rounds: for round in 0..rounds {
+        let step = step_of(round.saturating_sub(1));
+        grow(graph, &mut boxes, &missed, values, step, budget.numbers);
         let spent = budget.left == 0;
         if spent {
             return Ok(None);
         }
-        let mut missed = Vec::new(alloc);
-        let left = &mut budget.left;
-        let is = is_family(alloc, graph, inputs, &boxes, count, n, left, &mut missed)?;
+        let mut more = Vec::new(alloc);
+        let is = is_family(
+            alloc,
+            graph,
+            inputs,
+            &boxes,
+            pivot,
+            &mut budget.left,
+            &mut more,
+        )?;
         if is {
             return Ok(Some(boxes));
         }
-        grow(
-            graph,
-            &mut boxes,
-            &missed,
-            place,
-            base,
-            count,
-            step_of(round),
-            budget.numbers,
-        );
+        missed = more;
     }
     Ok(None)
+}
+
+/// The box of the values with which cells begin and of those that are stored where they are in this one, where the cells are always in it too;
+/// else this one. It is narrower where a round took an end of the type that no value comes to.
+fn nearest(
+    alloc: Global,
+    graph: &Graph,
+    inputs: &[Range],
+    boxes: Vec<Vec<Range>>,
+) -> Result<Vec<Vec<Range>>, Memory>
+    requires { Always graph.now inputs.now (InBox boxes.items (length graph.now.stores)) }
+    ensures { IfOk result (λ next. Always graph.now inputs.now (InBox next.items (length graph.now.stores))) }
+{
+    let mut next = Vec::new(alloc);
+    next.push(loaded_cells(alloc, graph, false)?)?;
+    let mut left = 0;
+    let mut stored = Vec::new(alloc);
+    let _kept = are_boxes_kept(
+        alloc,
+        graph,
+        inputs,
+        &next,
+        &boxes,
+        None,
+        &mut left,
+        &mut stored,
+    )?;
+    grow(graph, &mut next, &stored, ONE, Step::Near, &[]);
+    let is = is_family(alloc, graph, inputs, &next, None, &mut left, &mut stored)?;
+    if is {
+        return Ok(next);
+    }
+    Ok(boxes)
+}
+
+/// The box of the types of the cells.
+fn typed_box(alloc: Global, graph: &Graph) -> Result<Vec<Vec<Range>>, Memory>
+    ensures { IfOk result (λ boxes. (inputs : List Interval) → Always graph.now inputs (InBox boxes.items (length graph.now.stores))) }
+{
+    // Each cell always has a value of its type.
+    operands_are_in_their_types();
+    let _operations = graph.len();
+    let cells = loaded_cells(alloc, graph, true)?;
+    let mut boxes = Vec::new(alloc);
+    boxes.push(cells)?;
+    Ok(boxes)
+}
+
+/// One box in which the cells are always, on rows whose inputs are in these ranges. Where none is found in the rounds that are tried, it is
+/// that of their types.
+pub(crate) fn settled(
+    alloc: Global,
+    graph: &Graph,
+    inputs: &[Range],
+) -> Result<Vec<Vec<Range>>, Memory>
+    ensures { IfOk result (λ boxes. Always graph.now inputs.now (InBox boxes.items (length graph.now.stores))) }
+{
+    let numbers = thresholds(alloc, graph)?;
+    let mut budget = budget_of(&numbers, false, false);
+    let found = family(alloc, graph, inputs, ONE, None, PLAIN_ROUNDS, &mut budget)?;
+    match found {
+        Some(boxes) => nearest(alloc, graph, inputs, boxes),
+        None => {
+            let typed = typed_box(alloc, graph)?;
+            nearest(alloc, graph, inputs, typed)
+        }
+    }
 }
 
 /// What is told of the operations of a graph, without the operations that don't stop in cycles from cells in one of these boxes, and with the
@@ -296,29 +332,15 @@ fn with_family(
     graph: &Graph,
     inputs: &[Range],
     ranges: &Ranges,
-    boxes: &[Range],
-    count: u32,
+    boxes: &[Vec<Range>],
     budget: &mut Budget<'_>,
 ) -> Result<Ranges, Memory>
-    requires room { start_of (length graph.now.stores) count ≤ length boxes.now }
-    requires settled { AreSettled graph.now inputs.now (InBox boxes.now (length graph.now.stores) count) }
-    requires audit { IsAuditWithin graph.now inputs.now ranges.now }
-    ensures { IfOk result (λ a. IsAuditWithin graph.now inputs.now a) }
+    requires always { Always graph.now inputs.now (InBox boxes.now (length graph.now.stores)) }
+    requires sound { IsSound graph.now inputs.now ranges.now }
+    ensures { IfOk result (λ a. IsSound graph.now inputs.now a) }
 {
-    // No operation stops because an operand is outside its type.
-    operands_are_in_their_types();
-    entries_keep_their_rules();
-    let _operations = graph.len();
     let named = ranges.stops();
-    let boxed = found_from(
-        alloc,
-        graph,
-        inputs,
-        boxes,
-        count,
-        named,
-        &mut budget.asking,
-    )?;
+    let boxed = found_from(alloc, graph, inputs, boxes, named, &mut budget.asking)?;
     let told = found_by(alloc, true, ranges, &boxed)?;
     Ok(told)
 }
@@ -361,21 +383,18 @@ fn is_wanted(graph: &Graph, place: usize, bools: bool) -> bool {
     matches!(cell_type(graph, place), Ty::Bool) == bools
 }
 
-/// What is told of the operations of a graph, and what is told by boxes, one for each of so many values of the cell at `place` from `base`
-/// on, where such are found.
+/// What is told of the operations of a graph, and what is told by boxes, one for each of these values, where such are found.
 fn closer_by_family(
     alloc: Global,
     graph: &Graph,
     inputs: &[Range],
     ranges: Ranges,
-    place: usize,
-    base: i64,
-    count: u32,
+    values: Values,
     budget: &mut Budget<'_>,
 ) -> Result<Ranges, Memory>
-    requires place { place < length graph.now.stores }
-    requires audit { IsAuditWithin graph.now inputs.now ranges }
-    ensures { IfOk result (λ a. IsAuditWithin graph.now inputs.now a) }
+    requires place { values.place < length graph.now.stores }
+    requires sound { IsSound graph.now inputs.now ranges }
+    ensures { IfOk result (λ a. IsSound graph.now inputs.now a) }
 {
     let any = names_any(ranges.stops());
     let closely = budget.asking.answers != 0;
@@ -383,14 +402,15 @@ fn closer_by_family(
     if !wanted {
         return Ok(ranges);
     }
-    let found = family(alloc, graph, inputs, place, base, count, budget)?;
+    let pivot = store_at(graph, values.place);
+    let found = family(alloc, graph, inputs, values, Some(pivot), ROUNDS, budget)?;
     match found {
-        Some(boxes) => with_family(alloc, graph, inputs, &ranges, &boxes, count, budget),
+        Some(boxes) => with_family(alloc, graph, inputs, &ranges, &boxes, budget),
         None => Ok(ranges),
     }
 }
 
-/// The same by the values of the cell at `place`, if it is of those that are asked for, and has few values by these ranges.
+/// The same by the values of the cell at `place`, if it is a BOOL, or else is none, and has few values by these ranges.
 fn closer_by(
     alloc: Global,
     graph: &Graph,
@@ -402,21 +422,23 @@ fn closer_by(
     budget: &mut Budget<'_>,
 ) -> Result<Ranges, Memory>
     requires place { place < length graph.now.stores }
-    requires audit { IsAuditWithin graph.now inputs.now ranges }
-    ensures { IfOk result (λ a. IsAuditWithin graph.now inputs.now a) }
+    requires sound { IsSound graph.now inputs.now ranges }
+    ensures { IfOk result (λ a. IsSound graph.now inputs.now a) }
 {
     let wanted = is_wanted(graph, place, bools);
     if !wanted {
         return Ok(ranges);
     }
     let range = cell_range(graph, known, place);
-    let count = values_of(range);
-    if count < 2 {
+    let values = Values {
+        place,
+        least: range.low,
+        count: values_of(range),
+    };
+    if values.count < 2 {
         return Ok(ranges);
     }
-    closer_by_family(
-        alloc, graph, inputs, ranges, place, range.low, count, budget,
-    )
+    closer_by_family(alloc, graph, inputs, ranges, values, budget)
 }
 
 /// What is told of the operations of a graph, and what is told by the values of each cell that is a BOOL, or of each other one, and has few by
@@ -430,8 +452,8 @@ fn closer_by_each(
     bools: bool,
     budget: &mut Budget<'_>,
 ) -> Result<Ranges, Memory>
-    requires audit { IsAuditWithin graph.now inputs.now ranges }
-    ensures { IfOk result (λ a. IsAuditWithin graph.now inputs.now a) }
+    requires sound { IsSound graph.now inputs.now ranges }
+    ensures { IfOk result (λ a. IsSound graph.now inputs.now a) }
 {
     let count = cell_count(graph);
     let mut told = ranges;
@@ -450,49 +472,40 @@ fn closer_in_one(
     ranges: Ranges,
     budget: &mut Budget<'_>,
 ) -> Result<Ranges, Memory>
-    requires audit { IsAuditWithin graph.now inputs.now ranges }
-    ensures { IfOk result (λ a. IsAuditWithin graph.now inputs.now a) }
+    requires sound { IsSound graph.now inputs.now ranges }
+    ensures { IfOk result (λ a. IsSound graph.now inputs.now a) }
 {
-    let many = cell_count(graph);
-    let none = many == 0;
-    if none {
+    if cell_count(graph) == 0 {
         return Ok(ranges);
     }
-    closer_by_family(alloc, graph, inputs, ranges, 0, 0, 1, budget)
+    closer_by_family(alloc, graph, inputs, ranges, ONE, budget)
 }
 
-/// What is told of the operations of a graph, whose cells are always in these ranges, by a closer look at those that are named: in these
-/// ranges, in one box, and by the values of each of its cells: first of numbers, as a state is one. Where it is looked closely, that is done
-/// also where none is named, for the ranges.
+/// What is told of the operations of a graph, whose cells are always in these boxes, by a closer look at those that are named: in these boxes,
+/// in one box, and by the values of each of its cells: first of numbers, as a state is one. Where it is looked closely, that is done also where
+/// none is named, for the ranges.
 pub(crate) fn closer(
     alloc: Global,
     graph: &Graph,
     inputs: &[Range],
-    ranges: Ranges,
-    cells: &[Range],
+    ranges: &Ranges,
+    boxes: &[Vec<Range>],
     closely: bool,
 ) -> Result<Ranges, Memory>
-    requires audit { IsAuditWithin graph.now inputs.now ranges }
-    requires many { length cells.now ≡ length graph.now.stores }
-    requires settled { AreSettled graph.now inputs.now (Hold cells.now) }
-    ensures { IfOk result (λ a. IsAuditWithin graph.now inputs.now a) }
+    requires sound { IsSound graph.now inputs.now ranges.now }
+    requires always { Always graph.now inputs.now (InBox boxes.now (length graph.now.stores)) }
+    ensures { IfOk result (λ a. IsSound graph.now inputs.now a) }
 {
-    if graph.len() > MOST_SEARCHED {
-        return Ok(ranges);
-    }
+    let searched = graph.len() <= MOST_SEARCHED;
     let numbers = thresholds(alloc, graph)?;
-    let mut budget = Budget {
-        left: STEPS,
-        asking: Asking {
-            stops: STEPS,
-            answers: if closely { ANSWERS } else { 0 },
-        },
-        numbers: &numbers,
-    };
-    // Which cells are looked at is told by the ranges that they had before, so that closer ones take no room from a cell that tells more.
-    let before = ranges.known();
+    let mut budget = budget_of(&numbers, searched, closely);
+    let here = with_family(alloc, graph, inputs, ranges, boxes, &mut budget)?;
+    if !searched {
+        return Ok(here);
+    }
+    // Which cells are looked at is told by the ranges that they have here, so that closer ones take no room from a cell that tells more.
+    let before = here.known();
     let known = copied(alloc, before)?;
-    let here = with_family(alloc, graph, inputs, &ranges, cells, 1, &mut budget)?;
     let one = closer_in_one(alloc, graph, inputs, here, &mut budget)?;
     let first = closer_by_each(alloc, graph, inputs, one, &known, false, &mut budget)?;
     closer_by_each(alloc, graph, inputs, first, &known, true, &mut budget)

@@ -100,36 +100,30 @@ fn cell_of(graph: &Graph, n: u32) -> usize {
     op.imm.unsigned_abs() as usize
 }
 
-/// Where the box begins in which the cell that operation `n` stores has its value; the end of the boxes where there is none.
-pub(crate) fn box_of(
+/// The box in which the cell that operation `n` stores has its value; one of no cells where there is none.
+pub(crate) fn box_of<'a>(
     graph: &Graph,
     ranges: &[Range],
-    boxes: &[Range],
-    count: u32,
+    boxes: &'a [Vec<Range>],
     n: u32,
-) -> usize {
-    if count == 1 {
-        return 0;
-    }
-    let many = graph.cells() as usize;
+) -> &'a [Range] {
     let value = range_or(ranges, n as usize);
     let place = cell_of(graph, n);
-    'boxes: for k in 0..count {
-        let start = (k as usize).saturating_mul(many);
-        let range = range_or(boxes, start.saturating_add(place));
-        if value.is_inside(range) {
-            return start;
+    'boxes: for k in 0..boxes.len() {
+        let cells = &boxes[k];
+        if boxes.len() == 1 || value.is_inside(range_or(cells, place)) {
+            return cells;
         }
     }
-    boxes.len()
+    &[]
 }
 
-/// The range of cell `k` in the box that begins there, where the cell is a number; else all values.
-pub(crate) fn wanted_at(graph: &Graph, boxes: &[Range], start: usize, k: usize) -> Range {
+/// The range of cell `k` in a box, where the cell is a number; else all values.
+pub(crate) fn wanted_at(graph: &Graph, cells: &[Range], k: usize) -> Range {
     match graph.loads().get(k) {
         Some(load) => match load.ty {
             Ty::Bool => Range::of_type(Ty::Lint),
-            _ => range_or(boxes, start.saturating_add(k)),
+            _ => range_or(cells, k),
         },
         None => Range::of_type(Ty::Lint),
     }

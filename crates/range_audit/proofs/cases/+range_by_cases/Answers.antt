@@ -1,38 +1,27 @@
 use Rattle.std.proofs.Common.{inl, inr, length, sym, ap, subst, ◌∙◌, arith}
 use Rattle.vcp_base.specs.Values.{at}
 use Rattle.range_walk.specs.Intervals.{Fit}
+use Rattle.range_audit.proofs.Steps.{some_is}
 use Rattle.range_audit.proofs.cases.+range_by_cases.Goals as goal
 
 pub returns-then-none : goal.returns-then-none
 returns-then-none t c = λ held row vs hold given whole fit.
-    absurd (c.has_none-none.ensures.fit c.if-none.true vs (omega (arith, whole, c.requires.many)) fit)
+    absurd (c.has_none-none.ensures.fit c.if-none.true vs (omega (arith, whole, c.requires.there)) fit)
 
-pub returns-then-depth-eq0 : goal.returns-then-depth-eq0
-returns-then-depth-eq0 t c = λ held row vs hold given whole fit.
-    fit c.args.j c.earlier_range-known.result (omega (arith, whole, c.requires.there)) c.earlier_range-known.ensures
-
-pub returns-then-is : goal.returns-then-is
-returns-then-is t c = λ held row vs hold given whole fit.
-    fit c.args.j c.earlier_range-known.result (omega (arith, whole, c.requires.there)) c.earlier_range-known.ensures
-
-pub returns-then-nothing : goal.returns-then-nothing
-returns-then-nothing t c = λ held row vs hold given whole fit.
-    fit c.args.j c.earlier_range-known.result (omega (arith, whole, c.requires.there)) c.earlier_range-known.ensures
-
-pub returns-then-not-enough : goal.returns-then-not-enough
-returns-then-not-enough t c = λ held row vs hold given whole fit.
+pub returns-in_default : goal.returns-in_default
+returns-in_default t c = λ held row vs hold given whole fit.
     fit c.args.j c.earlier_range-known.result (omega (arith, whole, c.requires.there)) c.earlier_range-known.ensures
 
 pub returns : goal.returns
 returns t c = λ held row vs hold given whole fit.
-    let two = c.in_ok-two.ensures in
+    let two = some_is _ _ _ c.in_ok-found.ensures.halves c.in-Some.is in
     elim (two.one held row vs hold given whole fit) [
       | inl low ↦
           c.joined-both.ensures.first (at vs c.args.j)
-          (c.in_ok-first.ensures held row vs hold given (whole ∙ sym two.low ∙ sym (ap length c.deref.ensures.value))
+          (c.in_ok-first.ensures held row vs hold given (whole ∙ sym two.low_many ∙ sym (ap length c.deref.ensures.value))
           (subst (λ rs. Fit rs vs) (sym c.deref.ensures.value) low))
       | inr high ↦
           c.joined-both.ensures.second (at vs c.args.j)
-          (c.in_ok-second.ensures held row vs hold given (whole ∙ sym two.high ∙ sym (ap length c.deref-2.ensures.value))
+          (c.in_ok-second.ensures held row vs hold given (whole ∙ sym two.high_many ∙ sym (ap length c.deref-2.ensures.value))
           (subst (λ rs. Fit rs vs) (sym c.deref-2.ensures.value) high))
     ]

@@ -8,10 +8,9 @@ pub returns-then-none : goal.returns-then-none
 returns-then-none c = λ e vs whole fit.
     absurd (c.has_none-none.ensures.fit c.if-none.true vs (omega (arith, whole, c.requires.many)) fit)
 
-pub returns : goal.returns
-returns c = λ e vs whole fit.
+pub returns-then-is : goal.returns-then-is
+returns-then-is c = λ e vs whole fit.
     let g = c.args.cycle.now.graph.now in
-    let cells = c.in_ok-cells.cells.items in
     let hold = c.in_ok-cells.ensures.holds vs whole fit in
-    let at_end = c.is_in_one-is.ensures e (stored g vs) (subst (λ rs. Hold rs (stored g vs)) (sym c.deref.ensures.value) hold) in
-    subst (λ n. InBox c.args.boxes.now n c.args.count (stored g vs)) (ap length c.deref.ensures.value ∙ c.in_ok-cells.ensures.many) at_end
+    let at_end = c.is_in_one-is.ensures c.if-is.true (stored g vs) (subst (λ rs. Hold rs (stored g vs)) (sym c.deref.ensures.value) hold) in
+    subst (λ n. InBox c.args.boxes.now n (stored g vs)) (ap length c.deref.ensures.value ∙ c.in_ok-cells.ensures.many) at_end

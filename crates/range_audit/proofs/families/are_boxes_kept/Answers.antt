@@ -1,26 +1,21 @@
-use Rattle.std.proofs.Common.{◌≡◌, ◌&&◌, true, length, sym, subst, ◌∙◌, below_more, arith}
+use Rattle.std.proofs.Common.{◌≡◌, ◌&&◌, ℕ, true, slice_get, Some, sym, ap, ◌∙◌, below_more, subst, arith}
 use Rattle.std.proofs.lemmas.Bool.{and_parts}
-use Rattle.range_audit.specs.Searching.{start_of, EndsFrom}
+use Rattle.std.proofs.lemmas.Option.{slice_get_within}
+use Rattle.range_audit.specs.Searching.{Box, EndsFrom}
+use Rattle.range_audit.proofs.Steps.{item_is}
 use Rattle.range_audit.proofs.families.are_boxes_kept.Goals as goal
 
-pub box_start-start-requires-clause-boxes : goal.box_start-start-requires-clause-boxes
-box_start-start-requires-clause-boxes c = rw c.cell_count-many.ensures c.requires.boxes
-
-pub is_box_kept-requires-clause-start : goal.is_box_kept-requires-clause-start
-is_box_kept-requires-clause-start c = omega (arith, c.cell_count-many.ensures, c.box_start-start.ensures.room)
-
 pub boxes-preserved : goal.boxes-preserved
-boxes-preserved c =
+boxes-preserved c = λ e.
     let g = c.args.graph.now in
-    let boxes = c.args.boxes.now in
-    let many = length g.stores in
-    let i = c.boxes.invariant in
-    let start = rw c.cell_count-many.ensures at c.box_start-start.ensures.start in
-    let is = c.in_ok-kept.kept in
-    λ e.
-    let both : (c.boxes.all && is) ≡ true = sym c.both_hold-both.ensures ∙ e in
-    below_more (λ j. EndsFrom g c.args.inputs.now boxes c.args.count (start_of many j)) c.boxes.k (i (and_parts c.boxes.all is both).0)
-    (subst (λ s. EndsFrom g c.args.inputs.now boxes c.args.count s) start (c.in_ok-kept.ensures (and_parts c.boxes.all is both).1))
+    let both : (c.boxes.all && c.in_ok-kept.kept) ≡ true = sym c.both_hold-both.ensures ∙ e in
+    let parts = and_parts c.boxes.all c.in_ok-kept.kept both in
+    let P : ℕ → Type 0 = λ j. (b : Box) → slice_get c.args.from.now j ≡ Some b → EndsFrom g c.args.inputs.now c.args.boxes.now b.items in
+    below_more P c.boxes.k (c.boxes.invariant parts.0) (λ b there.
+    let same = ap (λ (v : Box). v.items) (item_is c.args.from.now c.boxes.k c.index-from-k.result b c.index-from-k.is there) in
+    subst (λ rs. EndsFrom g c.args.inputs.now c.args.boxes.now rs) (c.deref.ensures.value ∙ same) (c.in_ok-kept.ensures parts.1))
 
 pub returns : goal.returns
-returns c = λ e k lt. c.boxes.invariant e k (omega (arith, lt, c.boxes-test.false, c.boxes.auto.k-end))
+returns c = λ e k b there.
+    let lt = slice_get_within c.args.from.now k b there in
+    c.boxes.invariant e k (omega (arith, lt, c.boxes-test.false, c.boxes.auto.k-end)) b there

@@ -5,18 +5,19 @@ use Rattle.range_audit.proofs.known.asked_range.Goals as goal
 
 pub range_by_cases-requires : goal.range_by_cases-requires
 range_by_cases-requires c =
-    let count : length c.deref.result.now ≡ c.args.i + 1 = ap length c.deref.ensures.value ∙ c.in_ok-ranges.ensures.many in
-    record { there = omega (arith, count); many = omega (arith, count, c.requires.there) }
+    let count = ap length c.first_ranges-first.ensures.first ∙ length-take-le (c.args.i + 1) c.args.known.now (omega (arith, c.requires.there, c.requires.many)) in
+    let many : length c.deref.result.now ≡ c.args.i + 1 = ap length c.deref.ensures.value ∙ c.in_ok-ranges.ensures.many ∙ count in
+    record { there = omega (arith, many); many = omega (arith, many, c.requires.there) }
 
 pub returns : goal.returns
 returns c = λ held row vs hold given lt fit.
     let i = c.args.i in
     let le : i + 1 ≤ length vs = omega (arith, lt) in
     let many : length (take (i + 1) vs) ≡ i + 1 = length-take-le (i + 1) vs le in
-    let first = given_first c.args.cycle.now.graph.now.operations held row vs (i + 1) le given in
-    let ranges = c.in_ok-ranges.ensures in
-    let narrowed = ranges.fits held row (take (i + 1) vs) hold first many (fit_first c.args.known.now vs (i + 1) le fit) in
-    let same = c.deref.ensures.value in
-    let whole : length (take (i + 1) vs) ≡ length c.deref.result.now = many ∙ sym (subst (λ rs. length rs ≡ i + 1) (sym same) ranges.many) in
+    let count = ap length c.first_ranges-first.ensures.first ∙ length-take-le (i + 1) c.args.known.now (omega (arith, c.requires.there, c.requires.many)) in
+    let given_so = given_first c.args.cycle.now.graph.now.operations held row vs (i + 1) le given in
+    let fit_so = c.first_ranges-first.ensures.fits (take (i + 1) vs) (fit_first c.args.known.now vs (i + 1) le fit) in
+    let narrow = c.in_ok-ranges.ensures.fits held row (take (i + 1) vs) hold given_so (many ∙ sym count) fit_so in
+    let whole = many ∙ sym (ap length c.deref.ensures.value ∙ c.in_ok-ranges.ensures.many ∙ count) in
     subst (λ v. IsIn c.in_ok-r.r v) (get_or-take (i + 1) vs i (pos 0) (omega arith))
-    (c.in_ok-r.ensures held row (take (i + 1) vs) hold first whole (subst (λ rs. Fit rs (take (i + 1) vs)) (sym same) narrowed))
+    (c.in_ok-r.ensures held row (take (i + 1) vs) hold given_so whole (subst (λ rs. Fit rs (take (i + 1) vs)) (sym c.deref.ensures.value) narrow))

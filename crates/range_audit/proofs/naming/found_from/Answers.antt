@@ -1,12 +1,8 @@
-use Rattle.std.proofs.Common.{length, subst, below_more, arith}
-use Rattle.range_audit.specs.Searching.{start_of, HoldAt, IsFound}
+use Rattle.std.proofs.Common.{◌≡◌, ℕ, length, slice_get, Some, below_more, ap, subst, ◌∙◌, arith}
+use Rattle.std.proofs.lemmas.Option.{slice_get_within}
+use Rattle.range_audit.specs.Searching.{Box, IsInBox, IsFound}
+use Rattle.range_audit.proofs.Steps.{item_is}
 use Rattle.range_audit.proofs.naming.found_from.Goals as goal
-
-pub box_start-start-requires-clause-boxes : goal.box_start-start-requires-clause-boxes
-box_start-start-requires-clause-boxes c = rw c.cell_count-many.ensures c.requires.boxes
-
-pub with_box-requires-clause-start : goal.with_box-requires-clause-start
-with_box-requires-clause-start c = omega (arith, c.cell_count-many.ensures, c.box_start-start.ensures.room)
 
 pub boxes-preserved : goal.boxes-preserved
 boxes-preserved c =
@@ -14,18 +10,20 @@ boxes-preserved c =
     let boxes = c.args.boxes.now in
     let many = length g.stores in
     let i = c.boxes.invariant in
-    let start = rw c.cell_count-many.ensures at c.box_start-start.ensures.start in
     let new = c.in_ok-more.more in
+    let P : ℕ → Type 0 = λ j. (b : Box) → slice_get boxes j ≡ Some b → IsFound g.operations c.args.inputs.now (IsInBox many b.items) new in
     record {
       known = c.in_ok-more.ensures.known;
       stops = c.in_ok-more.ensures.stops;
-      found = below_more (λ j. IsFound g.operations c.args.inputs.now (HoldAt boxes many (start_of many j)) new) c.boxes.k
-          (λ j lt. record {
-            fits = λ held row vs inside row_in given. c.in_ok-more.ensures.fits vs ((i.found j lt).fits held row vs inside row_in given);
+      found = below_more P c.boxes.k
+          (λ j lt b at_j. record {
+            fits = λ held row vs inside row_in given. c.in_ok-more.ensures.fits vs ((i.found j lt b at_j).fits held row vs inside row_in given);
             names = λ held row vs op why inside row_in given there own no e.
-                c.in_ok-more.ensures.named why (length vs) ((i.found j lt).names held row vs op why inside row_in given there own no e);
+                c.in_ok-more.ensures.named why (length vs) ((i.found j lt b at_j).names held row vs op why inside row_in given there own no e);
           })
-          (subst (λ s. IsFound g.operations c.args.inputs.now (HoldAt boxes many s) new) start c.in_ok-more.ensures.here);
+          (λ b there.
+          let same = ap (λ (v : Box). v.items) (item_is boxes c.boxes.k c.index-boxes-k.result b c.index-boxes-k.is there) in
+          subst (λ rs. IsFound g.operations c.args.inputs.now (IsInBox many rs) new) (c.deref.ensures.value ∙ same) c.in_ok-more.ensures.here);
     }
 
 pub returns-clause-found : goal.returns-clause-found
@@ -33,9 +31,9 @@ returns-clause-found c =
     let found = c.boxes.invariant.found in
     record {
       fits = λ held row vs inside row_in given.
-          let lt = inside.1 in
-          (found inside.0 (omega (arith, lt, c.boxes-test.false, c.boxes.auto.k-end))).fits held row vs inside.2 row_in given;
+          let lt = slice_get_within c.args.boxes.now inside.0 inside.1 inside.2 in
+          (found inside.0 (omega (arith, lt, c.boxes-test.false, c.boxes.auto.k-end)) inside.1 inside.2).fits held row vs inside.3 row_in given;
       names = λ held row vs op why inside row_in given there own no e.
-          let lt = inside.1 in
-          (found inside.0 (omega (arith, lt, c.boxes-test.false, c.boxes.auto.k-end))).names held row vs op why inside.2 row_in given there own no e;
+          let lt = slice_get_within c.args.boxes.now inside.0 inside.1 inside.2 in
+          (found inside.0 (omega (arith, lt, c.boxes-test.false, c.boxes.auto.k-end)) inside.1 inside.2).names held row vs op why inside.3 row_in given there own no e;
     }

@@ -1,7 +1,7 @@
-use Rattle.std.proofs.Common.{inl, inr, subst}
+use Rattle.std.proofs.Common.{inl, inr, sym, subst, ◌∙◌}
+use Rattle.std.proofs.lemmas.Bool.{false≢true}
 use Rattle.range_walk.specs.Intervals.{IsIn}
 use Rattle.range_walk.specs.Walking.{Parts}
-use Rattle.range_audit.proofs.Joined.{not_both}
 use Rattle.range_audit.proofs.naming.range_by.Goals as goal
 
 pub returns-then-both : goal.returns-then-both
@@ -17,6 +17,6 @@ returns c = record {
     | inl i ↦ c.joined.ensures.first v i
     | inr i ↦ c.joined.ensures.second v i
   ];
-  low = λ e. not_both c.args.both e c.if-both.false;
-  high = λ e. not_both c.args.both e c.if-both.false;
+  low = λ e. absurd (false≢true (sym c.if-both.false ∙ e));
+  high = λ e. absurd (false≢true (sym c.if-both.false ∙ e));
 }

@@ -1,0 +1,10 @@
+use Rattle.range_audit.proofs.Closer.{CloserAt}
+use Rattle.range_audit.proofs.Joined.{JoinedAt}
+use Rattle.range_audit.proofs.Steps.{AllAt}
+use Rattle.range_audit.proofs.naming.found_by.Given as goal
+
+abbrev pub invariant-operations : goal.invariant-operations
+invariant-operations l = record {
+  known : AllAt (CloserAt l.both l.a.known l.b.known) l.known.items l.i;
+  stops : AllAt (JoinedAt l.both l.a.stops l.b.stops) l.stops.items l.i;
+}
