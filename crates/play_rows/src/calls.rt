@@ -1,12 +1,11 @@
 //! The calls of rows, by their names.
 
 use crate::row_call::RowCall;
-use crate::{faults, graphs, machines, sources, values};
+use crate::{faults, graphs, machines, values};
 
 /// Makes the call of a name. Each part of the calls answers whether the name is one of its own.
 pub fn make(row: &mut RowCall<'_>, name: &str) {
     let is_made = values::make(row, name)
-        || sources::make(row, name)
         || graphs::make(row, name)
         || machines::make(row, name)
         || faults::make(row, name);

@@ -9,10 +9,7 @@ mod faults;
 mod graphs;
 mod machines;
 mod player;
-mod refusals;
 mod row_call;
-mod sources;
-mod texts;
 mod values;
 
 use player::Player;

@@ -4,8 +4,8 @@ ghost use Rattle.std.specs.Prelude.{◌≡◌, IfSome, Ok};
 
 use coded_unit::Word;
 use std::alloc::Global;
-use vcp_base::{Kind, Profile, Text, Ty, kind_name, kind_of_code, ty_name, ty_of_code};
-use worked_texts::{Told, joined, spelled, word_off};
+use vcp_base::{Kind, Profile, Ty, kind_name, kind_of_code, ty_name, ty_of_code};
+use worked_texts::{Told, spelled, word_off};
 
 /// A row's call: what it is about, its arguments, which are read word by word, and what it tells. Where a word isn't what is read, that is
 /// told, and a value is answered that stands for none.
@@ -140,11 +140,6 @@ impl<'a> RowCall<'a> {
     /// The bytes that the rest of the arguments spells.
     pub fn spelled(&self) -> Vec<u8> {
         spelled(self.alloc, self.rest)
-    }
-
-    /// A text of these bytes.
-    pub fn text(&self, bytes: &[u8]) -> Text {
-        Text::from_vec(joined(self.alloc, &[bytes]))
     }
 }
 

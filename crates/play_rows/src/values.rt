@@ -1,4 +1,4 @@
-//! Calls on types, kinds, numbers and lists, on words, and on units.
+//! Calls on types, kinds and numbers, on words, and on units.
 
 mod tables;
 pub mod units;

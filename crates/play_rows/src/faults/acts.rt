@@ -3,32 +3,39 @@
 ghost use Rattle.std.specs.Prelude.{◌≡◌, ◌∷◌, [], Some, IfOk};
 
 use crate::faults::inputs::script_of;
+use crate::graphs::images::image_graph;
 use crate::row_call::RowCall;
-use crate::sources::programs::graph_of;
 use crate::values::units::{KEPT, calls_of, tell_answers};
 use coded_unit::{BadUnit, Word};
 use fault_runs::{KeptWords, Scripted, carried_of};
 use fault_script::{Fault, Group};
+use op_graph::Graph;
 use std::alloc::Global;
 use vcp_base::Memory;
 
-/// The program whose operations the faults are of.
-const ADD: &[u8] = b"\
-PROGRAM p
-VAR_INPUT x : DINT; END_VAR
-VAR_OUTPUT y : DINT; END_VAR
-y := x + 1;
-END_PROGRAM
-";
+/// The image whose operations the faults are of, `y := x + 1`, as hexadecimal digits.
+const ADD: &str = "\
+564350414e42440a000100010000000000000002000000010000000100000000000000000000000400000001\
+7800000001790000000002000000010200000003000202000000000000000000000000000000000000000000\
+0000020000000b00000000000000000102020000000000000000000000000000000000000001000000040000\
+000a000000000ccccccd08020200000000000000010000000000000000000000000000000400000008000000\
+000ccccccd0402020000000200000000000000000000000000000000000000030000000c000000000ccccccd";
 
-/// The first fault of the script that the rest of the arguments spells; None where there is none.
-fn fault_of(row: &mut RowCall<'_>) -> Option<Fault> {
-    let graph = graph_of(row, ADD)?;
-    let script = script_of(row, &graph, row.rest)?;
+/// The first fault of the script over a graph that the rest of the arguments spells; None where there is none.
+fn first_fault(row: &mut RowCall<'_>, graph: &Graph) -> Option<Fault> {
+    let script = script_of(row, graph)?;
     if script.len() > 0 && script.at(0).len() > 0 {
         return Some(script.at(0).at(0));
     }
     None
+}
+
+/// The first fault of the script over that image.
+fn fault_of(row: &mut RowCall<'_>) -> Option<Fault> {
+    match image_graph(row, ADD) {
+        Some(graph) => first_fault(row, &graph),
+        None => None,
+    }
 }
 
 /// A fault as a group of one.

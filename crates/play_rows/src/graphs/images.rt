@@ -3,17 +3,13 @@
 ghost use Rattle.std.specs.Prelude.{IfOk};
 ghost use Rattle.signature_table.specs.Signatures.{IsTableOf};
 
-use crate::refusals::tell_refused;
 use crate::row_call::RowCall;
-use crate::sources::programs::graph_of;
-use hex::encode;
 use image_file::{ImageFault, read_image, write_image};
 use op_graph::Graph;
 use signature_table::Table;
 use std::alloc::Global;
 use vcp_base::MOST_IMAGE_BYTES;
-use vcp_inputs::NoInput;
-use worked_texts::{digit, joined, put};
+use worked_texts::{Told, digit, joined, put};
 
 /// The bytes that lower hexadecimal digits spell, two a byte; what is no digit is passed over.
 pub fn bytes_of(alloc: Global, text: &str) -> Vec<u8> {
@@ -46,6 +42,22 @@ pub fn read(alloc: Global, bytes: &[u8]) -> Result<(Graph, Table), ImageFault>
     read_image(alloc, bytes)
 }
 
+/// The graph of an image in hexadecimal digits; None where it is none, and that is told.
+pub fn image_graph(row: &mut RowCall<'_>, digits: &str) -> Option<Graph> {
+    match read(row.alloc, &bytes_of(row.alloc, digits)) {
+        Ok((graph, _table)) => Some(graph),
+        Err(_) => {
+            row.told.text("no image");
+            None
+        }
+    }
+}
+
+/// The graph of the given image; None where it is none, and that is told.
+pub fn graph_of(row: &mut RowCall<'_>) -> Option<Graph> {
+    image_graph(row, row.given)
+}
+
 /// Whether bytes are the image of the graph and the table that they read to; the fault where they are refused.
 fn is_image(alloc: Global, bytes: &[u8]) -> Result<bool, ImageFault> {
     let (graph, table) = read(alloc, bytes)?;
@@ -55,12 +67,41 @@ fn is_image(alloc: Global, bytes: &[u8]) -> Result<bool, ImageFault> {
     }
 }
 
+/// Tells a fault at a place.
+fn tell_at(told: &mut Told, at: u32, fault: &str) {
+    told.item(at);
+    told.item(fault);
+}
+
+/// Tells why bytes are no image, as the line of `vcp` does behind the name of the file.
+fn tell_fault(told: &mut Told, fault: ImageFault) {
+    match fault {
+        ImageFault::Magic { at } => tell_at(told, at, "I1 Magic"),
+        ImageFault::Version { at } => tell_at(told, at, "I2 Version"),
+        ImageFault::Short { at } => tell_at(told, at, "I3 Short"),
+        ImageFault::Field { at } => tell_at(told, at, "I4 Field"),
+        ImageFault::Operand { at } => tell_at(told, at, "I5 Operand"),
+        ImageFault::Table {
+            at,
+            stored,
+            expected,
+        } => {
+            tell_at(told, at, "I6 Table stored");
+            told.item(stored);
+            told.item("expected");
+            told.item(expected);
+        }
+        ImageFault::Rest { at } => tell_at(told, at, "I7 Rest"),
+        ImageFault::Memory => told.lack_memory(),
+    }
+}
+
 /// Tells the fault of bytes, or that they are an image.
 pub fn tell_image(row: &mut RowCall<'_>, bytes: &[u8]) {
     match is_image(row.alloc, bytes) {
         Ok(true) => row.told.text("an image"),
         Ok(false) => row.told.text("written otherwise"),
-        Err(fault) => tell_refused(row, NoInput::from(fault)),
+        Err(fault) => tell_fault(&mut row.told, fault),
     }
 }
 
@@ -138,25 +179,4 @@ pub fn changes(row: &mut RowCall<'_>) {
         }
     }
     row.told.item(places);
-}
-
-/// Tells the image of a graph with the seed 0 and the step 1.
-fn tell_digits(row: &mut RowCall<'_>, graph: &Graph) {
-    if let Ok(table) = Table::new(row.alloc, graph, 0, 1)
-        && let Ok(image) = write_image(row.alloc, graph, &table)
-        && let Ok(digits) = encode(row.alloc, image.bytes())
-    {
-        row.told.text(&digits);
-    }
-}
-
-/// The image of the given source, in its code or in the wide one.
-pub fn written(row: &mut RowCall<'_>) {
-    if let Some(graph) = graph_of(row, row.given.as_bytes()) {
-        if row.rest == "wide" {
-            tell_digits(row, &graph.widened());
-        } else {
-            tell_digits(row, &graph);
-        }
-    }
 }

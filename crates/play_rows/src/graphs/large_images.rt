@@ -1,14 +1,11 @@
 //! Images that are too large to be written out.
 
-ghost use Rattle.std.specs.Prelude.{◌<◌, length};
-
-use crate::graphs::images::{bytes_of, read, tell_image};
+use crate::graphs::images::{bytes_of, tell_image};
 use crate::row_call::RowCall;
-use op_graph::Graph;
 use signature_table::signature_of;
 use std::alloc::Global;
 use vcp_base::Profile;
-use worked_texts::{Told, put};
+use worked_texts::put;
 
 /// The first 16 bytes of images with the seed 0 and the step 1, as hexadecimal digits.
 const FRONT: &str = "564350414e42440a0001000100000000";
@@ -74,28 +71,4 @@ pub fn with_names(row: &mut RowCall<'_>) {
 pub fn with_turns(row: &mut RowCall<'_>) {
     let bytes = chain(row.alloc, row.u32());
     tell_image(row, &bytes);
-}
-
-/// Tells the turns round an operation, outermost first, and whether no more are told behind them.
-fn tell_turns(told: &mut Told, graph: &Graph, i: u32)
-    requires { i < length graph.now.operations }
-{
-    let mut turns = graph.turns(i);
-    for _node in 0..graph.turn_nodes() {
-        if let Some(turn) = turns.next() {
-            told.item(turn.value);
-        }
-    }
-    told.item(turns.next().is_none() && turns.next().is_none());
-}
-
-/// The turns round the last operation of such an image.
-pub fn innermost(row: &mut RowCall<'_>) {
-    let bytes = chain(row.alloc, row.u32());
-    if let Some((graph, _table)) = row.made(read(row.alloc, &bytes), "no image") {
-        let length = graph.len();
-        if length > 0 {
-            tell_turns(&mut row.told, &graph, length - 1);
-        }
-    }
 }

@@ -1,6 +1,4 @@
-//! The listing of a graph, without signatures and corrections.
-
-ghost use Rattle.std.specs.Prelude.{◌<◌, length};
+//! The listing of a graph, without turns, signatures and corrections.
 
 use op_graph::{Graph, Op};
 use vcp_base::{Kind, kind_name, operands, ty_name};
@@ -35,45 +33,24 @@ fn tell_own_number(told: &mut Told, op: &Op) {
     told.item(op.imm);
 }
 
-/// The turns round operation `i`, outermost first.
-fn tell_turns(told: &mut Told, graph: &Graph, i: u32)
-    requires { i < length graph.now.operations }
-{
-    let mut turns = graph.turns(i);
-    for _node in 0..graph.turn_nodes() {
-        if let Some(turn) = turns.next() {
-            if turn.name < graph.names() {
-                told.name(graph.name(turn.name).bytes());
-            }
-            told.text("=");
-            told.item(turn.value);
-        }
-    }
-}
-
-/// The line of operation `i`; nothing where there is none.
-pub fn tell_line(told: &mut Told, graph: &Graph, i: u32) {
-    if i >= graph.len() {
-        return;
-    }
-    let op = graph.operation(i);
+/// The line of an operation.
+fn tell_line(told: &mut Told, i: u32, op: &Op) {
     told.item(i);
     told.name(kind_name(op.kind));
     told.name(ty_name(op.from));
     told.name(ty_name(op.ty));
-    tell_operands(told, &op);
-    tell_own_number(told, &op);
+    tell_operands(told, op);
+    tell_own_number(told, op);
     told.item("at");
     told.item(op.spot.line);
     told.text(":");
     told.item(op.spot.col);
-    tell_turns(told, graph, i);
     told.text("\n");
 }
 
 /// A line for each operation.
 pub fn tell_lines(told: &mut Told, graph: &Graph) {
     for i in 0..graph.len() {
-        tell_line(told, graph, i);
+        tell_line(told, i, &graph.operation(i));
     }
 }

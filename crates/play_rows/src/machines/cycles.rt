@@ -1,19 +1,16 @@
-//! Three cycles of a machine with the seed 0 and the step 1.
+//! Cycles of a machine by the three calls of which a cycle is made.
 
 ghost use Rattle.std.specs.Prelude.{◌≡◌, ◌≤◌, ◌<◌, ◌+◌, false, length};
 
+use crate::graphs::images::graph_of;
 use crate::row_call::RowCall;
-use crate::sources::programs::graph_of;
-use crate::values::units::{bad_unit, calls_of, tell_given};
+use crate::values::units::{KEPT, bad_unit, calls_of};
 use coded_machine::{CycleEnd, Machine};
-use coded_unit::BadUnit;
+use coded_unit::{BadUnit, Unit};
 use op_graph::Graph;
 use signature_table::Table;
 use vcp_base::{Row, stop_name};
 use worked_texts::Told;
-
-/// How many calls of a unit are kept.
-const KEPT: u32 = 15;
 
 /// The word that operation `i` answered; 0 where it answered none.
 fn word(machine: &Machine<'_>, i: u32) -> i128 {
@@ -21,17 +18,6 @@ fn word(machine: &Machine<'_>, i: u32) -> i128 {
         Some(word) => word.get(),
         None => 0,
     }
-}
-
-/// What is told of cycles.
-#[derive(Clone, Copy)]
-pub enum Part {
-    /// Of each cycle its end, the value of the output, and the first words.
-    Words,
-    /// Of each cycle its end and the value of the output; and how many answers were wrong, and how many calls were asked, up to 15.
-    Ends,
-    /// Of each call that was asked its operation, its first operand and its answer.
-    Calls,
 }
 
 /// Tells the end of a cycle.
@@ -58,25 +44,21 @@ fn tell_end(told: &mut Told, end: CycleEnd) {
     }
 }
 
-/// Tells the end of a cycle, the value of the output, and the first words.
-pub fn tell_cycle(row: &mut RowCall<'_>, end: CycleEnd, y: i64, machine: &Machine<'_>) {
-    tell_end(&mut row.told, end);
-    row.told.item(y);
-    row.told.text(":");
+/// Tells the first five words that were answered.
+fn tell_words(told: &mut Told, machine: &Machine<'_>) {
+    told.text(":");
     for i in 0..5 {
-        row.told.text(" ");
-        row.told.item(word(machine, i));
+        told.text(" ");
+        told.item(word(machine, i));
     }
-    row.told.text("\n");
 }
 
-/// A cycle on a row of one value, the next number of the arguments, of which the part is told.
-fn cycle(
+/// A cycle on a row of one value, the next number of the arguments. Tells its end, the value of the output, and after a release the words.
+fn cycle_by_hand(
     row: &mut RowCall<'_>,
     machine: &mut Machine<'_>,
     unit: &mut BadUnit,
     out: &mut Row,
-    part: Part,
 )
     requires cycle { machine.old.cycles < 1000000 }
     requires between { machine.old.under_way ≡ false }
@@ -90,60 +72,51 @@ fn cycle(
     let mut inputs = Row::new(row.alloc);
     let value = row.i64();
     row.done(inputs.push(value));
-    let end = machine.cycle(unit, &inputs, out);
-    match part {
-        Part::Words => tell_cycle(row, end, out.at(0), machine),
-        Part::Ends => {
-            tell_end(&mut row.told, end);
-            row.told.item(out.at(0));
-            row.told.text("\n");
-        }
-        Part::Calls => {}
+    'calls: while let Some(call) = machine.next_call(&inputs) {
+        machine.put(unit.perform(&call));
+    }
+    let end = machine.end(out);
+    tell_end(&mut row.told, end);
+    row.told.item(out.at(0));
+    if matches!(end, CycleEnd::Released) {
+        tell_words(&mut row.told, machine);
+    }
+    row.told.text("\n");
+}
+
+/// Three cycles of a machine that has one output, and how many answers were wrong, of how many calls.
+fn three_cycles(row: &mut RowCall<'_>, machine: &mut Machine<'_>, unit: &mut BadUnit)
+    requires cycles { machine.old.cycles ≡ 0 }
+    requires between { machine.old.under_way ≡ false }
+    requires outputs { length machine.old.graph.outputs ≡ 1 }
+{
+    if let Ok(mut out) = Row::zeros(row.alloc, 1) {
+        cycle_by_hand(row, machine, unit, &mut out);
+        cycle_by_hand(row, machine, unit, &mut out);
+        cycle_by_hand(row, machine, unit, &mut out);
+        row.told.item(unit.wrong());
+        row.told.text(" wrong, ");
+        row.told.item(calls_of(unit));
+        row.told.text(" calls");
     }
 }
 
-/// Three cycles of a graph with one output.
-fn three_cycles(row: &mut RowCall<'_>, graph: &Graph, unit: &mut BadUnit, part: Part) {
+/// Three cycles of a new machine of a graph, where it has one output, with the seed 0 and the step 1.
+fn machine_by_hand(row: &mut RowCall<'_>, graph: &Graph, unit: &mut BadUnit) {
     if graph.outputs() == 1
         && let Ok(table) = Table::new(row.alloc, graph, 0, 1)
         && let Ok(mut machine) = Machine::new(row.alloc, graph, &table)
-        && let Ok(mut out) = Row::zeros(row.alloc, 1)
     {
-        cycle(row, &mut machine, unit, &mut out, part);
-        cycle(row, &mut machine, unit, &mut out, part);
-        cycle(row, &mut machine, unit, &mut out, part);
+        three_cycles(row, &mut machine, unit);
     }
 }
 
-/// Tells the operation, the first operand and the answer of each call that was asked.
-fn tell_calls(row: &mut RowCall<'_>, unit: &BadUnit) {
-    for i in 0..KEPT {
-        if let Some((call, given)) = unit.entry(i) {
-            row.told.item(call.op);
-            row.told.item(call.a.get());
-            tell_given(&mut row.told, &given);
-            row.told.text("\n");
-        }
-    }
-}
-
-/// Three cycles of the given program, which has one output. The arguments are the answers that are replaced, and the values of the input
-/// in three cycles.
-pub fn cycles(row: &mut RowCall<'_>, part: Part) {
+/// Three cycles of the given graph. The arguments are the answers that are replaced, and the values of the input in three cycles.
+pub fn cycles_by_hand(row: &mut RowCall<'_>) {
     let answers = row.word();
-    if let Some(graph) = graph_of(row, row.given.as_bytes())
-        && let Some(mut unit) = bad_unit(row, KEPT, answers)
+    if let Some(mut unit) = bad_unit(row, KEPT, answers)
+        && let Some(graph) = graph_of(row)
     {
-        three_cycles(row, &graph, &mut unit, part);
-        match part {
-            Part::Words => {}
-            Part::Ends => {
-                row.told.item(unit.wrong());
-                row.told.text(" wrong, ");
-                row.told.item(calls_of(&unit));
-                row.told.text(" calls");
-            }
-            Part::Calls => tell_calls(row, &unit),
-        }
+        machine_by_hand(row, &graph, &mut unit);
     }
 }

@@ -2,60 +2,45 @@
 
 ghost use Rattle.std.specs.Prelude.{◌≡◌, ◌<◌, length};
 
+use crate::graphs::images::graph_of;
 use crate::row_call::RowCall;
-use crate::sources::programs::graph_of;
-use crate::texts::code_word;
 use op_graph::Graph;
 use signature_table::Table;
 use vcp_base::{MOST_CYCLES, MOST_STEP, Profile, SEEDS};
 use weight_audit::Weights;
 use weight_audit::weigh::weights;
 
-/// The graph of the given source, whose values are of DINT at the most, in the code that the next word names; None where it is refused.
+/// The given graph, in the code that the next word names.
 fn graph_in_code(row: &mut RowCall<'_>) -> Option<Graph> {
     let profile = row.profile();
-    let graph = graph_of(row, row.given.as_bytes())?;
+    let graph = graph_of(row)?;
     match profile {
         Profile::Narrow => Some(graph),
         Profile::Wide => Some(graph.widened()),
     }
 }
 
-/// The code, the seed and the step of the given source's table with the seed 0 and the step 1, and each operation's signature, its
-/// correction, and the residue that is expected in cycle 1.
-pub fn numbers(row: &mut RowCall<'_>) {
-    if let Some(graph) = graph_in_code(row)
-        && let Ok(table) = Table::new(row.alloc, &graph, 0, 1)
+/// Tells the residue that is expected of an operation of a graph in a cycle, with a seed and a step.
+fn tell_expected(row: &mut RowCall<'_>, graph: &Graph) {
+    let seed = row.u32();
+    let step = row.u32();
+    let op = row.u32();
+    let cycle = row.u32();
+    if seed < SEEDS
+        && 0 < step
+        && step <= MOST_STEP as u32
+        && op < graph.len()
+        && cycle < MOST_CYCLES
+        && let Ok(table) = Table::new(row.alloc, graph, seed, step as u16)
     {
-        row.told.item(code_word(table.profile()));
-        row.told.item(table.seed());
-        row.told.item(table.step());
-        row.told.text("\n");
-        for i in 0..graph.len() {
-            row.told.item(table.signature(i));
-            row.told.item(table.correction(i));
-            row.told.item(table.expected(i, 1));
-            row.told.text("\n");
-        }
+        row.told.item(table.expected(op, cycle));
     }
 }
 
-/// The residue that is expected of an operation in a cycle, with a seed and a step.
+/// The residue that is expected of an operation of the given graph in a cycle, in a code, with a seed and a step.
 pub fn expected(row: &mut RowCall<'_>) {
     if let Some(graph) = graph_in_code(row) {
-        let seed = row.u32();
-        let step = row.u32();
-        let op = row.u32();
-        let cycle = row.u32();
-        if seed < SEEDS
-            && 0 < step
-            && step <= MOST_STEP as u32
-            && op < graph.len()
-            && cycle < MOST_CYCLES
-            && let Ok(table) = Table::new(row.alloc, &graph, seed, step as u16)
-        {
-            row.told.item(table.expected(op, cycle));
-        }
+        tell_expected(row, &graph);
     }
 }
 
@@ -74,13 +59,19 @@ fn tell_weights(row: &mut RowCall<'_>, audit: &Weights, count: u32)
     }
 }
 
-/// The weights of the given source's operations.
-pub fn weighed(row: &mut RowCall<'_>) {
-    if let Some(graph) = graph_of(row, row.given.as_bytes())
-        && graph.outputs() > 0
-        && let Ok(table) = Table::new(row.alloc, &graph, 0, 1)
-        && let Ok(audit) = weights(row.alloc, &graph, &table, 1)
+/// Tells the weights of a graph's operations.
+fn weigh(row: &mut RowCall<'_>, graph: &Graph) {
+    if graph.outputs() > 0
+        && let Ok(table) = Table::new(row.alloc, graph, 0, 1)
+        && let Ok(audit) = weights(row.alloc, graph, &table, 1)
     {
         tell_weights(row, &audit, graph.len());
+    }
+}
+
+/// The weights of the given graph's operations.
+pub fn weighed(row: &mut RowCall<'_>) {
+    if let Some(graph) = graph_of(row) {
+        weigh(row, &graph);
     }
 }

@@ -1,13 +1,13 @@
-//! Types, kinds, numbers and lists.
+//! Types, kinds and numbers.
 
 use crate::row_call::RowCall;
 use vcp_base::{
-    Row, StopKind, Text, Turn, Turns, fits, greatest, kind_code, kind_name, kind_of_code, least,
-    multiplier, number_in, numeral, operand_type, operands, same_name, stop_name, ty_code, ty_name,
-    ty_of_code, within, without_first_blanks,
+    StopKind, fits, greatest, kind_code, kind_name, kind_of_code, least, multiplier, number_in,
+    numeral, operand_type, operands, stop_name, ty_code, ty_name, ty_of_code, within,
+    without_first_blanks,
 };
 
-/// Makes a call on types, kinds and numbers, or on lists; false where the name is another call's.
+/// Makes a call on types, kinds and numbers; false where the name is another call's.
 pub fn make(row: &mut RowCall<'_>, name: &str) -> bool {
     match name {
         "type" => ty(row),
@@ -20,9 +20,6 @@ pub fn make(row: &mut RowCall<'_>, name: &str) -> bool {
         "numeral" => row.told.item_or_none(numeral(row.rest.as_bytes())),
         "number" => number(row),
         "blanks" => blanks(row),
-        "texts" => texts(row),
-        "row" => zeros(row),
-        "turns" => turns(row),
         _ => return false,
     }
     true
@@ -101,43 +98,4 @@ fn blanks(row: &mut RowCall<'_>) {
     row.told.text("[");
     row.told.bytes(without_first_blanks(&text));
     row.told.text("]");
-}
-
-/// A text's length and bytes, whether another is the same name, and the bytes of that.
-fn texts(row: &mut RowCall<'_>) {
-    let word = row.word();
-    let Some(name) = row.made(Text::copy_of(row.alloc, word.as_bytes()), "no memory") else {
-        return;
-    };
-    let other = row.text(row.rest.as_bytes());
-    row.told.item(name.len());
-    row.told.name(name.bytes());
-    row.told.item(same_name(&name, &other));
-    row.told.name(&other.into_vec());
-}
-
-/// A row of two zeros of which the second is set, with a value appended.
-fn zeros(row: &mut RowCall<'_>) {
-    if let Ok(mut values) = Row::zeros(row.alloc, 2) {
-        values.set(1, row.i64());
-        let last = row.i64();
-        row.done(values.push(last));
-        let values = values.into_vec();
-        for value in &values {
-            row.told.item(*value);
-        }
-    }
-}
-
-/// The first of a list of turns that had none.
-fn turns(row: &mut RowCall<'_>) {
-    let name = row.u32();
-    let value = row.i64();
-    let mut turns = Turns::new(row.alloc);
-    if turns.push(Turn { name, value }).is_ok() {
-        row.told.item(turns.len());
-        let turn = turns.at(0);
-        row.told.item(turn.name);
-        row.told.item(turn.value);
-    }
 }

@@ -1,6 +1,6 @@
 use Rattle.std.proofs.Common.{◌≡◌, ◌-◌, length}
 use Rattle.coded_machine.specs.State.{State, given}
-use Rattle.play_rows.proofs.machines.by_hand.cycle_by_hand.Given as goal
+use Rattle.play_rows.proofs.machines.cycles.cycle_by_hand.Given as goal
 
 abbrev pub invariant-calls : goal.invariant-calls
 invariant-calls l =

@@ -1,6 +1,6 @@
 use Rattle.std.proofs.Common.{ap, ◌∙◌}
 use Rattle.coded_machine.specs.State.{State}
-use Rattle.play_rows.proofs.machines.by_hand.cycle_by_hand.Goals as goal
+use Rattle.play_rows.proofs.machines.cycles.cycle_by_hand.Goals as goal
 
 pub calls-preserved : goal.calls-preserved
 calls-preserved c = record {
