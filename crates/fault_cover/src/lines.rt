@@ -109,8 +109,8 @@ fn blanks(count: usize) -> &'static [u8]
 fn then_column<O: Sink>(line: &mut Line, out: &mut O, n: u64)
     ensures { GathersTo (O.seen out.old) (O.seen out.new) line.old line.new (column_text n) }
 {
-    let digits = digits_in(n).min(12);
-    line.text(out, blanks(12 - digits));
+    let width: usize = 12;
+    line.text(out, blanks(width.saturating_sub(digits_in(n))));
     line.count(out, n);
 }
 

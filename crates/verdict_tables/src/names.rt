@@ -54,8 +54,8 @@ pub fn then_operation<O: Sink>(line: &mut Line, out: &mut O, graph: &Graph, n: u
     ensures { GathersTo (O.seen out.old) (O.seen out.new) line.old line.new
         (operation_text graph.now n (slice_get graph.now.operations n)) }
 {
-    match graph.operations().get(n as usize) {
-        Some(op) => then_op(line, out, graph, n, op),
-        None => {}
+    if n < graph.len() {
+        let op = graph.operation(n);
+        then_op(line, out, graph, n, &op);
     }
 }

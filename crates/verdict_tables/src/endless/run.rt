@@ -1,6 +1,6 @@
 //! A whole run under a group of faults.
 
-ghost use Rattle.std.specs.Prelude.{◌≡◌, ◌≤◌, ◌<◌, ◌==◌, ◌&&◌, ◌||◌, nat_lt, [], All, IfOk, length, vec_capacity};
+ghost use Rattle.std.specs.Prelude.{◌≡◌, ◌≤◌, ◌<◌, ◌==◌, ◌&&◌, ◌||◌, ◌∷◌, ◌++◌, nat_lt, [], All, IfOk, length, vec_capacity};
 ghost use Rattle.std.specs.List.{list_any};
 ghost use Rattle.vcp_base.specs.Limits.{most_cycles, most_operations};
 ghost use Rattle.op_graph.specs.Rules.{IsGraph};
@@ -60,6 +60,17 @@ impl Work {
     }
 }
 
+/// Appends a word where there is room.
+fn append(words: &mut Vec<Word>, word: Word)
+    requires { length words.old.items < vec_capacity words.old }
+    ensures items { words.new.items ≡ words.old.items ++ word ∷ [] }
+    ensures capacity { vec_capacity words.old ≤ vec_capacity words.new }
+{
+    if words.push(word).is_err() {
+        unreachable!()
+    }
+}
+
 /// Copies words to where there is room for them.
 fn copy_words(from: &[Word], to: &mut Vec<Word>)
     requires { length from.now ≤ vec_capacity to.old }
@@ -68,9 +79,7 @@ fn copy_words(from: &[Word], to: &mut Vec<Word>)
 {
     to.clear();
     'words: for i in 0..from.len() {
-        if to.push(from[i]).is_err() {
-            unreachable!()
-        }
+        append(to, from[i]);
     }
 }
 
