@@ -5,15 +5,17 @@ use vcp_base::{Kind, Profile, Residue, Ty};
 
 /// One elementary operation, with all that a unit gets of it.
 ///
-/// An operand that the kind does not have is `Word::ZERO` by custom; no answer depends on it.
+/// An operand that the kind does not have is `Word::ZERO` by custom; no answer depends on it. The fields stand so that no bytes lie between them.
 #[derive(Clone, Copy)]
 pub struct Call {
-    /// The code of its words.
-    pub profile: Profile,
     /// The number of the operation in its program, from 0.
     pub op: u32,
     /// The number of the cycle, from 0.
     pub cycle: u32,
+    /// The stamp of the cycle, at most 1,000,000,000.
+    pub stamp: u32,
+    /// The code of its words.
+    pub profile: Profile,
     /// What the operation does, and so how many operands it has.
     pub kind: Kind,
     /// The type of the operands; the kinds of logic, and the first operand of SEL, take BOOL.
@@ -31,8 +33,6 @@ pub struct Call {
     /// The correction, below the constant of the code: what the answer's signature has beyond the
     /// operands' signatures, each times its multiplier.
     pub corr: Residue,
-    /// The stamp of the cycle, at most 1,000,000,000.
-    pub stamp: u32,
 }
 
 /// What a unit answers to a call.
