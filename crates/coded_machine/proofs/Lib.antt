@@ -8,6 +8,7 @@ pub mod HonestAnswers
 pub mod HonestEnds
 pub mod Places
 pub mod Promised
+pub mod Reading
 pub mod RunLaws
 pub mod Turns
 pub mod Worked

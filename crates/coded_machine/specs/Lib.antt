@@ -1,4 +1,5 @@
 pub mod Calls
+pub mod Common
 pub mod CycleEnds
 pub mod Honest
 pub mod Laws

@@ -7,13 +7,17 @@ ghost use Rattle.coded_unit.specs.Asked.{Asked};
 ghost use Rattle.op_graph.specs.GraphRun.{initial};
 ghost use Rattle.signature_table.specs.Signatures.{stamp_before, IsTableOf};
 ghost use Rattle.coded_machine.specs.Calls.{call_of, CallsNextOperation, HasOwnNumber, Next, Whole};
+ghost use Rattle.coded_machine.specs.Common.{IsBegun};
 ghost use Rattle.coded_machine.specs.CycleEnds.{end_of, end_or, first_outside, outputs_of, Accepted, Cause};
 ghost use Rattle.coded_machine.specs.Honest.{CellsHold, FollowsFromCells};
 ghost use Rattle.coded_machine.specs.Runs.{CarriedCycle, Turn};
 ghost use Rattle.coded_machine.specs.State.{fresh, given as given_of, setting, Awaits, Finished, with_answer, with_answers, after_end, row_after, word_in};
 ghost use Rattle.coded_machine.specs.declared.cycle_end.CycleEnd.TheVariants.{Released};
 
-use crate::calling::{Setting, call_after, has_own_number, is_word};
+use crate::calling::{
+    Begun, Setting, begun_cycle, call_after, call_after_words, has_code, has_number,
+    has_own_number, is_word,
+};
 use crate::cycle_end::{CycleEnd, ERRED, end_of_answers, is_released};
 use crate::laws::right_answers_stand_for_values;
 use crate::releasing::{first_words, has_outputs, set_outputs, store_words};
@@ -372,17 +376,74 @@ impl<'a> Machine<'a> {
         ensures carried { CarriedCycle self.old self.new row.now (U.seen unit.old).log (U.seen unit.new).log (U.seen unit.old).wrong (U.seen unit.new).wrong }
         ensures machine { self.new ≡ record self.old { answers = self.new.answers; under_way = self.new.under_way } }
     {
-        // A field is read, so that the proof knows what holds of every machine.
-        let _answers = &self.answers;
         let graph = self.graph();
-        'calls: while let Some(call) = self.next_call(row) {
+        let begun = self.begin();
+        'calls: while let Some(call) = self.following(row, &begun) {
             let answer = unit.perform(&call);
-            self.put(answer);
-            if !has_own_number(graph, row, &call) {
+            self.append_answer(&answer);
+            if has_number(call.kind) && !has_own_number(graph, row, &call) {
                 return false;
             }
         }
-        true
+        has_code(graph, begun.profile)
+    }
+
+    /// Begins a cycle, and tells what its calls have in common.
+    #[inline(always)]
+    fn begin(&mut self) -> Begun
+        requires cycle { self.old.cycles < most_cycles }
+        requires going { self.old.ended ≡ None }
+        ensures machine { self.new ≡ record self.old { answers = []; under_way = true } }
+        ensures cycle { result.cycle ≡ self.old.cycles }
+        ensures begun { IsBegun self.old.graph self.old.table result }
+    {
+        self.answers.clear();
+        self.under_way = true;
+        self.halted = false;
+        begun_cycle(self.graph, self.table, self.cycles)
+    }
+
+    /// What `next_call` gives in a cycle that was begun.
+    #[inline(always)]
+    fn following(&self, row: &Row, begun: &Begun) -> Option<Call>
+        requires cycle { self.now.cycles < most_cycles }
+        requires going { self.now.ended ≡ None }
+        requires way { self.now.under_way ≡ true }
+        requires number { begun.now.cycle ≡ self.now.cycles }
+        requires begun { IsBegun self.now.graph self.now.table begun.now }
+        ensures none { result ≡ None → Finished self.now }
+        ensures some { IfSome result (λ call. Awaits self.now) }
+        ensures next { IfSome result (λ call. Next (setting self.now row.now) (given_of self.now) call) }
+        ensures asked { IfSome result (λ call. Asked call) }
+        ensures own { IfSome result (λ call. HasOwnNumber self.now.graph row.now call) }
+    {
+        if self.halted {
+            return None;
+        }
+        let answered = self.answers.len() as u32;
+        if answered >= self.graph.len() {
+            return None;
+        }
+        let op = self.graph.operation(answered);
+        let setting = Setting {
+            graph: self.graph,
+            table: self.table,
+            held: &self.held,
+            row,
+            cycle: self.cycles,
+        };
+        Some(call_after_words(&setting, begun, &op, &self.answers))
+    }
+
+    /// Takes the answer to the next call of a cycle that was begun.
+    #[inline(always)]
+    fn append_answer(&mut self, answer: &Answer)
+        requires awaits { Awaits self.old }
+        requires way { self.old.under_way ≡ true }
+        ensures { self.new ≡ with_answer self.old answer.now }
+    {
+        append(&mut self.answers, answer);
+        self.halted = !is_word(answer);
     }
 }
 

@@ -30,22 +30,25 @@ returns-clause-call c =
     (subst (λ xs. slice_get xs i ≡ Some c.correction.result) c.requires.table.1 c.correction.ensures.value)
     ∙ ap (λ j. correction g.profile t.seed t.step j op store) (zero-add i) in
     let imm : to_z w64 (of_z w64 c.own_number.result) ≡ own_number op.kind op.imm c.args.operands.now.input = grind (arith, to_z-of_z) in
-    rw (c.profile.ensures.value, corr, c.step.ensures.value, imm) refl
+    rw (c.requires.begun.profile, c.requires.begun.stamp, corr, imm) refl
 
 pub returns-clause-asked : goal.returns-clause-asked
 returns-clause-asked c =
     let g = c.args.graph.now in
+    let t = c.args.table.now in
     let op = c.args.op.now in
+    let begun = c.args.begun.now in
     let within = slice_get_within g.operations c.args.i op c.requires.here in
     let here : Admitted g.profile op =
-    subst (Admitted g.profile) (get_or_from_slice_get g.operations c.args.i op op c.requires.here) (c.profile.ensures.types.operations c.args.i op within) in
-    let types : Admitted c.profile.result op = subst (λ q. Admitted q op) (sym c.profile.ensures.value) here in
-    let grown : c.args.cycle + 1 ≤ most_cycles = omega (arith, c.requires.cycle) in
-    let short : c.step.result ≤ most_step = omega (arith, c.step.ensures.value, c.step.ensures.ranges.step_to) in
-    let most : c.step.result * (c.args.cycle + 1) ≤ most_step * most_cycles = mul-le-mul short grown in
+    subst (Admitted g.profile) (get_or_from_slice_get g.operations c.args.i op op c.requires.here)
+    (c.profile-profile.ensures.types.operations c.args.i op within) in
+    let types : Admitted begun.profile op = subst (λ q. Admitted q op) (sym c.requires.begun.profile) here in
+    let grown : begun.cycle + 1 ≤ most_cycles = omega (arith, c.requires.cycle) in
+    let short : t.step ≤ most_step = omega (arith, c.step-step.ensures.ranges.step_to) in
+    let most : t.step * (begun.cycle + 1) ≤ most_step * most_cycles = mul-le-mul short grown in
     record {
-      corr = subst (λ q. c.correction.result < modulus q) (c.requires.table.0 ∙ sym c.profile.ensures.value) c.correction.ensures.below;
-      stamp = omega (arith, most);
+      corr = subst (λ q. c.correction.result < modulus q) (c.requires.table.0 ∙ sym c.requires.begun.profile) c.correction.ensures.below;
+      stamp = omega (arith, most, c.requires.begun.stamp);
       from = types.0;
       ty = types.1;
     }

@@ -12,9 +12,9 @@ has_own_number-requires g c =
 
 pub calls-preserved : goal.calls-preserved
 calls-preserved g c = record {
-  same = only_answers c.args.self.now c.calls.self c.put.new.self c.perform-answer.result c.calls.invariant.same c.put.ensures;
-  idle = λ e. let way = ap (λ (m : State). m.under_way) c.put.ensures in absurd cc;
+  same = only_answers c.args.self.now c.calls.self c.append_answer.new.self c.perform-answer.result c.calls.invariant.same c.append_answer.ensures;
+  way = ap (λ (m : State). m.under_way) c.append_answer.ensures;
   carried =
-      carried_turn c.args.self.now c.calls.self c.put.new.self c.args.row.now c.in-Some.call c.perform-answer.result _ _ _ _ _ _
-      c.calls.invariant.same c.put.ensures c.in-Some.ensures.next c.calls.invariant.carried c.perform-answer.ensures.log c.perform-answer.ensures.wrong;
+      carried_turn c.args.self.now c.calls.self c.append_answer.new.self c.args.row.now c.in-Some.call c.perform-answer.result _ _ _ _ _ _
+      c.calls.invariant.same c.append_answer.ensures c.in-Some.ensures.next c.calls.invariant.carried c.perform-answer.ensures.log c.perform-answer.ensures.wrong;
 }

@@ -1,4 +1,4 @@
-use Rattle.std.proofs.Common.{◌≡◌, ◌-◌, false, length}
+use Rattle.std.proofs.Common.{◌≡◌, ◌-◌, true, length}
 use Rattle.coded_machine.specs.Calls.{CallsOf, Carried}
 use Rattle.coded_machine.specs.State.{State, given, setting}
 use Rattle.coded_machine.proofs.machine.Machine.carry.Given as goal
@@ -11,7 +11,7 @@ invariant-calls g l =
     let first : State = l.fn.self in
     record {
       same : m ≡ record first { answers = m.answers; under_way = m.under_way };
-      idle : m.under_way ≡ false → m.answers ≡ first.answers;
+      way : m.under_way ≡ true;
       carried : Carried (CallsOf (setting first l.row) (given m)) (unit.seen l.fn.unit).log (unit.seen l.unit).log (unit.seen l.fn.unit).wrong (unit.seen l.unit).wrong;
     }
 
