@@ -279,6 +279,9 @@ any_first laws a b n k r l f =
 pub range_size : (l : TLabel) → l.range ≡ true → alone_size l ≡ 6
 range_size l h = ap (λ b. cond b 6 2) h
 
+pub one_size : (l : TLabel) → l.range ≡ false → alone_size l ≡ 2
+one_size l h = ap (λ b. cond b 6 2) h
+
 pub joined_size : (l : TLabel) → alone_size l + 1 ≡ label_size l
 joined_size l = go l.range
   where

@@ -84,3 +84,9 @@ returns-in_err-last-clause-fills c =
     let h = refused_fills c.args.flat.now c.constant.new.self c.constant-2.new.self 1 1 (alone_size c.args.label) c.constant-2.result
     (omega (arith, c.in_ok-first.ensures.made.count)) (omega (arith, range_size c.args.label c.requires.range)) c.constant-2.ensures.refuses in
     rw (q.1, q.2) (subst (λ r. IfErr r (λ e. Fills c.args.flat.now (alone_size c.args.label) e)) c.in_err-last.was h)
+
+pub returns-in_err-first-clause-fills : goal.returns-in_err-first-clause-fills
+returns-in_err-first-clause-fills c =
+    let q = err_from_is_err_and c.from_residual.result c.from_residual.ensures.1 in
+    let h = refused_fills c.args.flat.now c.args.flat.now c.constant.new.self 0 1 (alone_size c.args.label) c.constant.result (omega arith) (omega (arith, range_size c.args.label c.requires.range)) c.constant.ensures.refuses in
+    rw (q.1, q.2) (subst (λ r. IfErr r (λ e. Fills c.args.flat.now (alone_size c.args.label) e)) c.in_err-first.was h)

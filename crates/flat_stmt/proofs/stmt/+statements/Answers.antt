@@ -12,15 +12,15 @@ use Rattle.vcp_typed.specs.TExprViews.{texpr_tree}
 use Rattle.vcp_typed.specs.TStmtTree.{if_, case, for_}
 use Rattle.vcp_typed.specs.TStmtViews.{tstmt_tree, tstmt_trees, tarm_trees, tbranch_trees, tother_tree}
 use Rattle.vcp_typed.specs.Meaning.{do_stmt, do_stmts}
-use Rattle.vcp_typed.specs.Size.{stmt_size, stmts_size, arms_size, branches_size, other_size, label_size}
-use Rattle.flat_expr.specs.State.{IsPlace}
+use Rattle.vcp_typed.specs.Size.{stmt_size, stmts_size, arms_size, branches_size, other_size, label_size, expr_size}
+use Rattle.flat_expr.specs.State.{IsPlace, reserved}
 use Rattle.flat_stmt.specs.Moves.{Does}
 use Rattle.vcp_typed.specs.Wide.{expr_is_wide, arms_are_wide, branches_are_wide, other_is_wide}
 use Rattle.flat_stmt.specs.Parts.{context, StmtPart, Fills}
 use Rattle.flat_stmt.proofs.Weight.{stmt_weight}
 use Rattle.flat_stmt.proofs.Algebra.{place_typed}
 use Rattle.flat_stmt.proofs.Loops.{done_start, branched_start}
-use Rattle.flat_stmt.proofs.Rooms.{fills_later}
+use Rattle.flat_stmt.proofs.Rooms.{fills_later, leaves_fills}
 use Rattle.flat_stmt.proofs.Statements.{stmts_at, stmt_lighter, arms_at, arm_lighter, branches_at, branch_lighter, branch_then, branch_else, stmts_step}
 use Rattle.flat_stmt.proofs.Statements.{arms_step, case_step, arm_done, case_done, stmts_first, stmts_rest, arms_first, arms_rest, branches_first}
 use Rattle.flat_stmt.proofs.Statements.{branches_rest, stmts_end, arms_end, branches_end, case_branch_done, turn_done, for_size, for_values, for_slot, for_body}
@@ -371,3 +371,98 @@ add_stmts-each-preserved t c =
 
 pub add_stmts-returns-clause-made : goal.add_stmts-returns-clause-made
 add_stmts-returns-clause-made t c = stmts_end c.args.flat.now c.each.flat c.args.ss.now c.each.s-index (omega (arith, c.each-test.false)) c.each.invariant.done
+
+-- ---- why there may be no room
+
+pub add_arm-returns-in_err-r-clause-fills : goal.add_arm-returns-in_err-r-clause-fills
+add_arm-returns-in_err-r-clause-fills t c =
+    let q = err_from_is_err_and c.from_residual.result c.from_residual.ensures.1 in
+    let h = leaves_fills c.args.flat.now c.args.flat.now c.expr.new.self _ 0 (expr_size (texpr_tree c.args.arm.now.cond)) (3 + expr_size (texpr_tree c.args.arm.now.cond) + stmts_size (tstmt_trees c.args.arm.now.body.items.items)) c.expr.result (omega arith) (omega arith) c.expr.ensures.refuses in
+    rw (q.1, q.2) (subst (λ r. IfErr r (λ e. Fills c.args.flat.now (3 + expr_size (texpr_tree c.args.arm.now.cond) + stmts_size (tstmt_trees c.args.arm.now.body.items.items)) e)) c.in_err-r.was h)
+
+pub add_arm-returns-clause-fills : goal.add_arm-returns-clause-fills
+add_arm-returns-clause-fills t c =
+    fills_later c.args.flat.now c.expr.new.self (expr_size (texpr_tree c.args.arm.now.cond)) (3 + stmts_size (tstmt_trees c.deref.result.now)) (3 + expr_size (texpr_tree c.args.arm.now.cond) + stmts_size (tstmt_trees c.args.arm.now.body.items.items)) c.add_branch.result c.in_ok-r.ensures.made.count
+    (omega (arith, ap (λ xs. stmts_size (tstmt_trees xs)) c.deref.ensures.value)) c.add_branch.ensures.fills
+
+pub add_branch-returns-in_err-path-clause-fills : goal.add_branch-returns-in_err-path-clause-fills
+add_branch-returns-in_err-path-clause-fills t c =
+    let q = err_from_is_err_and c.from_residual.result c.from_residual.ensures.1 in
+    let h = fills_later c.args.flat.now c.args.flat.now 0 1 (3 + stmts_size (tstmt_trees c.args.body.now)) c.join.result (omega arith) (omega arith) c.join.ensures.fills in
+    rw (q.1, q.2) (subst (λ r. IfErr r (λ e. Fills c.args.flat.now (3 + stmts_size (tstmt_trees c.args.body.now)) e)) c.in_err-path.was h)
+
+pub add_branch-returns-in_err-add_stmts-clause-fills : goal.add_branch-returns-in_err-add_stmts-clause-fills
+add_branch-returns-in_err-add_stmts-clause-fills t c =
+    let q = err_from_is_err_and c.from_residual-in_err-add_stmts.result c.from_residual-in_err-add_stmts.ensures.1 in
+    let h = fills_later c.args.flat.now c.set_condition.new.self 1 (stmts_size (tstmt_trees c.args.body.now)) (3 + stmts_size (tstmt_trees c.args.body.now)) c.add_stmts.result
+    (omega (arith, c.in_ok-path.ensures.made.count, ap reserved c.set_condition.ensures.is)) (omega arith) c.add_stmts.ensures.fills in
+    rw (q.1, q.2) (subst (λ r. IfErr r (λ e. Fills c.args.flat.now (3 + stmts_size (tstmt_trees c.args.body.now)) e)) c.in_err-add_stmts.was h)
+
+pub add_branch-returns-then-more-clause-fills : goal.add_branch-returns-then-more-clause-fills
+add_branch-returns-then-more-clause-fills t c =
+    fills_later c.args.flat.now c.add_stmts.new.flat (1 + stmts_size (tstmt_trees c.args.body.now)) 2 (3 + stmts_size (tstmt_trees c.args.body.now)) c.go_on.result
+    (omega (arith, c.in_ok-path.ensures.made.count, ap reserved c.set_condition.ensures.is, c.in_ok-add_stmts.ensures.made.moves.count)) (omega arith) c.go_on.ensures.fills
+
+pub add_case-returns-in_err-k-clause-fills : goal.add_case-returns-in_err-k-clause-fills
+add_case-returns-in_err-k-clause-fills t c =
+    let q = err_from_is_err_and c.from_residual.result c.from_residual.ensures.1 in
+    let h = leaves_fills c.args.flat.now c.args.flat.now c.expr.new.self _ 0 (expr_size (texpr_tree c.args.on.now)) (expr_size (texpr_tree c.args.on.now) + branches_size (tbranch_trees c.args.branches.now) + other_size (tother_tree c.args.other.now)) c.expr.result (omega arith) (omega arith) c.expr.ensures.refuses in
+    rw (q.1, q.2) (subst (λ r. IfErr r (λ e. Fills c.args.flat.now (expr_size (texpr_tree c.args.on.now) + branches_size (tbranch_trees c.args.branches.now) + other_size (tother_tree c.args.other.now)) e)) c.in_err-k.was h)
+
+pub add_case-returns-clause-fills : goal.add_case-returns-clause-fills
+add_case-returns-clause-fills t c =
+    fills_later c.args.flat.now c.expr.new.self (expr_size (texpr_tree c.args.on.now)) (branches_size (tbranch_trees c.args.branches.now) + other_size (tother_tree c.args.other.now)) (expr_size (texpr_tree c.args.on.now) + branches_size (tbranch_trees c.args.branches.now) + other_size (tother_tree c.args.other.now)) c.add_branches.result
+    c.in_ok-k.ensures.made.count (omega arith) c.add_branches.ensures.fills
+
+pub add_case_branch-returns-in_err-r-clause-fills : goal.add_case_branch-returns-in_err-r-clause-fills
+add_case_branch-returns-in_err-r-clause-fills t c =
+    let q = err_from_is_err_and c.from_residual.result c.from_residual.ensures.1 in
+    let h = fills_later c.args.flat.now c.args.flat.now 0 (sum_by label_size c.deref.result.now) (3 + sum_by label_size c.args.branch.now.labels.items.items + stmts_size (tstmt_trees c.args.branch.now.body.items.items)) c.labels.result (omega arith)
+    (omega (arith, ap (sum_by label_size) c.deref.ensures.value)) c.labels.ensures.fills in
+    rw (q.1, q.2) (subst (λ r. IfErr r (λ e. Fills c.args.flat.now (3 + sum_by label_size c.args.branch.now.labels.items.items + stmts_size (tstmt_trees c.args.branch.now.body.items.items)) e)) c.in_err-r.was h)
+
+pub add_case_branch-returns-clause-fills : goal.add_case_branch-returns-clause-fills
+add_case_branch-returns-clause-fills t c =
+    fills_later c.args.flat.now c.labels.new.flat (sum_by label_size c.deref.result.now) (3 + stmts_size (tstmt_trees c.deref-2.result.now)) (3 + sum_by label_size c.args.branch.now.labels.items.items + stmts_size (tstmt_trees c.args.branch.now.body.items.items)) c.add_branch.result c.in_ok-r.ensures.made.count
+    (omega (arith, ap (sum_by label_size) c.deref.ensures.value, ap (λ xs. stmts_size (tstmt_trees xs)) c.deref-2.ensures.value)) c.add_branch.ensures.fills
+
+pub add_turn-returns-in_err-add_value-clause-fills : goal.add_turn-returns-in_err-add_value-clause-fills
+add_turn-returns-in_err-add_value-clause-fills t c =
+    let q = err_from_is_err_and c.from_residual-in_err-add_value.result c.from_residual-in_err-add_value.ensures.1 in
+    let h = fills_later c.args.flat.now c.set_turn.new.self 0 2 (2 + stmts_size (tstmt_trees c.args.body.now)) c.add_value.result (omega (arith, ap reserved c.set_turn.ensures.is, ap reserved c.in_ok-node.ensures.made.is)) (omega arith) c.add_value.ensures.fills in
+    rw (q.1, q.2) (subst (λ r. IfErr r (λ e. Fills c.args.flat.now (2 + stmts_size (tstmt_trees c.args.body.now)) e)) c.in_err-add_value.was h)
+
+pub add_turn-returns-in_err-add_stmts-clause-fills : goal.add_turn-returns-in_err-add_stmts-clause-fills
+add_turn-returns-in_err-add_stmts-clause-fills t c =
+    let q = err_from_is_err_and c.from_residual-in_err-add_stmts.result c.from_residual-in_err-add_stmts.ensures.1 in
+    let h = fills_later c.args.flat.now c.add_value.new.flat 2 (stmts_size (tstmt_trees c.args.body.now)) (2 + stmts_size (tstmt_trees c.args.body.now)) c.add_stmts.result
+    (omega (arith, ap reserved c.set_turn.ensures.is, ap reserved c.in_ok-node.ensures.made.is, c.in_ok-add_value.ensures.made.moves.count)) (omega arith) c.add_stmts.ensures.fills in
+    rw (q.1, q.2) (subst (λ r. IfErr r (λ e. Fills c.args.flat.now (2 + stmts_size (tstmt_trees c.args.body.now)) e)) c.in_err-add_stmts.was h)
+
+pub add_if-returns-in_err-add_arm-clause-fills : goal.add_if-returns-in_err-add_arm-clause-fills
+add_if-returns-in_err-add_arm-clause-fills t c =
+    let lt : c.each.i < length c.args.arms.now = omega (arith, c.each-test.true) in
+    let tree = arms_at c.args.arms.now c.each.i c.index-arms-i.result lt c.index-arms-i.is in
+    let d = c.each.invariant.done in
+    let q = err_from_is_err_and c.from_residual.result c.from_residual.ensures.1 in
+    let h = fills_later c.args.flat.now c.each.flat d.size (3 + expr_size (texpr_tree c.index-arms-i.result.cond) + stmts_size (tstmt_trees c.index-arms-i.result.body.items.items)) (arms_size (tarm_trees c.args.arms.now) + other_size (tother_tree c.args.other.now)) c.add_arm.result
+    d.moves.count (omega (arith, ap arms_size tree, d.fits)) c.add_arm.ensures.fills in
+    rw (q.1, q.2) (subst (λ r. IfErr r (λ e. Fills c.args.flat.now (arms_size (tarm_trees c.args.arms.now) + other_size (tother_tree c.args.other.now)) e)) c.in_err-add_arm.was h)
+
+pub add_if-returns-in_err-add_other-clause-fills : goal.add_if-returns-in_err-add_other-clause-fills
+add_if-returns-in_err-add_other-clause-fills t c =
+    let d = c.each.invariant.done in
+    let q = err_from_is_err_and c.from_residual-in_err-add_other.result c.from_residual-in_err-add_other.ensures.1 in
+    let h = fills_later c.args.flat.now c.each.flat d.size (other_size (tother_tree c.args.other.now)) (arms_size (tarm_trees c.args.arms.now) + other_size (tother_tree c.args.other.now)) c.add_other.result d.moves.count
+    (omega (arith, d.fits)) c.add_other.ensures.fills in
+    rw (q.1, q.2) (subst (λ r. IfErr r (λ e. Fills c.args.flat.now (arms_size (tarm_trees c.args.arms.now) + other_size (tother_tree c.args.other.now)) e)) c.in_err-add_other.was h)
+
+pub add_stmts-returns-in_err-add_stmt-clause-fills : goal.add_stmts-returns-in_err-add_stmt-clause-fills
+add_stmts-returns-in_err-add_stmt-clause-fills t c =
+    let lt : c.each.s-index < length c.args.ss.now = omega (arith, c.each-test.true) in
+    let tree = stmts_at c.args.ss.now c.each.s-index c.s-item.result lt c.s-item.is in
+    let d = c.each.invariant.done in
+    let q = err_from_is_err_and c.from_residual.result c.from_residual.ensures.1 in
+    let h = fills_later c.args.flat.now c.each.flat d.size (stmt_size (tstmt_tree c.s-item.result)) (stmts_size (tstmt_trees c.args.ss.now)) c.add_stmt.result d.does.moves.count
+    (omega (arith, ap stmts_size tree, d.fits)) c.add_stmt.ensures.fills in
+    rw (q.1, q.2) (subst (λ r. IfErr r (λ e. Fills c.args.flat.now (stmts_size (tstmt_trees c.args.ss.now)) e)) c.in_err-add_stmt.was h)
