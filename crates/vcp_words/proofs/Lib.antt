@@ -1,3 +1,4 @@
 pub mod CodeWords
 pub mod Rows
+pub mod Sound
 pub mod WordsSteps

@@ -1,6 +1,6 @@
 //! The words of a command, read from the front.
 
-ghost use Rattle.std.specs.Prelude.{◌≡◌, ◌≤◌, ◌∷◌, [], IfSome, IfNone};
+ghost use Rattle.std.specs.Prelude.{◌≡◌, ◌≤◌, ◌∷◌, [], IfSome, IfNone, bytes_eq};
 ghost use Rattle.std.specs.Option.{option_map};
 ghost use Rattle.vcp_base.specs.Limits.{seeds, most_step};
 ghost use Rattle.vcp_words.specs.Forms.{is_file_name as is_file_name_of, is_end as is_end_of, number_within, name_and_rest, rows_and_rest};
@@ -23,6 +23,13 @@ impl<'a> Model for CommandWords<'a> {
     ghost Value = { List (List ℕ) };
 
     ghost view = { λ w. drop w.at w.words.now };
+}
+
+/// Whether a word is this one.
+pub(crate) fn is_word(word: &[u8], name: &[u8]) -> bool
+    ensures { result ≡ bytes_eq word.now name.now }
+{
+    word == name
 }
 
 /// Whether a word can be a file's name: it isn't empty and doesn't begin with `-`.
@@ -91,7 +98,7 @@ impl<'a> CommandWords<'a> {
         ensures few { IfSome result (λ rows. AreFew (rows_of rows)) }
     {
         let word = self.next()?;
-        if word.bytes() == b"--cycles".as_slice() {
+        if is_word(word.bytes(), b"--cycles") {
             let cycles = number(self.next()?, 0, MOST_CYCLES as u64)?;
             return Some(RowsWord::Cycles(cycles as u32));
         }
