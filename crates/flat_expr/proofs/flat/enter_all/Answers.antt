@@ -1,8 +1,8 @@
 use Rattle.std.proofs.Common.{◌≡◌, ◌+◌, ◌<◌, ◌≤◌, ◌++◌, ◌∷◌, [], length, take, All, sym, ap, ◌∙◌, subst, arith}
-use Rattle.std.proofs.lemmas.List.{length-take-le, take_more}
+use Rattle.std.proofs.lemmas.List.{length-map, length-take-le, take_all, take_more}
 use Rattle.op_graph.specs.declared.op.Var.{Var}
 use Rattle.op_graph.specs.Lists.{Lists}
-use Rattle.flat_expr.specs.Begin.{inputs_from}
+use Rattle.flat_expr.specs.Begin.{entered, held_from, inputs_from}
 use Rattle.flat_expr.specs.Told.{names_of}
 use Rattle.flat_expr.proofs.Beginning.{as_many, names_rise, enter_next, known_next}
 use Rattle.flat_expr.proofs.flat.enter_all.Goals as goal
@@ -32,3 +32,19 @@ slots-preserved c =
           (names_of slots) slots c.slots.i s c.slots.graph c.enter.new.graph le more c.slots.invariant.graph c.in_ok-k.ensures.graph;
       known = known_next c.args.graph.now.profile slots c.slots.i s c.slots.graph (names_of slots) c.slots.known.items c.push.new.self.items c.in_ok-k.k more c.slots.invariant.graph c.slots.invariant.known c.in_ok-k.ensures.place c.in_ok-push.ensures.items;
     }
+
+pub enter-requires-clause-name : goal.enter-requires-clause-name
+enter-requires-clause-name c =
+    let names = ap (λ (g : Lists). length g.names) c.slots.invariant.graph in
+    let all = length-map c.args.slots.now (λ x. x.name) in
+    omega (arith, c.slots-test.true, names, all)
+
+pub returns-clause-graph : goal.returns-clause-graph
+returns-clause-graph c =
+    let all = take_all c.slots.i c.args.slots.now (omega (arith, c.slots-test.false)) in
+    c.slots.invariant.graph ∙ ap (entered c.args.graph.now.profile (names_of c.args.slots.now)) all
+
+pub returns-clause-known : goal.returns-clause-known
+returns-clause-known c =
+    let all = take_all c.slots.i c.args.slots.now (omega (arith, c.slots-test.false)) in
+    c.slots.invariant.known ∙ ap (held_from 0) all

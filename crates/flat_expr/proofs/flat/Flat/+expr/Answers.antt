@@ -8,7 +8,7 @@ use Rattle.flat_expr.specs.State.{Flattens, Reads}
 use Rattle.flat_expr.proofs.Exprs.{literal_made, get_made, unary_made, binary_made}
 use Rattle.std.specs.Prelude.{IfErr}
 use Rattle.std.proofs.lemmas.Result.{err_from_is_err_and}
-use Rattle.flat_expr.specs.State.{Leaves, no_slot, one_reads}
+use Rattle.flat_expr.specs.State.{Leaves, no_slot, one_slot, one_reads}
 use Rattle.flat_expr.specs.ReadSlots.{reads_slot, read_slots}
 use Rattle.flat_expr.proofs.Steps.{neither}
 use Rattle.flat_expr.proofs.Refusals.{later_leaves, more_leaves}
@@ -401,3 +401,31 @@ expr-returns-in_ok-c-in-Call-clause-refuses t c =
     (later_leaves (one_reads (argument es 2)) no_slot (read_slots es) c.argument-in-Call.new.self c.argument-in-Call-2.new.self c.apply.new.self
     (one_size (argument es 2)) (function_size c.in-Call.fun) c.apply.result (λ slot no. (unread_argument es 2 slot no, refl)) third unread3 count3
     c.apply.ensures.refuses)))
+
+-- ---- refusals of one part
+
+pub expr-returns-in-Lit-clause-refuses : goal.expr-returns-in-Lit-clause-refuses
+expr-returns-in-Lit-clause-refuses t c =
+    let e = texpr_tree c.args.e.now in
+    let one : expr_size e ≡ 1 = ap expr_size (ap texpr_tree c.in-Lit.is) in
+    more_leaves no_slot (reads_slot e) c.args.self.now c.constant.new.self 1 (expr_size e) c.constant.result (λ slot no. refl) (omega (arith, one))
+    c.constant.ensures.refuses
+
+pub expr-returns-in-Get-clause-refuses : goal.expr-returns-in-Get-clause-refuses
+expr-returns-in-Get-clause-refuses t c =
+    let e = texpr_tree c.args.e.now in
+    let is : e ≡ get c.in-Get.slot c.in-Get.ty = ap texpr_tree c.in-Get.is in
+    more_leaves (one_slot c.in-Get.slot) (reads_slot e) c.args.self.now c.read.new.self 0 (expr_size e) c.read.result
+    (λ slot no. sym (ap (λ x. reads_slot x slot) is) ∙ no) (omega arith) c.read.ensures.refuses
+
+pub expr-returns-in_err-a-in-Unary-clause-refuses : goal.expr-returns-in_err-a-in-Unary-clause-refuses
+expr-returns-in_err-a-in-Unary-clause-refuses t c =
+    let a = texpr_tree c.deref-in-Unary.result.now in
+    let tree : texpr_tree c.args.e.now ≡ unary c.in-Unary.op c.in-Unary.ty a c.in-Unary.spot =
+    ap texpr_tree c.in-Unary.is ∙ ap (λ x. unary c.in-Unary.op c.in-Unary.ty (texpr_tree x) c.in-Unary.spot) (sym c.deref-in-Unary.ensures) in
+    let all = reads_slot (texpr_tree c.args.e.now) in
+    let q = err_from_is_err_and c.from_residual.result c.from_residual.ensures.1 in
+    let h = more_leaves (reads_slot a) all c.args.self.now c.expr-in-Unary.new.self (expr_size a) (expr_size (texpr_tree c.args.e.now))
+    c.expr-in-Unary.result (λ slot no. sym (ap (λ x. reads_slot x slot) tree) ∙ no) (omega (arith, ap expr_size tree)) c.expr-in-Unary.ensures.refuses in
+    rw (q.1, q.2)
+    (subst (λ r. IfErr r (λ e. Leaves c.args.self.now c.expr-in-Unary.new.self all (expr_size (texpr_tree c.args.e.now)) e)) c.in_err-a-in-Unary.was h)

@@ -52,3 +52,9 @@ returns-in_err-n-clause-refuses c =
     (later_refuses c.neutral.new.self c.add.new.self c.add-2.new.self 1 1 c.add-2.result c.in_ok-r.ensures.made.follows c.in_ok-r.ensures.made.unread
     c.in_ok-r.ensures.made.count c.add-2.ensures.refuses))) in
     rw (q.1, q.2) (subst (λ r. IfErr r (λ e. Refuses c.args.self.now c.add-2.new.self 5 e)) c.in_err-n.was h)
+
+pub returns-in_err-m-clause-refuses : goal.returns-in_err-m-clause-refuses
+returns-in_err-m-clause-refuses c =
+    let q = err_from_is_err_and c.from_residual.result c.from_residual.ensures.1 in
+    let h = more_refuses c.args.self.now c.mask.new.self 1 5 c.mask.result (omega arith) c.mask.ensures.refuses in
+    rw (q.1, q.2) (subst (λ r. IfErr r (λ e. Refuses c.args.self.now c.mask.new.self 5 e)) c.in_err-m.was h)

@@ -26,3 +26,9 @@ returns-clause-refuses c =
     (1 + 1) c.add.result c.in_ok-first.ensures.made.follows c.in_ok-first.ensures.made.unread c.in_ok-first.ensures.made.count
     (later_refuses c.mask.new.self c.mask-2.new.self c.add.new.self 1 1 c.add.result c.in_ok-second.ensures.made.follows c.in_ok-second.ensures.made.unread
     c.in_ok-second.ensures.made.count c.add.ensures.refuses)
+
+pub returns-in_err-first-clause-refuses : goal.returns-in_err-first-clause-refuses
+returns-in_err-first-clause-refuses c =
+    let q = err_from_is_err_and c.from_residual.result c.from_residual.ensures.1 in
+    let h = more_refuses c.args.self.now c.mask.new.self 1 3 c.mask.result (omega arith) c.mask.ensures.refuses in
+    rw (q.1, q.2) (subst (λ r. IfErr r (λ e. Refuses c.args.self.now c.mask.new.self 3 e)) c.in_err-first.was h)

@@ -1,8 +1,9 @@
-use Rattle.std.proofs.Common.{◌≡◌, Some, sym, ap, ◌∙◌}
-use Rattle.std.proofs.lemmas.Result.{IfOk-weaker}
-use Rattle.flat_expr.specs.State.{State}
+use Rattle.std.proofs.Common.{◌≡◌, Some, sym, ap, ◌∙◌, subst, arith}
+use Rattle.std.proofs.lemmas.Result.{IfOk-weaker, err_from_is_err_and}
+use Rattle.flat_expr.specs.State.{State, Refuses}
 use Rattle.flat_expr.proofs.Operators.{masked}
-use Rattle.flat_expr.proofs.Refusals.{later_refuses}
+use Rattle.flat_expr.proofs.Refusals.{later_refuses, more_refuses}
+use Rattle.std.specs.Prelude.{IfErr}
 use Rattle.flat_expr.proofs.flat.Flat.mask.Goals as goal
 
 pub returns-clause-made : goal.returns-clause-made
@@ -14,3 +15,9 @@ returns-clause-made c =
 pub returns-clause-refuses : goal.returns-clause-refuses
 returns-clause-refuses c = later_refuses c.args.self.now c.neutral.new.self c.add.new.self 0 1 c.add.result c.in_ok-other.ensures.made.follows
     c.in_ok-other.ensures.made.unread c.in_ok-other.ensures.made.count c.add.ensures.refuses
+
+pub returns-in_err-other-clause-refuses : goal.returns-in_err-other-clause-refuses
+returns-in_err-other-clause-refuses c =
+    let q = err_from_is_err_and c.from_residual.result c.from_residual.ensures.1 in
+    let h = more_refuses c.args.self.now c.neutral.new.self 0 1 c.neutral.result (omega arith) c.neutral.ensures.refuses in
+    rw (q.1, q.2) (subst (λ r. IfErr r (λ e. Refuses c.args.self.now c.neutral.new.self 1 e)) c.in_err-other.was h)
