@@ -1,7 +1,7 @@
 -- Allowed: what is told of an operation holds without what its kind and types rule out.
-use Rattle.std.proofs.Common.{◌≡◌, ◌≢◌, ℕ, zero, suc, ℤ, pos, negsuc, ◌-ℤ◌, Bool, true, false, not, ◌&&◌, cond, List, Option, Some, None, Err, refl, sym, subst, ◌∙◌, inl, inr, arith}
-use Rattle.std.specs.Prelude.{int_le, int_rem}
-use Rattle.std.proofs.lemmas.Bool.{and_parts, and_from}
+use Rattle.std.proofs.Common.{◌≡◌, ◌≢◌, ℕ, zero, suc, ℤ, pos, negsuc, ◌-ℤ◌, Bool, true, false, ◌&&◌, List, Option, Some, None, Err, refl, sym, subst, ◌∙◌, inl, inr, arith}
+use Rattle.std.specs.Prelude.{int_rem}
+use Rattle.std.proofs.lemmas.Bool.{and_parts, and_from, both_ways, cond_both, not-false, true_from_ne_false}
 use Rattle.std.proofs.lemmas.Bool.Decides.{nat_tests}
 use Rattle.vcp_base.specs.declared.ty.Ty.{Ty}
 use Rattle.vcp_base.specs.declared.ty.Ty.TheVariants as ty
@@ -23,9 +23,9 @@ use Rattle.range_walk.specs.declared.told.Told.{Told}
 use Rattle.range_walk.specs.Intervals.{IsIn}
 use Rattle.range_walk.specs.Known.{may_stop, is_named, divides, can_leave, can_stop_so}
 use Rattle.range_walk.specs.Walking.{OwnFits, Tells}
-use Rattle.range_walk.proofs.Integers.{rest_above, rest_below}
-use Rattle.range_walk.proofs.Outcomes.{ok_says, err_says, range_says, must, clash}
-use Rattle.range_walk.proofs.ValueBounds.{tested, passes}
+use Rattle.range_walk.proofs.Integers.{rest_shrinks}
+use Rattle.range_walk.proofs.Outcomes.{ok_says, err_says, range_says}
+use Rattle.range_walk.proofs.ValueBounds.{fits_between, between_fits}
 
 -- ---- values of a type
 
@@ -56,39 +56,25 @@ bool_is_int : (a : ℤ) → fits ty.Bool a ≡ true → fits ty.Int a ≡ true
 bool_is_int (pos n) h = grind (arith, nat_tests)
 bool_is_int (negsuc n) h = absurd (grind (arith, nat_tests))
 
-choice_fits : (t : Ty) (test : Bool) (b c : ℤ) → fits t b ≡ true → fits t c ≡ true → fits t (cond test b c) ≡ true
-choice_fits t true b c h g = h
-choice_fits t false b c h g = g
-
-is_within : (b : Bool) → not b ≡ false → b ≡ true
-is_within true h = refl
-is_within false h = absurd cc
-
 conv_fits : OperandLaws → (from to : Ty) (a : ℤ) → ty_fits kind.Conv from to ≡ true → narrows from to ≡ false → fits from a ≡ true → fits to a ≡ true
 conv_fits laws ty.Bool ty.Int a t n h = bool_is_int a h
 conv_fits laws ty.Bool _ a t n h = absurd cc
-conv_fits laws ty.Int to a t n h = laws.wider ty.Int to a (is_within (within ty.Int to) n) h
-conv_fits laws ty.Dint to a t n h = laws.wider ty.Dint to a (is_within (within ty.Dint to) n) h
-conv_fits laws ty.Lint to a t n h = laws.wider ty.Lint to a (is_within (within ty.Lint to) n) h
+conv_fits laws ty.Int to a t n h = laws.wider ty.Int to a (not-false (within ty.Int to) n) h
+conv_fits laws ty.Dint to a t n h = laws.wider ty.Dint to a (not-false (within ty.Dint to) n) h
+conv_fits laws ty.Lint to a t n h = laws.wider ty.Lint to a (not-false (within ty.Lint to) n) h
 
-least_to_zero : (t : Ty) → int_le (least t) (pos 0) ≡ true
-least_to_zero ty.Bool = refl
-least_to_zero ty.Int = refl
-least_to_zero ty.Dint = refl
-least_to_zero ty.Lint = refl
-
-zero_to_greatest : (t : Ty) → int_le (pos 0) (greatest t) ≡ true
-zero_to_greatest ty.Bool = refl
-zero_to_greatest ty.Int = refl
-zero_to_greatest ty.Dint = refl
-zero_to_greatest ty.Lint = refl
+zero_fits : (t : Ty) → fits t (pos 0) ≡ true
+zero_fits ty.Bool = refl
+zero_fits ty.Int = refl
+zero_fits ty.Dint = refl
+zero_fits ty.Lint = refl
 
 rest_fits : (t : Ty) (a b : ℤ) → fits t a ≡ true → fits t (int_rem a b) ≡ true
 rest_fits t a b h =
-    let parts = and_parts (int_le (least t) a) (int_le a (greatest t)) h in
-    and_from (int_le (least t) (int_rem a b)) (int_le (int_rem a b) (greatest t))
-    (passes (least t) (int_rem a b) (rest_above a b (least t) (tested (least t) a parts.0) (tested (least t) (pos 0) (least_to_zero t))))
-    (passes (int_rem a b) (greatest t) (rest_below a b (greatest t) (tested a (greatest t) parts.1) (tested (pos 0) (greatest t) (zero_to_greatest t))))
+    let zero = fits_between t (pos 0) (zero_fits t) in
+    let here = fits_between t a h in
+    let rest = rest_shrinks a b (least t) (greatest t) zero.at_least zero.at_most here.at_least here.at_most in
+    between_fits t (int_rem a b) rest.at_least rest.at_most
 
 -- The value is in the type of the operation, where the kind and the types can't take it out of it.
 value_stays : OperandLaws → (p : Place) (k : Kind) (from to : Ty) (imm : ℤ) (row : List ℤ) (a b c : ℤ) → from_fits (entry_of p k) k from ≡ true
@@ -109,26 +95,20 @@ value_stays laws p kind.And from to imm row a b c f t i own stays x y z = logic_
 value_stays laws p kind.Or from to imm row a b c f t i own stays x y z = logic_fits from to (value kind.Or imm a b c) f t (truth_fits ty.Bool _ refl)
 value_stays laws p kind.Xor from to imm row a b c f t i own stays x y z = logic_fits from to (value kind.Xor imm a b c) f t (truth_fits ty.Bool _ refl)
 value_stays laws p kind.Sel from to imm row a b c f t i own stays x y z =
-    as_read from to (value kind.Sel imm a b c) t (choice_fits from (same a (pos 0)) b c y z)
+    as_read from to (value kind.Sel imm a b c) t (cond_both (same a (pos 0)) b c (λ v. fits from v ≡ true) (λ e. y) (λ e. z))
 value_stays laws p _ from to imm row a b c f t i own stays x y z = absurd cc
-
-three : (a b c : Bool) → (a && b && c) ≡ true → (a ≡ true) × (b ≡ true) × (c ≡ true)
-three true true true h = (refl, refl, refl)
-three true true false h = absurd cc
-three true false c h = absurd cc
-three false true c h = absurd cc
-three false false c h = absurd cc
 
 -- an operation that stops because its value is outside its type can do so by its kind and types
 leaves : OperandLaws → (p : Place) (turns : ℕ) (before : List Op) (op : Op) → OpFits p turns before op → (held row vs : List ℤ) → OwnFits row op
     → outcome_of held row vs op ≡ Err stop.Range → can_leave op.kind op.from op.ty ≡ true
-leaves laws p turns before op fit held row vs own e = must (can_leave op.kind op.from op.ty) (λ stays.
+leaves laws p turns before op fit held row vs own e = true_from_ne_false (can_leave op.kind op.from op.ty) (λ stays.
     let a = operand held vs op 0 op.a in
     let b = operand held vs op 1 op.b in
     let c = operand held vs op 2 op.c in
     let says = range_says _ _ _ _ e in
-    let each = three (takes op.kind 0 op.from a) (takes op.kind 1 op.from b) (takes op.kind 2 op.from c) says.0 in
-    clash _ (value_stays laws p op.kind op.from op.ty op.imm row a b c fit.from fit.ty fit.imm own stays each.0 each.1 each.2) says.2)
+    let rest = and_parts _ (takes op.kind 2 op.from c) says.0 in
+    let each = and_parts (takes op.kind 0 op.from a) (takes op.kind 1 op.from b) rest.0 in
+    both_ways _ says.2 (value_stays laws p op.kind op.from op.ty op.imm row a b c fit.from fit.ty fit.imm own stays each.0 each.1 rest.1))
 
 -- and one that stops at a zero divisor divides
 divisor_says : (k : Kind) (y : ℤ) → divides_by_zero k y ≡ true → divides k ≡ true

@@ -2,11 +2,12 @@
 use Rattle.std.proofs.Common.{◌≡◌, ◌≢◌, ℤ, pos, ◌-ℤ◌, ◌<ℤ◌, ◌≤ℤ◌, inl, inr, Bool, true, false, ◌&&◌, ◌||◌, cond, refl, subst, arith}
 use Rattle.std.specs.Prelude.{int_lt}
 use Rattle.std.proofs.lemmas.Int.{ints}
+use Rattle.std.proofs.lemmas.Bool.{both_ways}
 use Rattle.vcp_base.specs.Kinds.{same, truth}
 use Rattle.range_walk.specs.declared.range.Range.{Range}
 use Rattle.range_walk.specs.Intervals.{IsIn}
 use Rattle.range_walk.proofs.Conditions.{said_true, said_false, and_parts, or_parts, chosen_no, chosen_yes}
-use Rattle.range_walk.proofs.ValueBounds.{is_true, same_is, is_same, true_false}
+use Rattle.range_walk.proofs.ValueBounds.{below, same_is, is_same}
 
 -- a value that is in a range without 1 isn't 1
 pub not_there : (r : Range) (v k : ℤ) → (IsIn r k → ⊥) → IsIn r v → v ≢ k
@@ -32,28 +33,16 @@ pub equal_by : (x y : ℤ) → truth (same x y) ≡ pos 1 → x ≡ y
 equal_by x y h = same_is x y (said_true (same x y) h)
 
 pub unequal_by : (x y : ℤ) → truth (same x y) ≢ pos 1 → x ≢ y
-unequal_by x y h = λ e. true_false (same x y) (is_same x y e) (said_false (same x y) h)
+unequal_by x y h = λ e. both_ways (same x y) (said_false (same x y) h) (is_same x y e)
 
 pub less_by : (x y : ℤ) → truth (int_lt x y) ≡ pos 1 → x <ℤ y
-less_by x y h = record { lt = is_true (int_lt x y) (said_true (int_lt x y) h) }
+less_by x y h = below x y (said_true (int_lt x y) h)
 
 not_less_is : (x y : ℤ) → int_lt x y ≡ false → y ≤ℤ x
 not_less_is x y h = grind (arith, ints)
 
 pub no_less_by : (x y : ℤ) → truth (int_lt x y) ≢ pos 1 → y ≤ℤ x
 no_less_by x y h = not_less_is x y (said_false (int_lt x y) h)
-
-pub and_swapped : (p q : Bool) → (p && q) ≡ (q && p)
-and_swapped true true = refl
-and_swapped true false = refl
-and_swapped false true = refl
-and_swapped false false = refl
-
-pub or_swapped : (p q : Bool) → (p || q) ≡ (q || p)
-or_swapped true true = refl
-or_swapped true false = refl
-or_swapped false true = refl
-or_swapped false false = refl
 
 pub no_taken : (r : Range) (x y z : ℤ) → IsIn r (cond (same x (pos 0)) y z) → x ≡ pos 0 → IsIn r y
 no_taken r x y z i zero = subst (λ v. IsIn r v) (chosen_no x y z (cond (same x (pos 0)) y z) refl zero) i

@@ -2,7 +2,7 @@
 use Rattle.std.proofs.Common.{◌≡◌, ◌≢◌, ℕ, ◌<◌, ℤ, pos, ◌-ℤ◌, neg_ℤ, ◌⊎◌, inl, inr, Bool, true, false, not, ◌&&◌, ◌||◌, cond, List, take, Ok, refl, sym, ap, subst, ◌∙◌, get_or-take, nat_lt, arith}
 use Rattle.std.specs.Prelude.{int_lt}
 use Rattle.std.proofs.lemmas.Int.{ints}
-use Rattle.std.proofs.lemmas.Bool.{and_parts as both_true}
+use Rattle.std.proofs.lemmas.Bool.{and_parts as both_true, or_parts as neither, and_cases, or_cases, both_ways, false_from_ne_true}
 use Rattle.vcp_base.specs.declared.kind.Kind.{Kind}
 use Rattle.vcp_base.specs.declared.kind.Kind.TheVariants as kind
 use Rattle.vcp_base.specs.Kinds.{operands, value, truth, same, divides_by_zero}
@@ -11,7 +11,7 @@ use Rattle.op_graph.specs.declared.op.Op.{Op}
 use Rattle.op_graph.specs.GraphRun.{own, read, outcome_of}
 use Rattle.range_walk.specs.Walking.{Taken, Said, Parts, Compares, reads_earlier}
 use Rattle.range_walk.proofs.Outcomes.{ok_says}
-use Rattle.range_walk.proofs.ValueBounds.{same_is, is_same, true_false, refuted}
+use Rattle.range_walk.proofs.ValueBounds.{same_is, is_same}
 
 -- ---- truths
 
@@ -35,20 +35,8 @@ said_zero b h = ap truth (said_false b h)
 
 -- ---- joined conditions
 
-one_true : (p q : Bool) → (p || q) ≡ true → (p ≡ true) ⊎ (q ≡ true)
-one_true true q h = inl refl
-one_true false q h = inr h
-
-none_true : (p q : Bool) → (p || q) ≡ false → (p ≡ false) × (q ≡ false)
-none_true true q h = absurd cc
-none_true false q h = (refl, h)
-
-one_false : (p q : Bool) → (p && q) ≡ false → (p ≡ false) ⊎ (q ≡ false)
-one_false true q h = inr h
-one_false false q h = inl refl
-
 other_than : (x k : ℤ) → same x k ≡ false → x ≢ k
-other_than x k h e = true_false (same x k) (is_same x k e) h
+other_than x k h e = both_ways (same x k) h (is_same x k e)
 
 pub parts_map : {P Q R S : Type 0} (b : Bool) → (P → R) → (Q → S) → Parts b P Q → Parts b R S
 parts_map true f g (p, q) = (f p, g q)
@@ -65,15 +53,15 @@ and_parts true x y h =
     (same_is x (pos 1) (both_true (same x (pos 1)) (same y (pos 1)) both).0, same_is y (pos 1) (both_true (same x (pos 1)) (same y (pos 1)) both).1)
 and_parts false x y h =
     parts_map {P = same x (pos 1) ≡ false} {Q = same y (pos 1) ≡ false} false (other_than x (pos 1)) (other_than y (pos 1))
-    (one_false (same x (pos 1)) (same y (pos 1)) (said_false (same x (pos 1) && same y (pos 1)) h))
+    (and_cases (same x (pos 1)) (same y (pos 1)) (said_false (same x (pos 1) && same y (pos 1)) h))
 
 pub or_parts : (t : Bool) (x y : ℤ) → Said t (truth (same x (pos 1) || same y (pos 1))) → Parts (not t) (Said t x) (Said t y)
 or_parts true x y h =
     parts_map {P = same x (pos 1) ≡ true} {Q = same y (pos 1) ≡ true} false (same_is x (pos 1)) (same_is y (pos 1))
-    (one_true (same x (pos 1)) (same y (pos 1)) (said_true (same x (pos 1) || same y (pos 1)) h))
+    (or_cases (same x (pos 1)) (same y (pos 1)) (said_true (same x (pos 1) || same y (pos 1)) h))
 or_parts false x y h =
     parts_map {P = same x (pos 1) ≡ false} {Q = same y (pos 1) ≡ false} true (other_than x (pos 1)) (other_than y (pos 1))
-    (none_true (same x (pos 1)) (same y (pos 1)) (said_false (same x (pos 1) || same y (pos 1)) h))
+    (neither (same x (pos 1)) (same y (pos 1)) (said_false (same x (pos 1) || same y (pos 1)) h))
 
 denied : (t : Bool) (x : ℤ) → (x ≡ pos 0) ⊎ (x ≡ pos 1) → Said t (pos 1 -ℤ x) → Said (not t) x
 denied true x zero_or_one h = λ e. let no : pos 1 -ℤ pos 1 ≡ pos 1 = ap (λ v. pos 1 -ℤ v) (sym e) ∙ h in absurd cc
@@ -153,7 +141,7 @@ pub chosen_no : (x y z v : ℤ) → v ≡ cond (same x (pos 0)) y z → x ≡ po
 chosen_no x y z v e zero = e ∙ ap (λ t. cond t y z) (is_same x (pos 0) zero)
 
 pub chosen_yes : (x y z v : ℤ) → v ≡ cond (same x (pos 0)) y z → x ≢ pos 0 → v ≡ z
-chosen_yes x y z v e other = e ∙ ap (λ t. cond t y z) (refuted (same x (pos 0)) (λ t. other (same_is x (pos 0) t)))
+chosen_yes x y z v e other = e ∙ ap (λ t. cond t y z) (false_from_ne_true (same x (pos 0)) (λ t. other (same_is x (pos 0) t)))
 
 -- 0 isn't 1
 pub not_one : (x : ℤ) → x ≡ pos 0 → x ≢ pos 1

@@ -1,16 +1,39 @@
--- Integers: the order of integers, and how products, quotients and remainders keep it.
-use Rattle.std.proofs.Common.{◌≡◌, ◌≢◌, ℕ, zero, suc, ◌*◌, ◌/◌, ◌%◌, ◌<◌, ◌≤◌, ℤ, pos, negsuc, neg_ℤ, ◌≤ℤ◌, ◌-ℤ◌, ◌*ℤ◌, arith, refl, sym, ap, subst, ◌∙◌, mul-le-mul_right, mod-lt}
+-- Integers: what is between two integers, and its products, quotients and remainders.
+use Rattle.std.proofs.Common.{SFits, w64, ◌≡◌, ◌≢◌, ℕ, zero, suc, ◌*◌, ◌/◌, ◌<◌, ◌≤◌, false, ℤ, pos, negsuc, neg_ℤ, ◌≤ℤ◌, ◌-ℤ◌, ◌*ℤ◌, arith, refl, sym, ap, subst, ◌∙◌, mul-le-mul_right, mod-lt}
+use mir.Syntax.{w128}
+use Rattle.std.specs.Int.{saturate_signed}
 use Rattle.std.specs.Prelude.{int_div, int_rem, unsigned_abs}
 use Rattle.std.proofs.Math.Nat.{div-le_self, div-mul-le_self, mod-le, mul-div_cancel, zero-div}
 use Rattle.std.proofs.lemmas.Nat.{le-div}
 use Rattle.std.proofs.Math.IntN.{*ℤ_comm}
 use Rattle.std.proofs.lemmas.Int.{ints}
+use Rattle.range_walk.specs.Intervals.{Between}
 
 pub le_trans : (x y z : ℤ) → x ≤ℤ y → y ≤ℤ z → x ≤ℤ z
 le_trans x y z h k = omega (arith, ints)
 
 pub le_antisym : (x y : ℤ) → x ≤ℤ y → y ≤ℤ x → x ≡ y
 le_antisym x y h k = omega (arith, ints)
+
+pub spans : (low high v : ℤ) → low ≤ℤ v → v ≤ℤ high → Between low high false v
+spans low high v l h = record { at_least = l; at_most = h; not_zero = λ e. absurd cc }
+
+amid : (low high u w v : ℤ) → Between low high false u → Between low high false w → u ≤ℤ v → v ≤ℤ w → Between low high false v
+amid low high u w v first last below above = spans low high v (le_trans low u v first.at_least below) (le_trans v w high above last.at_most)
+
+-- what is between two integers of 64 bits is one
+pub fits_amid : (low high v : ℤ) → SFits w64 low → SFits w64 high → low ≤ℤ v → v ≤ℤ high → SFits w64 v
+fits_amid low high (pos n) first last below above = record { sfits = omega (arith, ints) }
+fits_amid low high (negsuc n) first last below above = record { sfits = omega (arith, ints) }
+
+-- an integer that is cut to 128 bits is on the same side of one of 64 bits
+pub saturates_below : (z v : ℤ) → z ≤ℤ v → SFits w64 v → saturate_signed w128 z ≤ℤ v
+saturates_below (pos n) v h fits = omega (arith, ints)
+saturates_below (negsuc n) v h fits = omega (arith, ints)
+
+pub saturates_above : (z v : ℤ) → v ≤ℤ z → SFits w64 v → v ≤ℤ saturate_signed w128 z
+saturates_above (pos n) v h fits = omega (arith, ints)
+saturates_above (negsuc n) v h fits = omega (arith, ints)
 
 -- ---- negatives of naturals
 
@@ -34,34 +57,22 @@ times_down (pos a) (negsuc b) c h = absurd h.le
 times_down (negsuc a) (pos b) c h = neg_below (b * suc c) (suc a * suc c)
 times_down (negsuc a) (negsuc b) c h = let k : suc b ≤ suc a = omega (arith, ints) in let m = mul-le-mul_right (suc c) k in omega (arith, ints, m)
 
--- what is below both products of the ends is below the product
-edge_low : (l h x y m : ℤ) → l ≤ℤ x → x ≤ℤ h → m ≤ℤ (l *ℤ y) → m ≤ℤ (h *ℤ y) → m ≤ℤ (x *ℤ y)
-edge_low l h x (pos c) m low high at_low at_high = le_trans m (l *ℤ pos c) (x *ℤ pos c) at_low (times_up l x c low)
-edge_low l h x (negsuc c) m low high at_low at_high = le_trans m (h *ℤ negsuc c) (x *ℤ negsuc c) at_high (times_down x h c high)
+-- products of what is between two integers
+edge : (l h x y low high : ℤ) → l ≤ℤ x → x ≤ℤ h → Between low high false (l *ℤ y) → Between low high false (h *ℤ y) → Between low high false (x *ℤ y)
+edge l h x (pos c) low high below above first last = amid low high (l *ℤ pos c) (h *ℤ pos c) _ first last (times_up l x c below) (times_up x h c above)
+edge l h x (negsuc c) low high below above first last =
+    amid low high (h *ℤ negsuc c) (l *ℤ negsuc c) _ last first (times_down x h c above) (times_down l x c below)
 
-edge_high : (l h x y m : ℤ) → l ≤ℤ x → x ≤ℤ h → (l *ℤ y) ≤ℤ m → (h *ℤ y) ≤ℤ m → (x *ℤ y) ≤ℤ m
-edge_high l h x (pos c) m low high at_low at_high = le_trans (x *ℤ pos c) (h *ℤ pos c) m (times_up x h c high) at_high
-edge_high l h x (negsuc c) m low high at_low at_high = le_trans (x *ℤ negsuc c) (l *ℤ negsuc c) m (times_down l x c low) at_low
+turned : (x y low high : ℤ) → Between low high false (x *ℤ y) → Between low high false (y *ℤ x)
+turned x y low high b = subst (λ z. Between low high false z) (*ℤ_comm x y) b
 
-turned_low : (m x y : ℤ) → m ≤ℤ (x *ℤ y) → m ≤ℤ (y *ℤ x)
-turned_low m x y h = subst (λ z. m ≤ℤ z) (*ℤ_comm x y) h
-
-turned_high : (m x y : ℤ) → (x *ℤ y) ≤ℤ m → (y *ℤ x) ≤ℤ m
-turned_high m x y h = subst (λ z. z ≤ℤ m) (*ℤ_comm x y) h
-
-pub product_low : (l h l' h' x y m : ℤ) → l ≤ℤ x → x ≤ℤ h → l' ≤ℤ y → y ≤ℤ h' → m ≤ℤ (l *ℤ l') → m ≤ℤ (l *ℤ h') → m ≤ℤ (h *ℤ l') → m ≤ℤ (h *ℤ h')
-    → m ≤ℤ (x *ℤ y)
-product_low l h l' h' x y m low high low' high' ll lh hl hh =
-    edge_low l h x y m low high
-    (turned_low m y l (edge_low l' h' y l m low' high' (turned_low m l l' ll) (turned_low m l h' lh)))
-    (turned_low m y h (edge_low l' h' y h m low' high' (turned_low m h l' hl) (turned_low m h h' hh)))
-
-pub product_high : (l h l' h' x y m : ℤ) → l ≤ℤ x → x ≤ℤ h → l' ≤ℤ y → y ≤ℤ h' → (l *ℤ l') ≤ℤ m → (l *ℤ h') ≤ℤ m → (h *ℤ l') ≤ℤ m → (h *ℤ h') ≤ℤ m
-    → (x *ℤ y) ≤ℤ m
-product_high l h l' h' x y m low high low' high' ll lh hl hh =
-    edge_high l h x y m low high
-    (turned_high m y l (edge_high l' h' y l m low' high' (turned_high m l l' ll) (turned_high m l h' lh)))
-    (turned_high m y h (edge_high l' h' y h m low' high' (turned_high m h l' hl) (turned_high m h h' hh)))
+-- what has the four products of the ends has the product
+pub product_within : (l h l' h' x y low high : ℤ) → l ≤ℤ x → x ≤ℤ h → l' ≤ℤ y → y ≤ℤ h' → Between low high false (l *ℤ l')
+    → Between low high false (l *ℤ h') → Between low high false (h *ℤ l') → Between low high false (h *ℤ h') → Between low high false (x *ℤ y)
+product_within l h l' h' x y low high below above below' above' ll lh hl hh =
+    edge l h x y low high below above
+    (turned y l low high (edge l' h' y l low high below' above' (turned l l' low high ll) (turned l h' low high lh)))
+    (turned y h low high (edge l' h' y h low high below' above' (turned h l' low high hl) (turned h h' low high hh)))
 
 times_some : (a b : ℕ) → suc a * suc b ≢ 0
 times_some a b e = omega arith
@@ -95,43 +106,27 @@ quot_down (pos a) (negsuc b) k h = absurd h.le
 quot_down (negsuc a) (pos b) k h = neg_below (b / suc k) (suc a / suc k)
 quot_down (negsuc a) (negsuc b) k h = let m = div_mono (suc b) (suc a) k (omega (arith, ints)) in omega (arith, ints, m)
 
--- what is below the quotients of both ends is below the quotient
-pub quotient_low : (l h x k m : ℤ) → k ≢ pos 0 → l ≤ℤ x → x ≤ℤ h → m ≤ℤ int_div l k → m ≤ℤ int_div h k → m ≤ℤ int_div x k
-quotient_low l h x (pos zero) m some low high at_low at_high = absurd (some refl)
-quotient_low l h x (pos (suc k)) m some low high at_low at_high = le_trans m (int_div l (pos (suc k))) (int_div x (pos (suc k))) at_low (quot_up l x k low)
-quotient_low l h x (negsuc k) m some low high at_low at_high = le_trans m (int_div h (negsuc k)) (int_div x (negsuc k)) at_high (quot_down x h k high)
-
-pub quotient_high : (l h x k m : ℤ) → k ≢ pos 0 → l ≤ℤ x → x ≤ℤ h → int_div l k ≤ℤ m → int_div h k ≤ℤ m → int_div x k ≤ℤ m
-quotient_high l h x (pos zero) m some low high at_low at_high = absurd (some refl)
-quotient_high l h x (pos (suc k)) m some low high at_low at_high = le_trans (int_div x (pos (suc k))) (int_div h (pos (suc k))) m (quot_up x h k high) at_high
-quotient_high l h x (negsuc k) m some low high at_low at_high = le_trans (int_div x (negsuc k)) (int_div l (negsuc k)) m (quot_down l x k low) at_low
+-- what has the quotients of both ends has the quotient
+pub quotient_within : (l h x k low high : ℤ) → k ≢ pos 0 → l ≤ℤ x → x ≤ℤ h → Between low high false (int_div l k) → Between low high false (int_div h k)
+    → Between low high false (int_div x k)
+quotient_within l h x (pos zero) low high some below above first last = absurd (some refl)
+quotient_within l h x (pos (suc k)) low high some below above first last =
+    amid low high (int_div l (pos (suc k))) (int_div h (pos (suc k))) _ first last (quot_up l x k below) (quot_up x h k above)
+quotient_within l h x (negsuc k) low high some below above first last =
+    amid low high (int_div h (negsuc k)) (int_div l (negsuc k)) _ last first (quot_down x h k above) (quot_down l x k below)
 
 -- by a positive divisor a value comes nearer to 0
-pub shrinks_low : (x y m : ℤ) → pos 1 ≤ℤ y → m ≤ℤ x → m ≤ℤ pos 0 → m ≤ℤ int_div x y
-shrinks_low (pos a) (pos b) m some low zero_above = le_trans m (pos 0) (pos (a / b)) zero_above (omega (arith, ints))
-shrinks_low (negsuc a) (pos b) m some low zero_above =
-    le_trans m (negsuc a) (neg_ℤ (pos (suc a / b))) low (neg_mono (suc a) (suc a / b) (div-le_self (suc a) b))
-shrinks_low x (negsuc b) m some low zero_above = absurd some.le
-
-pub shrinks_high : (x y m : ℤ) → pos 1 ≤ℤ y → x ≤ℤ m → pos 0 ≤ℤ m → int_div x y ≤ℤ m
-shrinks_high (pos a) (pos b) m some high zero_below = let k = div-le_self a b in le_trans (pos (a / b)) (pos a) m (omega (arith, ints, k)) high
-shrinks_high (negsuc a) (pos b) m some high zero_below = le_trans (neg_ℤ (pos (suc a / b))) (pos 0) m (neg_below (suc a / b) 0) zero_below
-shrinks_high x (negsuc b) m some high zero_below = absurd some.le
+pub shrinks : (x y low high : ℤ) → pos 1 ≤ℤ y → low ≤ℤ pos 0 → pos 0 ≤ℤ high → low ≤ℤ x → x ≤ℤ high → Between low high false (int_div x y)
+shrinks (pos a) (pos b) low high some l h below above = let k = div-le_self a b in spans _ _ _ (omega (arith, ints)) (omega (arith, ints))
+shrinks (negsuc a) (pos b) low high some l h below above = let k = div-le_self (suc a) b in spans _ _ _ (omega (arith, ints)) (omega (arith, ints))
+shrinks x (negsuc b) low high some l h below above = absurd some.le
 
 -- by any divisor a value comes no further from 0
-pub sized_low : (x y s : ℤ) → neg_ℤ s ≤ℤ x → x ≤ℤ s → neg_ℤ s ≤ℤ int_div x y
-sized_low (pos a) (pos b) s low high = le_trans (neg_ℤ s) (pos 0) (pos (a / b)) (omega (arith, ints)) (omega (arith, ints))
-sized_low (pos a) (negsuc b) s low high =
-    le_trans (neg_ℤ s) (neg_ℤ (pos a)) (neg_ℤ (pos (a / suc b))) (omega (arith, ints)) (neg_mono a (a / suc b) (div-le_self a (suc b)))
-sized_low (negsuc a) (pos b) s low high = le_trans (neg_ℤ s) (negsuc a) (neg_ℤ (pos (suc a / b))) low (neg_mono (suc a) (suc a / b) (div-le_self (suc a) b))
-sized_low (negsuc a) (negsuc b) s low high = le_trans (neg_ℤ s) (pos 0) (pos (suc a / suc b)) (omega (arith, ints)) (omega (arith, ints))
-
-pub sized_high : (x y s : ℤ) → neg_ℤ s ≤ℤ x → x ≤ℤ s → int_div x y ≤ℤ s
-sized_high (pos a) (pos b) s low high = let k = div-le_self a b in le_trans (pos (a / b)) (pos a) s (omega (arith, ints, k)) high
-sized_high (pos a) (negsuc b) s low high = le_trans (neg_ℤ (pos (a / suc b))) (pos 0) s (neg_below (a / suc b) 0) (omega (arith, ints))
-sized_high (negsuc a) (pos b) s low high = le_trans (neg_ℤ (pos (suc a / b))) (pos 0) s (neg_below (suc a / b) 0) (omega (arith, ints))
-sized_high (negsuc a) (negsuc b) s low high =
-    let k = div-le_self (suc a) (suc b) in le_trans (pos (suc a / suc b)) (pos (suc a)) s (omega (arith, ints, k)) (omega (arith, ints))
+pub sized : (x y s : ℤ) → neg_ℤ s ≤ℤ x → x ≤ℤ s → Between (neg_ℤ s) s false (int_div x y)
+sized (pos a) (pos b) s low high = let k = div-le_self a b in spans _ _ _ (omega (arith, ints)) (omega (arith, ints))
+sized (pos a) (negsuc b) s low high = let k = div-le_self a (suc b) in spans _ _ _ (omega (arith, ints)) (omega (arith, ints))
+sized (negsuc a) (pos b) s low high = let k = div-le_self (suc a) b in spans _ _ _ (omega (arith, ints)) (omega (arith, ints))
+sized (negsuc a) (negsuc b) s low high = let k = div-le_self (suc a) (suc b) in spans _ _ _ (omega (arith, ints)) (omega (arith, ints))
 
 -- ---- remainders
 
@@ -145,23 +140,16 @@ abs_most (pos n) s low high = high
 abs_most (negsuc n) s low high = omega (arith, ints)
 
 -- it is smaller in size than the divisor
-pub rest_low : (x y s : ℤ) → y ≢ pos 0 → neg_ℤ s ≤ℤ y → y ≤ℤ s → (pos 1 -ℤ s) ≤ℤ int_rem x y
-rest_low (pos a) y s some low high = let k = abs_most y s low high in let j = abs_some y some in omega (arith, ints, k, j)
-rest_low (negsuc a) y s some low high = let k = abs_most y s low high in let j = mod-lt (suc a) (abs_some y some) in omega (arith, ints, k, j)
-
-pub rest_high : (x y s : ℤ) → y ≢ pos 0 → neg_ℤ s ≤ℤ y → y ≤ℤ s → int_rem x y ≤ℤ (s -ℤ pos 1)
-rest_high (pos a) y s some low high = let k = abs_most y s low high in let j = mod-lt a (abs_some y some) in omega (arith, ints, k, j)
-rest_high (negsuc a) y s some low high = let k = abs_most y s low high in let j = abs_some y some in omega (arith, ints, k, j)
+pub rest_sized : (x y s : ℤ) → y ≢ pos 0 → neg_ℤ s ≤ℤ y → y ≤ℤ s → Between (pos 1 -ℤ s) (s -ℤ pos 1) false (int_rem x y)
+rest_sized (pos a) y s some low high =
+    let k = abs_most y s low high in let j = mod-lt a (abs_some y some) in spans _ _ _ (omega (arith, ints)) (omega (arith, ints))
+rest_sized (negsuc a) y s some low high =
+    let k = abs_most y s low high in let j = mod-lt (suc a) (abs_some y some) in spans _ _ _ (omega (arith, ints)) (omega (arith, ints))
 
 -- it is no further from 0 than the dividend
-pub rest_above : (x y m : ℤ) → m ≤ℤ x → m ≤ℤ pos 0 → m ≤ℤ int_rem x y
-rest_above (pos a) y m low zero_above = le_trans m (pos 0) (pos (a % unsigned_abs y)) zero_above (omega (arith, ints))
-rest_above (negsuc a) y m low zero_above =
-    le_trans m (negsuc a) (neg_ℤ (pos (suc a % unsigned_abs y))) low (neg_mono (suc a) (suc a % unsigned_abs y) (mod-le (suc a) (unsigned_abs y)))
-
-pub rest_below : (x y m : ℤ) → x ≤ℤ m → pos 0 ≤ℤ m → int_rem x y ≤ℤ m
-rest_below (pos a) y m high zero_below = let k = mod-le a (unsigned_abs y) in le_trans (pos (a % unsigned_abs y)) (pos a) m (omega (arith, ints, k)) high
-rest_below (negsuc a) y m high zero_below = le_trans (neg_ℤ (pos (suc a % unsigned_abs y))) (pos 0) m (neg_below (suc a % unsigned_abs y) 0) zero_below
+pub rest_shrinks : (x y low high : ℤ) → low ≤ℤ pos 0 → pos 0 ≤ℤ high → low ≤ℤ x → x ≤ℤ high → Between low high false (int_rem x y)
+rest_shrinks (pos a) y low high l h below above = let k = mod-le a (unsigned_abs y) in spans _ _ _ (omega (arith, ints)) (omega (arith, ints))
+rest_shrinks (negsuc a) y low high l h below above = let k = mod-le (suc a) (unsigned_abs y) in spans _ _ _ (omega (arith, ints)) (omega (arith, ints))
 
 -- ---- quotients of products
 

@@ -2,6 +2,7 @@
 use Rattle.std.proofs.Common.{◌≡◌, ℕ, ◌<◌, ℤ, pos, Bool, true, false, cond, List, refl, sym, ap, subst, ◌∙◌, nat_lt, arith}
 use borrow.Author.Tests.{ltb-true, lt-true}
 use Rattle.std.specs.Prelude.{unsigned_abs}
+use Rattle.std.proofs.lemmas.Bool.{cond-true}
 use Rattle.vcp_base.specs.declared.kind.Kind.{Kind}
 use Rattle.vcp_base.specs.declared.kind.Kind.TheVariants as kind
 use Rattle.vcp_base.specs.Values.{at}
@@ -34,17 +35,14 @@ operand_none r b v is h = subst (λ t. IsIn r (cond t v (pos 0))) (sym is) h
 
 -- ---- one operation that is read twice
 
-cond_true : (b : Bool) (v : ℤ) → b ≡ true → cond b v (pos 0) ≡ v
-cond_true b v is = ap (λ t. cond t v (pos 0)) is
-
 more_than_none : (n : ℕ) → nat_lt 1 n ≡ true → nat_lt 0 n ≡ true
 more_than_none n h = let more : 1 < n = ltb-true 1 n h in sym (lt-true 0 n (omega arith))
 
 pub same_operands : (held vs : List ℤ) (op : Op) → nat_lt 1 (operands op.kind) ≡ true → op.a ≡ op.b → operand held vs op 0 op.a ≡ operand held vs op 1 op.b
 same_operands held vs op has same =
-    cond_true (nat_lt 0 (operands op.kind)) (read held vs op.kind op.imm op.a) (more_than_none (operands op.kind) has)
+    cond-true (nat_lt 0 (operands op.kind)) (read held vs op.kind op.imm op.a) (pos 0) (more_than_none (operands op.kind) has)
     ∙ ap (λ n. read held vs op.kind op.imm n) same
-    ∙ sym (cond_true (nat_lt 1 (operands op.kind)) (read held vs op.kind op.imm op.b) has)
+    ∙ sym (cond-true (nat_lt 1 (operands op.kind)) (read held vs op.kind op.imm op.b) (pos 0) has)
 
 -- ---- what a SEL reads
 

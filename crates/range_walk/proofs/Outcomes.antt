@@ -1,5 +1,6 @@
 -- Outcomes: what is told of an operation holds, where its bounds do.
 use Rattle.std.proofs.Common.{◌≡◌, ◌≢◌, ℤ, Bool, true, false, not, cond, List, Ok, Err, refl, sym, ap, subst, ◌⊎◌, inl, inr}
+use Rattle.std.proofs.lemmas.Bool.{both_ways, true_from_ne_false, false_from_ne_true, not_from_false}
 use Rattle.vcp_base.specs.declared.kind.Kind.{Kind}
 use Rattle.vcp_base.specs.declared.kind.Kind.TheVariants as kind
 use Rattle.vcp_base.specs.declared.kind.StopKind.{StopKind}
@@ -38,18 +39,6 @@ range_says true false true w h = absurd cc
 range_says true false false w h = (refl, refl, refl)
 range_says false b c w h = absurd cc
 
-pub must : (d : Bool) → (d ≡ false → ⊥) → d ≡ true
-must true h = refl
-must false h = absurd (h refl)
-
-must_not : (f : Bool) → (f ≡ true → ⊥) → not f ≡ true
-must_not true h = absurd (h refl)
-must_not false h = refl
-
-pub clash : (b : Bool) → b ≡ true → b ≡ false → ⊥
-clash true h k = cc
-clash false h k = cc
-
 own_is : (row : List ℤ) (k : Kind) (imm : ℤ) → is_input k ≡ false → own row k imm ≡ imm
 own_is row kind.Input imm h = absurd cc
 own_is row _ imm h = refl
@@ -75,8 +64,8 @@ computed_tells held row vs op bounds r fit div_zero no_input divides within type
           met v (subst (λ w. fits op.ty w ≡ true) says.2 says.1) (subst (λ w. IsWithin bounds w) says.2 (inside says.0));
       stop = λ why own_fits no e.
           elim (err_says _ _ _ _ why e no) [
-            | inl p ↦ subst (λ w. may_stop w (record { range = not fit; div_zero = div_zero }) ≡ true) (sym p.1) (must div_zero (λ d. clash _ p.0 (divides d)))
+            | inl p ↦ subst (λ w. may_stop w (record { range = not fit; div_zero = div_zero }) ≡ true) (sym p.1) (true_from_ne_false div_zero (λ d. both_ways _ (divides d) p.0))
             | inr p ↦ subst (λ w. may_stop w (record { range = not fit; div_zero = div_zero }) ≡ true) (sym p.2)
-                (must_not fit (λ f. clash _ (typed f _ (inside p.0)) p.1))
+                (not_from_false fit (false_from_ne_true fit (λ f. both_ways _ p.1 (typed f _ (inside p.0)))))
           ];
     }

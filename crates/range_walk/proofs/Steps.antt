@@ -1,6 +1,5 @@
 -- Steps: what a loop over the operations keeps.
-use Rattle.std.proofs.Common.{◌≡◌, ◌≢◌, ℕ, zero, suc, ◌+◌, ◌<◌, ℤ, pos, true, List, [], ◌∷◌, ◌++◌, length, take, slice_get, Some, Ok, Err, refl, sym, subst, ◌∙◌, length-take-le, get_or-take, take-take, arith, below_more}
-use Rattle.std.proofs.lemmas.List.{length_push}
+use Rattle.std.proofs.Common.{◌≡◌, ◌≢◌, ℕ, zero, suc, ◌<◌, ℤ, pos, true, List, [], ◌∷◌, ◌++◌, length, take, slice_get, Some, Ok, Err, refl, sym, subst, length-take-le, get_or-take, take-take, arith}
 use Rattle.std.proofs.lemmas.Option.{slice_get_within}
 use Rattle.vcp_base.specs.declared.kind.StopKind.{StopKind}
 use Rattle.vcp_base.specs.declared.kind.StopKind.TheVariants as stop
@@ -28,26 +27,23 @@ get_there [] i lt = absurd (omega arith)
 get_there (x ∷ xs) zero lt = (x, refl)
 get_there (x ∷ xs) (suc i) lt = get_there xs i (omega arith)
 
-get_front : {X : Type 0} (xs ys : List X) (i : ℕ) → i < length xs → slice_get (xs ++ ys) i ≡ slice_get xs i
-get_front [] ys i lt = absurd (omega arith)
-get_front (x ∷ xs) ys zero lt = refl
-get_front (x ∷ xs) ys (suc i) lt = get_front xs ys i (omega arith)
+-- what holds at each place of a list
+abbrev pub Each : {X : Type 0} → (ℕ → X → Type 0) → List X → Type 0
+Each {X = X} P xs = (k : ℕ) (x : X) → slice_get xs k ≡ Some x → P k x
 
-get_last : {X : Type 0} (xs : List X) (x : X) (i : ℕ) → length xs ≡ i → slice_get (xs ++ x ∷ []) i ≡ Some x
-get_last [] x zero e = refl
-get_last [] x (suc i) e = absurd (omega arith)
-get_last (y ∷ xs) x zero e = absurd (omega arith)
-get_last (y ∷ xs) x (suc i) e = get_last xs x i (omega arith)
+each_more : {X : Type 0} (P : ℕ → X → Type 0) (xs : List X) (x : X) → Each P xs → P (length xs) x → Each P (xs ++ x ∷ [])
+each_more P [] x each last zero y there = let same : x ≡ y = cc in subst (λ z. P 0 z) same last
+each_more P [] x each last (suc k) y there = absurd cc
+each_more P (z ∷ xs) x each last zero y there = each zero y there
+each_more P (z ∷ xs) x each last (suc k) y there = each_more (λ j. P (suc j)) xs x (λ j. each (suc j)) last k y there
 
--- what holds at each place of a list, and of one more item, holds at each place of the longer list
-pub all_more : {X : Type 0} (P : ℕ → X → Type 0) (xs : List X) (x : X) → ((k : ℕ) (y : X) → slice_get xs k ≡ Some y → P k y) → P (length xs) x → (k : ℕ) (y : X)
-    → slice_get (xs ++ x ∷ []) k ≡ Some y → P k y
-all_more P xs x each last k y there =
-    let Q : ℕ → Type 0 = λ j. slice_get (xs ++ x ∷ []) j ≡ Some y → P j y in
-    let below : (j : ℕ) → j < length xs → Q j = λ j lt e. each j y (sym (get_front xs (x ∷ []) j lt) ∙ e) in
-    let here : Q (length xs) = λ e. let f = get_last xs x (length xs) refl in let same : x ≡ y = cc in subst (λ z. P (length xs) z) same last in
-    let within : k < length xs + 1 = omega (arith, slice_get_within (xs ++ x ∷ []) k y there, length_push xs x) in
-    below_more Q (length xs) below here k within there
+pub each_none : {X : Type 0} (P : ℕ → X → Type 0) (xs : List X) → xs ≡ [] → Each P xs
+each_none P [] e k x there = absurd cc
+each_none P (y ∷ xs) e k x there = absurd cc
+
+-- of one more item
+pub each_push : {X : Type 0} (P : ℕ → X → Type 0) (xs ys : List X) (x : X) (i : ℕ) → ys ≡ xs ++ x ∷ [] → length xs ≡ i → Each P xs → P i x → Each P ys
+each_push P xs ys x i e many each here = subst (λ zs. Each P zs) (sym e) (each_more P xs x each (subst (λ n. P n x) (sym many) here))
 
 operand_is : (before : List Op) (stores : List ℕ) (cells : ℕ) (k : Kind) (imm : ℤ) (n : ℕ) → length stores ≡ cells → OperandThere before stores k imm n
     → OperandIs cells (length before) k imm n
@@ -75,15 +71,22 @@ abbrev pub TellsAt : List Op → List Range → List Range → List Range → �
 TellsAt ops cells inputs known i t = (held row vs : List ℤ) (op : Op) → slice_get ops i ≡ Some op → Hold cells held → RowIn inputs row → Given ops held row vs
     → Fit known vs → length vs ≡ i → Tells held row vs op t
 
--- the first operations are in these ranges
-abbrev pub FitsSoFar : List Op → List Range → List Range → List Range → Type 0
-FitsSoFar ops cells inputs known = (held row vs : List ℤ) → Hold cells held → RowIn inputs row → Given ops held row vs → Fit known vs
+-- operation k is in the range
+abbrev pub FitsAt : List Op → List Range → List Range → ℕ → Range → Type 0
+FitsAt ops cells inputs k r = (held row vs : List ℤ) → Hold cells held → RowIn inputs row → Given ops held row vs → k < length vs → IsIn r (at vs k)
 
--- each of the first operations stops only as it is named
-abbrev pub NamesSoFar : List Op → List Range → List Range → List Stops → Type 0
-NamesSoFar ops cells inputs stops = (held row vs : List ℤ) (op : Op) (why : StopKind) → length vs < length stops → Hold cells held → RowIn inputs row → Given ops held row vs
-    → slice_get ops (length vs) ≡ Some op → OwnFits row op → why ≢ stop.Operand → outcome_of held row vs op ≡ Err why
-    → is_named why (slice_get stops (length vs)) ≡ true
+-- operation k stops only as it is named
+abbrev pub NamesAt : List Op → List Range → List Range → ℕ → Stops → Type 0
+NamesAt ops cells inputs k s = (held row vs : List ℤ) (op : Op) (why : StopKind) → Hold cells held → RowIn inputs row → Given ops held row vs → length vs ≡ k
+    → slice_get ops k ≡ Some op → OwnFits row op → why ≢ stop.Operand → outcome_of held row vs op ≡ Err why → may_stop why s ≡ true
+
+-- operation k may stop only so as its kind and types allow
+abbrev pub AbleAt : List Op → ℕ → Stops → Type 0
+AbleAt ops k s = (op : Op) (why : StopKind) → slice_get ops k ≡ Some op → may_stop why s ≡ true → can_stop_so why op ≡ true
+
+-- the range of operation k lies within its type
+abbrev pub LiesAt : List Op → ℕ → Range → Type 0
+LiesAt ops k r = (op : Op) → slice_get ops k ≡ Some op → LiesIn op.ty r
 
 pub fit_front : (known : List Range) (vs : List ℤ) (i : ℕ) → i < length vs → Fit known vs → Fit known (take i vs)
 fit_front known vs i lt fit = λ k r below there.
@@ -103,84 +106,33 @@ given_front ops held row vs i lt given =
           (subst (λ w. outcome_of held row (take j vs) op ≡ Ok w) (sym (get_or-take i vs j (pos 0) first)) (given.each j op (omega arith) there));
     }
 
-pub fits_more : (ops : List Op) (cells inputs known : List Range) (i : ℕ) (t : Told) → length known ≡ i → i < length ops → TellsAt ops cells inputs known i t
-    → FitsSoFar ops cells inputs known → FitsSoFar ops cells inputs (known ++ t.range ∷ [])
-fits_more ops cells inputs known i t many within tells fits = λ held row vs hold inside given.
-    let fit : Fit known vs = fits held row vs hold inside given in
+pub fits_here : (ops : List Op) (cells inputs known : List Range) (i : ℕ) (t : Told) → i < length ops → TellsAt ops cells inputs known i t
+    → Each (FitsAt ops cells inputs) known → FitsAt ops cells inputs i t.range
+fits_here ops cells inputs known i t within tells fits = λ held row vs hold inside given lt.
     let op = get_there ops i within in
-    let here : length known < length vs → IsIn t.range (at vs (length known)) = λ lt.
-    let lt' : i < length vs = omega arith in
+    let fit : Fit known vs = λ k r below there. fits k r there held row vs hold inside given below in
     let told : Tells held row (take i vs) op.0 t =
-    tells held row (take i vs) op.0 op.1 hold inside (given_front ops held row vs i lt' given) (fit_front known vs i lt' fit) (length-take-le i vs (omega arith)) in
-    subst (λ n. IsIn t.range (at vs n)) (sym many) (told.value (at vs i) (given.each i op.0 lt' op.1)) in
-    λ k r lt there.
-    all_more (λ j r. j < length vs → IsIn r (at vs j)) known t.range (λ j r e lt. fit j r lt e) here k r there lt
+    tells held row (take i vs) op.0 op.1 hold inside (given_front ops held row vs i lt given) (fit_front known vs i lt fit) (length-take-le i vs (omega arith)) in
+    told.value (at vs i) (given.each i op.0 lt op.1)
 
-pub names_more : (ops : List Op) (cells inputs known : List Range) (stops : List Stops) (i : ℕ) (t : Told) → length stops ≡ i → TellsAt ops cells inputs known i t
-    → FitsSoFar ops cells inputs known → NamesSoFar ops cells inputs stops → NamesSoFar ops cells inputs (stops ++ t.stops ∷ [])
-names_more ops cells inputs known stops i t many tells fits names = λ held row vs op why lt hold inside given there own no e.
-    let P : ℕ → Type 0 = λ n. n ≡ length vs → is_named why (slice_get (stops ++ t.stops ∷ []) n) ≡ true in
-    let below : (n : ℕ) → n < length stops → P n = λ n less same.
-    let less' : length vs < length stops = omega arith in
-    let named : is_named why (slice_get stops n) ≡ true =
-    subst (λ m. is_named why (slice_get stops m) ≡ true) (sym same) (names held row vs op why less' hold inside given there own no e) in
-    subst (λ s. is_named why s ≡ true) (sym (get_front stops (t.stops ∷ []) n less)) named in
-    let here : P (length stops) = λ same.
-    let place : length vs ≡ i = omega arith in
+pub names_here : (ops : List Op) (cells inputs known : List Range) (i : ℕ) (t : Told) → TellsAt ops cells inputs known i t
+    → Each (FitsAt ops cells inputs) known → NamesAt ops cells inputs i t.stops
+names_here ops cells inputs known i t tells fits = λ held row vs op why hold inside given place there own no e.
     let told : Tells held row vs op t =
-    tells held row vs op (subst (λ m. slice_get ops m ≡ Some op) place there) hold inside given (fits held row vs hold inside given) place in
-    subst (λ s. is_named why s ≡ true) (sym (get_last stops t.stops (length stops) refl)) (told.stop why own no e) in
-    let within : length vs < length stops + 1 = omega (arith, length_push stops t.stops) in
-    below_more P (length stops) below here (length vs) within refl
-
-pub fits_none : (ops : List Op) (cells inputs known : List Range) → known ≡ [] → FitsSoFar ops cells inputs known
-fits_none ops cells inputs [] e = λ held row vs hold inside given k r lt there. absurd cc
-fits_none ops cells inputs (r ∷ known) e = absurd cc
-
-pub names_none : (ops : List Op) (cells inputs : List Range) (stops : List Stops) → stops ≡ [] → NamesSoFar ops cells inputs stops
-names_none ops cells inputs [] e = λ held row vs op why lt hold inside given there own no is. absurd (omega arith)
-names_none ops cells inputs (s ∷ stops) e = absurd cc
-
--- each of the first operations may stop only so as its kind and types allow
-abbrev pub AbleSoFar : List Op → List Stops → Type 0
-AbleSoFar ops stops = (i : ℕ) (s : Stops) → slice_get stops i ≡ Some s → (op : Op) (why : StopKind) → slice_get ops i ≡ Some op → may_stop why s ≡ true
-    → can_stop_so why op ≡ true
-
--- the range of each of the first operations lies within its type
-abbrev pub LieSoFar : List Op → List Range → Type 0
-LieSoFar ops known = (i : ℕ) (r : Range) → slice_get known i ≡ Some r → (op : Op) → slice_get ops i ≡ Some op → LiesIn op.ty r
-
-pub able_none : (ops : List Op) (stops : List Stops) → stops ≡ [] → AbleSoFar ops stops
-able_none ops [] e = λ i s there. absurd cc
-able_none ops (s ∷ stops) e = absurd cc
-
-pub lie_none : (ops : List Op) (known : List Range) → known ≡ [] → LieSoFar ops known
-lie_none ops [] e = λ i r there. absurd cc
-lie_none ops (r ∷ known) e = absurd cc
-
-pub able_more : (ops : List Op) (stops : List Stops) (s : Stops) (i : ℕ) → length stops ≡ i
-    → ((op : Op) (why : StopKind) → slice_get ops i ≡ Some op → may_stop why s ≡ true → can_stop_so why op ≡ true) → AbleSoFar ops stops
-    → AbleSoFar ops (stops ++ s ∷ [])
-able_more ops stops s i many here able =
-    let last = subst (λ n. (op : Op) (why : StopKind) → slice_get ops n ≡ Some op → may_stop why s ≡ true → can_stop_so why op ≡ true) (sym many) here in
-    all_more (λ k t. (op : Op) (why : StopKind) → slice_get ops k ≡ Some op → may_stop why t ≡ true → can_stop_so why op ≡ true) stops s able last
-
-pub lie_more : (ops : List Op) (known : List Range) (r : Range) (i : ℕ) → length known ≡ i → ((op : Op) → slice_get ops i ≡ Some op → LiesIn op.ty r)
-    → LieSoFar ops known → LieSoFar ops (known ++ r ∷ [])
-lie_more ops known r i many here lie =
-    let last = subst (λ n. (op : Op) → slice_get ops n ≡ Some op → LiesIn op.ty r) (sym many) here in
-    all_more (λ k t. (op : Op) → slice_get ops k ≡ Some op → LiesIn op.ty t) known r lie last
+    tells held row vs op there hold inside given (λ k r below is. fits k r is held row vs hold inside given below) place in
+    told.stop why own no e
 
 pub whole_walk : (ops : List Op) (cells inputs known : List Range) (stops : List Stops) → length known ≡ length ops → length stops ≡ length ops
-    → FitsSoFar ops cells inputs known → NamesSoFar ops cells inputs stops → AbleSoFar ops stops → LieSoFar ops known
+    → Each (FitsAt ops cells inputs) known → Each (NamesAt ops cells inputs) stops → Each (AbleAt ops) stops → Each (LiesAt ops) known
     → IsWalk ops cells inputs (record { known = known; stops = stops })
 whole_walk ops cells inputs known stops known_many stops_many fits names able lie = record {
   known_many = known_many;
   stops_many = stops_many;
-  fits = λ held row vs hold inside given. fits held row vs hold inside given;
+  fits = λ held row vs hold inside given k r below there. fits k r there held row vs hold inside given below;
   names = λ held row vs op why hold inside given there own no e.
       let lt = slice_get_within ops (length vs) op there in
-      names held row vs op why (omega (arith, lt)) hold inside given there own no e;
+      let s = get_there stops (length vs) (omega (arith, lt)) in
+      subst (λ o. is_named why o ≡ true) (sym s.1) (names (length vs) s.0 s.1 held row vs op why hold inside given refl there own no e);
   able = λ i op why there named. named_able op why (slice_get stops i) (λ s is may. able i s is op why there may) named;
   types = λ i op r there is. lie i r is op there;
 }

@@ -103,9 +103,8 @@ fn of_either_sign(r: Range, no: Range, yes: Range) -> Range
     ensures same { (x : ℤ) → IsIn r x → IsIn no x → IsIn result x }
     ensures opposite { (x : ℤ) → IsIn r (neg_ℤ x) → IsIn yes x → IsIn result x }
 {
-    let bounds = r.bounds();
     let opposite = negated(r);
-    let positive = no.met(bounds);
+    let positive = no.shared(r);
     let negative = yes.met(opposite);
     positive.joined(negative)
 }
@@ -157,8 +156,7 @@ fn through_comparison(graph: &Graph, known: &[Range], c: u32, truth: bool, n: u3
         let b = by_comparison(graph, known, c, truth, op.b);
         let first = made_of(graph, known, op.a, a, n);
         let second = made_of(graph, known, op.b, b, n);
-        let bounds = second.bounds();
-        return first.met(bounds);
+        return first.shared(second);
     }
     earlier_range(known, n)
 }
@@ -168,8 +166,7 @@ fn connected(both: bool, first: Range, second: Range) -> Range
     ensures { (v : ℤ) → Parts both (IsIn first v) (IsIn second v) → IsIn result v }
 {
     if both {
-        let bounds = second.bounds();
-        return first.met(bounds);
+        return first.shared(second);
     }
     first.joined(second)
 }

@@ -19,8 +19,7 @@ fn within_input(inputs: &[Range], place: usize, range: Range) -> Range
         return range;
     }
     let input = range_at(inputs, place);
-    let bounds = input.bounds();
-    range.met(bounds)
+    range.shared(input)
 }
 
 /// What is found of operation `i`, on a row whose inputs are in these ranges.

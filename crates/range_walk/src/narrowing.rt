@@ -24,8 +24,7 @@ pub fn put(ranges: &mut [Range], n: u32, r: Range)
     ensures fits { (vs : List ℤ) → n < length vs → Fit ranges.old vs → IsIn r (at vs n) → Fit ranges.new vs }
 {
     let before = earlier_range(ranges, n);
-    let bounds = r.bounds();
-    ranges[n as usize] = before.met(bounds);
+    ranges[n as usize] = before.shared(r);
 }
 
 /// The first ranges.

@@ -19,14 +19,6 @@ pub(crate) fn said_range(a: Range, truth: bool) -> Range
     a.without_value(1)
 }
 
-/// The range of x, whose value is in `r` too.
-fn copied(r: Range, a: Range) -> Range
-    ensures { (x : ℤ) → IsIn r x → IsIn a x → IsIn result x }
-{
-    let bounds = r.bounds();
-    a.met(bounds)
-}
-
 /// The range of x, where 1 - x is in `r`.
 fn denied(r: Range, a: Range) -> Range
     ensures { (x : ℤ) → IsIn r (pos 1 -ℤ x) → IsIn a x → IsIn result x }
@@ -76,8 +68,7 @@ fn equal_to(r: Range, a: Range, b: Range) -> Range
 {
     let yes = r.is_only(1);
     if yes {
-        let bounds = b.bounds();
-        return a.met(bounds);
+        return a.shared(b);
     }
     let no = r.excludes(1);
     if no {
@@ -175,7 +166,7 @@ fn taken_where_no(r: Range, a: Range, b: Range) -> Range
 {
     let no = a.is_only(0);
     if no {
-        return copied(r, b);
+        return b.shared(r);
     }
     b
 }
@@ -186,7 +177,7 @@ fn taken_where_yes(r: Range, a: Range, c: Range) -> Range
 {
     let yes = a.excludes(0);
     if yes {
-        return copied(r, c);
+        return c.shared(r);
     }
     c
 }
@@ -211,7 +202,7 @@ fn dividend(r: Range, a: Range, b: Range) -> Range
     if some {
         let multiple = product(r, b);
         let remainder = rest(a, b);
-        let bounds = sum_within(multiple, remainder, a);
+        let bounds = sum_within(multiple, remainder);
         return a.met(bounds);
     }
     a
@@ -222,7 +213,7 @@ pub(crate) fn first_operand(kind: Kind, r: Range, a: Range, b: Range, c: Range) 
     ensures { (imm x y z : ℤ) → IsIn r (value_of kind imm x y z) → IsIn a x → IsIn b y → IsIn c z → IsIn result x }
 {
     match kind {
-        Kind::Store | Kind::Out | Kind::Conv => copied(r, a),
+        Kind::Store | Kind::Out | Kind::Conv => a.shared(r),
         Kind::Not => denied(r, a),
         Kind::And => joined_by_and(r, a, b),
         Kind::Or => joined_by_or(r, a, b),

@@ -69,31 +69,6 @@ pub fn either_holds(x: bool, y: bool) -> bool
     x || y
 }
 
-/// The same integer, with more bits.
-pub(crate) fn wide(x: i64) -> i128
-    ensures { result ≡ x }
-{
-    x as i128
-}
-
-/// The lesser of two integers.
-pub(crate) fn lesser(x: i128, y: i128) -> i128
-    ensures first { result ≤ℤ x }
-    ensures second { result ≤ℤ y }
-    ensures one { (result ≡ x) ⊎ (result ≡ y) }
-{
-    if x < y { x } else { y }
-}
-
-/// The larger of two integers.
-pub(crate) fn larger(x: i128, y: i128) -> i128
-    ensures first { x ≤ℤ result }
-    ensures second { y ≤ℤ result }
-    ensures one { (result ≡ x) ⊎ (result ≡ y) }
-{
-    if x < y { y } else { x }
-}
-
 /// The range at place `i`.
 pub fn range_at(ranges: &[Range], i: usize) -> Range
     requires { i < length ranges.now }
@@ -108,16 +83,6 @@ pub fn earlier_range(known: &[Range], n: u32) -> Range
     ensures { slice_get known.now n ≡ Some result }
 {
     range_at(known, n as usize)
-}
-
-/// The next integer of 64 bits, where there is one.
-fn next(m: i64) -> i64
-    ensures { (v : ℤ) → m <ℤ v → result ≤ℤ v }
-{
-    if m == i64::MAX {
-        return m;
-    }
-    m + 1
 }
 
 impl Range {
@@ -147,9 +112,8 @@ impl Range {
     pub fn above(self, m: i64) -> Range
         ensures { (v : ℤ) → IsIn self v → m <ℤ v → IsIn result v }
     {
-        let low = next(m);
         Range {
-            low,
+            low: m.saturating_add(1),
             high: self.high,
             nonzero: self.nonzero,
         }
@@ -159,31 +123,11 @@ impl Range {
     pub fn of_type(ty: Ty) -> Range
         ensures { (v : ℤ) → fits_of ty v ≡ true → IsIn result v }
     {
-        let low = least(ty);
-        let high = greatest(ty);
         Range {
-            low,
-            high,
+            low: least(ty),
+            high: greatest(ty),
             nonzero: false,
         }
-    }
-
-    /// The low end of the range without what is below the type.
-    fn low_in(self, ty: Ty) -> i64
-        ensures least { least_of ty ≤ℤ result }
-        ensures below { (v : ℤ) → IsIn self v → fits_of ty v ≡ true → result ≤ℤ v }
-    {
-        let first = least(ty);
-        if first < self.low { self.low } else { first }
-    }
-
-    /// The high end of the range without what is above the type.
-    fn high_in(self, ty: Ty) -> i64
-        ensures greatest { result ≤ℤ greatest_of ty }
-        ensures above { (v : ℤ) → IsIn self v → fits_of ty v ≡ true → v ≤ℤ result }
-    {
-        let last = greatest(ty);
-        if self.high < last { self.high } else { last }
     }
 
     /// The values of the range that are of the type.
@@ -191,11 +135,9 @@ impl Range {
         ensures holds { (v : ℤ) → IsIn self v → fits_of ty v ≡ true → IsIn result v }
         ensures lies { LiesIn ty result }
     {
-        let low = self.low_in(ty);
-        let high = self.high_in(ty);
         Range {
-            low,
-            high,
+            low: self.low.max(least(ty)),
+            high: self.high.min(greatest(ty)),
             nonzero: self.nonzero,
         }
     }
@@ -232,38 +174,12 @@ impl Range {
         }
     }
 
-    /// The low end of what is met.
-    fn low_met(self, bounds: Bounds) -> i64
-        ensures { (v : ℤ) → IsIn self v → IsWithin bounds v → result ≤ℤ v }
-    {
-        if bounds.low <= self.low as i128 {
-            return self.low;
-        }
-        if bounds.low <= i64::MAX as i128 {
-            return bounds.low as i64;
-        }
-        i64::MAX
-    }
-
-    /// The high end of it.
-    fn high_met(self, bounds: Bounds) -> i64
-        ensures { (v : ℤ) → IsIn self v → IsWithin bounds v → v ≤ℤ result }
-    {
-        if self.high as i128 <= bounds.high {
-            return self.high;
-        }
-        if (i64::MIN as i128) <= bounds.high {
-            return bounds.high as i64;
-        }
-        i64::MIN
-    }
-
     /// The values of the range that are within these bounds.
     pub(crate) fn met(self, bounds: Bounds) -> Range
         ensures { (v : ℤ) → IsIn self v → IsWithin bounds v → IsIn result v }
     {
-        let low = self.low_met(bounds);
-        let high = self.high_met(bounds);
+        let low = bounds.low.clamp(self.low as i128, i64::MAX as i128) as i64;
+        let high = bounds.high.clamp(i64::MIN as i128, self.high as i128) as i64;
         let nonzero = either_holds(self.nonzero, bounds.nonzero);
         let met = Range { low, high, nonzero };
         met.tightened()
@@ -286,10 +202,18 @@ impl Range {
         ensures { (v : ℤ) → IsIn self v → IsWithin result v }
     {
         Bounds {
-            low: wide(self.low),
-            high: wide(self.high),
+            low: self.low as i128,
+            high: self.high as i128,
             nonzero: self.nonzero,
         }
+    }
+
+    /// The values that are in both ranges.
+    pub(crate) fn shared(self, other: Range) -> Range
+        ensures { (v : ℤ) → IsIn self v → IsIn other v → IsIn result v }
+    {
+        let bounds = other.bounds();
+        self.met(bounds)
     }
 
     /// Whether no value is in the range.
@@ -322,26 +246,6 @@ impl Range {
         self.low >= 0 && self.high <= 1
     }
 
-    /// The low end of the range without `k`.
-    fn low_without(self, k: i64) -> i64
-        ensures { (v : ℤ) → IsIn self v → v ≢ k → result ≤ℤ v }
-    {
-        if self.low != k || k == i64::MAX {
-            return self.low;
-        }
-        k + 1
-    }
-
-    /// The high end of it.
-    fn high_without(self, k: i64) -> i64
-        ensures { (v : ℤ) → IsIn self v → v ≢ k → v ≤ℤ result }
-    {
-        if self.high != k || k == i64::MIN {
-            return self.high;
-        }
-        k - 1
-    }
-
     /// The values of the range but `k`, where that is an end of it, or 0.
     pub(crate) fn without_value(self, k: i64) -> Range
         ensures { (v : ℤ) → IsIn self v → v ≢ k → IsIn result v }
@@ -349,13 +253,13 @@ impl Range {
         if k == 0 {
             return self.without_zero();
         }
-        let low = self.low_without(k);
-        let high = self.high_without(k);
-        Range {
-            low,
-            high,
-            nonzero: self.nonzero,
+        if self.low == k {
+            return self.above(k);
         }
+        if self.low < k && self.high == k {
+            return self.up_to(k - 1);
+        }
+        self
     }
 
     /// The values of the range that aren't equal to one in the other range, as far as that is seen: where that has one value.
@@ -368,30 +272,6 @@ impl Range {
             return self.without_value(k);
         }
         self
-    }
-
-    /// The lesser of the two low ends.
-    fn least_low(self, other: Range) -> i64
-        ensures first { result ≤ℤ self.low }
-        ensures second { result ≤ℤ other.low }
-    {
-        if self.low < other.low {
-            self.low
-        } else {
-            other.low
-        }
-    }
-
-    /// The larger of the two high ends.
-    fn greatest_high(self, other: Range) -> i64
-        ensures first { self.high ≤ℤ result }
-        ensures second { other.high ≤ℤ result }
-    {
-        if self.high < other.high {
-            other.high
-        } else {
-            self.high
-        }
     }
 
     /// The values of both ranges, and those between them; of one of the two where the other has none.
@@ -407,10 +287,11 @@ impl Range {
         if none_there {
             return self;
         }
-        let low = self.least_low(other);
-        let high = self.greatest_high(other);
-        let nonzero = both_hold(self.nonzero, other.nonzero);
-        Range { low, high, nonzero }
+        Range {
+            low: self.low.min(other.low),
+            high: self.high.max(other.high),
+            nonzero: both_hold(self.nonzero, other.nonzero),
+        }
     }
 
     /// Whether each value of the range is in the other one.
@@ -433,61 +314,12 @@ impl Bounds {
         }
     }
 
-    /// The lesser of the two low ends.
-    fn least_low(self, other: Bounds) -> i128
-        ensures first { result ≤ℤ self.low }
-        ensures second { result ≤ℤ other.low }
-    {
-        if self.low < other.low {
-            self.low
-        } else {
-            other.low
-        }
-    }
-
-    /// The larger of the two high ends.
-    fn greatest_high(self, other: Bounds) -> i128
-        ensures first { self.high ≤ℤ result }
-        ensures second { other.high ≤ℤ result }
-    {
-        if self.high < other.high {
-            other.high
-        } else {
-            self.high
-        }
-    }
-
-    /// The least bounds round both.
-    pub(crate) fn joined(self, other: Bounds) -> Bounds
-        ensures first { (v : ℤ) → IsWithin self v → IsWithin result v }
-        ensures second { (v : ℤ) → IsWithin other v → IsWithin result v }
-    {
-        let low = self.least_low(other);
-        let high = self.greatest_high(other);
-        let nonzero = both_hold(self.nonzero, other.nonzero);
-        Bounds { low, high, nonzero }
-    }
-
-    /// Whether the low end is no less than the least value of the type.
-    fn begins_in(self, ty: Ty) -> bool
-        ensures { result ≡ true → least_of ty ≤ℤ self.low }
-    {
-        least(ty) as i128 <= self.low
-    }
-
-    /// Whether the high end is no more than the greatest value of the type.
-    fn ends_in(self, ty: Ty) -> bool
-        ensures { result ≡ true → self.high ≤ℤ greatest_of ty }
-    {
-        self.high <= greatest(ty) as i128
-    }
-
     /// Whether each integer within the bounds is a value of the type.
     pub(crate) fn are_of_type(self, ty: Ty) -> bool
         ensures { result ≡ true → (v : ℤ) → IsWithin self v → fits_of ty v ≡ true }
     {
-        let begins = self.begins_in(ty);
-        let ends = self.ends_in(ty);
-        both_hold(begins, ends)
+        let first = least(ty) as i128;
+        let last = greatest(ty) as i128;
+        first <= self.low && self.high <= last
     }
 }

@@ -166,8 +166,8 @@ fn choice(graph: &Graph, known: &[Range], op: &Op) -> Told
     let b = earlier_range(known, op.b);
     let no = case_range(graph, known, op.a, false, op.b);
     let yes = case_range(graph, known, op.a, true, op.c);
-    let bounds = chosen(a, no, yes);
-    told_by(op, bounds, b)
+    let value = chosen(a, no, yes);
+    told_by(op, value.bounds(), b)
 }
 
 /// What is found of operation `i` by the ranges of its operands.

@@ -1,70 +1,29 @@
 //! Bounds of the values of each kind, where the operands are in ranges.
 
-ghost use Rattle.std.specs.Prelude.{◌≡◌, ◌≢◌, ◌⊎◌, ℤ, Bool, true, false, not, ◌&&◌, ◌||◌, cond, pos, negsuc, ◌≤ℤ◌, ◌<ℤ◌, ◌+ℤ◌, ◌-ℤ◌, ◌*ℤ◌, neg_ℤ, int_div, int_rem, int_lt};
+ghost use Rattle.std.specs.Prelude.{FitsSigned, ◌≡◌, ◌≢◌, ◌⊎◌, ℤ, Bool, true, false, not, ◌&&◌, ◌||◌, cond, pos, negsuc, ◌≤ℤ◌, ◌<ℤ◌, ◌+ℤ◌, ◌-ℤ◌, ◌*ℤ◌, neg_ℤ, int_div, int_rem, int_lt};
+ghost use Rattle.std.specs.Int.{w64};
 ghost use Rattle.vcp_base.specs.Kinds.{value as value_of, divides_by_zero, same, truth};
 ghost use Rattle.range_walk.specs.Intervals.{IsIn, IsWithin};
 
-use crate::range::{Bounds, Range, both_hold, either_holds, larger, lesser, wide};
+use crate::range::{Bounds, Range, both_hold, either_holds};
 use op_graph::Op;
 use vcp_base::Kind;
-
-/// Bounds of 0 and 1.
-fn either_truth() -> Bounds
-    ensures { (b : Bool) → IsWithin result (truth b) }
-{
-    Bounds {
-        low: 0,
-        high: 1,
-        nonzero: false,
-    }
-}
-
-/// Bounds of 1.
-fn known_true() -> Bounds
-    ensures { IsWithin result (pos 1) }
-{
-    Bounds::only(1)
-}
-
-/// Bounds of 0.
-fn known_false() -> Bounds
-    ensures { IsWithin result (pos 0) }
-{
-    Bounds::only(0)
-}
 
 /// Bounds of a truth that is known to be 1, or known to be 0, or not known.
 fn truth_bounds(yes: bool, no: bool) -> Bounds
     ensures { (b : Bool) → (yes ≡ true → b ≡ true) → (no ≡ true → b ≡ false) → IsWithin result (truth b) }
 {
     if yes {
-        return known_true();
+        return Bounds::only(1);
     }
     if no {
-        return known_false();
+        return Bounds::only(0);
     }
-    either_truth()
-}
-
-/// The negative of an integer of 64 bits.
-fn negative(x: i64) -> i128
-    ensures { result ≡ neg_ℤ x }
-{
-    -(x as i128)
-}
-
-/// The sum of two integers of 64 bits.
-fn plus(x: i64, y: i64) -> i128
-    ensures { result ≡ x +ℤ y }
-{
-    x as i128 + y as i128
-}
-
-/// The difference of two integers of 64 bits.
-fn minus(x: i64, y: i64) -> i128
-    ensures { result ≡ x -ℤ y }
-{
-    x as i128 - y as i128
+    Bounds {
+        low: 0,
+        high: 1,
+        nonzero: false,
+    }
 }
 
 /// The product of two integers of 64 bits.
@@ -85,11 +44,9 @@ fn divided(x: i64, k: i64) -> i128
 pub(crate) fn negated(a: Range) -> Bounds
     ensures { (x : ℤ) → IsIn a x → IsWithin result (neg_ℤ x) }
 {
-    let low = negative(a.high);
-    let high = negative(a.low);
     Bounds {
-        low,
-        high,
+        low: -(a.high as i128),
+        high: -(a.low as i128),
         nonzero: a.nonzero,
     }
 }
@@ -98,11 +55,9 @@ pub(crate) fn negated(a: Range) -> Bounds
 fn sum(a: Range, b: Range) -> Bounds
     ensures { (x y : ℤ) → IsIn a x → IsIn b y → IsWithin result (x +ℤ y) }
 {
-    let low = plus(a.low, b.low);
-    let high = plus(a.high, b.high);
     Bounds {
-        low,
-        high,
+        low: a.low as i128 + b.low as i128,
+        high: a.high as i128 + b.high as i128,
         nonzero: false,
     }
 }
@@ -111,11 +66,9 @@ fn sum(a: Range, b: Range) -> Bounds
 pub(crate) fn difference(a: Range, b: Range) -> Bounds
     ensures { (x y : ℤ) → IsIn a x → IsIn b y → IsWithin result (x -ℤ y) }
 {
-    let low = minus(a.low, b.high);
-    let high = minus(a.high, b.low);
     Bounds {
-        low,
-        high,
+        low: a.low as i128 - b.high as i128,
+        high: a.high as i128 - b.low as i128,
         nonzero: false,
     }
 }
@@ -128,14 +81,11 @@ pub(crate) fn product(a: Range, b: Range) -> Bounds
     let low_high = times(a.low, b.high);
     let high_low = times(a.high, b.low);
     let high_high = times(a.high, b.high);
-    let low_of_low = lesser(low_low, low_high);
-    let low_of_high = lesser(high_low, high_high);
-    let low = lesser(low_of_low, low_of_high);
-    let high_of_low = larger(low_low, low_high);
-    let high_of_high = larger(high_low, high_high);
-    let high = larger(high_of_low, high_of_high);
-    let nonzero = both_hold(a.nonzero, b.nonzero);
-    Bounds { low, high, nonzero }
+    Bounds {
+        low: low_low.min(low_high).min(high_low.min(high_high)),
+        high: low_low.max(low_high).max(high_low.max(high_high)),
+        nonzero: both_hold(a.nonzero, b.nonzero),
+    }
 }
 
 /// The greatest size of a value of the range.
@@ -145,9 +95,7 @@ fn size(a: Range) -> i128
     ensures most { result ≤ℤ pos 9223372036854775808 }
     ensures least { negsuc 9223372036854775807 ≤ℤ result }
 {
-    let high = wide(a.high);
-    let low = negative(a.low);
-    larger(high, low)
+    (a.high as i128).max(-(a.low as i128))
 }
 
 /// Bounds of x/k, where k isn't 0.
@@ -156,11 +104,9 @@ fn quotient_by(a: Range, k: i64) -> Bounds
 {
     let first = divided(a.low, k);
     let second = divided(a.high, k);
-    let low = lesser(first, second);
-    let high = larger(first, second);
     Bounds {
-        low,
-        high,
+        low: first.min(second),
+        high: first.max(second),
         nonzero: false,
     }
 }
@@ -169,13 +115,9 @@ fn quotient_by(a: Range, k: i64) -> Bounds
 fn quotient_by_positive(a: Range) -> Bounds
     ensures { (x y : ℤ) → IsIn a x → pos 1 ≤ℤ y → IsWithin result (int_div x y) }
 {
-    let first = wide(a.low);
-    let second = wide(a.high);
-    let low = lesser(first, 0);
-    let high = larger(second, 0);
     Bounds {
-        low,
-        high,
+        low: a.low.min(0) as i128,
+        high: a.high.max(0) as i128,
         nonzero: false,
     }
 }
@@ -185,19 +127,11 @@ fn quotient_by_any(a: Range) -> Bounds
     ensures { (x y : ℤ) → IsIn a x → IsWithin result (int_div x y) }
 {
     let high = size(a);
-    let low = -high;
     Bounds {
-        low,
+        low: -high,
         high,
         nonzero: false,
     }
-}
-
-/// Whether each value of the range is above 0.
-fn is_above_zero(a: Range) -> bool
-    ensures { result ≡ true → (x : ℤ) → IsIn a x → pos 1 ≤ℤ x }
-{
-    0 < a.low
 }
 
 /// Bounds of x/y, where y isn't 0.
@@ -210,55 +144,10 @@ pub(crate) fn quotient(a: Range, b: Range) -> Bounds
     if is_one {
         return quotient_by(a, k);
     }
-    let is_positive = is_above_zero(divisor);
-    if is_positive {
+    if 0 < k {
         return quotient_by_positive(a);
     }
     quotient_by_any(a)
-}
-
-/// Whether the low end is below 0.
-fn begins_below_zero(a: Range) -> bool
-    ensures yes { result ≡ true → a.low ≤ℤ pos 0 }
-    ensures no { result ≡ false → pos 0 ≤ℤ a.low }
-{
-    a.low < 0
-}
-
-/// Whether the high end is above 0.
-fn ends_above_zero(a: Range) -> bool
-    ensures yes { result ≡ true → pos 0 ≤ℤ a.high }
-    ensures no { result ≡ false → a.high ≤ℤ pos 0 }
-{
-    0 < a.high
-}
-
-/// The low end of the remainder of x by a divisor that is at most `below` in size.
-fn rest_low(a: Range, below: i128) -> i128
-    requires { negsuc 9223372036854775807 ≤ℤ below }
-    ensures { (x y : ℤ) → IsIn a x → y ≢ pos 0 → neg_ℤ below ≤ℤ y → y ≤ℤ below → result ≤ℤ int_rem x y }
-{
-    let is_negative = begins_below_zero(a);
-    if is_negative {
-        let first = wide(a.low);
-        let second = 1 - below;
-        return larger(first, second);
-    }
-    0
-}
-
-/// The high end of it.
-fn rest_high(a: Range, below: i128) -> i128
-    requires { negsuc 9223372036854775807 ≤ℤ below }
-    ensures { (x y : ℤ) → IsIn a x → y ≢ pos 0 → neg_ℤ below ≤ℤ y → y ≤ℤ below → int_rem x y ≤ℤ result }
-{
-    let is_positive = ends_above_zero(a);
-    if is_positive {
-        let first = wide(a.high);
-        let second = below - 1;
-        return lesser(first, second);
-    }
-    0
 }
 
 /// Bounds of the remainder of x/y, where y isn't 0: it is smaller than y in size, no larger than x, and has the sign of x.
@@ -266,66 +155,30 @@ pub(crate) fn rest(a: Range, b: Range) -> Bounds
     ensures { (x y : ℤ) → IsIn a x → IsIn b y → y ≢ pos 0 → IsWithin result (int_rem x y) }
 {
     let below = size(b);
-    let low = rest_low(a, below);
-    let high = rest_high(a, below);
     Bounds {
-        low,
-        high,
+        low: (a.low.min(0) as i128).max(1 - below),
+        high: (a.high.max(0) as i128).min(below - 1),
         nonzero: false,
     }
 }
 
-/// The sum of two integers; `other` where it has more bits.
-fn sum_or(x: i128, y: i128, other: i128) -> i128
-    ensures { (result ≡ x +ℤ y) ⊎ (result ≡ other) }
+/// Bounds of x + y, an integer of 64 bits, where the two are within bounds.
+pub(crate) fn sum_within(first: Bounds, second: Bounds) -> Bounds
+    ensures { (x y : ℤ) → IsWithin first x → IsWithin second y → FitsSigned w64 (x +ℤ y) → IsWithin result (x +ℤ y) }
 {
-    let sum = x.checked_add(y);
-    match sum {
-        Some(z) => z,
-        None => other,
-    }
-}
-
-/// Bounds of x + y, which is in `r`, where the two are within bounds.
-pub(crate) fn sum_within(first: Bounds, second: Bounds, r: Range) -> Bounds
-    ensures { (x y : ℤ) → IsWithin first x → IsWithin second y → IsIn r (x +ℤ y) → IsWithin result (x +ℤ y) }
-{
-    let least = wide(r.low);
-    let greatest = wide(r.high);
-    let low = sum_or(first.low, second.low, least);
-    let high = sum_or(first.high, second.high, greatest);
     Bounds {
-        low,
-        high,
+        low: first.low.saturating_add(second.low),
+        high: first.high.saturating_add(second.high),
         nonzero: false,
     }
-}
-
-/// Whether one range ends below the other.
-fn are_beside(a: Range, b: Range) -> bool
-    ensures { result ≡ true → (x : ℤ) → IsIn a x → IsIn b x → ⊥ }
-{
-    a.high < b.low || b.high < a.low
-}
-
-/// Whether a range has one value, which isn't in the other range.
-fn is_left_out(one: Range, other: Range) -> bool
-    ensures { result ≡ true → (x : ℤ) → IsIn one x → IsIn other x → ⊥ }
-{
-    let is_one = one.is_only(one.low);
-    let is_out = other.excludes(one.low);
-    both_hold(is_one, is_out)
 }
 
 /// Whether no integer is in both ranges, as far as that is seen.
 pub(crate) fn are_apart(a: Range, b: Range) -> bool
     ensures { result ≡ true → (x : ℤ) → IsIn a x → IsIn b x → ⊥ }
 {
-    let beside = are_beside(a, b);
-    let a_out = is_left_out(a, b);
-    let b_out = is_left_out(b, a);
-    let out = either_holds(a_out, b_out);
-    either_holds(beside, out)
+    let both = a.shared(b);
+    both.is_empty()
 }
 
 /// Whether both ranges have one value, which is the same.
@@ -355,26 +208,12 @@ fn differing(a: Range, b: Range) -> Bounds
     truth_bounds(yes, no)
 }
 
-/// Whether each value of one range is less than each of the other.
-fn is_less(a: Range, b: Range) -> bool
-    ensures { result ≡ true → (x y : ℤ) → IsIn a x → IsIn b y → x <ℤ y }
-{
-    a.high < b.low
-}
-
-/// Whether no value of one range is less than one of the other.
-fn is_not_less(a: Range, b: Range) -> bool
-    ensures { result ≡ true → (x y : ℤ) → IsIn a x → IsIn b y → y ≤ℤ x }
-{
-    b.high <= a.low
-}
-
 /// Bounds of whether x is less than y.
 fn less(a: Range, b: Range) -> Bounds
     ensures { (x y : ℤ) → IsIn a x → IsIn b y → IsWithin result (truth (int_lt x y)) }
 {
-    let yes = is_less(a, b);
-    let no = is_not_less(a, b);
+    let yes = a.high < b.low;
+    let no = b.high <= a.low;
     truth_bounds(yes, no)
 }
 
@@ -404,30 +243,20 @@ fn either(a: Range, b: Range) -> Bounds
     truth_bounds(yes, no)
 }
 
-/// Bounds of y where x is 0, else of z: y is in `b` in the first case, and z in `c` in the second. A case doesn't come where no value is
+/// The range of y where x is 0, else of z: y is in `b` in the first case, and z in `c` in the second. A case doesn't come where no value is
 /// in its range.
-pub(crate) fn chosen(a: Range, b: Range, c: Range) -> Bounds
-    ensures { (x y z : ℤ) → IsIn a x → (x ≡ pos 0 → IsIn b y) → (x ≢ pos 0 → IsIn c z) → IsWithin result (cond (same x (pos 0)) y z) }
+pub(crate) fn chosen(a: Range, b: Range, c: Range) -> Range
+    ensures { (x y z : ℤ) → IsIn a x → (x ≡ pos 0 → IsIn b y) → (x ≢ pos 0 → IsIn c z) → IsIn result (cond (same x (pos 0)) y z) }
 {
-    let no = b.bounds();
-    let yes = c.bounds();
     let is_zero = a.is_only(0);
     if is_zero {
-        return no;
+        return b;
     }
     let is_one = a.excludes(0);
     if is_one {
-        return yes;
+        return c;
     }
-    let never_no = b.is_empty();
-    if never_no {
-        return yes;
-    }
-    let never_yes = c.is_empty();
-    if never_yes {
-        return no;
-    }
-    no.joined(yes)
+    b.joined(c)
 }
 
 /// Bounds of the value of an operation over operands in these ranges, whose divisor isn't 0.
@@ -435,7 +264,7 @@ pub(crate) fn value_bounds(op: &Op, a: Range, b: Range, c: Range) -> Bounds
     ensures { (x y z : ℤ) → IsIn a x → IsIn b y → IsIn c z → divides_by_zero op.now.kind y ≡ false → IsWithin result (value_of op.now.kind op.now.imm x y z) }
 {
     match op.kind {
-        Kind::Input | Kind::Const => Bounds::only(wide(op.imm)),
+        Kind::Input | Kind::Const => Bounds::only(op.imm as i128),
         Kind::Load => a.bounds(),
         Kind::Store => a.bounds(),
         Kind::Out => a.bounds(),
@@ -452,7 +281,10 @@ pub(crate) fn value_bounds(op: &Op, a: Range, b: Range, c: Range) -> Bounds
         Kind::And => both(a, b),
         Kind::Or => either(a, b),
         Kind::Xor => differing(a, b),
-        Kind::Sel => chosen(a, b, c),
+        Kind::Sel => {
+            let value = chosen(a, b, c);
+            value.bounds()
+        }
     }
 }
 
@@ -461,10 +293,10 @@ pub(crate) fn twice_bounds(op: &Op, a: Range, b: Range, c: Range) -> Bounds
     ensures { (x z : ℤ) → IsIn a x → IsIn b x → IsIn c z → divides_by_zero op.now.kind x ≡ false → IsWithin result (value_of op.now.kind op.now.imm x x z) }
 {
     match op.kind {
-        Kind::Sub => known_false(),
-        Kind::Eq => known_true(),
-        Kind::Lt => known_false(),
-        Kind::Xor => known_false(),
+        Kind::Sub => Bounds::only(0),
+        Kind::Eq => Bounds::only(1),
+        Kind::Lt => Bounds::only(0),
+        Kind::Xor => Bounds::only(0),
         _ => value_bounds(op, a, b, c),
     }
 }

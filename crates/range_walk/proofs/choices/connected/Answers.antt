@@ -7,7 +7,7 @@ use Rattle.range_walk.proofs.choices.connected.Goals as goal
 pub returns-then-both : goal.returns-then-both
 returns-then-both c = λ v parts.
     let two = subst (λ b. Parts b (IsIn c.args.first v) (IsIn c.args.second v)) c.if-both.true parts in
-    c.met.ensures v two.0 (c.bounds-bounds.ensures v two.1)
+    c.shared.ensures v two.0 two.1
 
 pub returns : goal.returns
 returns c = λ v parts.

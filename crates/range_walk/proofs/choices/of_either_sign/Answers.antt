@@ -4,7 +4,7 @@ use Rattle.range_walk.proofs.Conditions.{twice_negated}
 use Rattle.range_walk.proofs.choices.of_either_sign.Goals as goal
 
 pub returns-clause-same : goal.returns-clause-same
-returns-clause-same c = λ x in_r in_no. c.joined.ensures.first x (c.met-positive.ensures x in_no (c.bounds-bounds.ensures x in_r))
+returns-clause-same c = λ x in_r in_no. c.joined.ensures.first x (c.shared-positive.ensures x in_no in_r)
 
 pub returns-clause-opposite : goal.returns-clause-opposite
 returns-clause-opposite c = λ x in_r in_yes.

@@ -1,6 +1,7 @@
-use Rattle.std.proofs.Common.{◌≢◌, ◌*ℤ◌, pos, sym, subst}
+use Rattle.std.proofs.Common.{◌≢◌, ◌*ℤ◌, pos, sym, subst, FitsSigned, w64, rules}
 use Rattle.std.specs.Prelude.{int_div, int_rem}
 use Rattle.std.proofs.lemmas.Int.{quot-rem}
+use Rattle.range_walk.proofs.Integers.{fits_amid}
 use Rattle.range_walk.specs.Intervals.{IsIn, IsWithin}
 use Rattle.range_walk.proofs.operand_ranges.dividend.Goals as goal
 
@@ -10,7 +11,8 @@ returns-then-some c = λ x y i j k.
     let is = quot-rem x y in
     let multiple = c.product-multiple.ensures (int_div x y) y i k in
     let remainder = c.rest-remainder.ensures x y j k not_zero in
-    let within = c.sum_within-bounds.ensures (int_div x y *ℤ y) (int_rem x y) multiple remainder (subst (λ z. IsIn c.args.a z) (sym is) j) in
+    let fits = fits_amid c.args.a.low c.args.a.high x (search rules) (search rules) j.at_least j.at_most in
+    let within = c.sum_within-bounds.ensures (int_div x y *ℤ y) (int_rem x y) multiple remainder (subst (λ z. FitsSigned w64 z) (sym is) fits) in
     c.met.ensures x j (subst (λ z. IsWithin c.sum_within-bounds.result z) is within)
 
 pub returns : goal.returns

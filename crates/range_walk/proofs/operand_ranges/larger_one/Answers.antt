@@ -1,6 +1,5 @@
 use Rattle.std.proofs.Common.{SFits, w64, rules, arith}
 use Rattle.std.proofs.lemmas.Int.{ints}
-use Rattle.range_walk.proofs.ValueBounds.{never}
 use Rattle.range_walk.proofs.operand_ranges.larger_one.Goals as goal
 
 pub returns : goal.returns
@@ -9,4 +8,4 @@ returns c = λ x y i j less.
     let high_fits : SFits w64 c.args.b.high = search rules in
     let least = i.at_least in
     let most = j.at_most in
-    record { at_least = omega (arith, ints); at_most = omega (arith, ints); not_zero = λ e. never e }
+    record { at_least = omega (arith, ints); at_most = omega (arith, ints); not_zero = λ e. absurd cc }

@@ -13,6 +13,6 @@ returns c = λ held row vs given fit le.
     let first = fit op.a c.earlier_range-a.result (omega (arith, le, c.requires.first)) c.earlier_range-a.ensures in
     let second = fit op.b c.earlier_range-b.result (omega (arith, le, c.requires.second)) c.earlier_range-b.ensures in
     c.told_by.ensures held row vs (choice_second c.earlier_range-b.result held vs op c.requires.kind second)
-    (λ d. choice_value c.chosen-bounds.result held vs op c.requires.kind
-    (c.chosen-bounds.ensures (at vs op.a) (at vs op.b) (at vs op.c) first (λ e. c.case_range-no.ensures held row vs given fit le e)
-    (λ e. c.case_range-yes.ensures held row vs given fit le e)))
+    (λ d. choice_value c.bounds.result held vs op c.requires.kind
+    (c.bounds.ensures _ (c.chosen-value.ensures (at vs op.a) (at vs op.b) (at vs op.c) first (λ e. c.case_range-no.ensures held row vs given fit le e)
+    (λ e. c.case_range-yes.ensures held row vs given fit le e))))

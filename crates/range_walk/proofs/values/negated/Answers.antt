@@ -1,13 +1,11 @@
-use Rattle.std.proofs.Common.{neg_ℤ, ap, ◌∙◌, w64, rules}
-use mir.Syntax.{w128}
-use Rattle.std.proofs.lemmas.Int.{to_z-of_z}
-use Rattle.range_walk.proofs.Bits.{between_bits}
-use Rattle.range_walk.proofs.ValueBounds.{negated_between}
+use Rattle.std.proofs.Common.{SFits, w64, rules, arith}
+use Rattle.std.proofs.lemmas.Int.{ints}
 use Rattle.range_walk.proofs.values.negated.Goals as goal
 
 pub returns : goal.returns
 returns c = λ x i.
-    let low = c.negative-low.ensures ∙ ap neg_ℤ (to_z-of_z w64 c.args.a.high (search rules)) in
-    let high = c.negative-high.ensures ∙ ap neg_ℤ (to_z-of_z w64 c.args.a.low (search rules)) in
-    between_bits w128 c.negative-low.result c.negative-high.result c.args.a.nonzero (neg_ℤ x) (search rules) (search rules)
-    (negated_between c.args.a c.negative-low.result c.negative-high.result x low high i)
+    let low : SFits w64 c.args.a.low = search rules in
+    let high : SFits w64 c.args.a.high = search rules in
+    let least = i.at_least in
+    let most = i.at_most in
+    record { at_least = omega (arith, ints); at_most = omega (arith, ints); not_zero = λ e zero. i.not_zero e (omega (arith, ints)) }

@@ -1,15 +1,24 @@
-use Rattle.std.proofs.Common.{false, neg_ℤ, ◌≤ℤ◌, sym, subst, rules}
-use Rattle.std.specs.Prelude.{int_rem}
+use Rattle.std.proofs.Common.{SFits, w64, rules, arith}
 use mir.Syntax.{w128}
-use Rattle.std.proofs.lemmas.Int.{to_z-of_z}
-use Rattle.range_walk.proofs.Bits.{between_bits}
-use Rattle.range_walk.proofs.ValueBounds.{never}
+use Rattle.std.proofs.lemmas.Int.{ints, clamps}
+use Rattle.range_walk.proofs.Integers.{rest_sized, rest_shrinks}
 use Rattle.range_walk.proofs.values.rest.Goals as goal
 
 pub returns : goal.returns
 returns c = λ x y i j some.
-    let is = to_z-of_z w128 c.size-below.result (search rules) in
-    let low = subst (λ s. neg_ℤ s ≤ℤ y) (sym is) (c.size-below.ensures.low y j) in
-    let high = subst (λ s. y ≤ℤ s) (sym is) (c.size-below.ensures.high y j) in
-    between_bits w128 c.rest_low-low.result c.rest_high-high.result false (int_rem x y) (search rules) (search rules)
-    (record { at_least = c.rest_low-low.ensures x y i some low high; at_most = c.rest_high-high.ensures x y i some low high; not_zero = λ e. never e })
+    let a_low : SFits w64 c.args.a.low = search rules in
+    let a_high : SFits w64 c.args.a.high = search rules in
+    let first : SFits w64 c.min.result = search rules in
+    let last : SFits w64 c.max-2.result = search rules in
+    let size : SFits w128 c.size-below.result = search rules in
+    let low : SFits w128 c.max.result = search rules in
+    let high : SFits w128 c.min-2.result = search rules in
+    let least = i.at_least in
+    let most = i.at_most in
+    let small = rest_sized x y c.size-below.result some (c.size-below.ensures.low y j) (c.size-below.ensures.high y j) in
+    let near = rest_shrinks x y c.min.result c.max-2.result (omega (arith, ints)) (omega (arith, ints)) (omega (arith, ints)) (omega (arith, ints)) in
+    record {
+      at_least = let one = small.at_least in let other = near.at_least in omega (arith, ints, clamps);
+      at_most = let one = small.at_most in let other = near.at_most in omega (arith, ints, clamps);
+      not_zero = near.not_zero;
+    }

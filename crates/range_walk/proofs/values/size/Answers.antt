@@ -1,20 +1,16 @@
-use Rattle.std.proofs.Common.{neg_ℤ, ◌≤ℤ◌, refl, ap, sym, subst, ◌∙◌, w64, rules}
+use Rattle.std.proofs.Common.{SFits, w64, rules, arith}
+use Rattle.std.proofs.lemmas.Int.{ints, clamps}
 use mir.Syntax.{w128}
-use Rattle.std.proofs.lemmas.Int.{to_z-of_z}
-use Rattle.range_walk.proofs.Bits.{above_bits}
-use Rattle.range_walk.proofs.ValueBounds.{size_low, size_high}
 use Rattle.range_walk.proofs.values.size.Goals as goal
 
-pub returns-clause-low : goal.returns-clause-low
-returns-clause-low c = λ x i.
-    let is = c.negative-low.ensures ∙ ap neg_ℤ (to_z-of_z w64 c.args.a.low (search rules)) in
-    subst (λ s. neg_ℤ s ≤ℤ x) (sym (to_z-of_z w128 c.larger.result (search rules)))
-    (size_low c.args.a c.negative-low.result c.larger.result x is
-    (above_bits w128 c.larger.result c.negative-low.result c.negative-low.result (search rules) refl c.larger.ensures.second) i)
-
-pub returns-clause-high : goal.returns-clause-high
-returns-clause-high c = λ x i.
-    let is = c.wide-high.ensures ∙ to_z-of_z w64 c.args.a.high (search rules) in
-    subst (λ s. x ≤ℤ s) (sym (to_z-of_z w128 c.larger.result (search rules)))
-    (size_high c.args.a c.wide-high.result c.larger.result x is
-    (above_bits w128 c.larger.result c.wide-high.result c.wide-high.result (search rules) refl c.larger.ensures.first) i)
+pub returns : goal.returns
+returns c =
+    let low : SFits w64 c.args.a.low = search rules in
+    let high : SFits w64 c.args.a.high = search rules in
+    let is : SFits w128 c.max.result = search rules in
+    record {
+      low = λ x i. let least = i.at_least in omega (arith, ints);
+      high = λ x i. let most = i.at_most in omega (arith, ints);
+      most = omega (arith, ints, clamps);
+      least = omega (arith, ints);
+    }

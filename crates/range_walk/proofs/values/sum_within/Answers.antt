@@ -1,27 +1,23 @@
-use Rattle.std.proofs.Common.{◌≡◌, false, ◌≤ℤ◌, ◌+ℤ◌, sym, subst, ◌∙◌, to_z, of_z, w64, rules}
+use Rattle.std.proofs.Common.{◌+ℤ◌, SFits, to_z, of_z, rules, arith}
 use mir.Syntax.{w128}
-use Rattle.std.proofs.lemmas.Int.{to_z-of_z}
-use Rattle.range_walk.proofs.Bits.{between_bits}
-use Rattle.range_walk.proofs.ValueBounds.{never, sum_or_low, sum_or_high}
+use Rattle.std.proofs.lemmas.Int.{ints}
+use Rattle.range_walk.proofs.Integers.{saturates_below, saturates_above}
 use Rattle.range_walk.proofs.values.sum_within.Goals as goal
 
 pub returns : goal.returns
-returns c = λ x y i j k.
-    let first = c.args.first in
-    let second = c.args.second in
-    let low = c.sum_or-low.result in
-    let high = c.sum_or-high.result in
-    let least : to_z w128 (of_z w128 c.wide-least.result) ≡ c.args.r.low =
-    to_z-of_z w128 c.wide-least.result (search rules) ∙ c.wide-least.ensures ∙ to_z-of_z w64 c.args.r.low (search rules) in
-    let greatest : to_z w128 (of_z w128 c.wide-greatest.result) ≡ c.args.r.high =
-    to_z-of_z w128 c.wide-greatest.result (search rules) ∙ c.wide-greatest.ensures ∙ to_z-of_z w64 c.args.r.high (search rules) in
-    between_bits w128 low high false (x +ℤ y) (search rules) (search rules)
-    (record {
-      at_least = sum_or_low low (to_z w128 (of_z w128 first.low)) (to_z w128 (of_z w128 second.low)) (to_z w128 (of_z w128 c.wide-least.result)) x y
-          c.sum_or-low.ensures (subst (λ l. l ≤ℤ x) (sym (to_z-of_z w128 c.args.first.low (search rules))) i.at_least)
-          (subst (λ l. l ≤ℤ y) (sym (to_z-of_z w128 c.args.second.low (search rules))) j.at_least) (subst (λ l. l ≤ℤ (x +ℤ y)) (sym least) k.at_least);
-      at_most = sum_or_high high (to_z w128 (of_z w128 first.high)) (to_z w128 (of_z w128 second.high)) (to_z w128 (of_z w128 c.wide-greatest.result)) x y
-          c.sum_or-high.ensures (subst (λ h. x ≤ℤ h) (sym (to_z-of_z w128 c.args.first.high (search rules))) i.at_most)
-          (subst (λ h. y ≤ℤ h) (sym (to_z-of_z w128 c.args.second.high (search rules))) j.at_most) (subst (λ h. (x +ℤ y) ≤ℤ h) (sym greatest) k.at_most);
-      not_zero = λ e. never e;
-    })
+returns c = λ x y i j fits.
+    let a = c.args.first in
+    let b = c.args.second in
+    let a_low : SFits w128 a.low = search rules in
+    let a_high : SFits w128 a.high = search rules in
+    let b_low : SFits w128 b.low = search rules in
+    let b_high : SFits w128 b.high = search rules in
+    let low : SFits w128 c.saturating_add.result = search rules in
+    let high : SFits w128 c.saturating_add-2.result = search rules in
+    let i_least = i.at_least in
+    let i_most = i.at_most in
+    let j_least = j.at_least in
+    let j_most = j.at_most in
+    let least = saturates_below (to_z w128 (of_z w128 a.low) +ℤ to_z w128 (of_z w128 b.low)) (x +ℤ y) (omega (arith, ints)) fits in
+    let most = saturates_above (to_z w128 (of_z w128 a.high) +ℤ to_z w128 (of_z w128 b.high)) (x +ℤ y) (omega (arith, ints)) fits in
+    record { at_least = omega (arith, ints); at_most = omega (arith, ints); not_zero = λ e. absurd cc }

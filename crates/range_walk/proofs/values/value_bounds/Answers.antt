@@ -20,4 +20,5 @@ returns-in-Mod c = λ x y z i j k d.
 
 pub returns-in-Sel : goal.returns-in-Sel
 returns-in-Sel c = λ x y z i j k d.
-    subst (λ t. IsWithin c.chosen.result (value t c.args.op.now.imm x y z)) (sym c.in-Sel.is) (c.chosen.ensures x y z i (λ e. j) (λ e. k))
+    subst (λ t. IsWithin c.bounds-in-Sel.result (value t c.args.op.now.imm x y z)) (sym c.in-Sel.is)
+    (c.bounds-in-Sel.ensures _ (c.chosen-value.ensures x y z i (λ e. j) (λ e. k)))

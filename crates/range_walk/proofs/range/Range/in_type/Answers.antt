@@ -1,16 +1,19 @@
-use Rattle.std.proofs.Common.{◌≤ℤ◌, sym, subst, w64, rules}
-use Rattle.std.proofs.lemmas.Int.{to_z-of_z}
-use Rattle.vcp_base.specs.Types.{least, greatest}
-use Rattle.range_walk.proofs.Bits.{between_bits}
+use Rattle.std.proofs.Common.{SFits, w64, rules, arith}
+use Rattle.std.proofs.lemmas.Int.{ints, clamps}
+use Rattle.range_walk.proofs.ValueBounds.{fits_between}
 use Rattle.range_walk.proofs.range.Range.in_type.Goals as goal
 
 pub returns : goal.returns
-returns c = record {
-  holds = λ v i fit.
-      between_bits w64 c.low_in-low.result c.high_in-high.result c.args.self.nonzero v (search rules) (search rules)
-      (record { at_least = c.low_in-low.ensures.below v i fit; at_most = c.high_in-high.ensures.above v i fit; not_zero = i.not_zero });
-  lies = record {
-    low = subst (λ z. least c.args.ty ≤ℤ z) (sym (to_z-of_z w64 c.low_in-low.result (search rules))) c.low_in-low.ensures.least;
-    high = subst (λ z. z ≤ℤ greatest c.args.ty) (sym (to_z-of_z w64 c.high_in-high.result (search rules))) c.high_in-high.ensures.greatest;
-  };
-}
+returns c =
+    let least : SFits w64 c.least.result = search rules in
+    let greatest : SFits w64 c.greatest.result = search rules in
+    let low : SFits w64 c.max.result = search rules in
+    let high : SFits w64 c.min.result = search rules in
+    record {
+      holds = λ v i fit.
+          let is = fits_between c.args.ty v fit in
+          let below = i.at_least in
+          let above = i.at_most in
+          record { at_least = omega (arith, ints, clamps); at_most = omega (arith, ints, clamps); not_zero = i.not_zero };
+      lies = record { low = omega (arith, ints); high = omega (arith, ints) };
+    }

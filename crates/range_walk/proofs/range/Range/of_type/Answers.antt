@@ -1,9 +1,11 @@
-use Rattle.std.proofs.Common.{false, w64, rules}
-use Rattle.range_walk.proofs.Bits.{between_bits}
+use Rattle.std.proofs.Common.{SFits, w64, rules, arith}
+use Rattle.std.proofs.lemmas.Int.{ints}
 use Rattle.range_walk.proofs.ValueBounds.{fits_between}
 use Rattle.range_walk.proofs.range.Range.of_type.Goals as goal
 
 pub returns : goal.returns
 returns c = λ v h.
-    between_bits w64 c.least-low.result c.greatest-high.result false v (search rules) (search rules)
-    (fits_between c.args.ty c.least-low.result c.greatest-high.result v c.least-low.ensures c.greatest-high.ensures h)
+    let low : SFits w64 c.least.result = search rules in
+    let high : SFits w64 c.greatest.result = search rules in
+    let is = fits_between c.args.ty v h in
+    record { at_least = omega (arith, ints); at_most = omega (arith, ints); not_zero = is.not_zero }
