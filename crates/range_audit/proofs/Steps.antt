@@ -44,7 +44,8 @@ pub one_more : {X : Type 0} (P : ℕ → X → Type 0) (xs ys : List X) (x : X) 
 one_more P xs ys x i all last is =
     let Q : ℕ → Type 0 = λ j. (y : _) → slice_get (xs ++ x ∷ []) j ≡ Some y → P j y in
     let below : (j : ℕ) → j < i → Q j = λ j lt y e. all.each j y (sym (get_front xs (x ∷ []) j (omega (arith, lt, all.many))) ∙ e) in
-    let here : Q i = λ y e. let m = subst (λ n. slice_get (xs ++ x ∷ []) n ≡ Some x) all.many (get_middle xs x []) in let same : x ≡ y = cc in subst (P i) same last in
+    let m = subst (λ n. slice_get (xs ++ x ∷ []) n ≡ Some x) all.many (get_middle xs x []) in
+    let here : Q i = λ y e. let same : x ≡ y = cc in subst (P i) same last in
     let more : AllAt P (xs ++ x ∷ []) (i + 1) = record {
       many = length_push xs x ∙ ap (λ n. n + 1) all.many;
       each = λ k y there. below_more Q i below here k (omega (arith, slice_get_within (xs ++ x ∷ []) k y there, length_push xs x, all.many)) y there;

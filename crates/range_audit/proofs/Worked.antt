@@ -1,5 +1,5 @@
--- Worked: cycles of small graphs, worked by hand, and what is named in them.
-use Rattle.std.proofs.Common.{refl, ◌≡◌, ℕ, ◌∷◌, [], ℤ, pos, negsuc, true, false, Some, None, slice_get}
+-- Worked: cycles of small graphs, worked by hand.
+use Rattle.std.proofs.Common.{refl, ◌≡◌, ℕ, ◌∷◌, [], ℤ, pos, negsuc, Some, None}
 use Rattle.vcp_base.specs.declared.spot.Spot.{Spot}
 use Rattle.vcp_base.specs.declared.code.Profile.TheVariants as profile
 use Rattle.vcp_base.specs.declared.ty.Ty.TheVariants as ty
@@ -9,9 +9,7 @@ use Rattle.vcp_base.specs.declared.kind.StopKind.TheVariants as stop
 use Rattle.op_graph.specs.declared.op.Op.{Op}
 use Rattle.op_graph.specs.Lists.{Lists, nothing}
 use Rattle.op_graph.specs.Building.{with_name, with_input, with_load, with_op, with_output, with_store}
-use Rattle.range_walk.specs.declared.range.Stops.{Stops}
 use Rattle.range_audit.specs.Audit.{cycle_after}
-use Rattle.range_walk.specs.Known.{is_named}
 
 abbrev here : Spot
 here = record { line = 0; col = 0 }
@@ -41,19 +39,6 @@ counter-third = refl
 counter-fourth : cycle_after counter ([] ∷ [] ∷ [] ∷ []) [] ≡ record { values = pos 32767 ∷ pos 1 ∷ []; stop = Some stop.Range }
 unfolding counter on_int
 counter-fourth = refl
-
-abbrev never : Stops
-never = record { range = false; div_zero = false }
-
-abbrev by_range : Stops
-by_range = record { range = true; div_zero = false }
-
--- its sum is named for what it does, and for nothing else
-counter-named : is_named stop.Range (slice_get (never ∷ never ∷ by_range ∷ never ∷ never ∷ []) 2) ≡ true
-counter-named = refl
-
-counter-other : is_named stop.DivZero (slice_get (never ∷ never ∷ by_range ∷ never ∷ never ∷ []) 2) ≡ false
-counter-other = refl
 
 -- `y := 7 / x`: INPUT, CONST, DIV, OUT
 quotient : Lists

@@ -16,7 +16,7 @@ use std::alloc::Global;
 use vcp_base::Memory;
 
 /// The same ranges.
-pub(crate) fn copied(alloc: Global, ranges: &[Range]) -> Result<Vec<Range>, Memory>
+fn copied(alloc: Global, ranges: &[Range]) -> Result<Vec<Range>, Memory>
     ensures { IfOk result (λ copy. copy.items ≡ ranges.now) }
 {
     let mut copy = Vec::new(alloc);
@@ -107,7 +107,8 @@ pub(crate) fn cases_of(
 ) -> Result<Option<Halves>, Memory>
     requires { length ranges.now ≤ length cycle.now.graph.now.operations }
     ensures depth { IfOk result (λ found. IfSome found (λ h. 0 < depth)) }
-    ensures halves { IfOk result (λ found. IfSome found (λ h. AreHalves cycle.now.graph.now.operations cycle.now.cells.now ranges.now h.low.items h.high.items)) }
+    ensures halves { IfOk result (λ found. IfSome found (λ h.
+        AreHalves cycle.now.graph.now.operations cycle.now.cells.now ranges.now h.low.items h.high.items)) }
 {
     if done || depth == 0 {
         return Ok(None);

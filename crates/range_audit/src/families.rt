@@ -6,7 +6,7 @@ ghost use Rattle.range_audit.specs.Searching.{Box as Boxed, IsSound, InBox, Ends
 
 use crate::asking::Asking;
 use crate::boxes::{cell_count, has_values, is_in_one};
-use crate::cases::{copied, ends, ends_by_cases, narrowed};
+use crate::cases::{ends, ends_by_cases, narrowed};
 use crate::cells::{Step, loaded_cells, step_of, store_at, widened};
 use crate::cycle::Cycle;
 use crate::naming::{found_by, found_from};
@@ -383,8 +383,38 @@ fn is_wanted(graph: &Graph, place: usize, bools: bool) -> bool {
     matches!(cell_type(graph, place), Ty::Bool) == bools
 }
 
+/// Appends the values of each cell that is a BOOL, or of each other one, where they are few by these ranges.
+fn push_tries(
+    tries: &mut Vec<Values>,
+    graph: &Graph,
+    known: &[Range],
+    bools: bool,
+) -> Result<(), Memory> {
+    'cells: for place in 0..cell_count(graph) {
+        let range = cell_range(graph, known, place);
+        let count = values_of(range);
+        if is_wanted(graph, place, bools) && count >= 2 {
+            tries.push(Values {
+                place,
+                least: range.low,
+                count,
+            })?;
+        }
+    }
+    Ok(())
+}
+
+/// By which values boxes are told apart in turn: one box, and the values of each cell: first of numbers, as a state is one.
+fn tries_of(alloc: Global, graph: &Graph, known: &[Range]) -> Result<Vec<Values>, Memory> {
+    let mut tries = Vec::new(alloc);
+    tries.push(ONE)?;
+    push_tries(&mut tries, graph, known, false)?;
+    push_tries(&mut tries, graph, known, true)?;
+    Ok(tries)
+}
+
 /// What is told of the operations of a graph, and what is told by boxes, one for each of these values, where such are found.
-fn closer_by_family(
+fn closer_by(
     alloc: Global,
     graph: &Graph,
     inputs: &[Range],
@@ -392,10 +422,12 @@ fn closer_by_family(
     values: Values,
     budget: &mut Budget<'_>,
 ) -> Result<Ranges, Memory>
-    requires place { values.place < length graph.now.stores }
     requires sound { IsSound graph.now inputs.now ranges }
     ensures { IfOk result (λ a. IsSound graph.now inputs.now a) }
 {
+    if values.place >= cell_count(graph) {
+        return Ok(ranges);
+    }
     let any = names_any(ranges.stops());
     let closely = budget.asking.answers != 0;
     let wanted = either_holds(any, closely);
@@ -410,80 +442,28 @@ fn closer_by_family(
     }
 }
 
-/// The same by the values of the cell at `place`, if it is a BOOL, or else is none, and has few values by these ranges.
-fn closer_by(
-    alloc: Global,
-    graph: &Graph,
-    inputs: &[Range],
-    ranges: Ranges,
-    known: &[Range],
-    place: usize,
-    bools: bool,
-    budget: &mut Budget<'_>,
-) -> Result<Ranges, Memory>
-    requires place { place < length graph.now.stores }
-    requires sound { IsSound graph.now inputs.now ranges }
-    ensures { IfOk result (λ a. IsSound graph.now inputs.now a) }
-{
-    let wanted = is_wanted(graph, place, bools);
-    if !wanted {
-        return Ok(ranges);
-    }
-    let range = cell_range(graph, known, place);
-    let values = Values {
-        place,
-        least: range.low,
-        count: values_of(range),
-    };
-    if values.count < 2 {
-        return Ok(ranges);
-    }
-    closer_by_family(alloc, graph, inputs, ranges, values, budget)
-}
-
-/// What is told of the operations of a graph, and what is told by the values of each cell that is a BOOL, or of each other one, and has few by
-/// these ranges.
+/// The same by each of these.
 fn closer_by_each(
     alloc: Global,
     graph: &Graph,
     inputs: &[Range],
     ranges: Ranges,
-    known: &[Range],
-    bools: bool,
+    tries: &[Values],
     budget: &mut Budget<'_>,
 ) -> Result<Ranges, Memory>
     requires sound { IsSound graph.now inputs.now ranges }
     ensures { IfOk result (λ a. IsSound graph.now inputs.now a) }
 {
-    let count = cell_count(graph);
     let mut told = ranges;
-    'cells: for place in 0..count {
-        let next = closer_by(alloc, graph, inputs, told, known, place, bools, budget)?;
+    'tries: for k in 0..tries.len() {
+        let next = closer_by(alloc, graph, inputs, told, tries[k], budget)?;
         told = next;
     }
     Ok(told)
 }
 
-/// What is told of the operations of a graph, and what is told by one box in which the cells are at the end of each whole cycle.
-fn closer_in_one(
-    alloc: Global,
-    graph: &Graph,
-    inputs: &[Range],
-    ranges: Ranges,
-    budget: &mut Budget<'_>,
-) -> Result<Ranges, Memory>
-    requires sound { IsSound graph.now inputs.now ranges }
-    ensures { IfOk result (λ a. IsSound graph.now inputs.now a) }
-{
-    if cell_count(graph) == 0 {
-        return Ok(ranges);
-    }
-    closer_by_family(alloc, graph, inputs, ranges, ONE, budget)
-}
-
 /// What is told of the operations of a graph, whose cells are always in these boxes, by a closer look at those that are named: in these boxes,
-/// in one box, and by the values of each of its cells: first of numbers, as a state is one. Where it is looked closely, that is done also where
-/// none is named, for the ranges.
+/// in one box, and by the values of its cells. Where it is looked closely, that is done also where none is named, for the ranges.
 pub(crate) fn closer(
     alloc: Global,
     graph: &Graph,
@@ -504,9 +484,6 @@ pub(crate) fn closer(
         return Ok(here);
     }
     // Which cells are looked at is told by the ranges that they have here, so that closer ones take no room from a cell that tells more.
-    let before = here.known();
-    let known = copied(alloc, before)?;
-    let one = closer_in_one(alloc, graph, inputs, here, &mut budget)?;
-    let first = closer_by_each(alloc, graph, inputs, one, &known, false, &mut budget)?;
-    closer_by_each(alloc, graph, inputs, first, &known, true, &mut budget)
+    let tries = tries_of(alloc, graph, here.known())?;
+    closer_by_each(alloc, graph, inputs, here, &tries, &mut budget)
 }

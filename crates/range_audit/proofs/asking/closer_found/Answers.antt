@@ -28,7 +28,8 @@ returns c =
       known = omega (arith, known.many, all);
       stops = omega (arith, stops.many, all);
       found = record {
-        fits = λ held row vs hold row_in given k r lt there. known.each k r there held row vs hold given lt (c.requires.walk.fits held row vs hold row_in given);
+        fits = λ held row vs hold row_in given k r lt there.
+            known.each k r there held row vs hold given lt (c.requires.walk.fits held row vs hold row_in given);
         names = λ held row vs op why hold row_in given there own no e.
             let within = slice_get_within ops (length vs) op there in
             let s = get_there c.operations.found.items (length vs) (omega (arith, within, stops.many, all)) in

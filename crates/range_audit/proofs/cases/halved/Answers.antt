@@ -14,7 +14,11 @@ returns c = record {
       let i = fit q c.earlier_range-r.result lt c.earlier_range-r.ensures in
       let same = to_z-of_z w64 c.args.m (search rules) in
       elim (no_more_or_more (at vs q) c.args.m) [
-        | inl le ↦ inl (c.in_ok-low.ensures.fits.fits held row vs hold given whole fit (c.up_to-at_most.ensures (at vs q) i (subst (λ k. at vs q ≤ℤ k) (sym same) le)))
-        | inr more ↦ inr (c.in_ok-high.ensures.fits.fits held row vs hold given whole fit (c.above-rest.ensures (at vs q) i (subst (λ k. k <ℤ at vs q) (sym same) more)))
+        | inl le ↦
+            let is = c.up_to-at_most.ensures (at vs q) i (subst (λ k. at vs q ≤ℤ k) (sym same) le) in
+            inl (c.in_ok-low.ensures.fits.fits held row vs hold given whole fit is)
+        | inr more ↦
+            let is = c.above-rest.ensures (at vs q) i (subst (λ k. k <ℤ at vs q) (sym same) more) in
+            inr (c.in_ok-high.ensures.fits.fits held row vs hold given whole fit is)
       ];
 }

@@ -22,7 +22,7 @@ cells-preserved c =
     one_more _ _ _ range c.cells.k c.cells.invariant here c.in_ok-push.ensures.items
 
 pub returns-clause-many : goal.returns-clause-many
-returns-clause-many c = omega (arith, c.cells.invariant.many, c.len-count.ensures.rules.all_stored, c.cells-test.false, c.cells.auto.k-end, c.cells-count.ensures)
+returns-clause-many c = omega (arith, c.cells.invariant.many, c.len-count.ensures.rules.all_stored, c.cells-test.false, c.cells.auto.k-end)
 
 pub returns-clause-holds : goal.returns-clause-holds
 returns-clause-holds c = λ held loaded k r there.

@@ -5,7 +5,8 @@ use Rattle.range_audit.proofs.known.asked_range.Goals as goal
 
 pub range_by_cases-requires : goal.range_by_cases-requires
 range_by_cases-requires c =
-    let count = ap length c.first_ranges-first.ensures.first ∙ length-take-le (c.args.i + 1) c.args.known.now (omega (arith, c.requires.there, c.requires.many)) in
+    let le : c.args.i + 1 ≤ length c.args.known.now = omega (arith, c.requires.there, c.requires.many) in
+    let count = ap length c.first_ranges-first.ensures.first ∙ length-take-le (c.args.i + 1) c.args.known.now le in
     let many : length c.deref.result.now ≡ c.args.i + 1 = ap length c.deref.ensures.value ∙ c.in_ok-ranges.ensures.many ∙ count in
     record { there = omega (arith, many); many = omega (arith, many, c.requires.there) }
 

@@ -31,7 +31,8 @@ returns c =
       known = known.many ∙ all;
       stops = stops.many ∙ all;
       fits = closer_fits both a.known b.known c.operations.known.items c.operations.i known;
-      named = all_named both a.stops b.stops c.operations.stops.items c.operations.i stops (all ∙ sym c.requires.stops) (c.requires.other_stops ∙ sym c.requires.stops);
+      named = all_named both a.stops b.stops c.operations.stops.items c.operations.i stops (all ∙ sym c.requires.stops)
+          (c.requires.other_stops ∙ sym c.requires.stops);
       types = closer_lies both a.known b.known c.operations.known.items c.operations.i known;
       first = all_first both a.stops b.stops c.operations.stops.items c.operations.i stops;
     })

@@ -35,5 +35,6 @@ returns-clause-found c =
           (found inside.0 (omega (arith, lt, c.boxes-test.false, c.boxes.auto.k-end)) inside.1 inside.2).fits held row vs inside.3 row_in given;
       names = λ held row vs op why inside row_in given there own no e.
           let lt = slice_get_within c.args.boxes.now inside.0 inside.1 inside.2 in
-          (found inside.0 (omega (arith, lt, c.boxes-test.false, c.boxes.auto.k-end)) inside.1 inside.2).names held row vs op why inside.3 row_in given there own no e;
+          let at_box = found inside.0 (omega (arith, lt, c.boxes-test.false, c.boxes.auto.k-end)) inside.1 inside.2 in
+          at_box.names held row vs op why inside.3 row_in given there own no e;
     }

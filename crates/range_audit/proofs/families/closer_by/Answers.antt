@@ -1,7 +1,7 @@
 use Rattle.std.proofs.Common.{length, sym, subst}
 use Rattle.range_audit.specs.Searching.{Always, InBox}
 use Rattle.range_audit.proofs.Steps.{some_is}
-use Rattle.range_audit.proofs.families.closer_by_family.Goals as goal
+use Rattle.range_audit.proofs.families.closer_by.Goals as goal
 
 pub with_family-requires-clause-always : goal.with_family-requires-clause-always
 with_family-requires-clause-always c =
