@@ -41,8 +41,9 @@ pub fn answer(call: &Call) -> Answer
     right(call)
 }
 
-/// The right answer to a call whose correction is a residue of its code. It branches once on the code.
-#[inline(always)]
+/// The right answer to a call whose correction is a residue of its code. It branches once on the code. It stands apart, so that what it
+/// calls has one caller for each code, and is a part of it.
+#[inline(never)]
 fn right(call: &Call) -> Answer
     requires { call.now.corr < modulus_of call.now.profile }
     ensures { result ≡ Right call.now }
