@@ -67,7 +67,7 @@ fn narrow_answer(call: &Call) -> Answer
     let Some(second) = call.b.short_split(Profile::Narrow) else {
         return answer_of_copy(call);
     };
-    let Some(third) = call.c.short_split(Profile::Narrow) else {
+    let Some(third) = call.c.rare_short_split(Profile::Narrow) else {
         return answer_of_copy(call);
     };
     answer_from::<InNarrow>(Profile::Narrow, call, first, second, third)
@@ -86,7 +86,7 @@ fn wide_answer(call: &Call) -> Answer
     let Some(second) = call.b.short_split(Profile::Wide) else {
         return answer_of_copy(call);
     };
-    let Some(third) = call.c.short_split(Profile::Wide) else {
+    let Some(third) = call.c.rare_short_split(Profile::Wide) else {
         return answer_of_copy(call);
     };
     answer_from::<InWide>(Profile::Wide, call, first, second, third)

@@ -96,6 +96,16 @@ impl Word {
         short_parts(profile, self.code)
     }
 
+    /// The same for an operand that few kinds have, whose word mostly is 0.
+    #[inline(always)]
+    pub(crate) fn rare_short_split(self, profile: Profile) -> Option<ShortParts>
+        ensures value { IfSome result (λ parts. parts.value ≡ value_part profile self) }
+        ensures residue { IfSome result (λ parts. parts.residue ≡ modulo profile self) }
+        ensures below { IfSome result (λ parts. parts.residue < modulus_of profile) }
+    {
+        short_parts_of_rare(profile, self.code)
+    }
+
     /// The word `A*value + residue`, for a value from -2^63 to 2^63. The residue should be below `A`:
     /// only then does `split` give the two back, and a greater one adds to the value part.
     #[tactic(auto, unfolding(crate::specs::Words::coded))]
@@ -373,11 +383,22 @@ pub fn remainder(profile: Profile, code: i128) -> Residue
 }
 
 /// The parts of an integer, where they are found in 64 bits.
-///
-/// Zero takes the place of an operand that a kind does not have, so it is split at once.
+#[inline(always)]
+fn short_parts(profile: Profile, code: i128) -> Option<ShortParts>
+    ensures value { IfSome result (λ parts. parts.value ≡ value_part profile code) }
+    ensures residue { IfSome result (λ parts. parts.residue ≡ modulo profile code) }
+    ensures below { IfSome result (λ parts. parts.residue < modulus_of profile) }
+{
+    match profile {
+        Profile::Narrow => short_narrow_parts(code),
+        Profile::Wide => short_wide_parts(code),
+    }
+}
+
+/// The same of an integer that mostly is 0, which is split at once.
 #[inline(always)]
 #[tactic(auto, using(crate::proofs::Modular::value_part_zero, crate::proofs::Modular::modulo_zero, crate::proofs::Modular::modulus_positive))]
-fn short_parts(profile: Profile, code: i128) -> Option<ShortParts>
+fn short_parts_of_rare(profile: Profile, code: i128) -> Option<ShortParts>
     ensures value { IfSome result (λ parts. parts.value ≡ value_part profile code) }
     ensures residue { IfSome result (λ parts. parts.residue ≡ modulo profile code) }
     ensures below { IfSome result (λ parts. parts.residue < modulus_of profile) }
@@ -388,10 +409,7 @@ fn short_parts(profile: Profile, code: i128) -> Option<ShortParts>
             residue: 0,
         });
     }
-    match profile {
-        Profile::Narrow => short_narrow_parts(code),
-        Profile::Wide => short_wide_parts(code),
-    }
+    short_parts(profile, code)
 }
 
 /// The parts of an integer in the narrow code, where it has 64 bits.
