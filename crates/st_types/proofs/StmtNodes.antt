@@ -1,9 +1,10 @@
 -- StmtNodes: one lemma for each node of a statement: the faults of its parts, in order, and what they give.
-use Rattle.std.proofs.Common.{◌≡◌, ◌≢◌, ℕ, ℤ, pos, ◌⊎◌, List, [], ◌∷◌, ◌++◌, Bool, false, Option, Some, None, IfSome, option_map, option_and_then, refl, sym}
+use Rattle.std.proofs.Common.{◌≡◌, ◌≢◌, ℕ, ℤ, pos, ◌⊎◌, List, [], ◌∷◌, ◌++◌, Bool, true, false, not, ◌&&◌, cond, Option, Some, None, IfSome, option_map, option_and_then, refl, sym}
 use Rattle.std.proofs.Common.{ap, ap₂, ◌∙◌, subst}
 use Rattle.std.specs.Prelude.{is_some}
 use Rattle.vcp_base.specs.declared.spot.Spot.{Spot}
 use Rattle.vcp_base.specs.declared.ty.Ty.{Ty}
+use Rattle.vcp_base.specs.Types.{is_bool}
 use Rattle.st_tree.specs.ExprTree.{ExprTree}
 use Rattle.st_tree.specs.StmtTree.{LabelTree, StmtTree, StmtTrees, ArmTrees, BranchTrees, OtherTree, assign, if_, case, for_, no_stmts, and_stmt, no_arms}
 use Rattle.st_tree.specs.StmtTree.{and_arm, no_branches, and_branch, no_other, other}
@@ -15,6 +16,7 @@ use Rattle.vcp_typed.specs.Checked.{ty_of}
 use Rattle.st_types.specs.declared.constants.Number.{Number}
 use Rattle.st_types.specs.declared.fault.Fault.{Fault}
 use Rattle.st_types.specs.declared.fault.Rule.TheVariants as rule
+use Rattle.st_types.specs.declared.statement.Turning.{Turning}
 use Rattle.st_types.specs.Faults.{fault}
 use Rattle.st_types.specs.Notes.{Notes}
 use Rattle.st_types.specs.Scope.{Entry, find}
@@ -23,9 +25,9 @@ use Rattle.st_types.specs.ExprSteps.{Types}
 use Rattle.st_types.specs.StmtTyping.{Form, spot_of, form, form_number, number_in, not_zero, step_of, NameFault, entry_type, Narrows, NoTest}
 use Rattle.st_types.specs.StmtTyping.{IsBool, BoundFault, StepFault, LastFault, label_ends, form_label, label_of, LabelsFault, held_in}
 use Rattle.st_types.specs.StmtTyping.{StmtsFault, stmts_of, ArmsFault, BranchesFault, OtherFault, assign_of, test_of, selector_of, for_of, arm_of, branch_of}
-use Rattle.st_types.specs.StmtTyping.{case_of}
+use Rattle.st_types.specs.StmtTyping.{case_of, is_free, turns_of}
 use Rattle.st_types.specs.StmtSteps.{Gives, Numbers, Bounds, Steps, TypesLast, TypesLabel, TypesLabels, TypesStmt, TypesStmts, TypesArms}
-use Rattle.st_types.specs.StmtSteps.{TypesBranches, TypesOther, stmt_after, label_after, arm_after, branch_after, if_of}
+use Rattle.st_types.specs.StmtSteps.{TypesBranches, TypesOther, stmt_after, label_after, arm_after, branch_after, if_of, turning_of, for_with}
 use Rattle.st_types.proofs.ExprLaws.{typed-is}
 use Rattle.st_types.proofs.MadeChecked.{not-zero-made}
 use Rattle.st_types.proofs.NoteLaws.{quiet, pair, note-where}
@@ -165,15 +167,35 @@ case-types s held e branches o p a b c d g x q t y z r h is n sel k l gives =
       gives = gives ∙ (λ i. case_of p (q1 i) (k1.gives i) (l.gives i));
     }
 
+for_is : (held : List ℕ) (spot : Spot) (o : Option Entry) (v w u : Option ℤ) (b : Option checked.TStmtTrees)
+    → for_with spot (turning_of held o v w u) b ≡ for_of held spot o v w u b
+for_is held spot None v w u b = refl
+for_is held spot (Some e) None w u b = refl
+for_is held spot (Some e) (Some first) None u b = refl
+for_is held spot (Some e) (Some first) (Some last) None b = refl
+for_is held spot (Some e) (Some first) (Some last) (Some by) None = none (is_free held e && not (is_bool e.ty)) _
+  where
+    none : (c : Bool) (t : Turning) → for_with spot (cond c (Some t) None) None ≡ None
+    none true t = refl
+    none false t = refl
+for_is held spot (Some e) (Some first) (Some last) (Some by) (Some body) =
+    some (is_free held e && not (is_bool e.ty)) (record { slot = e.slot; first = first; by = by; turns = turns_of first last by })
+  where
+    some : (c : Bool) (t : Turning) → for_with spot (cond c (Some t) None) (Some body)
+        ≡ cond c (Some (checked.for_ t.slot t.first t.by t.turns body spot)) None
+    some true t = refl
+    some false t = refl
+
 pub for-types : (s : List Entry) (held : List ℕ) (n : List ℕ) (p q : Spot) (e f : ExprTree) (by : Option ExprTree) (body : StmtTrees)
     (a b c d g h k : Option Fault) (o : Option Entry) (t : Option Ty) (inner : List ℕ) (v w u : Option ℤ) (y : Option checked.TStmtTrees)
-    (r : Option checked.TStmtTree)
+    (x : Option Turning) (r : Option checked.TStmtTree)
     → o ≡ find s n → t ≡ entry_type o → inner ≡ held_in held o
     → Notes a b (NameFault held o p) → Notes b c (λ m. (m ≡ fault rule.Mismatch p) × IsBool t)
     → Bounds s t e c d v → Bounds s t f d g w → Steps s t by g h u
-    → TypesStmts s inner body h k y → r ≡ for_of held p o v w u y
+    → TypesStmts s inner body h k y → x ≡ turning_of held o v w u → r ≡ for_with p x y
     → TypesStmt s held (for_ n p e f by body q) a k r
-for-types s held n p q e f by body a b c d g h k o t inner v w u y r is ty1 in1 n1 n2 x1 x2 x3 x4 gives =
+for-types s held n p q e f by body a b c d g h k o t inner v w u y x r is ty1 in1 n1 n2 x1 x2 x3 x4 turning made =
+    let gives : r ≡ for_of held p o v w u y = made ∙ ap (λ z. for_with p z y) turning ∙ for_is held p o v w u y in
     let all = pair a b k _ _ n1 (pair b c k _ _ n2 (pair c d k _ _ x1.notes (pair d g k _ _ x2.notes (pair g h k _ _ x3.notes x4.notes)))) in
     let ty2 : t ≡ entry_type (find s n) = ty1 ∙ ap entry_type is in
     let in2 : inner ≡ held_in held (find s n) = in1 ∙ ap (held_in held) is in

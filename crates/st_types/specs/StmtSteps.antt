@@ -1,8 +1,9 @@
 -- StmtSteps: what the steps of typing a statement give, and the faults that they note.
 -- How the typing works, and no promise: what it promises is in Typing.
-use Rattle.std.specs.Prelude.{◌≡◌, ℕ, ℤ, List, [], ◌∷◌, ◌++◌, Option, Some, None, option_map}
+use Rattle.std.specs.Prelude.{◌≡◌, ℕ, ℤ, cond, not, ◌&&◌, List, [], ◌∷◌, ◌++◌, Option, Some, None, option_map}
 use Rattle.vcp_base.specs.declared.spot.Spot.{Spot}
 use Rattle.vcp_base.specs.declared.ty.Ty.{Ty}
+use Rattle.vcp_base.specs.Types.{is_bool}
 use Rattle.st_tree.specs.ExprTree.{ExprTree}
 use Rattle.st_tree.specs.StmtTree.{LabelTree, StmtTree, StmtTrees, ArmTrees, BranchTrees, OtherTree}
 use Rattle.vcp_typed.specs.declared.stmt.TLabel.{TLabel}
@@ -11,10 +12,11 @@ use Rattle.vcp_typed.specs.TStmtTree as checked
 use Rattle.vcp_typed.specs.TStmtViews.{tstmts_and, tarms_and, tbranches_and}
 use Rattle.st_types.specs.declared.constants.Number.{Number}
 use Rattle.st_types.specs.declared.fault.Fault.{Fault}
+use Rattle.st_types.specs.declared.statement.Turning.{Turning}
 use Rattle.st_types.specs.Notes.{Notes}
 use Rattle.st_types.specs.Scope.{Entry}
-use Rattle.st_types.specs.ExprTyping.{ExprFault}
-use Rattle.st_types.specs.StmtTyping.{form, form_number, number_in, step_of, BoundFault, StepFault, LastFault, label_of}
+use Rattle.st_types.specs.ExprTyping.{both, ExprFault}
+use Rattle.st_types.specs.StmtTyping.{form, form_number, number_in, step_of, is_free, turns_of, BoundFault, StepFault, LastFault, label_of}
 use Rattle.st_types.specs.StmtTyping.{LabelFault, labels_of, LabelsFault, StmtFault, stmt_of, StmtsFault, stmts_of, ArmsFault, arms_of, BranchesFault}
 use Rattle.st_types.specs.StmtTyping.{branches_of, OtherFault, other_of}
 
@@ -89,3 +91,13 @@ branch_after _ _ _ = None
 -- IF of these parts
 abbrev pub if_of : checked.TArmTrees → checked.TOtherTree → Option checked.TStmtTree
 if_of arms o = Some (checked.if_ arms o)
+
+-- what a FOR does beside its body
+abbrev pub turning_of : List ℕ → Option Entry → Option ℤ → Option ℤ → Option ℤ → Option Turning
+turning_of held (Some e) (Some first) (Some last) (Some by) =
+    cond (is_free held e && not (is_bool e.ty)) (Some (record { slot = e.slot; first = first; by = by; turns = turns_of first last by })) None
+turning_of held _ _ _ _ = None
+
+-- a FOR, where neither what it does beside its body nor the body has a fault
+abbrev pub for_with : Spot → Option Turning → Option checked.TStmtTrees → Option checked.TStmtTree
+for_with spot turning body = both (λ t b. Some (checked.for_ t.slot t.first t.by t.turns b spot)) turning body

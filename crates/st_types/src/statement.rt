@@ -14,8 +14,8 @@ ghost use Rattle.st_types.specs.Faults.{fault};
 ghost use Rattle.st_types.specs.Notes.{Notes};
 ghost use Rattle.st_types.specs.ExprTyping.{both};
 ghost use Rattle.st_types.specs.StmtTyping.{entry_type as entry_type_of, Narrows, NoTest, IsBool, assign_of, test_of, selector_of, begins as begins_of};
-ghost use Rattle.st_types.specs.StmtTyping.{turns_of as turns_of_bounds, for_of, case_of};
-ghost use Rattle.st_types.specs.StmtSteps.{Gives, TypesStmt, TypesStmts, TypesArms, TypesBranches, TypesOther, stmt_after, arm_after, branch_after, if_of};
+ghost use Rattle.st_types.specs.StmtTyping.{turns_of as turns_of_bounds, case_of};
+ghost use Rattle.st_types.specs.StmtSteps.{Gives, TypesStmt, TypesStmts, TypesArms, TypesBranches, TypesOther, stmt_after, arm_after, branch_after, if_of, turning_of, for_with};
 
 use crate::environment::Environment;
 use crate::fault::{Fault, Rule};
@@ -118,33 +118,54 @@ fn turns_of(first: i64, last: i64, by: i64) -> u128
     }
 }
 
-// FOR of these parts; none where one of them has a fault.
-fn for_of(
+/// What a FOR does beside its body: its control variable, its first value, its step and how many turns it takes.
+#[derive(Clone, Copy)]
+pub struct Turning {
+    pub slot: u32,
+    pub first: i64,
+    pub by: i64,
+    pub turns: u128,
+}
+
+// What a FOR of these parts does beside its body; none where one of them has a fault.
+fn turning_of(
     held: &[u32],
     x: Option<&Entry>,
     first: Option<i64>,
     last: Option<i64>,
     by: Option<i64>,
-    body: Option<TStmts>,
-    spot: Spot,
-) -> Option<TStmt>
+) -> Option<Turning>
     requires some { IfSome by (λ v. v ≢ pos 0) }
-    ensures { option_map tstmt_tree result
-        ≡ for_of held.now spot (option_map (λ y. y.now) x.entry) first last by (option_map (λ b. tstmt_trees b.items.items) body) }
+    ensures { result ≡ turning_of held.now (option_map (λ y. y.now) x.entry) first last by }
 {
     let x = x?;
     let first = first?;
     let last = last?;
     let by = by?;
-    let body = body?;
     if !is_free(held, x) {
         return None;
     }
     if is_bool(x.ty) {
         return None;
     }
-    let turns = turns_of(first, last, by);
-    Some(TStmt::for_(x.slot, first, by, turns, body, spot))
+    Some(Turning {
+        slot: x.slot,
+        first,
+        by,
+        turns: turns_of(first, last, by),
+    })
+}
+
+// FOR of these parts; none where one of them has a fault.
+fn for_of(turning: Option<Turning>, body: Option<TStmts>, spot: Spot) -> Option<TStmt>
+    ensures { option_map tstmt_tree result ≡ for_with spot turning (option_map (λ b. tstmt_trees b.items.items) body) }
+{
+    let Some(of) = turning else {
+        discard_body(body);
+        return None;
+    };
+    let body = body?;
+    Some(TStmt::for_(of.slot, of.first, of.by, of.turns, body, spot))
 }
 
 // IF of these parts; none where one of them has a fault.
@@ -416,6 +437,7 @@ impl Environment<'_> {
         let low = self.bound(ty, from, first)?;
         let high = self.bound(ty, last, first)?;
         let step_by = self.step(ty, by, first)?;
+        let turning = turning_of(self.held, x, low, high, step_by);
         let held = held_in(self.alloc, self.held, x)?;
         let inner = Environment {
             alloc: self.alloc,
@@ -423,7 +445,7 @@ impl Environment<'_> {
             held: &held,
         };
         let made = inner.type_stmts(body, first)?;
-        Ok(for_of(self.held, x, low, high, step_by, made, name_spot))
+        Ok(for_of(turning, made, name_spot))
     }
 
     /// Types statements inside FORs over the slots `held`: notes their faults, and gives the checked statements, none
