@@ -17,16 +17,27 @@ use std::process::ExitCode;
 use std::test::Fail;
 use std::{env, fs};
 
-fn main(rt: HostRuntime) -> Result<ExitCode, Fail> {
+/// Plays the files of these names, one after another.
+fn played(rt: &HostRuntime) -> Result<Player, Fail> {
     let mut player = Player::new(rt.alloc());
-    for name in env::args(&rt)?.skip(1) {
-        let text = fs::read_to_string(&rt, &name)?;
+    for name in env::args(rt)?.skip(1) {
+        let text = fs::read_to_string(rt, &name)?;
         player.play(&name, &text);
     }
-    print!(rt; "{}", player.told.as_str())?;
-    eprint!(rt; "{}", player.faults.as_str())?;
-    if player.faults.as_str().is_empty() {
+    Ok(player)
+}
+
+/// Writes what was told, and the faults on the errors; 1 where there are some.
+fn write(rt: &HostRuntime, told: &str, faults: &str) -> Result<ExitCode, Fail> {
+    print!(rt; "{}", told)?;
+    eprint!(rt; "{}", faults)?;
+    if faults.is_empty() {
         return Ok(ExitCode::SUCCESS);
     }
     Ok(ExitCode::FAILURE)
+}
+
+fn main(rt: HostRuntime) -> Result<ExitCode, Fail> {
+    let player = played(&rt)?;
+    write(&rt, player.told.as_str(), player.faults.as_str())
 }

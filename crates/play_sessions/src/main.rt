@@ -15,6 +15,7 @@ mod words;
 
 use player::Player;
 use single::file_step;
+use std::alloc::Global;
 use std::env;
 use std::process::ExitCode;
 use std::rt::Files;
@@ -34,22 +35,36 @@ fn tell_lacking<R: Files + AllocGlobal>(rt: &R, name: &str, told: &mut Told) {
     file_step(rt.alloc(), &mut files, "begin", r"\xff", told);
 }
 
+/// Whether the files of the host answer so as they have to.
+fn is_lacking_told<R: Files + AllocGlobal>(rt: &R, name: &str) -> bool {
+    let mut lacking = Told::new(rt.alloc());
+    tell_lacking(rt, name, &mut lacking);
+    lacking.as_str() == "[begun][failed][][failed]"
+}
+
+/// Plays a session, and tells what came of it.
+fn play(alloc: Global, name: &str, session: &str, told: &mut Told, faults: &mut Told) {
+    let mut player = Player::new(alloc, name);
+    player.play(session);
+    player.tell(told, faults);
+}
+
+/// Plays the session in the file of a name, and tells what came of it.
+fn play_file<R: Files + AllocGlobal>(rt: &R, name: &str, told: &mut Told, faults: &mut Told) {
+    let mut files = HostFiles::new(rt);
+    match read_all(rt.alloc(), &mut files, name.as_bytes(), MOST_BYTES) {
+        Ok(session) if is_lacking_told(rt, name) => {
+            play(rt.alloc(), name, text_of(session.bytes()), told, faults)
+        }
+        _ => faults.text("a file of the host isn't read as it is\n"),
+    }
+}
+
 fn main(rt: HostRuntime) -> Result<ExitCode, Fail> {
     let mut told = Told::new(rt.alloc());
     let mut faults = Told::new(rt.alloc());
     for name in env::args(&rt)?.skip(1) {
-        let mut lacking = Told::new(rt.alloc());
-        tell_lacking(&rt, &name, &mut lacking);
-        let mut files = HostFiles::new(&rt);
-        if let Ok(session) = read_all(rt.alloc(), &mut files, name.as_bytes(), MOST_BYTES)
-            && lacking.as_str() == "[begun][failed][][failed]"
-        {
-            let mut player = Player::new(rt.alloc(), &name);
-            player.play(text_of(session.bytes()));
-            player.tell(&mut told, &mut faults);
-        } else {
-            faults.text("a file of the host isn't read as it is\n");
-        }
+        play_file(&rt, &name, &mut told, &mut faults);
     }
     print!(rt; "{}", told.as_str())?;
     eprint!(rt; "{}", faults.as_str())?;

@@ -79,17 +79,16 @@ impl<'a> Player<'a> {
                 self.begin(line);
                 self.before_a_call(mark, rest);
             }
-            "|" => {
-                let text = spelled(self.alloc, rest);
-                self.want_line(line, &text);
-            }
+            _ => self.after_a_call(line, mark, rest),
+        }
+    }
+
+    /// Does what a line of this mark says, which wants something of the open calls, or is their end.
+    fn after_a_call(&mut self, line: &'a str, mark: &str, rest: &str) {
+        match mark {
+            "|" => self.want_line(line, &spelled(self.alloc, rest)),
             "&" => self.want_file(line, rest),
-            "*" => {
-                let (times, part) = word_off(rest);
-                let times = self.number_in(times);
-                let part = spelled(self.alloc, part);
-                self.want(line, Wanted::Times(times, &part));
-            }
+            "*" => self.want_times(line, rest),
             "?" => self.want_of_unit(line, rest),
             "=" => self.want_end(line, rest),
             ">" => self.keep(line, rest),
@@ -264,25 +263,26 @@ impl<'a> Player<'a> {
 
     /// Notes what came of the open call of a number where it is not what a line wants.
     fn want_of(&mut self, i: usize, line: &str, wanted: Wanted<'_>) {
-        let Some(made) = self.open.get_mut(i) else {
-            return;
-        };
-        if made.is_otherwise || made.gives(self.alloc, wanted) {
-            return;
+        if let Some(made) = self.open.get_mut(i)
+            && !made.is_otherwise
+            && !made.gives(self.alloc, wanted)
+        {
+            made.is_otherwise = true;
+            let mut came = Told::new(self.alloc);
+            made.tell_came(wanted, &mut came);
+            made.tell_called(&mut came);
+            self.note_otherwise(line, came.as_str());
         }
-        made.is_otherwise = true;
-        let mut came = Told::new(self.alloc);
-        made.tell_came(wanted, &mut came);
-        came.text("` of `");
-        came.text(made.called.command);
-        came.text(" ");
-        came.text(made.called.behind);
+    }
+
+    /// Notes what came in the place of what a line wants.
+    fn note_otherwise(&mut self, line: &str, came: &str) {
         self.otherwise = self.otherwise.saturating_add(1);
         self.begin_fault();
         self.faults.text("wanted `");
         self.faults.text(line);
         self.faults.text("`, came `");
-        self.faults.text(came.as_str());
+        self.faults.text(came);
         self.faults.text("`\n");
     }
 
@@ -301,6 +301,14 @@ impl<'a> Player<'a> {
     fn want_line(&mut self, line: &str, text: &[u8]) {
         let text = joined(self.alloc, &[text, b"\n"]);
         self.want(line, Wanted::Bytes(&text));
+    }
+
+    /// Wants a text, which is spelled, so many times in the whole output: `TIMES TEXT`.
+    fn want_times(&mut self, line: &str, repeated: &str) {
+        let (times, part) = word_off(repeated);
+        let times = self.number_in(times);
+        let part = spelled(self.alloc, part);
+        self.want(line, Wanted::Times(times, &part));
     }
 
     /// Wants a call of the unit, or how many of its answers were wrong.

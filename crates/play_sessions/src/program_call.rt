@@ -106,6 +106,25 @@ pub(crate) enum Wanted<'a> {
     Kept(u32),
 }
 
+/// What a call is handed beside its words and the files.
+#[derive(Drop)]
+struct Objects {
+    unit: BadUnit,
+    out: MemSink,
+    err: MemSink,
+}
+
+impl Objects {
+    /// The objects of a setting. Nothing where there is no memory for them.
+    fn new(alloc: Global, setting: &Setting) -> Option<Objects> {
+        let mut unit = BadUnit::new(alloc, KEPT).ok()?;
+        setting.replace(&mut unit);
+        let out = MemSink::new(alloc, setting.room).ok()?;
+        let err = MemSink::new(alloc, setting.error_room).ok()?;
+        Some(Objects { unit, out, err })
+    }
+}
+
 /// A call that was made of a program.
 #[derive(Drop)]
 pub(crate) struct ProgramCall<'a> {
@@ -132,11 +151,12 @@ impl<'a> ProgramCall<'a> {
         setting: &Setting,
         called: Called<'a>,
     ) -> Option<ProgramCall<'a>> {
-        let mut unit = BadUnit::new(alloc, KEPT).ok()?;
-        let mut out = MemSink::new(alloc, setting.room).ok()?;
-        let mut err = MemSink::new(alloc, setting.error_room).ok()?;
+        let Objects {
+            mut unit,
+            mut out,
+            mut err,
+        } = Objects::new(alloc, setting)?;
         let mut files = files.in_memory();
-        setting.replace(&mut unit);
         setting.fail(&mut files, &mut out, &mut err).ok();
         let words = words_of(alloc, called.command, called.behind);
         let status = match called.program {
@@ -249,6 +269,14 @@ impl<'a> ProgramCall<'a> {
             }
             _ => self.tell_next(told),
         }
+    }
+
+    /// Tells of which call it came.
+    pub(crate) fn tell_called(&self, told: &mut Told) {
+        told.text("` of `");
+        told.text(self.called.command);
+        told.text(" ");
+        told.text(self.called.behind);
     }
 
     /// Tells the next line of the output; behind the last the status and the errors.

@@ -3,20 +3,16 @@
 mod element;
 mod files;
 mod made;
-mod rows;
 mod sinks;
-mod words;
 
 use crate::program_call::Called;
 use element::write_element;
 pub(crate) use files::file_step;
 use files::file_steps;
 use made::made_sums;
-use rows::{cycles_taken, rows_taken};
 use sinks::{room_steps, unflushed_steps};
 use std::alloc::Global;
 use vcp_outside::{Failed, MemFiles, MemSink, write_all};
-use words::command;
 use worked_texts::Told;
 
 /// Makes the single call of this name with these words on the files, and writes what it answers. The status is 0; 6 where the output has
@@ -34,9 +30,6 @@ pub(crate) fn single_call(
         "files" => file_steps(alloc, files, words, &mut told),
         "sink" => room_steps(alloc, words, &mut told),
         "unflushed" => unflushed_steps(words, &mut told),
-        "rows" => rows_taken(alloc, files, words, &mut told),
-        "cycles" => cycles_taken(alloc, words, &mut told),
-        "words" => command(alloc, words, &mut told),
         "made" => made_sums(alloc, words, &mut told),
         _ => written = write_element(out),
     }

@@ -5,21 +5,25 @@ use std::alloc::Global;
 use vcp_outside::{Failed, Files, MemFiles, ReadAll, read_all};
 use worked_texts::{Told, spelled, text_of, word_off};
 
-/// Tells what files in memory answer to these steps, between which `; ` stands: `put NAME TEXT` and `fail_call N`, which answer nothing, and
-/// those of all files.
+/// Tells what files in memory answer to a step: `put NAME TEXT` and `fail_call N`, which answer nothing, or one of those of all files.
+fn memory_step(alloc: Global, files: &mut MemFiles, step: &str, told: &mut Told) {
+    let (call, words) = word_off(step);
+    match call {
+        "put" => {
+            let (name, text) = word_off(words);
+            files.put(name.as_bytes(), text.as_bytes()).ok();
+        }
+        "fail_call" => {
+            files.fail_call(number(words) as u64).ok();
+        }
+        _ => file_step(alloc, files, call, words, told),
+    }
+}
+
+/// Tells what files in memory answer to these steps, between which `; ` stands.
 pub(crate) fn file_steps(alloc: Global, files: &mut MemFiles, steps: &str, told: &mut Told) {
     for step in steps.split("; ") {
-        let (call, words) = word_off(step);
-        match call {
-            "put" => {
-                let (name, text) = word_off(words);
-                files.put(name.as_bytes(), text.as_bytes()).ok();
-            }
-            "fail_call" => {
-                files.fail_call(number(words) as u64).ok();
-            }
-            _ => file_step(alloc, files, call, words, told),
-        }
+        memory_step(alloc, files, step, told);
     }
 }
 

@@ -6,18 +6,22 @@ use std::io::{self, Write};
 use vcp_outside::{Failed, HostSink, MemSink, Sink, write_all};
 use worked_texts::{Told, word_off};
 
-/// Tells what a sink in memory with this room answers to the steps behind it, between which `; ` stands, and what was written to it:
-/// `fail_call N`, which answers nothing, and those of all sinks.
+/// Tells what a sink in memory answers to a step: `fail_call N`, which answers nothing, or one of those of all sinks.
+fn room_step(sink: &mut MemSink, step: &str, told: &mut Told) {
+    let (call, piece) = word_off(step);
+    if call == "fail_call" {
+        sink.fail_call(number(piece) as u64).ok();
+    } else {
+        sink_step(sink, call, piece, told);
+    }
+}
+
+/// Tells what a sink in memory with this room answers to the steps behind it, between which `; ` stands, and what was written to it.
 pub(crate) fn room_steps(alloc: Global, words: &str, told: &mut Told) {
     let (room, steps) = word_off(words);
     if let Ok(mut sink) = MemSink::new(alloc, number(room)) {
         for step in steps.split("; ") {
-            let (call, piece) = word_off(step);
-            if call == "fail_call" {
-                sink.fail_call(number(piece) as u64).ok();
-            } else {
-                sink_step(&mut sink, call, piece, told);
-            }
+            room_step(&mut sink, step, told);
         }
         told.text(": [");
         told.bytes(sink.bytes());
