@@ -14,4 +14,8 @@ impl Sink for Nowhere {
     fn write(&mut self, piece: &[u8]) -> Result<usize, Failed> {
         Ok(piece.len())
     }
+
+    fn faults(&self) -> u64 {
+        0
+    }
 }

@@ -82,4 +82,8 @@ impl<W: Write> Sink for HostSink<W> {
             }
         }
     }
+
+    fn faults(&self) -> u64 {
+        self.faults
+    }
 }

@@ -112,4 +112,8 @@ impl Sink for MemSink {
             Err(_) => unreachable!(),
         }
     }
+
+    fn faults(&self) -> u64 {
+        self.faults
+    }
 }

@@ -22,4 +22,8 @@ pub trait Sink {
         ensures empty { length piece.now ≡ 0 → result ≡ Ok 0 }
         ensures bytes { WriteAppends (seen self.old).written (seen self.new).written result piece.now }
         ensures cause { HasCause (seen self.old).faults (seen self.new).faults result };
+
+    /// How often a write failed so far, up to 2^64 - 1.
+    fn faults(&self) -> u64
+        ensures { result ≡ (seen self.now).faults };
 }

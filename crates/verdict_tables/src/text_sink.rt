@@ -73,4 +73,8 @@ impl Sink for TextSink {
             }
         }
     }
+
+    fn faults(&self) -> u64 {
+        self.faults
+    }
 }
