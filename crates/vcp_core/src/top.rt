@@ -1,6 +1,7 @@
 //! The top call.
 
-ghost use Rattle.std.specs.Prelude.{◌≡◌, IfSome, None};
+ghost use Rattle.std.specs.Prelude.{◌≡◌, IfSome, None, true};
+ghost use Rattle.vcp_outside.specs.Counts.{Rose};
 ghost use Rattle.vcp_words.specs.Forms.{form, form_of, IsSound};
 ghost use Rattle.command_meaning.specs.Abouts.{about};
 ghost use Rattle.command_meaning.specs.Clauses.{GetsUsage};
@@ -35,6 +36,12 @@ use std::alloc::Global;
 use vcp_base::Words;
 use vcp_outside::{Failed, Files, Sink};
 use vcp_words::{Command, command_of};
+
+/// The status where a sink failed.
+const WRITE_FAULT: u8 = 6;
+
+/// The status where an error of the processor showed: by the proof it never comes so.
+const ERRED: u8 = 3;
 
 /// Does all that the program does, and answers its status: what the words say, on the files, with
 /// the unit, writing to `out`, and the line of a fault to `err`.
@@ -101,13 +108,27 @@ fn serve<F: Files, U: Unit, O: Sink, E: Sink>(
         (outside (F.seen files.old) (U.seen unit.old) (O.seen out.old) (E.seen err.old))
         (outside (F.seen files.new) (U.seen unit.new) (O.seen out.new) (E.seen err.new)) result }
 {
+    let before = out.faults();
     match perform(alloc, command, files, unit, out) {
         Ok(end) => status_of(end),
-        Err(fault) => match tell(err, &fault) {
-            Ok(()) => fault_status(&fault),
-            Err(Failed) => 6,
-        },
+        Err(fault) => {
+            if fault_status(&fault) == WRITE_FAULT && !has_risen(before, out.faults()) {
+                return ERRED;
+            }
+            match tell(err, &fault) {
+                Ok(()) => fault_status(&fault),
+                Err(Failed) => WRITE_FAULT,
+            }
+        }
     }
+}
+
+/// Whether the count of failed writes rose. Where a command ended by one it did, says the proof; where the processor erred in a line, it may not have.
+fn has_risen(before: u64, after: u64) -> bool
+    requires { Rose before after }
+    ensures { result ≡ true }
+{
+    before < after || after == u64::MAX
 }
 
 /// Does what a command says, and writes to `out` alone.

@@ -8,7 +8,7 @@ returns-in-Ok g c = (_, _, c.in-Ok.ensures, inl (c.status_of.ensures, appends-no
 
 -- it ended by a fault whose line was told
 pub returns-in-Ok-tell : goal.returns-in-Ok-tell
-returns-in-Ok-tell g c = (_, _, c.in-Err.ensures, inl (c.fault_status.ensures, c.in-Ok-tell.ensures.whole, c.in-Ok-tell.ensures.cause.stayed))
+returns-in-Ok-tell g c = (_, _, c.in-Err.ensures, inl (c.fault_status-in-Ok-tell.ensures, c.in-Ok-tell.ensures.whole, c.in-Ok-tell.ensures.cause.stayed))
 
 -- or the line could not be told
 pub returns-in-Err-tell : goal.returns-in-Err-tell
