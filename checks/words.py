@@ -28,10 +28,20 @@ def documents(made):
     return sorted(path for path in found if made or path.name != MADE)
 
 
+def lines_of(path):
+    """The lines of a document without its indented blocks, which begin behind an empty line; other indented lines go on with an item of a list."""
+    lines, coded, empty = [], False, True
+    for line in path.read_text(encoding="utf8").split("\n"):
+        coded = line.startswith("    ") and (coded or empty)
+        empty = not line.strip()
+        if not coded:
+            lines.append(line.strip())
+    return lines
+
+
 def text_of(path):
     """A document in one line a paragraph, without code and quoted words."""
-    lines = [line.strip() for line in path.read_text(encoding="utf8").split("\n") if not line.startswith("    ")]
-    return re.sub(r"`[^`]*`", "` `", " ".join(lines))
+    return re.sub(r"`[^`]*`", "` `", " ".join(lines_of(path)))
 
 
 def main():

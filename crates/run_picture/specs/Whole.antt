@@ -1,4 +1,4 @@
--- Whole: each value of a run is told by one stretch, in its column and its cycle.
+-- Whole: each value of a run is drawn by one stretch, in its column and its cycle.
 use Rattle.std.specs.Prelude.{◌≡◌, ◌<◌, ℕ, ◌+◌, ◌-◌, ◌==◌, ◌&&◌, Bool, cond, nat_le, nat_lt, List, [], ◌∷◌, length, ℤ, pos, ◌+ℤ◌, ◌*ℤ◌}
 use Rattle.run_picture.specs.declared.stretches.Stretch.{Stretch}
 use Rattle.run_picture.specs.RunOf.{Recorded}

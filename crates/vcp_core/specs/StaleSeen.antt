@@ -17,8 +17,8 @@ use Rattle.weight_audit.specs.Weights.{weight}
 abbrev pub shows_by : Numbers → Lists → Fault → Op → ℕ → Outlet → ℕ → ℕ
 shows_by t g f op j o borders = modulo g.profile (pos t.step *ℤ multiplier op.kind j *ℤ pos (weight g o.op borders f.op))
 
--- At an output, so many cycle borders later, a stale operand is unseen exactly where it shows by 0; and where it does not, a run that comes
--- to the check of its outputs is refused in it, at this output or one before.
+-- At an output, so many cycle borders later, a stale operand is unseen exactly where it shows by 0; and where it does not, a run that reaches
+-- the check of its outputs is refused in it, at this output or one before.
 pub record StaleAt (t : Numbers) (g : Lists) (f : Fault) (op : Op) (j : ℕ) (o : Outlet) (borders : ℕ) : Type 0 where
   pub unseen : Accepted t g (acts_of (f ∷ [])) (f.cycle + borders) o ↔ (shows_by t g f op j o borders ≡ 0)
   pub refused : shows_by t g f op j o borders ≢ 0

@@ -101,7 +101,7 @@ pub fn written_images_are_taken()
 }
 
 /// A stale operand is unseen at an output, so many cycle borders later, exactly where the step times its
-/// multiplier times the weight is 0, modulo the constant of the graph's code; else a run that comes to
+/// multiplier times the weight is 0, modulo the constant of the graph's code; else a run that reaches
 /// that check is refused in it.
 pub fn stale_operands_are_seen()
     ensures { StaleShows }

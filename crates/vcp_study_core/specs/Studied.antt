@@ -16,8 +16,8 @@ pub record AllSeen : Type 0 where
 abbrev pub all_seen : FilesSeen → SinkSeen → SinkSeen → AllSeen
 all_seen files out err = record { files = files; out = out; err = err }
 
--- A command was performed as far as it came, by what it comes to with what is held, with a line and a status. The line was reported whole, and that is the
--- status; or the sink of the errors failed in it.
+-- A command was performed as far as it came, for what its words lead to with what is held, with a line and a status. The line was reported whole,
+-- and that is the status; or the sink of the errors failed in it.
 abbrev pub Studied : Form → AllSeen → AllSeen → ℕ → Type 0
 Studied f before after status =
     (line : List ℕ) × (code : ℕ) × Studies (TaskOf f) before.files after.files before.out after.out line code

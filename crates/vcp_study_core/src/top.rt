@@ -33,9 +33,10 @@ use vcp_outside::{Failed, Files, Sink};
 /// By its clauses:
 /// - `usage`: Words that are none of the forms get the usage line with status 4, and nothing else that contracts see changes; or its sink failed
 ///   in it, with status 6.
-/// - `studied`: Words that are a command's have it performed: as far as it came, by what it comes to with what is held; and the line of its fault told, if it
-///   ended by one. What that is: `TaskOf`, a line a command. Whatever the files tell, no file is written, and the status is 0, 1, 5, 6, 7 or 9; 0 and 9
-///   come after each file was read to its end, 5 only where the count of the files' faults rose, and 6 only where that of a sink rose: `Studies`.
+/// - `studied`: Words that are a command's have it performed: as far as it came, for what its words lead to with what is held; and the line of its
+///   fault printed, if it ended by one. What that is: `TaskOf`, a line a command. Whatever the files tell, no file is written, and the status is 0, 1,
+///   5, 6, 7 or 9; 0 and 9 come after each file was read to its end, 5 only where the count of the files' faults rose, and 6 only where that of a
+///   sink rose: `Studies`.
 pub fn vcp_study<F: Files, O: Sink, E: Sink>(
     alloc: Global,
     words: &Words,
