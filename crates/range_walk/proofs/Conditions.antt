@@ -1,5 +1,5 @@
 -- Conditions: what the value of a condition tells of the values that it compares, and of the conditions that it joins.
-use Rattle.std.proofs.Common.{◌≡◌, ◌≢◌, ℕ, ◌<◌, ℤ, pos, ◌-ℤ◌, neg_ℤ, ◌⊎◌, inl, inr, Bool, true, false, not, ◌&&◌, ◌||◌, cond, List, take, Ok, refl, sym, ap, subst, ◌∙◌, get_or-take, nat_lt, arith}
+use Rattle.std.proofs.Common.{◌≡◌, ◌≢◌, ℕ, ℤ, pos, ◌-ℤ◌, neg_ℤ, ◌⊎◌, inl, inr, Bool, true, false, not, ◌&&◌, ◌||◌, cond, List, take, Ok, refl, sym, ap, subst, ◌∙◌, get_or-take, nat_lt, arith}
 use Rattle.std.specs.Prelude.{int_lt}
 use Rattle.std.proofs.lemmas.Int.{ints}
 use Rattle.std.proofs.lemmas.Bool.{and_parts as both_true, or_parts as neither, and_cases, or_cases, both_ways, false_from_ne_true}
@@ -9,7 +9,7 @@ use Rattle.vcp_base.specs.Kinds.{operands, value, truth, same, divides_by_zero}
 use Rattle.vcp_base.specs.Values.{at}
 use Rattle.op_graph.specs.declared.op.Op.{Op}
 use Rattle.op_graph.specs.GraphRun.{own, read, outcome_of}
-use Rattle.range_walk.specs.Walking.{Taken, Said, Parts, Compares, reads_earlier}
+use Rattle.range_walk.specs.Walking.{Taken, Said, Parts, Compares, ReadsEarlier, reads_earlier}
 use Rattle.range_walk.proofs.Outcomes.{ok_says}
 use Rattle.range_walk.proofs.ValueBounds.{same_is, is_same}
 
@@ -83,58 +83,61 @@ over held row vs op k =
     (cond (nat_lt 1 (operands k)) (read held vs k op.imm op.b) (pos 0))
     (cond (nat_lt 2 (operands k)) (read held vs k op.imm op.c) (pos 0))
 
-module _ (held row vs : List ℤ) (op : Op) (c : ℕ) (e : outcome_of held row (take c vs) op ≡ Ok (at vs c)) where
+module _ (held row vs : List ℤ) (op : Op) (c : ℕ) (e : outcome_of held row (take c vs) op ≡ Ok (at vs c)) (early : ReadsEarlier c op) where
   valued : (k : Kind) → op.kind ≡ k → at vs c ≡ over held row (take c vs) op k
   valued k is =
       let here : over held row (take c vs) op op.kind ≡ at vs c = (ok_says _ _ _ _ (at vs c) e).2 in sym here ∙ ap (λ j. over held row (take c vs) op j) is
 
-  -- of values at earlier places
-  earlier : (f : ℤ → ℤ → ℤ) → op.a < c → op.b < c → f (at (take c vs) op.a) (at (take c vs) op.b) ≡ f (at vs op.a) (at vs op.b)
-  earlier f first second =
-      ap (λ x. f x (at (take c vs) op.b)) (get_or-take c vs op.a (pos 0) first) ∙ ap (λ y. f (at vs op.a) y) (get_or-take c vs op.b (pos 0) second)
+  -- the operands' values at their places in the cycle
+  first : (k : Kind) → op.kind ≡ k → reads_earlier k 0 ≡ true → at (take c vs) op.a ≡ at vs op.a
+  first k is reads = get_or-take c vs op.a (pos 0) (early.first (ap (λ j. reads_earlier j 0) is ∙ reads))
+
+  earlier : (k : Kind) → op.kind ≡ k → reads_earlier k 0 ≡ true → reads_earlier k 1 ≡ true → (f : ℤ → ℤ → ℤ)
+      → f (at (take c vs) op.a) (at (take c vs) op.b) ≡ f (at vs op.a) (at vs op.b)
+  earlier k is a b f =
+      ap (λ x. f x (at (take c vs) op.b)) (first k is a)
+      ∙ ap (λ y. f (at vs op.a) y) (get_or-take c vs op.b (pos 0) (early.second (ap (λ j. reads_earlier j 1) is ∙ b)))
 
   -- what a comparison gives, and its value over these operands
-  pub compares : Compares op.kind → op.a < c → op.b < c
+  pub compares : Compares op.kind
       → (b : Bool) × (at vs c ≡ truth b) × (value op.kind op.imm (at vs op.a) (at vs op.b) (at vs op.b) ≡ truth b)
       × (divides_by_zero op.kind (at vs op.b) ≡ false)
-  compares (inl is) first second = (
+  compares (inl is) = (
     int_lt (at vs op.a) (at vs op.b),
-    valued kind.Lt is ∙ earlier (λ x y. truth (int_lt x y)) first second,
+    valued kind.Lt is ∙ earlier kind.Lt is refl refl (λ x y. truth (int_lt x y)),
     subst (λ k. value k op.imm (at vs op.a) (at vs op.b) (at vs op.b) ≡ truth (int_lt (at vs op.a) (at vs op.b))) (sym is) refl,
     subst (λ k. divides_by_zero k (at vs op.b) ≡ false) (sym is) refl,
   )
-  compares (inr is) first second = (
+  compares (inr is) = (
     same (at vs op.a) (at vs op.b),
-    valued kind.Eq is ∙ earlier (λ x y. truth (same x y)) first second,
+    valued kind.Eq is ∙ earlier kind.Eq is refl refl (λ x y. truth (same x y)),
     subst (λ k. value k op.imm (at vs op.a) (at vs op.b) (at vs op.b) ≡ truth (same (at vs op.a) (at vs op.b))) (sym is) refl,
     subst (λ k. divides_by_zero k (at vs op.b) ≡ false) (sym is) refl,
   )
 
-  pub negation : (t : Bool) → op.kind ≡ kind.Not → op.a < c → (at vs op.a ≡ pos 0) ⊎ (at vs op.a ≡ pos 1) → Said t (at vs c) → Said (not t) (at vs op.a)
-  negation t is first zero_or_one said =
-      denied t (at vs op.a) zero_or_one (subst (λ v. Said t v) (valued kind.Not is ∙ ap (λ x. pos 1 -ℤ x) (get_or-take c vs op.a (pos 0) first)) said)
+  pub negation : (t : Bool) → op.kind ≡ kind.Not → (at vs op.a ≡ pos 0) ⊎ (at vs op.a ≡ pos 1) → Said t (at vs c) → Said (not t) (at vs op.a)
+  negation t is zero_or_one said =
+      denied t (at vs op.a) zero_or_one (subst (λ v. Said t v) (valued kind.Not is ∙ ap (λ x. pos 1 -ℤ x) (first kind.Not is refl)) said)
 
-  pub conjunction : (t : Bool) → op.kind ≡ kind.And → op.a < c → op.b < c → Said t (at vs c) → Parts t (Said t (at vs op.a)) (Said t (at vs op.b))
-  conjunction t is first second said =
+  pub conjunction : (t : Bool) → op.kind ≡ kind.And → Said t (at vs c) → Parts t (Said t (at vs op.a)) (Said t (at vs op.b))
+  conjunction t is said =
       and_parts t (at vs op.a) (at vs op.b)
-      (subst (λ v. Said t v) (valued kind.And is ∙ earlier (λ x y. truth (same x (pos 1) && same y (pos 1))) first second) said)
+      (subst (λ v. Said t v) (valued kind.And is ∙ earlier kind.And is refl refl (λ x y. truth (same x (pos 1) && same y (pos 1)))) said)
 
-  pub disjunction : (t : Bool) → op.kind ≡ kind.Or → op.a < c → op.b < c → Said t (at vs c) → Parts (not t) (Said t (at vs op.a)) (Said t (at vs op.b))
-  disjunction t is first second said =
+  pub disjunction : (t : Bool) → op.kind ≡ kind.Or → Said t (at vs c) → Parts (not t) (Said t (at vs op.a)) (Said t (at vs op.b))
+  disjunction t is said =
       or_parts t (at vs op.a) (at vs op.b)
-      (subst (λ v. Said t v) (valued kind.Or is ∙ earlier (λ x y. truth (same x (pos 1) || same y (pos 1))) first second) said)
+      (subst (λ v. Said t v) (valued kind.Or is ∙ earlier kind.Or is refl refl (λ x y. truth (same x (pos 1) || same y (pos 1)))) said)
 
-  pub opposite : op.kind ≡ kind.Neg → op.a < c → neg_ℤ (at vs c) ≡ at vs op.a
-  opposite is first =
-      let e : at vs c ≡ neg_ℤ (at vs op.a) = valued kind.Neg is ∙ ap neg_ℤ (get_or-take c vs op.a (pos 0) first) in
-      ap neg_ℤ e ∙ twice_negated (at vs op.a)
+  pub opposite : op.kind ≡ kind.Neg → neg_ℤ (at vs c) ≡ at vs op.a
+  opposite is =
+      let e : at vs c ≡ neg_ℤ (at vs op.a) = valued kind.Neg is ∙ ap neg_ℤ (first kind.Neg is refl) in ap neg_ℤ e ∙ twice_negated (at vs op.a)
 
-  pub selection : op.kind ≡ kind.Sel → op.a < c → op.b < c → op.c < c → at vs c ≡ cond (same (at vs op.a) (pos 0)) (at vs op.b) (at vs op.c)
-  selection is first second third =
+  pub selection : op.kind ≡ kind.Sel → at vs c ≡ cond (same (at vs op.a) (pos 0)) (at vs op.b) (at vs op.c)
+  selection is =
       valued kind.Sel is
-      ∙ ap (λ x. cond (same x (pos 0)) (at (take c vs) op.b) (at (take c vs) op.c)) (get_or-take c vs op.a (pos 0) first)
-      ∙ ap (λ y. cond (same (at vs op.a) (pos 0)) y (at (take c vs) op.c)) (get_or-take c vs op.b (pos 0) second)
-      ∙ ap (λ z. cond (same (at vs op.a) (pos 0)) (at vs op.b) z) (get_or-take c vs op.c (pos 0) third)
+      ∙ earlier kind.Sel is refl refl (λ x y. cond (same x (pos 0)) y (at (take c vs) op.c))
+      ∙ ap (λ z. cond (same (at vs op.a) (pos 0)) (at vs op.b) z) (get_or-take c vs op.c (pos 0) (early.third (ap (λ j. reads_earlier j 2) is)))
 
 -- what is chosen
 pub chosen_no : (x y z v : ℤ) → v ≡ cond (same x (pos 0)) y z → x ≡ pos 0 → v ≡ y
@@ -149,8 +152,3 @@ not_one x zero one = let no : pos 0 ≡ pos 1 = sym zero ∙ one in absurd cc
 
 pub not_zero : (x : ℤ) → x ≡ pos 1 → x ≢ pos 0
 not_zero x one zero = let no : pos 0 ≡ pos 1 = sym zero ∙ one in absurd cc
-
--- a comparison reads two earlier operations
-pub compares_reads : (k : Kind) → Compares k → (reads_earlier k 0 ≡ true) × (reads_earlier k 1 ≡ true)
-compares_reads k (inl is) = (ap (λ t. reads_earlier t 0) is, ap (λ t. reads_earlier t 1) is)
-compares_reads k (inr is) = (ap (λ t. reads_earlier t 0) is, ap (λ t. reads_earlier t 1) is)

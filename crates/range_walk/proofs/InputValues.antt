@@ -1,21 +1,42 @@
 -- InputValues: the value of an INPUT is that of its input in the row.
-use Rattle.std.proofs.Common.{◌≡◌, ℤ, List, refl, sym, subst, ◌∙◌}
+use Rattle.std.proofs.Common.{◌≡◌, ℤ, true, false, List, inl, inr, refl, ap, sym, subst, ◌∙◌}
 use Rattle.std.specs.Prelude.{unsigned_abs}
 use Rattle.vcp_base.specs.declared.kind.Kind.{Kind}
 use Rattle.vcp_base.specs.declared.kind.Kind.TheVariants as kind
-use Rattle.vcp_base.specs.Kinds.{value}
+use Rattle.std.proofs.lemmas.Bool.{both_ways}
+use Rattle.vcp_base.specs.Kinds.{divides_by_zero, value}
+use Rattle.vcp_base.specs.Types.{fits}
 use Rattle.vcp_base.specs.Values.{at}
 use Rattle.op_graph.specs.declared.op.Op.{Op}
-use Rattle.op_graph.specs.GraphRun.{own}
+use Rattle.op_graph.specs.GraphRun.{own, operand}
+use Rattle.op_graph.specs.Rules.{is_input}
 use Rattle.range_walk.specs.declared.range.Range.{Range}
 use Rattle.range_walk.specs.declared.told.Told.{Told}
 use Rattle.range_walk.specs.Intervals.{IsIn}
 use Rattle.range_walk.specs.Walking.{Tells}
-use Rattle.range_walk.proofs.Outcomes.{ok_says}
+use Rattle.range_walk.proofs.Outcomes.{ok_says, err_says}
 
-input_value : (row : List ℤ) (k : Kind) (imm a b c : ℤ) → k ≡ kind.Input → value k (own row k imm) a b c ≡ at row (unsigned_abs imm)
-input_value row kind.Input imm a b c e = refl
-input_value row _ imm a b c e = absurd cc
+own_value : (k : Kind) (own a b c : ℤ) → k ≡ kind.Input → value k own a b c ≡ own
+own_value kind.Input own a b c e = refl
+own_value _ own a b c e = absurd cc
+
+own_input : (row : List ℤ) (k : Kind) (imm : ℤ) → k ≡ kind.Input → own row k imm ≡ at row (unsigned_abs imm)
+own_input row kind.Input imm e = refl
+own_input row _ imm e = absurd cc
+
+-- an INPUT gives a value of its type, and doesn't stop on a row that fits
+pub input_of_type : (held row vs : List ℤ) (op : Op) (r : Range) → op.kind ≡ kind.Input → ((v : ℤ) → fits op.ty v ≡ true → IsIn r v)
+    → Tells held row vs op (record { range = r; stops = record { range = false; div_zero = false } })
+input_of_type held row vs op r is inside = record {
+  value = λ v e. let says = ok_says _ _ _ _ v e in inside v (subst (λ w. fits op.ty w ≡ true) says.2 says.1);
+  stop = λ why own_fits no e.
+      let never : ⊥ =
+      elim (err_says _ _ _ _ why e no) [
+        | inl p ↦ both_ways _ (ap (λ k. divides_by_zero k (operand held vs op 1 op.b)) is) p.0
+        | inr p ↦ both_ways _ p.1 (subst (λ w. fits op.ty w ≡ true) (sym (own_value op.kind _ _ _ _ is)) (own_fits (ap is_input is)))
+      ] in
+      absurd never;
+}
 
 -- what is told of an INPUT holds with another range that has the value of its input
 pub input_tells : (held row vs : List ℤ) (op : Op) (t : Told) (r : Range) → op.kind ≡ kind.Input
@@ -24,7 +45,7 @@ pub input_tells : (held row vs : List ℤ) (op : Op) (t : Told) (r : Range) → 
 input_tells held row vs op t r is inside tells = record {
   value = λ v e.
       let says = ok_says _ _ _ _ v e in
-      let same : at row (unsigned_abs op.imm) ≡ v = sym (input_value row op.kind op.imm _ _ _ is) ∙ says.2 in
+      let same : at row (unsigned_abs op.imm) ≡ v = sym (own_value op.kind _ _ _ _ is ∙ own_input row op.kind op.imm is) ∙ says.2 in
       subst (λ w. IsIn r w) same (inside (subst (λ w. IsIn t.range w) (sym same) (tells.value v e)));
   stop = tells.stop;
 }

@@ -22,9 +22,9 @@ pub load_read : (r : Range) (held vs : List ℤ) (k : Kind) (imm : ℤ) (n : ℕ
     → IsIn r (read held vs k imm n)
 load_read r held vs k imm n is h = subst (λ j. IsIn r (read held vs j imm n)) (sym is) h
 
-pub other_read : (r : Range) (held vs : List ℤ) (k : Kind) (imm : ℤ) (n : ℕ) → (k ≡ kind.Load → ⊥) → IsIn r (at vs n) → IsIn r (read held vs k imm n)
-other_read r held vs kind.Load imm n other h = absurd (other refl)
-other_read r held vs _ imm n other h = h
+pub read_other : (held vs : List ℤ) (k : Kind) (imm : ℤ) (n : ℕ) → (k ≡ kind.Load → ⊥) → read held vs k imm n ≡ at vs n
+read_other held vs kind.Load imm n other = absurd (other refl)
+read_other held vs _ imm n other = refl
 
 -- an operand that is there, and one that isn't
 pub operand_read : (r : Range) (b : Bool) (v : ℤ) → b ≡ true → IsIn r v → IsIn r (cond b v (pos 0))

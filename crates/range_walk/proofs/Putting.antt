@@ -10,6 +10,7 @@ use Rattle.range_walk.specs.declared.range.Range.{Range}
 use Rattle.range_walk.specs.Intervals.{IsIn, Fit}
 use Rattle.range_walk.specs.Walking.{OperandIs, OperandsAre}
 use Rattle.range_walk.proofs.Outcomes.{ok_says}
+use Rattle.range_walk.proofs.Operands.{read_other}
 use Rattle.range_walk.proofs.Steps.{fit_front}
 
 -- ---- lists
@@ -93,12 +94,8 @@ whole_divisor held row vs i op cells e are =
     let front : divides_by_zero op.kind (operand held (take i vs) op 1 op.b) ≡ false = (ok_says _ _ _ _ (at vs i) e).0 in
     subst (λ w. divides_by_zero op.kind w ≡ false) y front
 
-read_at : (r : Range) (held vs : List ℤ) (k : Kind) (imm : ℤ) (n : ℕ) → (k ≡ kind.Load → ⊥) → IsIn r (read held vs k imm n) → IsIn r (at vs n)
-read_at r held vs kind.Load imm n other i = absurd (other refl)
-read_at r held vs _ imm n other i = i
-
 -- an operand that is an operation
 pub operand_at : (r : Range) (held vs : List ℤ) (op : Op) (j n : ℕ) → nat_lt j (operands op.kind) ≡ true → (op.kind ≡ kind.Load → ⊥)
     → IsIn r (operand held vs op j n) → IsIn r (at vs n)
 operand_at r held vs op j n has other i =
-    read_at r held vs op.kind op.imm n other (subst (λ b. IsIn r (cond b (read held vs op.kind op.imm n) (pos 0))) has i)
+    subst (λ v. IsIn r v) (read_other held vs op.kind op.imm n other) (subst (λ b. IsIn r (cond b (read held vs op.kind op.imm n) (pos 0))) has i)

@@ -1,15 +1,17 @@
 -- Steps: what a loop over the operations keeps.
-use Rattle.std.proofs.Common.{◌≡◌, ◌≢◌, ℕ, zero, suc, ◌<◌, ℤ, pos, true, List, [], ◌∷◌, ◌++◌, length, take, slice_get, Some, Ok, Err, refl, sym, subst, length-take-le, get_or-take, take-take, arith}
+use Rattle.std.proofs.Common.{false, ◌≤◌, Option, None, ◌≡◌, ◌≢◌, ℕ, zero, suc, ◌<◌, ℤ, pos, true, List, [], ◌∷◌, ◌++◌, length, take, slice_get, Some, Ok, Err, refl, sym, subst, length-take-le, get_or-take, take-take, arith}
 use Rattle.std.proofs.lemmas.Option.{slice_get_within}
 use Rattle.vcp_base.specs.declared.kind.StopKind.{StopKind}
 use Rattle.vcp_base.specs.declared.kind.StopKind.TheVariants as stop
-use Rattle.vcp_base.specs.Types.{fits}
+use Rattle.std.proofs.lemmas.Bool.{eqb-true}
+use Rattle.vcp_base.specs.declared.ty.Ty.{Ty}
+use Rattle.vcp_base.specs.Types.{within}
 use Rattle.vcp_base.specs.Values.{at}
 use Rattle.op_graph.specs.declared.op.Op.{Op}
 use Rattle.op_graph.specs.Lists.{Lists}
 use Rattle.op_graph.specs.Laws.{EntryLaws, ReadLaws}
 use Rattle.op_graph.specs.Reads.{Linked, OperandThere}
-use Rattle.op_graph.specs.Rules.{IsGraph, scope, place_of, OpFits, Operates}
+use Rattle.op_graph.specs.Rules.{IsGraph, scope, place_of, operand_fits, OpFits, Operates}
 use Rattle.op_graph.specs.GraphRun.{outcome_of}
 use Rattle.vcp_base.specs.declared.kind.Kind.{Kind}
 use Rattle.vcp_base.specs.declared.kind.Kind.TheVariants as kind
@@ -50,21 +52,41 @@ operand_is : (before : List Op) (stores : List ℕ) (cells : ℕ) (k : Kind) (im
 operand_is before stores cells kind.Load imm n many there = let lt = slice_get_within stores (unsigned_abs imm) there.0 there.1 in omega (arith, lt)
 operand_is before stores cells _ imm n many there = there
 
-pub operands_are : (g : Lists) (i : ℕ) (op : Op) (cells : ℕ) → EntryLaws → ReadLaws → IsGraph g → slice_get g.operations i ≡ Some op
-    → length g.stores ≡ cells → OperandsAre cells i op
-operands_are g i op cells entries reads graph there many =
-    let lt : i < length g.operations = slice_get_within g.operations i op there in
-    let front : length (take i g.operations) ≡ i = length-take-le i g.operations (omega arith) in
-    let rules : OpFits (place_of (scope g) i) (length g.turn_nodes) (take i g.operations) op = entries.operation g i op graph.part there in
-    let operates : Operates (scope g) (length g.turn_nodes) (take i g.operations) op =
-    subst (λ j. OpFits (place_of (scope g) j) (length g.turn_nodes) (take i g.operations) op) (sym front) rules in
-    let linked : Linked g.stores (take i g.operations) op = reads.linked g (length g.turn_nodes) (take i g.operations) op graph operates in
-    let are : OperandsAre cells (length (take i g.operations)) op = record {
-      first = λ h. operand_is (take i g.operations) g.stores cells op.kind op.imm op.a many (linked.first h);
-      second = λ h. operand_is (take i g.operations) g.stores cells op.kind op.imm op.b many (linked.second h);
-      third = λ h. operand_is (take i g.operations) g.stores cells op.kind op.imm op.c many (linked.third h);
-    } in
-    subst (λ j. OperandsAre cells j op) front are
+found_below : (before : List Op) (n : ℕ) (t : Ty) (o : Option Op) → slice_get before n ≡ o → elim o [ None ↦ false | Some op ↦ within op.ty t ] ≡ true
+    → n ≤ length before
+found_below before n t None e h = absurd cc
+found_below before n t (Some op) e h = let lt = slice_get_within before n op e in omega arith
+
+operand_below : (before : List Op) (o : Option Ty) (n : ℕ) → operand_fits before o n ≡ true → n ≤ length before
+operand_below before None n h = omega (arith, eqb-true n 0 h)
+operand_below before (Some t) n h = found_below before n t (slice_get before n) refl h
+
+module _ (g : Lists) (i : ℕ) (op : Op) (entries : EntryLaws) (graph : IsGraph g) (there : slice_get g.operations i ≡ Some op) where
+  front : length (take i g.operations) ≡ i
+  front = let lt = slice_get_within g.operations i op there in length-take-le i g.operations (omega arith)
+
+  rules : OpFits (place_of (scope g) i) (length g.turn_nodes) (take i g.operations) op
+  rules = entries.operation g i op graph.part there
+
+  pub operands_are : (cells : ℕ) → ReadLaws → length g.stores ≡ cells → OperandsAre cells i op
+  operands_are cells reads many =
+      let operates : Operates (scope g) (length g.turn_nodes) (take i g.operations) op =
+      subst (λ j. OpFits (place_of (scope g) j) (length g.turn_nodes) (take i g.operations) op) (sym front) rules in
+      let linked : Linked g.stores (take i g.operations) op = reads.linked g (length g.turn_nodes) (take i g.operations) op graph operates in
+      subst (λ j. OperandsAre cells j op) front (record {
+        first = λ h. operand_is (take i g.operations) g.stores cells op.kind op.imm op.a many (linked.first h);
+        second = λ h. operand_is (take i g.operations) g.stores cells op.kind op.imm op.b many (linked.second h);
+        third = λ h. operand_is (take i g.operations) g.stores cells op.kind op.imm op.c many (linked.third h);
+      })
+
+  -- an operand is an earlier operation or 0
+  pub operands_below : (op.a ≤ i) × (op.b ≤ i) × (op.c ≤ i)
+  operands_below =
+      let a = operand_below (take i g.operations) _ op.a rules.a in
+      let b = operand_below (take i g.operations) _ op.b rules.b in
+      let c = operand_below (take i g.operations) _ op.c rules.c in
+      let many = front in
+      (omega arith, omega arith, omega arith)
 
 -- what is told of operation i, where those before it are in these ranges
 abbrev pub TellsAt : List Op → List Range → List Range → List Range → ℕ → Told → Type 0

@@ -8,9 +8,10 @@ use Rattle.vcp_base.specs.Kinds.{operands}
 use Rattle.vcp_base.specs.Types.{fits}
 use Rattle.vcp_base.specs.Values.{at}
 use Rattle.op_graph.specs.declared.op.Op.{Op}
-use Rattle.op_graph.specs.GraphRun.{own, outcome_of}
+use Rattle.op_graph.specs.GraphRun.{own, operand, outcome_of}
 use Rattle.op_graph.specs.Rules.{is_input}
 use Rattle.range_walk.specs.declared.range.Range.{Range}
+use Rattle.range_walk.specs.declared.operand_ranges.Operands.{Operands}
 use Rattle.range_walk.specs.declared.told.Told.{Told}
 use Rattle.range_walk.specs.Known.{KnownRanges, may_stop, is_named, NamesAble, LieInTypes}
 use Rattle.range_walk.specs.Intervals.{IsIn, Fit, Hold, RowIn}
@@ -51,6 +52,16 @@ Parts false P Q = P ⊎ Q
 pub record Tells (held row vs : List ℤ) (op : Op) (t : Told) : Type 0 where
   pub value : (v : ℤ) → outcome_of held row vs op ≡ Ok v → IsIn t.range v
   pub stop : (why : StopKind) → OwnFits row op → why ≢ stop.Operand → outcome_of held row vs op ≡ Err why → may_stop why t.stops ≡ true
+
+-- three values are in the ranges of an operation's operands
+pub record AreIn (o : Operands) (x y z : ℤ) : Type 0 where
+  pub first : IsIn o.first x
+  pub second : IsIn o.second y
+  pub third : IsIn o.third z
+
+-- what an operation reads is in these ranges
+abbrev pub Reads : List ℤ → List ℤ → Op → Operands → Type 0
+Reads held vs op o = AreIn o (operand held vs op 0 op.a) (operand held vs op 1 op.b) (operand held vs op 2 op.c)
 
 -- the operand that an operation reads is there: among so many cells for LOAD, and else among so many operations
 abbrev pub OperandIs : ℕ → ℕ → Kind → ℤ → ℕ → Type 0

@@ -6,7 +6,7 @@ ghost use Rattle.vcp_base.specs.Values.{at};
 ghost use Rattle.range_walk.specs.Intervals.{IsIn, Fit};
 ghost use Rattle.range_walk.specs.Walking.{Given, Taken, Said, Parts, Compares};
 
-use crate::operand_ranges::{first_operand, second_operand};
+use crate::operand_ranges::{Operands, narrowed};
 use crate::operations::operation_at;
 use crate::range::{Range, both_hold, earlier_range};
 use crate::values::negated;
@@ -45,13 +45,14 @@ fn compared(op: &Op, value: Range, a: Range, b: Range, n: u32, r: Range) -> Rang
         → IsIn value (value_of op.now.kind op.now.imm (at vs op.now.a) (at vs op.now.b) (at vs op.now.b))
         → divides_by_zero op.now.kind (at vs op.now.b) ≡ false → IsIn r (at vs n) → IsIn result (at vs n) }
 {
+    let o = narrowed(op.kind, value, Operands::new(a, b, b));
     let is_first = is_one(n, op.a);
     if is_first {
-        return first_operand(op.kind, value, r, b, b);
+        return o.first;
     }
     let is_second = is_one(n, op.b);
     if is_second {
-        return second_operand(op.kind, value, a, r);
+        return o.second;
     }
     r
 }
@@ -171,17 +172,6 @@ fn connected(both: bool, first: Range, second: Range) -> Range
     first.joined(second)
 }
 
-/// How deep the second of two conditions is looked into, where the first is looked into so deep.
-fn second_depth(depth: u32) -> u32
-    ensures { result ≤ depth }
-{
-    if depth < SECOND_DEPTH {
-        depth
-    } else {
-        SECOND_DEPTH
-    }
-}
-
 /// The range of operation `n` where condition `c` is `truth`, by the conditions that `c` joins, so many deep.
 fn case_within(graph: &Graph, known: &[Range], c: u32, truth: bool, n: u32, depth: u32) -> Range
     requires condition { c < length known.now }
@@ -205,12 +195,12 @@ fn case_within(graph: &Graph, known: &[Range], c: u32, truth: bool, n: u32, dept
         }
         Kind::And => {
             let first = case_within(graph, known, op.a, truth, n, less);
-            let second = case_within(graph, known, op.b, truth, n, second_depth(less));
+            let second = case_within(graph, known, op.b, truth, n, less.min(SECOND_DEPTH));
             connected(truth, first, second)
         }
         Kind::Or => {
             let one = case_within(graph, known, op.a, truth, n, less);
-            let other = case_within(graph, known, op.b, truth, n, second_depth(less));
+            let other = case_within(graph, known, op.b, truth, n, less.min(SECOND_DEPTH));
             connected(!truth, one, other)
         }
         _ => through_comparison(graph, known, c, truth, n),

@@ -5,12 +5,12 @@ ghost use Rattle.vcp_base.specs.Kinds.{operands as operands_of};
 ghost use Rattle.vcp_base.specs.Values.{at};
 ghost use Rattle.op_graph.specs.GraphRun.{operand};
 ghost use Rattle.range_walk.specs.Intervals.{IsIn, Fit, Hold};
-ghost use Rattle.range_walk.specs.Walking.{Given, OperandIs, Narrows, ReadsCell};
+ghost use Rattle.range_walk.specs.Walking.{Given, OperandIs, OperandsAre, Narrows, Reads, ReadsCell};
 
-use crate::operand_ranges::{first_operand, second_operand, third_operand};
+use crate::operand_ranges::{Operands, narrowed};
 use crate::operations::operation_at;
 use crate::range::{Range, earlier_range};
-use crate::told::{has_operand, operand_range, tell};
+use crate::told::{has_operand, read_operands, tell};
 use op_graph::{Graph, Op};
 use vcp_base::Kind;
 
@@ -49,18 +49,6 @@ fn told_range(graph: &Graph, cells: &[Range], ranges: &[Range], i: u32) -> Range
     told.range
 }
 
-/// Makes the range of operation `i` narrower by what it reads.
-fn settle_value(graph: &Graph, cells: &[Range], ranges: &mut [Range], i: u32)
-    requires there { i < length ranges.old }
-    requires many { length ranges.old ≤ length graph.now.operations }
-    requires cells { length cells.now ≡ length graph.now.stores }
-    ensures many { length ranges.new ≡ length ranges.old }
-    ensures fits { Narrows graph.now.operations cells.now ranges.old ranges.new }
-{
-    let told = told_range(graph, cells, ranges, i);
-    put(ranges, i, told);
-}
-
 /// Whether the kind reads operation `n` as its operand `j`: a LOAD reads its cell.
 fn reads_earlier(kind: Kind, j: u32) -> bool
     ensures has { result ≡ true → nat_lt j (operands_of kind) ≡ true }
@@ -84,6 +72,17 @@ fn put_operand(cells: &[Range], ranges: &mut [Range], op: &Op, j: u32, n: u32, r
     }
 }
 
+/// Makes the ranges of what an operation reads narrower, where its operands are in `o`.
+fn put_operands(cells: &[Range], ranges: &mut [Range], op: &Op, o: Operands)
+    requires { OperandsAre (length cells.now) (length ranges.old) op.now }
+    ensures many { length ranges.new ≡ length ranges.old }
+    ensures fits { (held vs : List ℤ) → length ranges.old ≤ length vs → Fit ranges.old vs → Reads held vs op.now o → Fit ranges.new vs }
+{
+    put_operand(cells, ranges, op, 0, op.a, o.first);
+    put_operand(cells, ranges, op, 1, op.b, o.second);
+    put_operand(cells, ranges, op, 2, op.c, o.third);
+}
+
 /// Makes the ranges of what operation `i` reads narrower by its own.
 fn settle_operands(graph: &Graph, cells: &[Range], ranges: &mut [Range], i: u32)
     requires there { i < length ranges.old }
@@ -94,15 +93,9 @@ fn settle_operands(graph: &Graph, cells: &[Range], ranges: &mut [Range], i: u32)
 {
     let op = operation_at(graph, i);
     let r = earlier_range(ranges, i);
-    let a = operand_range(cells, ranges, &op, 0, op.a);
-    let b = operand_range(cells, ranges, &op, 1, op.b);
-    let c = operand_range(cells, ranges, &op, 2, op.c);
-    let first = first_operand(op.kind, r, a, b, c);
-    let second = second_operand(op.kind, r, a, b);
-    let third = third_operand(op.kind, r, a, c);
-    put_operand(cells, ranges, &op, 0, op.a, first);
-    put_operand(cells, ranges, &op, 1, op.b, second);
-    put_operand(cells, ranges, &op, 2, op.c, third);
+    let before = read_operands(cells, ranges, &op);
+    let after = narrowed(op.kind, r, before);
+    put_operands(cells, ranges, &op, after);
 }
 
 /// Makes the range of operation `i` narrower by what it reads, and then what it reads by its own.
@@ -113,7 +106,8 @@ fn settle(graph: &Graph, cells: &[Range], ranges: &mut [Range], i: u32)
     ensures many { length ranges.new ≡ length ranges.old }
     ensures fits { Narrows graph.now.operations cells.now ranges.old ranges.new }
 {
-    settle_value(graph, cells, ranges, i);
+    let told = told_range(graph, cells, ranges, i);
+    put(ranges, i, told);
     settle_operands(graph, cells, ranges, i);
 }
 

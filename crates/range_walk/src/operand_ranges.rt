@@ -3,11 +3,39 @@
 ghost use Rattle.std.specs.Prelude.{◌≡◌, ◌≢◌, ℤ, pos, true, false, ◌&&◌, ◌||◌, ◌-ℤ◌, ◌*ℤ◌, ◌<ℤ◌, ◌≤ℤ◌, cond, int_div, int_lt};
 ghost use Rattle.vcp_base.specs.Kinds.{divides_by_zero, same, truth as truth_of, value as value_of};
 ghost use Rattle.range_walk.specs.Intervals.{IsIn, IsWithin};
-ghost use Rattle.range_walk.specs.Walking.{Said};
+ghost use Rattle.range_walk.specs.Walking.{AreIn, Said};
 
 use crate::range::{Bounds, Range, both_hold};
 use crate::values::{are_apart, difference, product, quotient, rest, sum_within};
 use vcp_base::Kind;
+
+/// The ranges of what an operation reads as its operands.
+#[derive(Clone, Copy)]
+pub(crate) struct Operands {
+    pub(crate) first: Range,
+    pub(crate) second: Range,
+    pub(crate) third: Range,
+}
+
+impl Operands {
+    /// These three.
+    pub(crate) fn new(first: Range, second: Range, third: Range) -> Operands
+        ensures { (x y z : ℤ) → IsIn first x → IsIn second y → IsIn third z → AreIn result x y z }
+    {
+        Operands {
+            first,
+            second,
+            third,
+        }
+    }
+}
+
+/// The ranges of operands, the first of which is in `r` too.
+fn copied(r: Range, o: Operands) -> Operands
+    ensures { (x y z : ℤ) → IsIn r x → AreIn o x y z → AreIn result x y z }
+{
+    Operands::new(o.first.shared(r), o.second, o.third)
+}
 
 /// The range of a condition that is `truth`.
 pub(crate) fn said_range(a: Range, truth: bool) -> Range
@@ -77,72 +105,23 @@ fn equal_to(r: Range, a: Range, b: Range) -> Range
     a
 }
 
-/// Bounds of x, where x is less than y.
-fn lesser_one(a: Range, b: Range) -> Bounds
-    ensures { (x y : ℤ) → IsIn a x → IsIn b y → x <ℤ y → IsWithin result x }
+/// The ranges of two values, where that the first is less than the second is in `r`.
+fn ordered(r: Range, o: Operands) -> Operands
+    ensures { (x y z : ℤ) → IsIn r (truth_of (int_lt x y)) → AreIn o x y z → AreIn result x y z }
 {
-    Bounds {
-        low: a.low as i128,
-        high: b.high as i128 - 1,
-        nonzero: false,
-    }
-}
-
-/// Bounds of y, where x is less than y.
-fn larger_one(a: Range, b: Range) -> Bounds
-    ensures { (x y : ℤ) → IsIn a x → IsIn b y → x <ℤ y → IsWithin result y }
-{
-    Bounds {
-        low: a.low as i128 + 1,
-        high: b.high as i128,
-        nonzero: false,
-    }
-}
-
-/// Bounds of both, where x is no less than y.
-fn no_less(a: Range, b: Range) -> Bounds
-    ensures first { (x y : ℤ) → IsIn a x → IsIn b y → y ≤ℤ x → IsWithin result x }
-    ensures second { (x y : ℤ) → IsIn a x → IsIn b y → y ≤ℤ x → IsWithin result y }
-{
-    Bounds {
-        low: b.low as i128,
-        high: a.high as i128,
-        nonzero: false,
-    }
-}
-
-/// The range of x, where that it is less than y is in `r`.
-fn less_than(r: Range, a: Range, b: Range) -> Range
-    ensures { (x y : ℤ) → IsIn r (truth_of (int_lt x y)) → IsIn a x → IsIn b y → IsIn result x }
-{
+    let (a, b) = (o.first, o.second);
     let yes = r.is_only(1);
     if yes {
-        let less = lesser_one(a, b);
-        return a.met(less);
+        let less = Bounds::between(a.low as i128, b.high as i128 - 1);
+        let more = Bounds::between(a.low as i128 + 1, b.high as i128);
+        return Operands::new(a.met(less), b.met(more), o.third);
     }
     let no = r.excludes(1);
     if no {
-        let bounds = no_less(a, b);
-        return a.met(bounds);
+        let both = Bounds::between(b.low as i128, a.high as i128);
+        return Operands::new(a.met(both), b.met(both), o.third);
     }
-    a
-}
-
-/// The range of y, where that x is less than it is in `r`.
-fn more_than(r: Range, a: Range, b: Range) -> Range
-    ensures { (x y : ℤ) → IsIn r (truth_of (int_lt x y)) → IsIn a x → IsIn b y → IsIn result y }
-{
-    let yes = r.is_only(1);
-    if yes {
-        let more = larger_one(a, b);
-        return b.met(more);
-    }
-    let no = r.excludes(1);
-    if no {
-        let bounds = no_less(a, b);
-        return b.met(bounds);
-    }
-    b
+    o
 }
 
 /// The range of a condition by which one of two values is taken, and what is taken is in `r`.
@@ -208,47 +187,26 @@ fn dividend(r: Range, a: Range, b: Range) -> Range
     a
 }
 
-/// The range of an operation's first operand, which is in `a`, where its value is in `r` and the other operands are in `b` and `c`.
-pub(crate) fn first_operand(kind: Kind, r: Range, a: Range, b: Range, c: Range) -> Range
-    ensures { (imm x y z : ℤ) → IsIn r (value_of kind imm x y z) → IsIn a x → IsIn b y → IsIn c z → IsIn result x }
+/// The ranges of an operation's operands, which are in `o`, where its value is in `r`. A divisor of an operation that gave a value isn't 0.
+pub(crate) fn narrowed(kind: Kind, r: Range, o: Operands) -> Operands
+    ensures { (imm x y z : ℤ) → IsIn r (value_of kind imm x y z) → AreIn o x y z → divides_by_zero kind y ≡ false → AreIn result x y z }
 {
+    let (a, b, c) = (o.first, o.second, o.third);
     match kind {
-        Kind::Store | Kind::Out | Kind::Conv => a.shared(r),
-        Kind::Not => denied(r, a),
-        Kind::And => joined_by_and(r, a, b),
-        Kind::Or => joined_by_or(r, a, b),
-        Kind::Eq => equal_to(r, a, b),
-        Kind::Lt => less_than(r, a, b),
-        Kind::Sel => taken_by(r, a, b, c),
-        Kind::Mul => factor(r, a, b),
-        Kind::Div => dividend(r, a, b),
-        _ => a,
-    }
-}
-
-/// The range of its second operand, which is in `b`. A divisor of an operation that gave a value isn't 0.
-pub(crate) fn second_operand(kind: Kind, r: Range, a: Range, b: Range) -> Range
-    ensures { (imm x y z : ℤ) → IsIn r (value_of kind imm x y z) → IsIn a x → IsIn b y → divides_by_zero kind y ≡ false → IsIn result y }
-{
-    match kind {
-        Kind::And => joined_by_and(r, b, a),
-        Kind::Or => joined_by_or(r, b, a),
-        Kind::Eq => equal_to(r, b, a),
-        Kind::Lt => more_than(r, a, b),
-        Kind::Sel => taken_where_no(r, a, b),
-        Kind::Mul => factor(r, b, a),
-        Kind::Div => b.without_zero(),
-        Kind::Mod => b.without_zero(),
-        _ => b,
-    }
-}
-
-/// The range of its third operand, which is in `c`.
-pub(crate) fn third_operand(kind: Kind, r: Range, a: Range, c: Range) -> Range
-    ensures { (imm x y z : ℤ) → IsIn r (value_of kind imm x y z) → IsIn a x → IsIn c z → IsIn result z }
-{
-    match kind {
-        Kind::Sel => taken_where_yes(r, a, c),
-        _ => c,
+        Kind::Store | Kind::Out | Kind::Conv => copied(r, o),
+        Kind::Not => Operands::new(denied(r, a), b, c),
+        Kind::And => Operands::new(joined_by_and(r, a, b), joined_by_and(r, b, a), c),
+        Kind::Or => Operands::new(joined_by_or(r, a, b), joined_by_or(r, b, a), c),
+        Kind::Eq => Operands::new(equal_to(r, a, b), equal_to(r, b, a), c),
+        Kind::Lt => ordered(r, o),
+        Kind::Sel => Operands::new(
+            taken_by(r, a, b, c),
+            taken_where_no(r, a, b),
+            taken_where_yes(r, a, c),
+        ),
+        Kind::Mul => Operands::new(factor(r, a, b), factor(r, b, a), c),
+        Kind::Div => Operands::new(dividend(r, a, b), b.without_zero(), c),
+        Kind::Mod => Operands::new(a, b.without_zero(), c),
+        _ => o,
     }
 }

@@ -8,7 +8,6 @@ ghost use Rattle.range_walk.specs.Known.{is_any_named};
 use vcp_base::{Ty, greatest, least};
 
 /// The integers from `low` to `high`, without 0 where `nonzero`. Where `low` is above `high` there is none.
-/// It has no value where its greatest is below its least.
 #[derive(Clone, Copy)]
 pub struct Range {
     /// The least of them.
@@ -303,6 +302,17 @@ impl Range {
 }
 
 impl Bounds {
+    /// The integers from `low` to `high`.
+    pub(crate) fn between(low: i128, high: i128) -> Bounds
+        ensures { (v : ℤ) → low ≤ℤ v → v ≤ℤ high → IsWithin result v }
+    {
+        Bounds {
+            low,
+            high,
+            nonzero: false,
+        }
+    }
+
     /// One value.
     pub(crate) fn only(v: i128) -> Bounds
         ensures { IsWithin result v }

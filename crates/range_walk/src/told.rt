@@ -6,9 +6,10 @@ ghost use Rattle.op_graph.specs.declared.op.Op.{Op as Operation};
 ghost use Rattle.op_graph.specs.GraphRun.{operand, read};
 ghost use Rattle.op_graph.specs.Rules.{is_input};
 ghost use Rattle.range_walk.specs.Intervals.{IsIn, IsWithin, Fit, Hold};
-ghost use Rattle.range_walk.specs.Walking.{Given, Tells, OperandIs};
+ghost use Rattle.range_walk.specs.Walking.{Given, Tells, OperandIs, OperandsAre, Reads};
 
 use crate::choices::case_range;
+use crate::operand_ranges::Operands;
 use crate::operations::operation_at;
 use crate::range::{Bounds, Range, Stops, both_hold, earlier_range, range_at};
 use crate::values::{chosen, twice_bounds, value_bounds};
@@ -58,17 +59,16 @@ fn reads_one_twice(op: &Op) -> bool
 }
 
 /// Bounds of the value of an operation that computes it, whose divisor isn't 0.
-fn bounds_of(op: &Op, a: Range, b: Range, c: Range) -> Bounds
-    ensures { (held vs : List ℤ) → IsIn a (operand held vs op.now 0 op.now.a) → IsIn b (operand held vs op.now 1 op.now.b)
-        → IsIn c (operand held vs op.now 2 op.now.c) → divides_by_zero op.now.kind (operand held vs op.now 1 op.now.b) ≡ false
+fn bounds_of(op: &Op, o: Operands) -> Bounds
+    ensures { (held vs : List ℤ) → Reads held vs op.now o → divides_by_zero op.now.kind (operand held vs op.now 1 op.now.b) ≡ false
         → IsWithin result (value_of op.now.kind op.now.imm (operand held vs op.now 0 op.now.a) (operand held vs op.now 1 op.now.b)
         (operand held vs op.now 2 op.now.c)) }
 {
     let twice = reads_one_twice(op);
     if twice {
-        return twice_bounds(op, a, b, c);
+        return twice_bounds(op, o.first, o.second, o.third);
     }
-    value_bounds(op, a, b, c)
+    value_bounds(op, o.first, o.second, o.third)
 }
 
 /// What is found of an operation that computes its value, within these bounds, and whose divisor is in `b`.
@@ -92,20 +92,9 @@ fn told_by(op: &Op, bounds: Bounds, b: Range) -> Told
     }
 }
 
-/// What is found of an operation that computes its value.
-fn computed(op: &Op, a: Range, b: Range, c: Range) -> Told
-    requires { is_input op.now.kind ≡ false }
-    ensures { (held row vs : List ℤ) → IsIn a (operand held vs op.now 0 op.now.a) → IsIn b (operand held vs op.now 1 op.now.b)
-        → IsIn c (operand held vs op.now 2 op.now.c) → Tells held row vs op.now result }
-{
-    let bounds = bounds_of(op, a, b, c);
-    told_by(op, bounds, b)
-}
-
 /// What is found of an operation, over operands in these ranges.
-fn told_of(op: &Op, a: Range, b: Range, c: Range) -> Told
-    ensures { (held row vs : List ℤ) → IsIn a (operand held vs op.now 0 op.now.a) → IsIn b (operand held vs op.now 1 op.now.b)
-        → IsIn c (operand held vs op.now 2 op.now.c) → Tells held row vs op.now result }
+fn told_of(op: &Op, o: Operands) -> Told
+    ensures { (held row vs : List ℤ) → Reads held vs op.now o → Tells held row vs op.now result }
 {
     match op.kind {
         Kind::Input => Told {
@@ -115,7 +104,10 @@ fn told_of(op: &Op, a: Range, b: Range, c: Range) -> Told
                 div_zero: false,
             },
         },
-        _ => computed(op, a, b, c),
+        _ => {
+            let bounds = bounds_of(op, o);
+            told_by(op, bounds, o.second)
+        }
     }
 }
 
@@ -141,7 +133,7 @@ fn read_range(cells: &[Range], known: &[Range], op: &Op, n: u32) -> Range
 }
 
 /// The range of what an operation reads as its operand `j`, which is operation `n`, or for LOAD its cell; 0 where it has no such operand.
-pub(crate) fn operand_range(cells: &[Range], known: &[Range], op: &Op, j: u32, n: u32) -> Range
+fn operand_range(cells: &[Range], known: &[Range], op: &Op, j: u32, n: u32) -> Range
     requires { nat_lt j (operands_of op.now.kind) ≡ true → OperandIs (length cells.now) (length known.now) op.now.kind op.now.imm n }
     ensures { (held vs : List ℤ) → Hold cells.now held → Fit known.now vs → length known.now ≤ length vs → IsIn result (operand held vs op.now j n) }
 {
@@ -150,6 +142,17 @@ pub(crate) fn operand_range(cells: &[Range], known: &[Range], op: &Op, j: u32, n
         return read_range(cells, known, op, n);
     }
     Range::only(0)
+}
+
+/// The ranges of what an operation reads as its operands.
+pub(crate) fn read_operands(cells: &[Range], known: &[Range], op: &Op) -> Operands
+    requires { OperandsAre (length cells.now) (length known.now) op.now }
+    ensures { (held vs : List ℤ) → Hold cells.now held → Fit known.now vs → length known.now ≤ length vs → Reads held vs op.now result }
+{
+    let first = operand_range(cells, known, op, 0, op.a);
+    let second = operand_range(cells, known, op, 1, op.b);
+    let third = operand_range(cells, known, op, 2, op.c);
+    Operands::new(first, second, third)
 }
 
 /// What is found of a SEL, by what its condition says of what it takes.
@@ -170,22 +173,6 @@ fn choice(graph: &Graph, known: &[Range], op: &Op) -> Told
     told_by(op, value.bounds(), b)
 }
 
-/// What is found of operation `i` by the ranges of its operands.
-fn by_operands(graph: &Graph, cells: &[Range], known: &[Range], i: u32) -> Told
-    requires there { i < length graph.now.operations }
-    requires many { length known.now ≡ i }
-    requires cells { length cells.now ≡ length graph.now.stores }
-    ensures { (held row vs : List ℤ) (op : Operation) → slice_get graph.now.operations i ≡ Some op → Hold cells.now held
-        → Given graph.now.operations held row vs
-        → Fit known.now vs → length vs ≡ i → Tells held row vs op result }
-{
-    let op = operation_at(graph, i);
-    let a = operand_range(cells, known, &op, 0, op.a);
-    let b = operand_range(cells, known, &op, 1, op.b);
-    let c = operand_range(cells, known, &op, 2, op.c);
-    told_of(&op, a, b, c)
-}
-
 /// What is found of operation `i`, where the cells are in these ranges, and so are the operations before it.
 pub fn tell(graph: &Graph, cells: &[Range], known: &[Range], i: u32) -> Told
     requires there { i < length graph.now.operations }
@@ -198,6 +185,9 @@ pub fn tell(graph: &Graph, cells: &[Range], known: &[Range], i: u32) -> Told
     let op = operation_at(graph, i);
     match op.kind {
         Kind::Sel => choice(graph, known, &op),
-        _ => by_operands(graph, cells, known, i),
+        _ => {
+            let o = read_operands(cells, known, &op);
+            told_of(&op, o)
+        }
     }
 }

@@ -19,11 +19,7 @@ fn truth_bounds(yes: bool, no: bool) -> Bounds
     if no {
         return Bounds::only(0);
     }
-    Bounds {
-        low: 0,
-        high: 1,
-        nonzero: false,
-    }
+    Bounds::between(0, 1)
 }
 
 /// The product of two integers of 64 bits.
@@ -55,22 +51,20 @@ pub(crate) fn negated(a: Range) -> Bounds
 fn sum(a: Range, b: Range) -> Bounds
     ensures { (x y : ℤ) → IsIn a x → IsIn b y → IsWithin result (x +ℤ y) }
 {
-    Bounds {
-        low: a.low as i128 + b.low as i128,
-        high: a.high as i128 + b.high as i128,
-        nonzero: false,
-    }
+    Bounds::between(
+        a.low as i128 + b.low as i128,
+        a.high as i128 + b.high as i128,
+    )
 }
 
 /// Bounds of x - y.
 pub(crate) fn difference(a: Range, b: Range) -> Bounds
     ensures { (x y : ℤ) → IsIn a x → IsIn b y → IsWithin result (x -ℤ y) }
 {
-    Bounds {
-        low: a.low as i128 - b.high as i128,
-        high: a.high as i128 - b.low as i128,
-        nonzero: false,
-    }
+    Bounds::between(
+        a.low as i128 - b.high as i128,
+        a.high as i128 - b.low as i128,
+    )
 }
 
 /// Bounds of x*y: the least and the greatest of the products of the ends, as it is not known which signs meet.
@@ -104,22 +98,14 @@ fn quotient_by(a: Range, k: i64) -> Bounds
 {
     let first = divided(a.low, k);
     let second = divided(a.high, k);
-    Bounds {
-        low: first.min(second),
-        high: first.max(second),
-        nonzero: false,
-    }
+    Bounds::between(first.min(second), first.max(second))
 }
 
 /// Bounds of x/y, where y is above 0.
 fn quotient_by_positive(a: Range) -> Bounds
     ensures { (x y : ℤ) → IsIn a x → pos 1 ≤ℤ y → IsWithin result (int_div x y) }
 {
-    Bounds {
-        low: a.low.min(0) as i128,
-        high: a.high.max(0) as i128,
-        nonzero: false,
-    }
+    Bounds::between(a.low.min(0) as i128, a.high.max(0) as i128)
 }
 
 /// Bounds of x/y.
@@ -127,11 +113,7 @@ fn quotient_by_any(a: Range) -> Bounds
     ensures { (x y : ℤ) → IsIn a x → IsWithin result (int_div x y) }
 {
     let high = size(a);
-    Bounds {
-        low: -high,
-        high,
-        nonzero: false,
-    }
+    Bounds::between(-high, high)
 }
 
 /// Bounds of x/y, where y isn't 0.
@@ -155,22 +137,20 @@ pub(crate) fn rest(a: Range, b: Range) -> Bounds
     ensures { (x y : ℤ) → IsIn a x → IsIn b y → y ≢ pos 0 → IsWithin result (int_rem x y) }
 {
     let below = size(b);
-    Bounds {
-        low: (a.low.min(0) as i128).max(1 - below),
-        high: (a.high.max(0) as i128).min(below - 1),
-        nonzero: false,
-    }
+    Bounds::between(
+        (a.low.min(0) as i128).max(1 - below),
+        (a.high.max(0) as i128).min(below - 1),
+    )
 }
 
 /// Bounds of x + y, an integer of 64 bits, where the two are within bounds.
 pub(crate) fn sum_within(first: Bounds, second: Bounds) -> Bounds
     ensures { (x y : ℤ) → IsWithin first x → IsWithin second y → FitsSigned w64 (x +ℤ y) → IsWithin result (x +ℤ y) }
 {
-    Bounds {
-        low: first.low.saturating_add(second.low),
-        high: first.high.saturating_add(second.high),
-        nonzero: false,
-    }
+    Bounds::between(
+        first.low.saturating_add(second.low),
+        first.high.saturating_add(second.high),
+    )
 }
 
 /// Whether no integer is in both ranges, as far as that is seen.

@@ -1,7 +1,7 @@
-use Rattle.std.proofs.Common.{subst, arith}
+use Rattle.std.proofs.Common.{sym, subst, arith}
 use Rattle.vcp_base.specs.Values.{at}
 use Rattle.range_walk.specs.Intervals.{IsIn}
-use Rattle.range_walk.proofs.Operands.{other_there, load_read, other_read}
+use Rattle.range_walk.proofs.Operands.{other_there, load_read, read_other}
 use Rattle.range_walk.proofs.told.read_range.Goals as goal
 
 pub returns-in-Load : goal.returns-in-Load
@@ -14,5 +14,5 @@ pub returns-in_default : goal.returns-in_default
 returns-in_default c = λ held vs hold fit le.
     let op = c.args.op.now in
     let within = other_there _ _ op.kind op.imm c.args.n c.in_default.not-Load c.requires in
-    other_read c.earlier_range.result held vs op.kind op.imm c.args.n c.in_default.not-Load
+    subst (λ v. IsIn c.earlier_range.result v) (sym (read_other held vs op.kind op.imm c.args.n c.in_default.not-Load))
     (fit c.args.n c.earlier_range.result (omega (arith, within, le)) c.earlier_range.ensures)

@@ -1,4 +1,4 @@
-use Rattle.std.proofs.Common.{SFits, sym, ◌∙◌, w64, rules, arith}
+use Rattle.std.proofs.Common.{SFits, to_z, of_z, sym, ◌∙◌, w64, rules, arith}
 use Rattle.std.specs.Prelude.{int_div}
 use mir.Syntax.{w128}
 use Rattle.std.proofs.lemmas.Int.{ints, to_z-of_z}
@@ -16,5 +16,6 @@ returns c = λ x i some.
     let g : SFits w128 c.divided-second.result = search rules in
     let low : SFits w128 c.min.result = search rules in
     let high : SFits w128 c.max.result = search rules in
-    quotient_within a.low a.high x k _ _ some i.at_least i.at_most (spans _ _ _ (omega (arith, ints)) (omega (arith, ints)))
-    (spans _ _ _ (omega (arith, ints)) (omega (arith, ints)))
+    let is = quotient_within a.low a.high x k (to_z w128 (of_z w128 c.min.result)) (to_z w128 (of_z w128 c.max.result)) some i.at_least i.at_most
+    (spans _ _ _ (omega (arith, ints)) (omega (arith, ints))) (spans _ _ _ (omega (arith, ints)) (omega (arith, ints))) in
+    c.between.ensures (int_div x k) is.at_least is.at_most

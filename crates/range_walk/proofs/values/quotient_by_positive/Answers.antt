@@ -1,5 +1,6 @@
 use Rattle.std.proofs.Common.{SFits, w64, rules, arith}
 use Rattle.std.proofs.lemmas.Int.{ints}
+use Rattle.std.specs.Prelude.{int_div}
 use Rattle.range_walk.proofs.Integers.{shrinks}
 use Rattle.range_walk.proofs.values.quotient_by_positive.Goals as goal
 
@@ -11,4 +12,7 @@ returns c = λ x y i some.
     let high : SFits w64 c.max.result = search rules in
     let least = i.at_least in
     let most = i.at_most in
-    shrinks x y _ _ some (omega (arith, ints)) (omega (arith, ints)) (omega (arith, ints)) (omega (arith, ints))
+    let is = shrinks x y c.min.result c.max.result some (omega (arith, ints)) (omega (arith, ints)) (omega (arith, ints)) (omega (arith, ints)) in
+    let below = is.at_least in
+    let above = is.at_most in
+    c.between.ensures (int_div x y) (omega (arith, ints)) (omega (arith, ints))

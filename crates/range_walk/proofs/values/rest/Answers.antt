@@ -1,6 +1,7 @@
 use Rattle.std.proofs.Common.{SFits, w64, rules, arith}
 use mir.Syntax.{w128}
 use Rattle.std.proofs.lemmas.Int.{ints, clamps}
+use Rattle.std.specs.Prelude.{int_rem}
 use Rattle.range_walk.proofs.Integers.{rest_sized, rest_shrinks}
 use Rattle.range_walk.proofs.values.rest.Goals as goal
 
@@ -17,8 +18,5 @@ returns c = λ x y i j some.
     let most = i.at_most in
     let small = rest_sized x y c.size-below.result some (c.size-below.ensures.low y j) (c.size-below.ensures.high y j) in
     let near = rest_shrinks x y c.min.result c.max-2.result (omega (arith, ints)) (omega (arith, ints)) (omega (arith, ints)) (omega (arith, ints)) in
-    record {
-      at_least = let one = small.at_least in let other = near.at_least in omega (arith, ints, clamps);
-      at_most = let one = small.at_most in let other = near.at_most in omega (arith, ints, clamps);
-      not_zero = near.not_zero;
-    }
+    c.between.ensures (int_rem x y) (let one = small.at_least in let other = near.at_least in omega (arith, ints, clamps))
+    (let one = small.at_most in let other = near.at_most in omega (arith, ints, clamps))

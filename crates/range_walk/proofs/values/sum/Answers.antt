@@ -1,4 +1,4 @@
-use Rattle.std.proofs.Common.{SFits, w64, rules, arith}
+use Rattle.std.proofs.Common.{◌+ℤ◌, SFits, w64, rules, arith}
 use Rattle.std.proofs.lemmas.Int.{ints}
 use Rattle.range_walk.proofs.values.sum.Goals as goal
 
@@ -12,4 +12,4 @@ returns c = λ x y i j.
     let most = i.at_most in
     let at_least = j.at_least in
     let at_most = j.at_most in
-    record { at_least = omega (arith, ints); at_most = omega (arith, ints); not_zero = λ e. absurd cc }
+    c.between.ensures (x +ℤ y) (omega (arith, ints)) (omega (arith, ints))

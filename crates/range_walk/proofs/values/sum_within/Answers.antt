@@ -20,4 +20,4 @@ returns c = λ x y i j fits.
     let j_most = j.at_most in
     let least = saturates_below (to_z w128 (of_z w128 a.low) +ℤ to_z w128 (of_z w128 b.low)) (x +ℤ y) (omega (arith, ints)) fits in
     let most = saturates_above (to_z w128 (of_z w128 a.high) +ℤ to_z w128 (of_z w128 b.high)) (x +ℤ y) (omega (arith, ints)) fits in
-    record { at_least = omega (arith, ints); at_most = omega (arith, ints); not_zero = λ e. absurd cc }
+    c.between.ensures (x +ℤ y) (omega (arith, ints)) (omega (arith, ints))
