@@ -36,7 +36,7 @@ as_read ty.Dint ty.Dint v t h = h
 as_read ty.Lint ty.Lint v t h = h
 as_read _ _ v t h = absurd cc
 
-truth_fits : (to : Ty) (b : Bool) → same_type to ty.Bool ≡ true → fits to (truth b) ≡ true
+pub truth_fits : (to : Ty) (b : Bool) → same_type to ty.Bool ≡ true → fits to (truth b) ≡ true
 truth_fits ty.Bool true t = refl
 truth_fits ty.Bool false t = refl
 truth_fits _ b t = absurd cc

@@ -29,10 +29,6 @@ taken_said true v (inl zero) h = absurd (h zero)
 taken_said true v (inr one) h = one
 taken_said false v zero_or_one h = λ one. let no : pos 0 ≡ pos 1 = sym h ∙ one in absurd cc
 
--- a truth that isn't 1 is 0
-pub said_zero : (b : Bool) → truth b ≢ pos 1 → truth b ≡ pos 0
-said_zero b h = ap truth (said_false b h)
-
 -- ---- joined conditions
 
 other_than : (x k : ℤ) → same x k ≡ false → x ≢ k

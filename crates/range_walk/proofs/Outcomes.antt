@@ -64,7 +64,8 @@ computed_tells held row vs op bounds r fit div_zero no_input divides within type
           met v (subst (λ w. fits op.ty w ≡ true) says.2 says.1) (subst (λ w. IsWithin bounds w) says.2 (inside says.0));
       stop = λ why own_fits no e.
           elim (err_says _ _ _ _ why e no) [
-            | inl p ↦ subst (λ w. may_stop w (record { range = not fit; div_zero = div_zero }) ≡ true) (sym p.1) (true_from_ne_false div_zero (λ d. both_ways _ (divides d) p.0))
+            | inl p ↦ subst (λ w. may_stop w (record { range = not fit; div_zero = div_zero }) ≡ true) (sym p.1)
+                (true_from_ne_false div_zero (λ d. both_ways _ (divides d) p.0))
             | inr p ↦ subst (λ w. may_stop w (record { range = not fit; div_zero = div_zero }) ≡ true) (sym p.2)
                 (not_from_false fit (false_from_ne_true fit (λ f. both_ways _ p.1 (typed f _ (inside p.0)))))
           ];

@@ -134,7 +134,8 @@ fits_here ops cells inputs known i t within tells fits = λ held row vs hold ins
     let op = get_there ops i within in
     let fit : Fit known vs = λ k r below there. fits k r there held row vs hold inside given below in
     let told : Tells held row (take i vs) op.0 t =
-    tells held row (take i vs) op.0 op.1 hold inside (given_front ops held row vs i lt given) (fit_front known vs i lt fit) (length-take-le i vs (omega arith)) in
+    tells held row (take i vs) op.0 op.1 hold inside (given_front ops held row vs i lt given) (fit_front known vs i lt fit)
+    (length-take-le i vs (omega arith)) in
     told.value (at vs i) (given.each i op.0 lt op.1)
 
 pub names_here : (ops : List Op) (cells inputs known : List Range) (i : ℕ) (t : Told) → TellsAt ops cells inputs known i t

@@ -1,17 +1,17 @@
 //! What a condition tells of the values that it compares, where a SEL takes one of them by it.
 
 ghost use Rattle.std.specs.Prelude.{◌≡◌, ◌<◌, ◌≤◌, ℤ, Bool, neg_ℤ, true, false, List, length};
-ghost use Rattle.vcp_base.specs.Kinds.{divides_by_zero, truth as truth_of, value as value_of};
+ghost use Rattle.vcp_base.specs.Kinds.{divides_by_zero, value as value_of};
 ghost use Rattle.vcp_base.specs.Values.{at};
 ghost use Rattle.range_walk.specs.Intervals.{IsIn, Fit};
 ghost use Rattle.range_walk.specs.Walking.{Given, Taken, Said, Parts, Compares};
 
-use crate::operand_ranges::{Operands, narrowed};
+use crate::operand_ranges::{Operands, narrowed, said_range};
 use crate::operations::operation_at;
 use crate::range::{Range, both_hold, earlier_range};
 use crate::values::negated;
 use op_graph::{Graph, Op};
-use vcp_base::Kind;
+use vcp_base::{Kind, Ty};
 
 /// How many conditions deep is looked, each time into the first of the two that one joins.
 const DEPTH: u32 = 8;
@@ -24,18 +24,6 @@ fn is_one(n: u32, m: u32) -> bool
     ensures { result ≡ true → n ≡ m }
 {
     n == m
-}
-
-/// What a comparison gives that is `truth`, as a range.
-fn truth_range(truth: bool) -> Range
-    ensures { (b : Bool) → Said truth (truth_of b) → IsIn result (truth_of b) }
-{
-    let yes = Range::only(1);
-    let no = Range::only(0);
-    if truth {
-        return yes;
-    }
-    no
 }
 
 /// The range of operation `n`, which is in `r`, where of the operations that `op` reads the first is in `a` and the second in `b`, and what it
@@ -81,7 +69,7 @@ fn by_comparison(graph: &Graph, known: &[Range], c: u32, truth: bool, n: u32) ->
     if pair {
         let a = earlier_range(known, op.a);
         let b = earlier_range(known, op.b);
-        let value = truth_range(truth);
+        let value = said_range(Range::of_type(Ty::Bool), truth);
         return compared(&op, value, a, b, n, r);
     }
     r

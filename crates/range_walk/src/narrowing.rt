@@ -1,6 +1,6 @@
 //! Ranges of the operations of a cycle, of all or of the first ones, made narrower by what each operation gives and reads.
 
-ghost use Rattle.std.specs.Prelude.{◌≡◌, ◌<◌, ◌≤◌, ℕ, ℤ, true, List, length, take, nat_lt};
+ghost use Rattle.std.specs.Prelude.{◌≡◌, ◌<◌, ◌≤◌, ℤ, true, List, length, take, nat_lt};
 ghost use Rattle.vcp_base.specs.Kinds.{operands as operands_of};
 ghost use Rattle.vcp_base.specs.Values.{at};
 ghost use Rattle.op_graph.specs.GraphRun.{operand};

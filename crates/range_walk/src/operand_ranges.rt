@@ -1,8 +1,8 @@
 //! What the range of an operation's value tells of its operands.
 
-ghost use Rattle.std.specs.Prelude.{◌≡◌, ◌≢◌, ℤ, pos, true, false, ◌&&◌, ◌||◌, ◌-ℤ◌, ◌*ℤ◌, ◌<ℤ◌, ◌≤ℤ◌, cond, int_div, int_lt};
+ghost use Rattle.std.specs.Prelude.{◌≡◌, ℤ, pos, true, false, ◌&&◌, ◌||◌, ◌-ℤ◌, ◌*ℤ◌, cond, int_div, int_lt};
 ghost use Rattle.vcp_base.specs.Kinds.{divides_by_zero, same, truth as truth_of, value as value_of};
-ghost use Rattle.range_walk.specs.Intervals.{IsIn, IsWithin};
+ghost use Rattle.range_walk.specs.Intervals.{IsIn};
 ghost use Rattle.range_walk.specs.Walking.{AreIn, Said};
 
 use crate::range::{Bounds, Range, both_hold};

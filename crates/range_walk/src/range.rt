@@ -1,7 +1,7 @@
 //! Ranges of values.
 
 ghost use Rattle.std.specs.Prelude.{◌≡◌, ◌≢◌, ◌⊎◌, ◌&&◌, ◌||◌, ◌<◌, ℤ, true, false, pos, ◌≤ℤ◌, ◌<ℤ◌, int_lt, length, slice_get, Some};
-ghost use Rattle.vcp_base.specs.Types.{fits as fits_of, least as least_of, greatest as greatest_of};
+ghost use Rattle.vcp_base.specs.Types.{fits as fits_of};
 ghost use Rattle.range_walk.specs.Intervals.{IsIn, IsWithin, LiesIn};
 ghost use Rattle.range_walk.specs.Known.{is_any_named};
 

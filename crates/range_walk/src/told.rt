@@ -1,6 +1,6 @@
 //! What is found of one operation, where its operands are in ranges.
 
-ghost use Rattle.std.specs.Prelude.{◌≡◌, ℕ, ℤ, List, Some, true, false, length, slice_get, ◌<◌, ◌≤◌, nat_lt, unsigned_abs};
+ghost use Rattle.std.specs.Prelude.{◌≡◌, ℤ, List, Some, true, false, length, slice_get, ◌<◌, ◌≤◌, nat_lt, unsigned_abs};
 ghost use Rattle.vcp_base.specs.Kinds.{operands as operands_of, divides_by_zero, value as value_of};
 ghost use Rattle.op_graph.specs.declared.op.Op.{Op as Operation};
 ghost use Rattle.op_graph.specs.GraphRun.{operand, read};
