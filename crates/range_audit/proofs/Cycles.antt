@@ -53,15 +53,11 @@ given_more ops held row values op v given there is =
     let within : length values < length ops = slice_get_within ops (length values) op there in
     let P : ℕ → Type 0 = λ i. (x : Op) → slice_get ops i ≡ Some x → outcome_of held row (take i (values ++ v ∷ [])) x ≡ Ok (at (values ++ v ∷ []) i) in
     let below : (i : ℕ) → i < length values → P i = λ i lt x e.
-    let le : i ≤ length values = omega arith in
-    subst (λ ws. outcome_of held row ws x ≡ Ok (at (values ++ v ∷ []) i)) (sym (take_push values v i le))
-    (subst (λ w. outcome_of held row (take i values) x ≡ Ok w) (sym (at_push values v i lt)) (given.each i x lt e)) in
+    rw (take_push values v i (omega (arith, lt)), at_push values v i lt) (given.each i x lt e) in
     let here : P (length values) = λ x e.
     let same : op ≡ x = cc in
     let le : length values ≤ length values = omega arith in
-    subst (λ ws. outcome_of held row ws x ≡ Ok (at (values ++ v ∷ []) (length values)))
-    (sym (take_push values v (length values) le ∙ take_all (length values) values le))
-    (subst (λ w. outcome_of held row values x ≡ Ok w) (sym (at_last values v)) (subst (λ o. outcome_of held row values o ≡ Ok v) same is)) in
+    rw (take_push values v (length values) le, take_all (length values) values le, at_last values v, ← same) is in
     let all : (i : ℕ) → i < length values + 1 → P i = below_more P (length values) below here in
     record { few = omega (arith, length_push values v); each = λ i x lt e. all i (omega (arith, length_push values v)) x e }
 

@@ -1,7 +1,7 @@
 -- NoneNamed: where no operation is named, none stops.
-use Rattle.std.proofs.Common.{◌≡◌, ℕ, zero, suc, ◌+◌, ◌<◌, Bool, true, false, ◌||◌, cond, ℤ, List, [], ◌∷◌, length, slice_get, Option, Some, None, IfSome, refl, sym, ◌∙◌, subst, arith, below_more}
+use Rattle.std.proofs.Common.{◌≡◌, ℕ, zero, suc, ◌+◌, ◌<◌, inl, inr, Bool, true, false, ◌||◌, cond, ℤ, List, [], ◌∷◌, length, slice_get, Option, Some, None, IfSome, refl, sym, ◌∙◌, arith, below_more}
 use Rattle.std.proofs.lemmas.Bool.{false≢true}
-use Rattle.std.proofs.lemmas.Option.{slice_get_within}
+use Rattle.std.proofs.lemmas.Option.{slice_get_cases}
 use Rattle.vcp_base.specs.declared.kind.StopKind.{StopKind}
 use Rattle.vcp_base.specs.declared.kind.StopKind.TheVariants as stop
 use Rattle.op_graph.specs.Lists.{Lists}
@@ -34,25 +34,16 @@ any_named stop.Range s e = rw e refl
 any_named stop.DivZero s e = right_holds s.range s.div_zero e
 any_named stop.Operand s e = absurd cc
 
--- an operation that isn't named, whichever it is, isn't named so
-unnamed : (stops : List Stops) (why : StopKind) (op : ℕ) (o : Option Stops) → slice_get stops op ≡ o
-    → (op < length stops → is_any_named (slice_get stops op) ≡ false) → is_named why o ≡ true → ⊥
-unnamed stops why op None there none h = absurd cc
-unnamed stops why op (Some s) there none h =
-    let yes = any_named why s h in
-    let is_not = subst (λ o. is_any_named o ≡ false) there (none (slice_get_within stops op s there)) in
-    absurd (false≢true (sym is_not ∙ yes))
-
-ends_nowhere : (stops : List Stops) → ((op : ℕ) → op < length stops → is_any_named (slice_get stops op) ≡ false) → (end : Option Stop)
-    → IfSome end (λ e. is_named e.kind (slice_get stops e.op) ≡ true) → end ≡ None
-ends_nowhere stops none None h = refl
-ends_nowhere stops none (Some e) h = absurd (unnamed stops e.kind e.op (slice_get stops e.op) refl (none e.op) h)
-
 -- where none is counted, an end that is named is none
 no_end : (g : Lists) (stops : List Stops) → length stops ≡ length g.operations → named_below stops (length g.operations) ≡ 0 → (end : Option Stop)
     → IfSome end (λ e. is_named e.kind (slice_get stops e.op) ≡ true) → end ≡ None
-no_end g stops many none end named =
-    ends_nowhere stops (λ op lt. none_counted stops (length g.operations) op none (omega (arith, lt, many))) end named
+no_end g stops many none None named = refl
+no_end g stops many none (Some e) named = elim (slice_get_cases stops e.op).1 [
+  | inl there ↦
+      let not = none_counted stops (length g.operations) e.op none (omega (arith, there.1, many)) in
+      absurd (false≢true (sym (rw there.2 at not) ∙ any_named e.kind there.0 (rw there.2 at named)))
+  | inr past ↦ absurd (false≢true (rw past.1 at named))
+]
 
 pub never : (g : Lists) (a : KnownRanges) → IsRangeAudit g a → named_below a.stops (length g.operations) ≡ 0 → NeverStops g
 never g a is none rows fit = no_end g a.stops is.stops none (graph_run g rows).end (is.ends rows fit)

@@ -1,7 +1,7 @@
 -- Steps: what loops over the cells keep.
-use Rattle.std.proofs.Common.{◌≡◌, ℕ, zero, suc, ◌+◌, ◌<◌, ℤ, List, [], ◌∷◌, ◌++◌, length, map, get_or, slice_get, Option, Some, IfSome, refl, sym, ap, subst, ◌∙◌, arith, below_more}
+use Rattle.std.proofs.Common.{◌≡◌, ℕ, zero, suc, ◌+◌, ◌<◌, ℤ, pos, List, [], ◌∷◌, ◌++◌, length, map, get_or, slice_get, Option, option_map, Some, IfSome, refl, sym, ap, subst, ◌∙◌, arith, below_more}
 use Rattle.std.proofs.lemmas.List.{length_push}
-use Rattle.std.proofs.lemmas.Option.{slice_get_within, get_or_from_slice_get}
+use Rattle.std.proofs.lemmas.Option.{slice_get_within, get_or_from_slice_get, slice_get-map}
 use Rattle.vcp_base.specs.Values.{at}
 
 pub get_there : {X : Type 0} (xs : List X) (i : ℕ) → i < length xs → (x : X) × (slice_get xs i ≡ Some x)
@@ -19,9 +19,7 @@ get_middle [] x ys = refl
 get_middle (z ∷ xs) x ys = get_middle xs x ys
 
 pub map_at : {X : Type 0} (f : X → ℤ) (xs : List X) (i : ℕ) (x : X) → slice_get xs i ≡ Some x → at (map f xs) i ≡ f x
-map_at f [] i x e = absurd cc
-map_at f (y ∷ xs) zero x e = let same : y ≡ x = cc in ap f same
-map_at f (y ∷ xs) (suc i) x e = map_at f xs i x e
+map_at f xs i x e = get_or_from_slice_get (map f xs) i (f x) (pos 0) (slice_get-map f xs i ∙ ap (option_map f) e)
 
 -- what holds of what there is holds of it
 pub some_is : {X : Type 0} (P : X → Type 0) (o : Option X) (x : X) → IfSome o P → o ≡ Some x → P x

@@ -1,17 +1,16 @@
-//! Why one operation may stop, by what the operations before it gave in the same cycle, and by cases of conditions.
+//! Why one operation may stop, by what the operations before it gave in the same cycle, and which values a BOOL output has: by cases of conditions.
 
 ghost use Rattle.std.specs.Prelude.{◌≡◌, ◌<◌, ◌≤◌, ℤ, List, length, IfOk};
 ghost use Rattle.range_walk.specs.Intervals.{Fit, Hold};
-ghost use Rattle.range_audit.specs.Searching.{IsFound, StopsFrom, StopsIn};
+ghost use Rattle.range_audit.specs.Searching.{IsAlwaysIn, IsFound, StopsFrom, StopsIn};
 ghost use Rattle.range_walk.specs.Walking.{Given, IsWalk};
 
-use crate::boxes::has_none;
-use crate::cases::{CONDITIONS, cases_of, narrowed, spend};
-use crate::cycle::Cycle;
-use crate::known::output_range;
+use crate::boxes::{Cycle, has_none};
+use crate::cases::{CONDITIONS, cases_of, narrowed, range_by_cases, spend};
 use crate::naming::{joined_stops, stops_at};
-use range_walk::{Range, Ranges, Stops, first_ranges, tell};
-use vcp_base::Memory;
+use op_graph::Graph;
+use range_walk::{Range, Ranges, Stops, both_hold, earlier_range, first_ranges, tell};
+use vcp_base::{Kind, Memory, Ty};
 
 /// How many operations may still be gone through where single ones are asked.
 #[derive(Drop)]
@@ -101,6 +100,51 @@ fn stops_of(
     }
     let plain = stops_at(stops, i as usize);
     Ok(plain)
+}
+
+/// How many conditions are taken apart at once, where it is asked which values an output has.
+const CASES: u32 = 8;
+
+/// Whether operation `i` is the OUT of a BOOL that may be 0 and 1.
+fn is_open_output(graph: &Graph, range: Range, i: u32) -> bool
+    requires { i < length graph.now.operations }
+{
+    let op = graph.operation(i);
+    match op.kind {
+        Kind::Out => matches!(op.ty, Ty::Bool) && range.low < range.high,
+        _ => false,
+    }
+}
+
+/// The range of operation `i` in a cycle from cells in these ranges, by the cases of conditions.
+fn asked_range(cycle: &Cycle<'_>, known: &[Range], i: u32, left: &mut u64) -> Result<Range, Memory>
+    requires there { i < length cycle.now.graph.now.operations }
+    requires many { length known.now ≡ length cycle.now.graph.now.operations }
+    ensures { IfOk result (λ r. IsAlwaysIn cycle.now.graph.now.operations cycle.now.cells.now known.now i r) }
+{
+    let _most = cycle.graph.len();
+    let first = first_ranges(known, i + 1);
+    let ranges = narrowed(cycle, first)?;
+    let wanted = Range::only(0);
+    let r = range_by_cases(cycle, &ranges, i, wanted, CASES, left)?;
+    Ok(r)
+}
+
+/// The same, by cases where it is the OUT of a BOOL that may be 0 and 1.
+fn output_range(cycle: &Cycle<'_>, known: &[Range], i: u32, left: &mut u64) -> Result<Range, Memory>
+    requires there { i < length cycle.now.graph.now.operations }
+    requires many { length known.now ≡ length cycle.now.graph.now.operations }
+    ensures { IfOk result (λ r. IsAlwaysIn cycle.now.graph.now.operations cycle.now.cells.now known.now i r) }
+{
+    let before = earlier_range(known, i);
+    let open = is_open_output(cycle.graph, before, i);
+    let some = *left != 0;
+    let asked = both_hold(open, some);
+    if asked {
+        let closer = asked_range(cycle, known, i, left)?;
+        return Ok(closer);
+    }
+    Ok(before)
 }
 
 /// What is found of each operation in a cycle from cells in these ranges, on a row whose inputs are in these, of which `told` tells: why it

@@ -11,6 +11,18 @@ use range_walk::{Range, range_at};
 use std::alloc::Global;
 use vcp_base::Memory;
 
+/// A cycle of a graph, at whose beginning the cells are in these ranges.
+#[derive(Drop)]
+pub(crate) struct Cycle<'a> {
+    /// From where memory is taken.
+    pub(crate) alloc: Global,
+    /// The graph.
+    pub(crate) graph: &'a Graph,
+    /// The ranges of the cells.
+    pub(crate) cells: &'a [Range],
+    ghost many: { length cells.now ≡ length graph.now.stores },
+}
+
 /// How many cells a graph has.
 pub(crate) fn cell_count(graph: &Graph) -> usize
     ensures { result ≡ length graph.now.stores }

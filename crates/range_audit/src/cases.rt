@@ -6,9 +6,8 @@ ghost use Rattle.range_walk.specs.Intervals.{Fit};
 ghost use Rattle.range_audit.specs.Searching.{AreHalves, IsValueIn, NarrowsTo, InBox, EndsIn};
 ghost use Rattle.range_walk.specs.Walking.{Narrows};
 
-use crate::boxes::{cell_count, has_none, is_in_one, stored_cells};
+use crate::boxes::{Cycle, cell_count, has_none, is_in_one, stored_cells};
 use crate::cells::store_at;
-use crate::cycle::Cycle;
 use crate::questions::{box_of, open_condition, wanted_at};
 use op_graph::Graph;
 use range_walk::{Range, both_hold, count_of, earlier_range, narrow, put};

@@ -5,10 +5,9 @@ ghost use Rattle.range_walk.specs.declared.range.Range.{Range as Interval};
 ghost use Rattle.range_audit.specs.Searching.{Box as Boxed, IsSound, InBox, EndsFrom, Always};
 
 use crate::asking::Asking;
-use crate::boxes::{cell_count, has_values, is_in_one};
+use crate::boxes::{Cycle, cell_count, has_values, is_in_one};
 use crate::cases::{ends, ends_by_cases, narrowed};
 use crate::cells::{Step, loaded_cells, step_of, store_at, widened};
-use crate::cycle::Cycle;
 use crate::naming::{found_by, found_from};
 use crate::thresholds::thresholds;
 use op_graph::{Graph, operands_are_in_their_types};

@@ -9,8 +9,7 @@ ghost use Rattle.range_walk.specs.Walking.{Parts};
 ghost use Rattle.range_audit.specs.Searching.{IsInBox, InBox, IsFound, IsCloser, IsJoined};
 
 use crate::asking::{Asking, closer_found};
-use crate::boxes::has_values;
-use crate::cycle::Cycle;
+use crate::boxes::{Cycle, has_values};
 use op_graph::Graph;
 use range_walk::{Range, Ranges, Stops, both_hold, either_holds, range_at, walk};
 use std::alloc::Global;

@@ -1,7 +1,7 @@
 use Rattle.std.proofs.Common.{◌≡◌, ◌+◌, ◌≤◌, length, take, pos, ap, sym, subst, ◌∙◌, length-take-le, get_or-take, arith}
 use Rattle.range_walk.specs.Intervals.{IsIn, Fit}
 use Rattle.range_audit.proofs.Closer.{given_first, fit_first}
-use Rattle.range_audit.proofs.known.asked_range.Goals as goal
+use Rattle.range_audit.proofs.asking.asked_range.Goals as goal
 
 pub range_by_cases-requires : goal.range_by_cases-requires
 range_by_cases-requires c =
