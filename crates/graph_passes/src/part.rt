@@ -24,16 +24,49 @@ pub(crate) fn part(
     requires { IsGraph (part_of (by_tables kept.now numbers.now cells.now cell_numbers.now) graph) }
     ensures { IfOk result (λ g. g ≡ part_of (by_tables kept.now numbers.now cells.now cell_numbers.now) graph) }
 {
+    let left = kept_lists(alloc, &graph, kept, numbers, cells, cell_numbers)?;
+    let mut lists = graph.into_lists();
+    lists.outputs = left.outputs;
+    lists.loads = left.loads;
+    lists.stores = left.stores;
+    lists.operations = left.operations;
+    Ok(Graph::from_lists(lists))
+}
+
+/// The lists of a part that aren't the graph's own.
+#[derive(Drop)]
+struct KeptLists {
+    outputs: Vec<Outlet>,
+    loads: Vec<Loaded>,
+    stores: Vec<u32>,
+    operations: Vec<Op>,
+}
+
+/// What is kept of a graph's outputs, cells and operations, numbered anew.
+fn kept_lists(
+    alloc: Global,
+    graph: &Graph,
+    kept: &[bool],
+    numbers: &[u32],
+    cells: &[bool],
+    cell_numbers: &[u32],
+) -> Result<KeptLists, Memory>
+    ensures outputs { IfOk result (λ left. left.outputs.items ≡ map (moved_output (by_tables [] numbers.now [] [])) graph.now.outputs) }
+    ensures loads { IfOk result (λ left. left.loads.items ≡ chosen (marked_of cells.now) (moved_load (by_tables [] numbers.now [] [])) 0 graph.now.loads) }
+    ensures stores { IfOk result (λ left. left.stores.items ≡ chosen (marked_of cells.now) (number_at_of numbers.now) 0 graph.now.stores) }
+    ensures operations { IfOk result (λ left. left.operations.items
+        ≡ chosen (marked_of kept.now) (moved_of (by_tables [] numbers.now [] cell_numbers.now)) 0 graph.now.operations) }
+{
     let outputs = moved_outputs(alloc, graph.all_outputs(), numbers)?;
     let loads = kept_loads(alloc, graph.loads(), numbers, cells)?;
     let stores = kept_stores(alloc, graph.stores(), numbers, cells)?;
     let operations = kept_operations(alloc, graph.operations(), kept, numbers, cell_numbers)?;
-    let mut lists = graph.into_lists();
-    lists.outputs = outputs;
-    lists.loads = loads;
-    lists.stores = stores;
-    lists.operations = operations;
-    Ok(Graph::from_lists(lists))
+    Ok(KeptLists {
+        outputs,
+        loads,
+        stores,
+        operations,
+    })
 }
 
 /// The mark at place `i`; none where there is no such place.
