@@ -6,6 +6,7 @@ use Rattle.std.proofs.lemmas.Bool.{both_ways}
 use Rattle.vcp_base.specs.Kinds.{same, truth}
 use Rattle.range_walk.specs.declared.range.Range.{Range}
 use Rattle.range_walk.specs.Intervals.{IsIn}
+use Rattle.range_walk.specs.Walking.{Joins}
 use Rattle.range_walk.proofs.Conditions.{said_true, said_false, and_parts, or_parts, chosen_no, chosen_yes}
 use Rattle.range_walk.proofs.ValueBounds.{below, same_is, is_same}
 
@@ -16,18 +17,17 @@ not_there r v k out i e = out (subst (λ w. IsIn r w) e i)
 pub twice_denied : (x : ℤ) → pos 1 -ℤ (pos 1 -ℤ x) ≡ x
 twice_denied x = omega (arith, ints)
 
-pub and_first : (x y : ℤ) → truth (same x (pos 1) && same y (pos 1)) ≡ pos 1 → x ≡ pos 1
-and_first x y h = (and_parts true x y h).0
+pub and_joins : (x y : ℤ) → Joins true (truth (same x (pos 1) && same y (pos 1))) x y
+and_joins x y = record {
+  both = λ h. (and_parts true x y h).0;
+  rest = λ h one. elim (and_parts false x y h) [ inl p ↦ p | inr p ↦ absurd (p one) ];
+}
 
--- one of two that aren't both 1, where the other is 1
-pub and_rest : (x y : ℤ) → truth (same x (pos 1) && same y (pos 1)) ≢ pos 1 → y ≡ pos 1 → x ≢ pos 1
-and_rest x y h one = elim (and_parts false x y h) [ inl p ↦ p | inr p ↦ absurd (p one) ]
-
-pub or_first : (x y : ℤ) → truth (same x (pos 1) || same y (pos 1)) ≢ pos 1 → x ≢ pos 1
-or_first x y h = (or_parts false x y h).0
-
-pub or_rest : (x y : ℤ) → truth (same x (pos 1) || same y (pos 1)) ≡ pos 1 → y ≢ pos 1 → x ≡ pos 1
-or_rest x y h other = elim (or_parts true x y h) [ inl p ↦ p | inr p ↦ absurd (other p) ]
+pub or_joins : (x y : ℤ) → Joins false (truth (same x (pos 1) || same y (pos 1))) x y
+or_joins x y = record {
+  both = λ h. (or_parts false x y h).0;
+  rest = λ h other. elim (or_parts true x y h) [ inl p ↦ p | inr p ↦ absurd (other p) ];
+}
 
 pub equal_by : (x y : ℤ) → truth (same x y) ≡ pos 1 → x ≡ y
 equal_by x y h = same_is x y (said_true (same x y) h)

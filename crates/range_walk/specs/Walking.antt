@@ -1,5 +1,5 @@
 -- Walking: what holds of a walk over the operations of a cycle, from cells in given ranges.
-use Rattle.std.specs.Prelude.{◌≡◌, ◌≢◌, ◌⊎◌, ℕ, ◌<◌, ◌≤◌, ℤ, true, List, length, slice_get, take, Ok, Err, Some, unsigned_abs, nat_lt, false, pos, Bool}
+use Rattle.std.specs.Prelude.{not, ◌≡◌, ◌≢◌, ◌⊎◌, ℕ, ◌<◌, ◌≤◌, ℤ, true, List, length, slice_get, take, Ok, Err, Some, unsigned_abs, nat_lt, false, pos, Bool}
 use Rattle.vcp_base.specs.declared.kind.Kind.{Kind}
 use Rattle.vcp_base.specs.declared.kind.Kind.TheVariants as kind
 use Rattle.vcp_base.specs.declared.kind.StopKind.{StopKind}
@@ -38,6 +38,11 @@ Taken false v = v ≡ pos 0
 abbrev pub Said : Bool → ℤ → Type 0
 Said true v = v ≡ pos 1
 Said false v = v ≢ pos 1
+
+-- v, a condition that joins x and y, says t only where x does; where it says the other and y says t, x says the other
+pub record Joins (t : Bool) (v x y : ℤ) : Type 0 where
+  pub both : Said t v → Said t x
+  pub rest : Said (not t) v → Said t y → Said (not t) x
 
 -- a kind compares the values of two operations
 abbrev pub Compares : Kind → Type 0

@@ -3,7 +3,7 @@
 ghost use Rattle.std.specs.Prelude.{◌≡◌, ℤ, pos, true, false, ◌&&◌, ◌||◌, ◌-ℤ◌, ◌*ℤ◌, cond, int_div, int_lt};
 ghost use Rattle.vcp_base.specs.Kinds.{divides_by_zero, same, truth as truth_of, value as value_of};
 ghost use Rattle.range_walk.specs.Intervals.{IsIn};
-ghost use Rattle.range_walk.specs.Walking.{AreIn, Said};
+ghost use Rattle.range_walk.specs.Walking.{AreIn, Joins, Said};
 
 use crate::range::{Bounds, Range, both_hold};
 use crate::values::{are_apart, difference, product, quotient, rest, sum_within};
@@ -56,36 +56,29 @@ fn denied(r: Range, a: Range) -> Range
     a.met(bounds)
 }
 
-/// The range of x, where that both are 1 is in `r`.
-fn joined_by_and(r: Range, a: Range, b: Range) -> Range
-    ensures { (x y : ℤ) → IsIn r (truth_of (same x (pos 1) && same y (pos 1))) → IsIn a x → IsIn b y → IsIn result x }
+/// Whether each value of a condition in the range says `truth`.
+fn says(r: Range, truth: bool) -> bool
+    ensures { result ≡ true → (v : ℤ) → IsIn r v → Said truth v }
 {
-    let yes = r.is_only(1);
-    if yes {
-        return said_range(a, true);
+    if truth {
+        return r.is_only(1);
     }
-    let no = r.excludes(1);
-    let other = b.is_only(1);
-    let out = both_hold(no, other);
-    if out {
-        return said_range(a, false);
-    }
-    a
+    r.excludes(1)
 }
 
-/// The range of x, where that one of the two is 1 is in `r`.
-fn joined_by_or(r: Range, a: Range, b: Range) -> Range
-    ensures { (x y : ℤ) → IsIn r (truth_of (same x (pos 1) || same y (pos 1))) → IsIn a x → IsIn b y → IsIn result x }
+/// The range of x, a condition that is joined with y to one in `r`, which says `truth` where both do, and only there.
+fn joined(truth: bool, r: Range, a: Range, b: Range) -> Range
+    ensures { (v x y : ℤ) → Joins truth v x y → IsIn r v → IsIn a x → IsIn b y → IsIn result x }
 {
-    let no = r.excludes(1);
-    if no {
-        return said_range(a, false);
+    let both = says(r, truth);
+    if both {
+        return said_range(a, truth);
     }
-    let yes = r.is_only(1);
-    let other = b.excludes(1);
-    let out = both_hold(yes, other);
+    let not_both = says(r, !truth);
+    let other = says(b, truth);
+    let out = both_hold(not_both, other);
     if out {
-        return said_range(a, true);
+        return said_range(a, !truth);
     }
     a
 }
@@ -124,41 +117,28 @@ fn ordered(r: Range, o: Operands) -> Operands
     o
 }
 
-/// The range of a condition by which one of two values is taken, and what is taken is in `r`.
-fn taken_by(r: Range, a: Range, b: Range, c: Range) -> Range
-    ensures { (x y z : ℤ) → IsIn r (cond (same x (pos 0)) y z) → IsIn a x → IsIn b y → IsIn c z → IsIn result x }
+/// The ranges of a condition and of the two values of which it takes one, where what is taken is in `r`.
+fn taken(r: Range, o: Operands) -> Operands
+    ensures { (x y z : ℤ) → IsIn r (cond (same x (pos 0)) y z) → AreIn o x y z → AreIn result x y z }
 {
+    let (a, b, c) = (o.first, o.second, o.third);
+    let no = a.is_only(0);
+    if no {
+        return Operands::new(a, b.shared(r), c);
+    }
+    let yes = a.excludes(0);
+    if yes {
+        return Operands::new(a, b, c.shared(r));
+    }
     let not_first = are_apart(r, b);
     if not_first {
-        return a.without_zero();
+        return Operands::new(a.without_zero(), b, c);
     }
     let not_second = are_apart(r, c);
     if not_second {
-        return Range::only(0);
+        return Operands::new(Range::only(0), b, c);
     }
-    a
-}
-
-/// The range of the value that is taken where the condition is 0.
-fn taken_where_no(r: Range, a: Range, b: Range) -> Range
-    ensures { (x y z : ℤ) → IsIn r (cond (same x (pos 0)) y z) → IsIn a x → IsIn b y → IsIn result y }
-{
-    let no = a.is_only(0);
-    if no {
-        return b.shared(r);
-    }
-    b
-}
-
-/// The range of the value that is taken where the condition isn't 0.
-fn taken_where_yes(r: Range, a: Range, c: Range) -> Range
-    ensures { (x y z : ℤ) → IsIn r (cond (same x (pos 0)) y z) → IsIn a x → IsIn c z → IsIn result z }
-{
-    let yes = a.excludes(0);
-    if yes {
-        return c.shared(r);
-    }
-    c
+    o
 }
 
 /// The range of x, where x*y is in `r`: it is the quotient of the product by y, where y isn't 0.
@@ -195,15 +175,11 @@ pub(crate) fn narrowed(kind: Kind, r: Range, o: Operands) -> Operands
     match kind {
         Kind::Store | Kind::Out | Kind::Conv => copied(r, o),
         Kind::Not => Operands::new(denied(r, a), b, c),
-        Kind::And => Operands::new(joined_by_and(r, a, b), joined_by_and(r, b, a), c),
-        Kind::Or => Operands::new(joined_by_or(r, a, b), joined_by_or(r, b, a), c),
+        Kind::And => Operands::new(joined(true, r, a, b), joined(true, r, b, a), c),
+        Kind::Or => Operands::new(joined(false, r, a, b), joined(false, r, b, a), c),
         Kind::Eq => Operands::new(equal_to(r, a, b), equal_to(r, b, a), c),
         Kind::Lt => ordered(r, o),
-        Kind::Sel => Operands::new(
-            taken_by(r, a, b, c),
-            taken_where_no(r, a, b),
-            taken_where_yes(r, a, c),
-        ),
+        Kind::Sel => taken(r, o),
         Kind::Mul => Operands::new(factor(r, a, b), factor(r, b, a), c),
         Kind::Div => Operands::new(dividend(r, a, b), b.without_zero(), c),
         Kind::Mod => Operands::new(a, b.without_zero(), c),

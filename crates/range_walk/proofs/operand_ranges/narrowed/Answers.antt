@@ -4,6 +4,7 @@ use Rattle.std.proofs.Math.Bool.{and_comm, or_comm}
 use Rattle.std.proofs.Math.IntN.{*ℤ_comm}
 use Rattle.vcp_base.specs.Kinds.{value, same, truth, divides_by_zero}
 use Rattle.range_walk.specs.Intervals.{IsIn}
+use Rattle.range_walk.proofs.Backward.{and_joins, or_joins}
 use Rattle.range_walk.proofs.ValueBounds.{not_divided}
 use Rattle.range_walk.proofs.operand_ranges.narrowed.Goals as goal
 
@@ -24,14 +25,16 @@ returns-in-Not c = λ imm x y z i o d.
 pub returns-in-And : goal.returns-in-And
 returns-in-And c = λ imm x y z i o d.
     let v = subst (λ k. IsIn c.args.r (value k imm x y z)) c.in-And.is i in
-    c.new-in-And.ensures x y z (c.joined_by_and.ensures x y v o.first o.second)
-    (c.joined_by_and-in-And.ensures y x (subst (λ t. IsIn c.args.r (truth t)) (and_comm (same x (pos 1)) (same y (pos 1))) v) o.second o.first) o.third
+    c.new-in-And.ensures x y z (c.joined.ensures _ x y (and_joins x y) v o.first o.second)
+    (c.joined-in-And.ensures _ y x (and_joins y x) (subst (λ t. IsIn c.args.r (truth t)) (and_comm (same x (pos 1)) (same y (pos 1))) v) o.second o.first)
+    o.third
 
 pub returns-in-Or : goal.returns-in-Or
 returns-in-Or c = λ imm x y z i o d.
     let v = subst (λ k. IsIn c.args.r (value k imm x y z)) c.in-Or.is i in
-    c.new-in-Or.ensures x y z (c.joined_by_or.ensures x y v o.first o.second)
-    (c.joined_by_or-in-Or.ensures y x (subst (λ t. IsIn c.args.r (truth t)) (or_comm (same x (pos 1)) (same y (pos 1))) v) o.second o.first) o.third
+    c.new-in-Or.ensures x y z (c.joined-in-Or.ensures _ x y (or_joins x y) v o.first o.second)
+    (c.joined-in-Or-2.ensures _ y x (or_joins y x) (subst (λ t. IsIn c.args.r (truth t)) (or_comm (same x (pos 1)) (same y (pos 1))) v) o.second o.first)
+    o.third
 
 pub returns-in-Eq : goal.returns-in-Eq
 returns-in-Eq c = λ imm x y z i o d.
@@ -47,8 +50,7 @@ returns-in-Lt c = λ imm x y z i o d.
 pub returns-in-Sel : goal.returns-in-Sel
 returns-in-Sel c = λ imm x y z i o d.
     let v = subst (λ k. IsIn c.args.r (value k imm x y z)) c.in-Sel.is i in
-    c.new-in-Sel.ensures x y z (c.taken_by.ensures x y z v o.first o.second o.third) (c.taken_where_no.ensures x y z v o.first o.second)
-    (c.taken_where_yes.ensures x y z v o.first o.third)
+    c.taken.ensures x y z v o
 
 pub returns-in-Mul : goal.returns-in-Mul
 returns-in-Mul c = λ imm x y z i o d.
