@@ -116,35 +116,25 @@ fn is_open_output(graph: &Graph, range: Range, i: u32) -> bool
     }
 }
 
-/// The range of operation `i` in a cycle from cells in these ranges, by the cases of conditions.
-fn asked_range(cycle: &Cycle<'_>, known: &[Range], i: u32, left: &mut u64) -> Result<Range, Memory>
-    requires there { i < length cycle.now.graph.now.operations }
-    requires many { length known.now ≡ length cycle.now.graph.now.operations }
-    ensures { IfOk result (λ r. IsAlwaysIn cycle.now.graph.now.operations cycle.now.cells.now known.now i r) }
-{
-    let _most = cycle.graph.len();
-    let first = first_ranges(known, i + 1);
-    let ranges = narrowed(cycle, first)?;
-    let wanted = Range::only(0);
-    let r = range_by_cases(cycle, &ranges, i, wanted, CASES, left)?;
-    Ok(r)
-}
-
-/// The same, by cases where it is the OUT of a BOOL that may be 0 and 1.
+/// The range of operation `i` in a cycle from cells in these ranges, where the operations are in those: by the cases of conditions where it is
+/// the OUT of a BOOL that may be 0 and 1.
 fn output_range(cycle: &Cycle<'_>, known: &[Range], i: u32, left: &mut u64) -> Result<Range, Memory>
     requires there { i < length cycle.now.graph.now.operations }
     requires many { length known.now ≡ length cycle.now.graph.now.operations }
     ensures { IfOk result (λ r. IsAlwaysIn cycle.now.graph.now.operations cycle.now.cells.now known.now i r) }
 {
+    let _most = cycle.graph.len();
     let before = earlier_range(known, i);
     let open = is_open_output(cycle.graph, before, i);
     let some = *left != 0;
     let asked = both_hold(open, some);
-    if asked {
-        let closer = asked_range(cycle, known, i, left)?;
-        return Ok(closer);
+    if !asked {
+        return Ok(before);
     }
-    Ok(before)
+    let first = first_ranges(known, i + 1);
+    let ranges = narrowed(cycle, first)?;
+    let r = range_by_cases(cycle, &ranges, i, Range::only(0), CASES, left)?;
+    Ok(r)
 }
 
 /// What is found of each operation in a cycle from cells in these ranges, on a row whose inputs are in these, of which `told` tells: why it

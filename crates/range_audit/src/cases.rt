@@ -34,17 +34,6 @@ pub(crate) fn narrowed(cycle: &Cycle<'_>, ranges: &[Range]) -> Result<Vec<Range>
     Ok(copy)
 }
 
-/// Makes the ranges of the operations of a cycle, in which the value of operation `n` is in `r`, narrower: of all, or of the first ones.
-fn narrow_to(cycle: &Cycle<'_>, ranges: &mut [Range], n: u32, r: Range)
-    requires there { n < length ranges.old }
-    requires many { length ranges.old ≤ length cycle.now.graph.now.operations }
-    ensures many { length ranges.new ≡ length ranges.old }
-    ensures fits { NarrowsTo cycle.now.graph.now.operations cycle.now.cells.now n r ranges.old ranges.new }
-{
-    put(ranges, n, r);
-    narrow(cycle.graph, cycle.cells, ranges);
-}
-
 /// The ranges of the operations of a cycle, of all or of the first ones, in which the value of operation `n` is in `r`.
 fn part(cycle: &Cycle<'_>, ranges: &[Range], n: u32, r: Range) -> Result<Vec<Range>, Memory>
     requires there { n < length ranges.now }
@@ -52,8 +41,9 @@ fn part(cycle: &Cycle<'_>, ranges: &[Range], n: u32, r: Range) -> Result<Vec<Ran
     ensures many { IfOk result (λ part. length part.items ≡ length ranges.now) }
     ensures fits { IfOk result (λ part. NarrowsTo cycle.now.graph.now.operations cycle.now.cells.now n r ranges.now part.items) }
 {
-    let mut part = copied(cycle.alloc, ranges)?;
-    narrow_to(cycle, &mut part, n, r);
+    let mut first = copied(cycle.alloc, ranges)?;
+    put(&mut first, n, r);
+    let part = narrowed(cycle, &first)?;
     Ok(part)
 }
 

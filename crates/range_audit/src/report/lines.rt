@@ -1,6 +1,6 @@
 //! The lines of an operation.
 
-ghost use Rattle.std.specs.Prelude.{◌≡◌, ◌++◌, Some, codes, slice_get, unsigned_abs};
+ghost use Rattle.std.specs.Prelude.{◌≡◌, [], ◌++◌, Some, cond, codes, slice_get, unsigned_abs};
 ghost use Rattle.run_report.specs.Variables.{variable_of as name_of_variable};
 ghost use Rattle.vcp_outside.specs.Gathering.{GathersTo};
 ghost use Rattle.range_audit.specs.RangeText.{ends_text, range_text, there_text, spaced, short_text, operation_name, read_text, operand_text, operands_text, named_text, known_text};
@@ -159,7 +159,7 @@ fn then_operands<O: Sink>(line: &mut Line, out: &mut O, graph: &Graph, known: &[
     then_operand(line, out, graph, known, op.kind, 1, op.b, b" and ");
 }
 
-/// Goes on with the line that operation `i`, which is `op`, may stop, and why.
+/// Goes on with the line that operation `i`, which is `op`, may stop so, where it may.
 pub(crate) fn then_named<O: Sink>(
     line: &mut Line,
     out: &mut O,
@@ -168,10 +168,14 @@ pub(crate) fn then_named<O: Sink>(
     i: u32,
     op: &Op,
     why: StopKind,
+    may: bool,
 )
     requires { slice_get graph.now.operations i ≡ Some op.now }
-    ensures { GathersTo (O.seen out.old) (O.seen out.new) line.old line.new (named_text graph.now known.now i op.now why) }
+    ensures { GathersTo (O.seen out.old) (O.seen out.new) line.old line.new (cond may (named_text graph.now known.now i op.now why) []) }
 {
+    if !may {
+        return;
+    }
     then_operation_name(line, out, graph, i, op);
     line.text(out, b" ");
     line.text(out, stop_name(why));
@@ -179,7 +183,7 @@ pub(crate) fn then_named<O: Sink>(
     line.text(out, b"\n");
 }
 
-/// Goes on with the line of the range of operation `i`, which is `op`.
+/// Goes on with the line of the range of operation `i`, which is `op`, where all are wanted.
 pub(crate) fn then_known<O: Sink>(
     line: &mut Line,
     out: &mut O,
@@ -187,10 +191,14 @@ pub(crate) fn then_known<O: Sink>(
     known: &[Range],
     i: u32,
     op: &Op,
+    all: bool,
 )
     requires { slice_get graph.now.operations i ≡ Some op.now }
-    ensures { GathersTo (O.seen out.old) (O.seen out.new) line.old line.new (known_text graph.now known.now i op.now) }
+    ensures { GathersTo (O.seen out.old) (O.seen out.new) line.old line.new (cond all (known_text graph.now known.now i op.now) []) }
 {
+    if !all {
+        return;
+    }
     then_operation_name(line, out, graph, i, op);
     then_there(line, out, known, i);
     line.text(out, b"\n");

@@ -1,6 +1,6 @@
 //! The lines of outputs and of variables that are kept.
 
-ghost use Rattle.std.specs.Prelude.{◌<◌, length, slice_get};
+ghost use Rattle.std.specs.Prelude.{◌<◌, [], cond, length, slice_get};
 ghost use Rattle.vcp_outside.specs.Gathering.{GathersTo};
 ghost use Rattle.op_graph.specs.Lists.{cells as cells_of};
 ghost use Rattle.range_audit.specs.RangeText.{variable_text, output_text, outputs_text, cell_text, cells_text, variables_text};
@@ -70,10 +70,19 @@ fn then_cells<O: Sink>(line: &mut Line, out: &mut O, graph: &Graph, known: &[Ran
     }
 }
 
-/// Goes on with the lines of all outputs, and then of all variables that are kept.
-pub(crate) fn then_variables<O: Sink>(line: &mut Line, out: &mut O, graph: &Graph, known: &[Range])
-    ensures { GathersTo (O.seen out.old) (O.seen out.new) line.old line.new (variables_text graph.now known.now) }
+/// Goes on with the lines of all outputs, and then of all variables that are kept, where all are wanted.
+pub(crate) fn then_variables<O: Sink>(
+    line: &mut Line,
+    out: &mut O,
+    graph: &Graph,
+    known: &[Range],
+    all: bool,
+)
+    ensures { GathersTo (O.seen out.old) (O.seen out.new) line.old line.new (cond all (variables_text graph.now known.now) []) }
 {
+    if !all {
+        return;
+    }
     then_outputs(line, out, graph, known);
     then_cells(line, out, graph, known);
 }

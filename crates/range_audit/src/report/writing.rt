@@ -1,55 +1,18 @@
 //! What is found of a graph's operations, written line by line.
 
-ghost use Rattle.std.specs.Prelude.{◌≡◌, ◌<◌, [], cond, length, slice_get};
+ghost use Rattle.std.specs.Prelude.{◌≡◌, ◌<◌, length, slice_get};
 ghost use Rattle.vcp_outside.specs.Written.{WritesTo};
 ghost use Rattle.vcp_outside.specs.Gathering.{GathersTo};
-ghost use Rattle.range_audit.specs.RangeText.{named_text, known_text, lines_of, lines_below, variables_text, search_text, ranges_text};
+ghost use Rattle.range_audit.specs.RangeText.{lines_of, lines_below, search_text, ranges_text};
 
 use crate::families::MOST_SEARCHED;
 use crate::report::counts::{count_able, count_named, stops_of};
 use crate::report::lines::{then_known, then_named};
 use crate::report::variables::then_variables;
-use op_graph::{Graph, Op};
-use range_walk::{Range, Ranges};
+use op_graph::Graph;
+use range_walk::Ranges;
 use vcp_base::StopKind;
 use vcp_outside::{Failed, Line, Sink};
-
-/// Goes on with the line of the range of operation `i`, which is `op`, where all are wanted.
-fn then_known_if<O: Sink>(
-    line: &mut Line,
-    out: &mut O,
-    graph: &Graph,
-    known: &[Range],
-    i: u32,
-    op: &Op,
-    all: bool,
-)
-    requires { slice_get graph.now.operations i ≡ Some op.now }
-    ensures { GathersTo (O.seen out.old) (O.seen out.new) line.old line.new (cond all (known_text graph.now known.now i op.now) []) }
-{
-    if all {
-        then_known(line, out, graph, known, i, op);
-    }
-}
-
-/// Goes on with the line that operation `i`, which is `op`, may stop so, where it may.
-fn then_named_if<O: Sink>(
-    line: &mut Line,
-    out: &mut O,
-    graph: &Graph,
-    known: &[Range],
-    i: u32,
-    op: &Op,
-    why: StopKind,
-    may: bool,
-)
-    requires { slice_get graph.now.operations i ≡ Some op.now }
-    ensures { GathersTo (O.seen out.old) (O.seen out.new) line.old line.new (cond may (named_text graph.now known.now i op.now why) []) }
-{
-    if may {
-        then_named(line, out, graph, known, i, op, why);
-    }
-}
 
 /// Goes on with the lines of operation `i`.
 fn then_operation<O: Sink>(
@@ -68,8 +31,8 @@ fn then_operation<O: Sink>(
     let op = graph.operation(i);
     let stops = stops_of(ranges, i);
     let known = ranges.known();
-    then_known_if(line, out, graph, known, i, &op, all);
-    then_named_if(
+    then_known(line, out, graph, known, i, &op, all);
+    then_named(
         line,
         out,
         graph,
@@ -79,7 +42,7 @@ fn then_operation<O: Sink>(
         StopKind::Range,
         stops.range,
     );
-    then_named_if(
+    then_named(
         line,
         out,
         graph,
@@ -98,21 +61,6 @@ fn then_operations<O: Sink>(line: &mut Line, out: &mut O, graph: &Graph, ranges:
 {
     'operations: for i in 0..graph.len() {
         then_operation(line, out, graph, ranges, i, all);
-    }
-}
-
-/// Goes on with the lines of outputs and of variables that are kept, where all are wanted.
-fn then_variables_if<O: Sink>(
-    line: &mut Line,
-    out: &mut O,
-    graph: &Graph,
-    known: &[Range],
-    all: bool,
-)
-    ensures { GathersTo (O.seen out.old) (O.seen out.new) line.old line.new (cond all (variables_text graph.now known.now) []) }
-{
-    if all {
-        then_variables(line, out, graph, known);
     }
 }
 
@@ -143,7 +91,7 @@ pub fn write_ranges<O: Sink>(
 {
     let mut line = Line::new();
     let known = ranges.known();
-    then_variables_if(&mut line, out, graph, known, all);
+    then_variables(&mut line, out, graph, known, all);
     then_operations(&mut line, out, graph, ranges, all);
     then_search(&mut line, out, graph);
     line.text(out, b"may stop ");

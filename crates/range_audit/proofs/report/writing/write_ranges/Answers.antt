@@ -8,7 +8,7 @@ pieces variables lines searched named able = simp append_assoc
 
 pub returns : goal.returns
 returns g c =
-    let variables = rw c.known-known.ensures at (c.then_variables_if.ensures _ _ _ (c.new-line.ensures.begun _ _)) in
+    let variables = rw c.known-known.ensures at (c.then_variables.ensures _ _ _ (c.new-line.ensures.begun _ _)) in
     let lines = c.then_operations.ensures _ _ _ variables in
     let searched = c.then_search.ensures _ _ _ lines in
     let named = rw c.count_named.ensures at (c.count.ensures.gathers _ _ _ (c.text.ensures.gathers _ _ _ searched)) in
