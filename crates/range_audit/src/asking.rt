@@ -110,10 +110,7 @@ fn is_open_output(graph: &Graph, range: Range, i: u32) -> bool
     requires { i < length graph.now.operations }
 {
     let op = graph.operation(i);
-    match op.kind {
-        Kind::Out => matches!(op.ty, Ty::Bool) && range.low < range.high,
-        _ => false,
-    }
+    op.kind == Kind::Out && matches!(op.ty, Ty::Bool) && range.low < range.high
 }
 
 /// The range of operation `i` in a cycle from cells in these ranges, where the operations are in those: by the cases of conditions where it is

@@ -9,9 +9,10 @@ use crate::boxes::{Cycle, cell_count, has_values, is_in_one};
 use crate::cases::{ends, ends_by_cases, narrowed};
 use crate::cells::{Step, loaded_cells, step_of, store_at, widened};
 use crate::naming::{found_by, found_from};
+use crate::questions::range_or;
 use crate::thresholds::thresholds;
 use op_graph::{Graph, operands_are_in_their_types};
-use range_walk::{Range, Ranges, Stops, both_hold, either_holds, walk};
+use range_walk::{Range, Ranges, Stops, both_hold, walk};
 use std::alloc::Global;
 use vcp_base::{Memory, Ty};
 
@@ -357,10 +358,7 @@ fn names_any(stops: &[Stops]) -> bool {
 /// The range of the cell at `place`.
 fn cell_range(graph: &Graph, known: &[Range], place: usize) -> Range {
     match graph.loads().get(place) {
-        Some(load) => match known.get(load.load as usize) {
-            Some(range) => *range,
-            None => Range::of_type(Ty::Lint),
-        },
+        Some(load) => range_or(known, load.load as usize),
         None => Range::of_type(Ty::Lint),
     }
 }
@@ -368,10 +366,7 @@ fn cell_range(graph: &Graph, known: &[Range], place: usize) -> Range {
 /// How many values a range has; 0 where these are too many to be told apart.
 fn values_of(range: Range) -> u32 {
     let past = range.high.saturating_sub(range.low);
-    if past < 0 {
-        return 0;
-    }
-    if past >= VALUES as i64 {
+    if past < 0 || past >= VALUES as i64 {
         return 0;
     }
     past as u32 + 1
@@ -427,10 +422,7 @@ fn closer_by(
     if values.place >= cell_count(graph) {
         return Ok(ranges);
     }
-    let any = names_any(ranges.stops());
-    let closely = budget.asking.answers != 0;
-    let wanted = either_holds(any, closely);
-    if !wanted {
+    if !names_any(ranges.stops()) && budget.asking.answers == 0 {
         return Ok(ranges);
     }
     let pivot = store_at(graph, values.place);

@@ -103,13 +103,9 @@ fn nothing_found(alloc: Global, graph: &Graph) -> Result<Ranges, Memory>
     ensures known { IfOk result (λ r. length r.known ≡ length graph.now.operations) }
     ensures stops { IfOk result (λ r. length r.stops ≡ length graph.now.operations) }
 {
-    let count = graph.len();
-    let mut known = Vec::with_capacity(alloc, count as usize)?;
-    let mut stops = Vec::with_capacity(alloc, count as usize)?;
-    'operations: for i in 0..count {
-        known.push(Range::none())?;
-        stops.push(Stops::none())?;
-    }
+    let count = graph.len() as usize;
+    let known = vec![in alloc; Range::none(); count]?;
+    let stops = vec![in alloc; Stops::none(); count]?;
     Ok(Ranges::new(known, stops))
 }
 

@@ -13,7 +13,7 @@ const STEPS: u32 = 64;
 const NONE: u32 = u32::MAX;
 
 /// The range at a place; all values where there is none.
-fn range_or(ranges: &[Range], i: usize) -> Range {
+pub(crate) fn range_or(ranges: &[Range], i: usize) -> Range {
     match ranges.get(i) {
         Some(range) => *range,
         None => Range::of_type(Ty::Lint),
@@ -48,27 +48,15 @@ fn depends_on(graph: &Graph, ranges: &[Range], i: u32) -> u32
     }
 }
 
-/// Whether operation `i` is a SEL, and takes by `condition`.
-fn takes_by(graph: &Graph, i: u32, condition: u32) -> bool
-    requires { i < length graph.now.operations }
-{
-    let op = graph.operation(i);
-    match op.kind {
-        Kind::Sel => op.a == condition,
-        _ => false,
-    }
-}
-
 /// Operation `i` where it is a BOOL that is read and open; else no operation.
 fn read_condition(graph: &Graph, ranges: &[Range], i: u32) -> u32
     requires { i < length graph.now.operations }
 {
     let op = graph.operation(i);
-    let open = is_open(range_or(ranges, i as usize));
-    match op.ty {
-        Ty::Bool => if open { i } else { NONE },
-        _ => NONE,
+    if matches!(op.ty, Ty::Bool) && is_open(range_or(ranges, i as usize)) {
+        return i;
     }
+    NONE
 }
 
 /// An open condition on which the value of operation `i` depends: one by which a SEL takes, or else a BOOL that is read; no operation where
@@ -83,7 +71,8 @@ pub(crate) fn open_condition(graph: &Graph, ranges: &[Range], i: u32) -> u32 {
         if next == NONE {
             return read_condition(graph, ranges, at);
         }
-        if takes_by(graph, at, next) {
+        let op = graph.operation(at);
+        if op.kind == Kind::Sel && op.a == next {
             return next;
         }
         at = next;
@@ -121,10 +110,7 @@ pub(crate) fn box_of<'a>(
 /// The range of cell `k` in a box, where the cell is a number; else all values.
 pub(crate) fn wanted_at(graph: &Graph, cells: &[Range], k: usize) -> Range {
     match graph.loads().get(k) {
-        Some(load) => match load.ty {
-            Ty::Bool => Range::of_type(Ty::Lint),
-            _ => range_or(cells, k),
-        },
-        None => Range::of_type(Ty::Lint),
+        Some(load) if !matches!(load.ty, Ty::Bool) => range_or(cells, k),
+        _ => Range::of_type(Ty::Lint),
     }
 }

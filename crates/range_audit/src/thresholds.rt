@@ -2,17 +2,9 @@
 
 ghost use Rattle.std.specs.Prelude.{◌<◌, ◌≤◌, length};
 
-use op_graph::{Graph, Op};
+use op_graph::Graph;
 use std::alloc::Global;
 use vcp_base::{Kind, Memory, Ty, greatest, least};
-
-/// Whether the operation compares.
-fn compares(op: &Op) -> bool {
-    match op.kind {
-        Kind::Eq | Kind::Lt => true,
-        _ => false,
-    }
-}
 
 /// Appends the number of operation `n` and its neighbours, where the operation is a CONST.
 fn push_number(numbers: &mut Vec<i64>, graph: &Graph, n: u32) -> Result<(), Memory> {
@@ -33,7 +25,7 @@ pub(crate) fn thresholds(alloc: Global, graph: &Graph) -> Result<Vec<i64>, Memor
     let mut numbers = Vec::new(alloc);
     'operations: for i in 0..graph.len() {
         let op = graph.operation(i);
-        if compares(&op) {
+        if matches!(op.kind, Kind::Eq | Kind::Lt) {
             push_number(&mut numbers, graph, op.a)?;
             push_number(&mut numbers, graph, op.b)?;
         }
