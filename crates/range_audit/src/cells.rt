@@ -87,36 +87,26 @@ pub(crate) fn step_of(round: u32) -> Step {
     Step::Past(skip)
 }
 
-/// Where a low end that moves to `low` goes.
-fn low_moved(low: i64, ty: Ty, step: Step, numbers: &[i64]) -> i64 {
-    match step {
-        Step::Near => low,
-        Step::Past(skip) => next_below(numbers, low, skip, ty),
-        Step::Typed => least(ty),
-    }
-}
-
-/// Where a high end that moves to `high` goes.
-fn high_moved(high: i64, ty: Ty, step: Step, numbers: &[i64]) -> i64 {
-    match step {
-        Step::Near => high,
-        Step::Past(skip) => next_above(numbers, high, skip, ty),
-        Step::Typed => greatest(ty),
-    }
-}
-
 /// The range of a cell for the next round: the values that it had, and those that are stored. An end that moves goes further in later
 /// rounds, so that the rounds end.
 pub(crate) fn widened(cell: Range, stored: Range, ty: Ty, step: Step, numbers: &[i64]) -> Range {
     let low = if stored.low >= cell.low {
         cell.low
     } else {
-        low_moved(stored.low, ty, step, numbers)
+        match step {
+            Step::Near => stored.low,
+            Step::Past(skip) => next_below(numbers, stored.low, skip, ty),
+            Step::Typed => least(ty),
+        }
     };
     let high = if stored.high <= cell.high {
         cell.high
     } else {
-        high_moved(stored.high, ty, step, numbers)
+        match step {
+            Step::Near => stored.high,
+            Step::Past(skip) => next_above(numbers, stored.high, skip, ty),
+            Step::Typed => greatest(ty),
+        }
     };
     Range {
         low,

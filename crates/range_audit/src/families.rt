@@ -182,19 +182,12 @@ fn cell_type(graph: &Graph, j: usize) -> Ty {
     }
 }
 
-/// The range of a cell for the next round, with the values in `more`.
-fn grown(cell: Range, more: Range, ty: Ty, step: Step, numbers: &[i64]) -> Range {
-    if cell.is_empty() {
-        return more;
-    }
-    widened(cell, more, ty, step, numbers)
-}
-
 /// Widens a box by ranges of the cells that are missed.
 fn grow_box(graph: &Graph, cells: &mut [Range], more: &[Range], step: Step, numbers: &[i64]) {
     'cells: for j in 0..cells.len() {
         if j < more.len() {
-            cells[j] = grown(cells[j], more[j], cell_type(graph, j), step, numbers);
+            let wider = widened(cells[j], more[j], cell_type(graph, j), step, numbers);
+            cells[j] = if cells[j].is_empty() { more[j] } else { wider };
         }
     }
 }
@@ -372,11 +365,6 @@ fn values_of(range: Range) -> u32 {
     past as u32 + 1
 }
 
-/// Whether the cell at `place` is a BOOL, or is none, as is asked for.
-fn is_wanted(graph: &Graph, place: usize, bools: bool) -> bool {
-    matches!(cell_type(graph, place), Ty::Bool) == bools
-}
-
 /// Appends the values of each cell that is a BOOL, or of each other one, where they are few by these ranges.
 fn push_tries(
     tries: &mut Vec<Values>,
@@ -387,7 +375,8 @@ fn push_tries(
     'cells: for place in 0..cell_count(graph) {
         let range = cell_range(graph, known, place);
         let count = values_of(range);
-        if is_wanted(graph, place, bools) && count >= 2 {
+        let is_bool = matches!(cell_type(graph, place), Ty::Bool);
+        if is_bool == bools && count >= 2 {
             tries.push(Values {
                 place,
                 least: range.low,

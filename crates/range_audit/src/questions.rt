@@ -80,15 +80,6 @@ pub(crate) fn open_condition(graph: &Graph, ranges: &[Range], i: u32) -> u32 {
     NONE
 }
 
-/// The number of the cell of which operation `n` is the STORE.
-fn cell_of(graph: &Graph, n: u32) -> usize {
-    if n >= graph.len() {
-        return 0;
-    }
-    let op = graph.operation(n);
-    op.imm.unsigned_abs() as usize
-}
-
 /// The box in which the cell that operation `n` stores has its value; one of no cells where there is none.
 pub(crate) fn box_of<'a>(
     graph: &Graph,
@@ -97,7 +88,11 @@ pub(crate) fn box_of<'a>(
     n: u32,
 ) -> &'a [Range] {
     let value = range_or(ranges, n as usize);
-    let place = cell_of(graph, n);
+    let place = if n < graph.len() {
+        graph.operation(n).imm.unsigned_abs() as usize
+    } else {
+        0
+    };
     'boxes: for k in 0..boxes.len() {
         let cells = &boxes[k];
         if boxes.len() == 1 || value.is_inside(range_or(cells, place)) {
