@@ -64,11 +64,20 @@ pub struct Blocks {
 }
 
 /// A program: its name, its blocks of declarations and its body.
-#[derive(Drop)]
 pub struct Program {
     pub name: Text,
     pub blocks: Blocks,
     pub body: Stmts,
+}
+
+impl Drop for Program {
+    fn drop(self) {
+        let Program {
+            name: _,
+            blocks: _,
+            body: _,
+        } = self;
+    }
 }
 
 impl DeclaredNames {
