@@ -14,7 +14,7 @@ use Rattle.st_types.specs.Notes.{Notes}
 use Rattle.st_types.specs.Scope.{Entry}
 use Rattle.st_types.specs.ExprTyping.{ExprFault}
 use Rattle.st_types.specs.StmtTyping.{Known, spot_of, constant, form}
-use Rattle.st_types.specs.DeclTyping.{Made, value_or_zero, known_init, init_value, NamesFault, after_names, after_decl, after_decls, after_blocks}
+use Rattle.st_types.specs.DeclTyping.{Made, value_or_zero, known_init, init_value, NamesFault, BlocksFault, after_names, after_decl, after_decls, after_blocks}
 
 abbrev pub made_by : Declarations → Made
 made_by d = record { entries = d.names; slots = d.slots.items.items }
@@ -79,3 +79,7 @@ MakesDecls k ds m n old new = Makes old new n (after_decls k m ds) (DeclsForm k 
 
 abbrev pub MakesBlocks : List BlockTree → Made → Made → Option Fault → Option Fault → Type 0
 MakesBlocks bs m n old new = Makes old new n (after_blocks m bs) (BlocksForm m bs)
+
+-- the same, and the faults inside initial values are met as well
+abbrev pub MakesAll : List BlockTree → Made → Made → Option Fault → Option Fault → Type 0
+MakesAll bs m n old new = Makes old new n (after_blocks m bs) (BlocksFault n.entries m bs)

@@ -4,9 +4,8 @@ ghost use Rattle.std.specs.Prelude.{◌≡◌, IfOk, List, OnOk, false, length, 
 ghost use Rattle.st_tree.specs.ExprViews.{expr_tree_or_none};
 ghost use Rattle.st_tree.specs.ProgramViews.{block_tree, decl_tree, declared_tree};
 ghost use Rattle.st_types.specs.declared.fault.Rule.TheVariants as rule_;
-ghost use Rattle.st_types.specs.DeclSteps.{made_by, DeclForm, JudgesInit, Makes, MakesBlocks, MakesDecls, MakesNames};
-ghost use Rattle.st_types.specs.DeclTyping.{nothing_made, is_new, slots_with, after_name, after_decl, after_blocks, value_or_zero as zero_or, Misfit};
-ghost use Rattle.st_types.specs.DeclTyping.{BlocksFault};
+ghost use Rattle.st_types.specs.DeclSteps.{made_by, DeclForm, JudgesInit, Makes, MakesAll, MakesBlocks, MakesDecls, MakesNames};
+ghost use Rattle.st_types.specs.DeclTyping.{nothing_made, is_new, slots_with, after_name, after_decl, value_or_zero as zero_or, Misfit};
 ghost use Rattle.st_types.specs.Faults.{fault};
 ghost use Rattle.st_types.specs.Notes.{Notes};
 
@@ -98,12 +97,13 @@ fn add_name(
     ensures notes { OnOk result (Notes first.old first.new (λ f. (f ≡ fault rule_.Duplicate d.now.spot) × (is_new (made_by made.old) d.now.name ≡ false))) }
     ensures gives { OnOk result (made_by made.new ≡ after_name (made_by made.old) kind.section kind.ty (zero_or kind.init) (declared_tree d.now)) }
 {
+    let slot = next_slot(&made.slots)?;
     let entry = Entry {
         name: Text::copy_of(alloc, d.name.bytes())?,
         section: kind.section,
         ty: kind.ty,
         value: value_or_zero(kind.init),
-        slot: next_slot(&made.slots)?,
+        slot,
     };
     if made.names.declare(entry)? {
         add_slot(alloc, &mut made.slots, kind, d)
@@ -206,23 +206,34 @@ fn nothing(alloc: Global) -> Declarations
     }
 }
 
-/// What the blocks of a program declare; their faults are noted. `Memory` where there is no room, also for 2^32 slots.
-pub(crate) fn declared(
+// Adds all blocks, then notes the faults inside their initial values.
+fn add_all(
     alloc: Global,
+    made: &mut Declarations,
     blocks: &[Block],
     first: &mut Option<Fault>,
-) -> Result<Declarations, Memory>
-    ensures { IfOk result (λ r. Makes first.old first.new (made_by r)
-        (after_blocks nothing_made (map block_tree blocks.now))
-        (BlocksFault (made_by r).entries nothing_made (map block_tree blocks.now))) }
+) -> Result<(), Memory>
+    ensures { OnOk result (MakesAll (map block_tree blocks.now) (made_by made.old) (made_by made.new) first.old first.new) }
 {
-    let mut made = nothing(alloc);
-    add_blocks(alloc, &mut made, blocks, first)?;
+    add_blocks(alloc, made, blocks, first)?;
     let whole = Environment {
         alloc,
         names: &made.names,
         held: &[],
     };
     whole.inside_blocks(blocks, first)?;
+    Ok(())
+}
+
+/// What the blocks of a program declare; their faults are noted. `Memory` where there is no room, also for 2^32 slots.
+pub(crate) fn declared(
+    alloc: Global,
+    blocks: &[Block],
+    first: &mut Option<Fault>,
+) -> Result<Declarations, Memory>
+    ensures { IfOk result (λ r. MakesAll (map block_tree blocks.now) nothing_made (made_by r) first.old first.new) }
+{
+    let mut made = nothing(alloc);
+    add_all(alloc, &mut made, blocks, first)?;
     Ok(made)
 }

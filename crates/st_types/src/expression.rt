@@ -19,7 +19,7 @@ use crate::literal::{Untyped, literal_type, minus, negated};
 use crate::names::Entry;
 use crate::note::note;
 use crate::operator::{common, signed, widened};
-use crate::refusals::{discard, discard_all, discard_some};
+use crate::refusals::{discard, discard_all, discard_arguments, discard_some};
 use st_tree::{BinOp, Expr, Section, UnOp, trees_of_nodes};
 use std::alloc::Global;
 use vcp_base::{Memory, Spot, Ty};
@@ -195,14 +195,18 @@ fn apply(
             note(first, Rule::Mismatch, spot);
             Ok(None)
         }
-        Some(ty) => match arguments(alloc, fun, ty)? {
-            None => {
+        Some(ty) => match arguments(alloc, fun, ty) {
+            Ok(Some(wanted)) => match widened_all(alloc, &wanted, list) {
+                Ok(args) => Ok(Some(TExpr::call(fun, ty, args, spot))),
+                Err(Memory) => Err(Memory),
+            },
+            Ok(None) => {
                 discard_all(list);
                 Ok(None)
             }
-            Some(wanted) => {
-                let args = widened_all(alloc, &wanted, list)?;
-                Ok(Some(TExpr::call(fun, ty, args, spot)))
+            Err(Memory) => {
+                discard_all(list);
+                Err(Memory)
             }
         },
     }
@@ -241,21 +245,26 @@ impl Environment<'_> {
             Expr::Name { name, spot } => self.known(name.bytes(), *spot, first),
             Expr::Unary { op, arg, spot } => match negated(*op, arg) {
                 Some(l) => Ok(negative(l, first)),
-                None => {
-                    let x = self.type_expression(arg, first)?;
-                    sign(self.alloc, *op, x, *spot, first)
-                }
+                None => match self.type_expression(arg, first) {
+                    Ok(x) => sign(self.alloc, *op, x, *spot, first),
+                    Err(Memory) => Err(Memory),
+                },
             },
             Expr::Binary {
                 op,
                 left,
                 right,
                 spot,
-            } => {
-                let x = self.type_expression(left, first)?;
-                let y = self.type_expression(right, first)?;
-                operate(self.alloc, *op, x, y, *spot, first)
-            }
+            } => match self.type_expression(left, first) {
+                Ok(x) => match self.type_expression(right, first) {
+                    Ok(y) => operate(self.alloc, *op, x, y, *spot, first),
+                    Err(Memory) => {
+                        discard_some(x);
+                        Err(Memory)
+                    }
+                },
+                Err(Memory) => Err(Memory),
+            },
             Expr::Call { name, args, spot } => {
                 trees_of_nodes();
                 self.call(name.bytes(), &args.items, *spot, first)
@@ -277,6 +286,7 @@ impl Environment<'_> {
         let list = self.type_all(args, first)?;
         match called(name, args.len()) {
             None => {
+                discard_arguments(list);
                 note(first, Rule::Call, spot);
                 Ok(None)
             }
@@ -295,8 +305,13 @@ impl Environment<'_> {
     {
         let mut list = Some(Vec::new(self.alloc));
         'each: for e in args {
-            let x = self.type_expression(e, first)?;
-            list = push(list, x)?;
+            match self.type_expression(e, first) {
+                Ok(x) => list = push(list, x)?,
+                Err(Memory) => {
+                    discard_arguments(list);
+                    return Err(Memory);
+                }
+            }
         }
         Ok(list)
     }

@@ -1,6 +1,7 @@
 //! The functions of the language: their names, their arguments and their types.
 
 ghost use Rattle.std.specs.Prelude.{◌≡◌, [], ◌∷◌, IfOk, Some, map, option_map, option_and_then};
+ghost use Rattle.std.specs.Str.{str_eq_ignore_ascii_case};
 ghost use Rattle.vcp_typed.specs.declared.expr.Fun.TheVariants as fun_;
 ghost use Rattle.vcp_typed.specs.Rules.{of_numbers as of_numbers_of, conversion as conversion_of, converted_from as converted_from_of};
 ghost use Rattle.vcp_typed.specs.Rules.{arguments as arguments_of};
@@ -14,33 +15,40 @@ use std::alloc::Global;
 use vcp_base::{Memory, Ty, same_type, within};
 use vcp_typed::{Fun, TExpr, conversion, ty_of};
 
-// The function of a name, without regard to case.
+// Whether a name is this word, without regard to case.
+fn is(name: &[u8], word: &[u8]) -> bool
+    ensures { result ≡ str_eq_ignore_ascii_case name.now word.now }
+{
+    name.eq_ignore_ascii_case(word)
+}
+
+// The function of a name.
 fn function(name: &[u8]) -> Option<Fun>
     ensures { result ≡ function_of name.now }
 {
-    if name.eq_ignore_ascii_case(b"ABS") {
+    if is(name, b"ABS") {
         Some(Fun::Abs)
-    } else if name.eq_ignore_ascii_case(b"MIN") {
+    } else if is(name, b"MIN") {
         Some(Fun::Min)
-    } else if name.eq_ignore_ascii_case(b"MAX") {
+    } else if is(name, b"MAX") {
         Some(Fun::Max)
-    } else if name.eq_ignore_ascii_case(b"LIMIT") {
+    } else if is(name, b"LIMIT") {
         Some(Fun::Limit)
-    } else if name.eq_ignore_ascii_case(b"SEL") {
+    } else if is(name, b"SEL") {
         Some(Fun::Sel)
-    } else if name.eq_ignore_ascii_case(b"INT_TO_DINT") {
+    } else if is(name, b"INT_TO_DINT") {
         Some(Fun::IntToDint)
-    } else if name.eq_ignore_ascii_case(b"INT_TO_LINT") {
+    } else if is(name, b"INT_TO_LINT") {
         Some(Fun::IntToLint)
-    } else if name.eq_ignore_ascii_case(b"DINT_TO_INT") {
+    } else if is(name, b"DINT_TO_INT") {
         Some(Fun::DintToInt)
-    } else if name.eq_ignore_ascii_case(b"DINT_TO_LINT") {
+    } else if is(name, b"DINT_TO_LINT") {
         Some(Fun::DintToLint)
-    } else if name.eq_ignore_ascii_case(b"LINT_TO_INT") {
+    } else if is(name, b"LINT_TO_INT") {
         Some(Fun::LintToInt)
-    } else if name.eq_ignore_ascii_case(b"LINT_TO_DINT") {
+    } else if is(name, b"LINT_TO_DINT") {
         Some(Fun::LintToDint)
-    } else if name.eq_ignore_ascii_case(b"BOOL_TO_INT") {
+    } else if is(name, b"BOOL_TO_INT") {
         Some(Fun::BoolToInt)
     } else {
         None

@@ -8,6 +8,7 @@ ghost use Rattle.st_types.specs.Notes.{Notes};
 
 use crate::environment::Environment;
 use crate::fault::Fault;
+use crate::refusals::discard_some;
 use st_tree::{Block, Decl, Expr};
 use vcp_base::Memory;
 
@@ -18,10 +19,13 @@ impl Environment<'_> {
     {
         match init {
             None => Ok(()),
-            Some(e) => {
-                self.type_expression(e, first)?;
-                Ok(())
-            }
+            Some(e) => match self.type_expression(e, first) {
+                Ok(made) => {
+                    discard_some(made);
+                    Ok(())
+                }
+                Err(Memory) => Err(Memory),
+            },
         }
     }
 

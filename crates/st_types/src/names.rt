@@ -20,11 +20,19 @@ pub struct Entry {
 }
 
 /// The declared names, in order of declaration; none is there twice.
-#[derive(Drop)]
 pub struct Names {
     alloc: Global,
     // By the name in lower case.
     entries: IndexMap<Vec<u8>, Entry>,
+}
+
+impl Drop for Names {
+    fn drop(self) {
+        let Names {
+            alloc: _,
+            entries: _,
+        } = self;
+    }
 }
 
 impl Model for Names {

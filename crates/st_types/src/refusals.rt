@@ -20,6 +20,11 @@ pub(crate) fn discard_all(list: Vec<TExpr>) {
     drop(list);
 }
 
+/// The arguments of a call are given up, where there are some.
+pub(crate) fn discard_arguments(list: Option<Vec<TExpr>>) {
+    drop(list);
+}
+
 /// A statement is given up, where there is one.
 pub(crate) fn discard_stmt(s: Option<TStmt>) {
     drop(s);

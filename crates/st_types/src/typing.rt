@@ -1,22 +1,26 @@
 //! The typing of programs.
 
-ghost use Rattle.std.specs.Prelude.{◌≡◌, IfErr, IfOk, Some, option_map};
+ghost use Rattle.std.specs.Prelude.{◌≡◌, IfErr, IfOk, None, Some, option_map};
 ghost use Rattle.st_tree.specs.ProgramTree.{ProgramTree};
 ghost use Rattle.st_tree.specs.ProgramViews.{program_tree};
 ghost use Rattle.vcp_typed.specs.SourceRun.{Program as TypedProgram};
 ghost use Rattle.vcp_typed.specs.TStmtViews.{tstmt_trees};
 ghost use Rattle.st_types.specs.declared.fault.TypeFault.TheVariants as told_;
 ghost use Rattle.st_tree.specs.Declarable.{HasNames};
+ghost use Rattle.st_types.specs.DeclSteps.{made_by, MakesAll};
+ghost use Rattle.st_types.specs.DeclTyping.{nothing_made};
 ghost use Rattle.st_types.specs.Faults.{IsLeast};
+ghost use Rattle.st_types.specs.Notes.{Notes};
 ghost use Rattle.st_types.specs.Typing.{FaultAt, IsFaultless, IsTyped, Refuses, typed_of};
 
-use crate::declaration::declared;
+use crate::declaration::{Declarations, declared};
 use crate::environment::Environment;
 use crate::fault::{Fault, Rule, TypeFault};
 use crate::place::name_at;
+use crate::refusals::discard_body;
 use st_tree::Program;
 use std::alloc::Global;
-use vcp_base::{MOST_NAMES, MOST_SIZE};
+use vcp_base::{MOST_NAMES, MOST_SIZE, Memory};
 use vcp_typed::{Slots, TStmts, Typed, size_of};
 
 // The answer that tells a fault.
@@ -69,6 +73,53 @@ fn faultless(program: &Program, slots: Slots, body: Option<TStmts>) -> Result<Ty
     }
 }
 
+// The least fault that was noted; else the checked program.
+fn answered(
+    program: &Program,
+    slots: Slots,
+    body: Option<TStmts>,
+    first: Option<Fault>,
+) -> Result<Typed, TypeFault>
+    requires names { HasNames (program_tree program.now) }
+    requires notes { Notes None first (FaultAt (program_tree program.now)) }
+    requires is { typed_of (program_tree program.now)
+        ≡ option_map (λ b. record { slots = slots.items.items; body = b }) (option_map (λ b. tstmt_trees b.items.items) body) }
+    ensures ok { IfOk result (λ t. IsTyped (program_tree program.now) t) }
+    ensures err { IfErr result (Refuses (program_tree program.now)) }
+{
+    match first {
+        Some(fault) => {
+            discard_body(body);
+            Err(told(fault))
+        }
+        None => faultless(program, slots, body),
+    }
+}
+
+// The same once the declarations are read.
+fn body_judged(
+    alloc: Global,
+    program: &Program,
+    made: Declarations,
+    noted: Option<Fault>,
+) -> Result<Typed, TypeFault>
+    requires names { HasNames (program_tree program.now) }
+    requires made { MakesAll (program_tree program.now).blocks nothing_made (made_by made) None noted }
+    ensures ok { IfOk result (λ t. IsTyped (program_tree program.now) t) }
+    ensures err { IfErr result (Refuses (program_tree program.now)) }
+{
+    let mut first = noted;
+    let whole = Environment {
+        alloc,
+        names: &made.names,
+        held: &[],
+    };
+    match whole.type_stmts(&program.body.items, &mut first) {
+        Ok(body) => answered(program, made.slots, body, first),
+        Err(Memory) => Err(TypeFault::Memory),
+    }
+}
+
 // The checked program, or why there is none: the least fault first, then the limits.
 fn judged(alloc: Global, program: &Program) -> Result<Typed, TypeFault>
     requires names { HasNames (program_tree program.now) }
@@ -76,16 +127,9 @@ fn judged(alloc: Global, program: &Program) -> Result<Typed, TypeFault>
     ensures err { IfErr result (Refuses (program_tree program.now)) }
 {
     let mut first = None;
-    let made = declared(alloc, &program.blocks.items, &mut first)?;
-    let whole = Environment {
-        alloc,
-        names: &made.names,
-        held: &[],
-    };
-    let body = whole.type_stmts(&program.body.items, &mut first)?;
-    match first {
-        Some(fault) => Err(told(fault)),
-        None => faultless(program, made.slots, body),
+    match declared(alloc, &program.blocks.items, &mut first) {
+        Ok(made) => body_judged(alloc, program, made, first),
+        Err(Memory) => Err(TypeFault::Memory),
     }
 }
 

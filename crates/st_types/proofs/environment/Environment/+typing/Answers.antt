@@ -19,23 +19,23 @@ type_expression-returns-in-Lit t c =
     (ap (λ v. literal c.in-Lit.ty v c.in-Lit.spot) (to_z-of_z w64 c.in-Lit.value fits) ∙ sym (ap expr_tree c.in-Lit.is))
     (c.literal.ensures c.args.self.now.names.now)
 
-pub type_expression-returns-in_ok-x-in-None : goal.type_expression-returns-in_ok-x-in-None
-type_expression-returns-in_ok-x-in-None t c =
+pub type_expression-returns-in-Ok : goal.type_expression-returns-in-Ok
+type_expression-returns-in-Ok t c =
     let inner = subst
     (λ x. Types c.args.self.now.names.now (expr_tree x) c.args.first.now c.type_expression.new.first
-    (option_map texpr_tree c.in_ok-x-in-None.x)) c.deref-in-None.ensures c.in_ok-x-in-None.ensures in
+    (option_map texpr_tree c.in-Ok.x)) c.deref-in-None.ensures c.in-Ok.ensures in
     IfOk-weaker c.sign.result _ _ (λ r p.
     subst (λ e. Types c.args.self.now.names.now e c.args.first.now c.sign.new.first (option_map texpr_tree r)) (sym (ap expr_tree c.in-Unary.is))
     (unary-types _ _ _ _ _ _ _ _ _ (let e = c.in-None.ensures in sym (rw c.deref.ensures at e)) inner p)) c.sign.ensures
 
-pub type_expression-returns-in_ok-y-in-Binary : goal.type_expression-returns-in_ok-y-in-Binary
-type_expression-returns-in_ok-y-in-Binary t c =
+pub type_expression-returns-in-Ok-type_expression-2 : goal.type_expression-returns-in-Ok-type_expression-2
+type_expression-returns-in-Ok-type_expression-2 t c =
     let left = subst
     (λ x. Types c.args.self.now.names.now (expr_tree x) c.args.first.now c.type_expression-in-Binary.new.first
-    (option_map texpr_tree c.in_ok-x-in-Binary.x)) c.deref-in-Binary.ensures c.in_ok-x-in-Binary.ensures in
+    (option_map texpr_tree c.in-Ok-type_expression.x)) c.deref-in-Binary.ensures c.in-Ok-type_expression.ensures in
     let right = subst
-    (λ x. Types c.args.self.now.names.now (expr_tree x) c.type_expression-in-Binary.new.first c.type_expression-in-Binary-2.new.first
-    (option_map texpr_tree c.in_ok-y-in-Binary.y)) c.deref-in-Binary-2.ensures c.in_ok-y-in-Binary.ensures in
+    (λ x. Types c.args.self.now.names.now (expr_tree x) c.type_expression-in-Binary.new.first c.type_expression-in-Ok-type_expression.new.first
+    (option_map texpr_tree c.in-Ok-type_expression-2.y)) c.deref-in-Ok-type_expression.ensures c.in-Ok-type_expression-2.ensures in
     IfOk-weaker c.operate.result _ _ (λ r p.
     subst (λ e. Types c.args.self.now.names.now e c.args.first.now c.operate.new.first (option_map texpr_tree r)) (sym (ap expr_tree c.in-Binary.is))
     (binary-types _ _ _ _ _ _ _ _ _ _ _ _ left right p)) c.operate.ensures
@@ -68,9 +68,9 @@ type_all-each-preserved t c = λ end r h.
     let d : drop c.each.e-index c.args.args.now ≡ c.e-item.result ∷ drop (c.each.e-index + 1) c.args.args.now = grind (arith, common_steps) in
     let m = more-types c.args.self.now.names.now (expr_tree c.e-item.result)
     (expr_trees (drop (c.each.e-index + 1) c.args.args.now)) c.each.first c.type_expression.new.first end
-    (option_map texpr_tree c.in_ok-x.x) r c.in_ok-x.ensures h in
-    let n = subst (λ xs. TypesAll c.args.self.now.names.now (expr_trees xs) c.each.first end (both cons (option_map texpr_tree c.in_ok-x.x) r)) (sym d) m in
-    subst (λ q. TypesAll c.args.self.now.names.now (expr_trees c.args.args.now) c.args.first.now end q) (glue-cons _ _ _ r c.in_ok-list.ensures)
+    (option_map texpr_tree c.in-Ok.x) r c.in-Ok.ensures h in
+    let n = subst (λ xs. TypesAll c.args.self.now.names.now (expr_trees xs) c.each.first end (both cons (option_map texpr_tree c.in-Ok.x) r)) (sym d) m in
+    subst (λ q. TypesAll c.args.self.now.names.now (expr_trees c.args.args.now) c.args.first.now end q) (glue-cons _ _ _ r c.in_ok-list-in-Ok.ensures)
     (c.each.invariant end _ n)
 
 pub type_all-returns : goal.type_all-returns
