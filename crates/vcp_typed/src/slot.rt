@@ -17,9 +17,14 @@ pub struct Slot {
 }
 
 /// The variables of a program, in order of declaration.
-#[derive(Drop)]
 pub struct Slots {
     pub items: Vec<Slot>,
+}
+
+impl Drop for Slots {
+    fn drop(self) {
+        let Slots { items: _ } = self;
+    }
 }
 
 impl Slots {

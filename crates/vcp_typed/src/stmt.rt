@@ -22,9 +22,14 @@ pub struct TLabel {
 }
 
 /// The labels of a branch of a CASE.
-#[derive(Drop)]
 pub struct TLabels {
     pub items: Vec<TLabel>,
+}
+
+impl Drop for TLabels {
+    fn drop(self) {
+        let TLabels { items: _ } = self;
+    }
 }
 
 /// A list of statements.

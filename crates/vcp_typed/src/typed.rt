@@ -20,11 +20,20 @@ use vcp_base::{Column, Columns, Memory, Text};
 /// and literals are in their types, each node has its type, each slot that is named is there, labels are in
 /// their selector's type, the values of a FOR in its variable's, nothing is set that may not be, there are at
 /// most 1,024 slots and Size is at most 65,536.
-#[derive(Drop)]
 pub struct Typed {
     slots: Slots,
     body: TStmts,
     size: u32,
+}
+
+impl Drop for Typed {
+    fn drop(self) {
+        let Typed {
+            slots: _,
+            body: _,
+            size: _,
+        } = self;
+    }
 }
 
 impl Model for Typed {
@@ -68,7 +77,12 @@ impl Typed {
     pub fn into_slots(self) -> Slots
         ensures { result.items.items ≡ self.slots }
     {
-        self.slots
+        let Typed {
+            slots,
+            body: _,
+            size: _,
+        } = self;
+        slots
     }
 
     /// The statements.
