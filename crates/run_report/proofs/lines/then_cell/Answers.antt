@@ -1,4 +1,6 @@
-use Rattle.std.proofs.Common.{◌≡◌, ◌∙◌, ◌≤◌, ◌+◌, Some, length, sym, subst, ℤ, to_z, of_z, arith}
+use Rattle.std.proofs.Common.{◌≡◌, ◌∙◌, ◌≤◌, ◌+◌, Some, length, sym, subst, ℤ, to_z, of_z, arith, rules, append_assoc}
+use mir.Val.{SFits}
+use Rattle.std.proofs.Math.Facts as facts
 use mir.Syntax.{w64}
 use Rattle.std.proofs.lemmas.Int.{to_z-of_z}
 use Rattle.std.specs.Fmt.{signed_decimal}
@@ -17,3 +19,10 @@ returns-clause-digits g c = λ value there.
     subst (λ v. length before + 1 + length (signed_decimal v) ≤ 256 → EndsAt after (length before + 1) (signed_decimal v))
     (same ∙ same_value c.at.result value (sym c.at.ensures ∙ there))
     (behind_a_byte c.args.line.now c.mark.new.self c.value.new.self _ _ c.mark.ensures.kept c.value.ensures.kept)
+
+pub returns-clause-gathers : goal.returns-clause-gathers
+returns-clause-gathers g c = λ value there start before text is.
+    let fits : SFits w64 c.at.result = search rules in
+    let same = same_value c.at.result value (sym c.at.ensures ∙ there) in
+    let all = rw (facts.to_z-of_z {w = w64} {z = c.at.result} fits, same) at (c.value.ensures.gathers _ _ _ (c.mark.ensures.gathers start before text is)) in
+    simp append_assoc at all
