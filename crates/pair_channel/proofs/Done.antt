@@ -23,7 +23,7 @@ use Rattle.pair_channel.specs.declared.pair_end.PairEnd.{PairEnd}
 use Rattle.pair_channel.specs.declared.pair_end.PairEnd.TheVariants as pair
 use Rattle.pair_channel.specs.PairLaws.{PairCounts, PairRunLaws}
 use Rattle.pair_channel.specs.PairRuns.{AllPairs, PairOutcome, PairOver, pair_over, FrontOfRun, pair_end_of_run, pair_outcome_for}
-use Rattle.pair_channel.specs.PairStates.{PairState, fresh_pair}
+use Rattle.pair_channel.specs.PairStates.{fresh_pair}
 use Rattle.pair_channel.specs.PairDone.{AreFirst, OneStaysHonest, PairDone, PairRunsTo, nothing_later, outcome_then}
 use Rattle.pair_channel.specs.PairLines.{pair_header, pair_last, pair_text}
 use Rattle.pair_channel.specs.PairMoments.{PairMoment}
@@ -186,11 +186,6 @@ over_front : PairCounts → (g : Lists) (t u : Numbers) (left : RowsLeft) → Fa
 over_front counts g t u left fair taken more is ours theirs outputs e b a over still =
     counts.front g t u taken ours theirs outputs e b.first a.first b.second a.second fair.graph fair.first fair.second
     (taken_few left.rows taken more is fair.few) over still
-
--- by the tables of a pair before its first cycle
-pub of_tables : (g : Lists) (t u : Numbers) (left : RowsLeft) (b a : PairMoment) (n : ℕ) (r : Result PairEnd RunFault) (p : PairState) → p ≡ fresh_pair g t u →
-    PairRows g p.first.table p.second.table left b a n r → PairRows g t u left b a n r
-of_tables g t u left b a n r p is h = subst (λ (q : PairState). PairRows g q.first.table q.second.table left b a n r) is h
 
 -- a whole run, where all of it was written
 pub done : PairCounts → (g : Lists) (t u : Numbers) (left : RowsLeft) → Fair g t u left → (taken more : List (List ℤ)) → left.rows ≡ taken ++ more → more ≡ [] →

@@ -67,15 +67,17 @@ impl<'a> Pair<'a> {
         let ours = Row::zeros(alloc, width)?;
         let theirs = Row::zeros(alloc, width)?;
         let machine = Machine::new(alloc, graph, first)?;
-        let other = Machine::new(alloc, graph, second)?;
-        Ok(Pair {
-            first: machine,
-            second: other,
-            ours,
-            theirs,
-            cycles: 0,
-            ended: None,
-        })
+        match Machine::new(alloc, graph, second) {
+            Ok(other) => Ok(Pair {
+                first: machine,
+                second: other,
+                ours,
+                theirs,
+                cycles: 0,
+                ended: None,
+            }),
+            Err(why) => Err(why),
+        }
     }
 
     /// The graph whose operations it carries.

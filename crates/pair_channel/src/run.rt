@@ -4,7 +4,7 @@ ghost use Rattle.std.specs.Prelude.{ℕ, ◌≡◌, ◌≢◌, ◌<◌, ◌≤�
 ghost use Rattle.vcp_base.specs.Limits.{most_cycles};
 ghost use Rattle.vcp_base.specs.declared.kind.StopKind.{StopKind};
 ghost use Rattle.vcp_outside.specs.Written.{WritesTo};
-ghost use Rattle.signature_table.specs.Signatures.{IsTableOf};
+ghost use Rattle.signature_table.specs.Signatures.{IsTable, IsTableOf};
 ghost use Rattle.coded_machine.specs.CycleEnds.{outputs_of};
 ghost use Rattle.run_report.specs.Lines.{row_text, stop_text};
 ghost use Rattle.machine_run.specs.Moments.{moment};
@@ -30,7 +30,7 @@ use op_graph::{Graph, entries_keep_their_rules};
 use run_report::{end_line, graph_stop_line, header_line, output_name, row_line};
 use signature_table::Table;
 use std::alloc::Global;
-use vcp_base::Row;
+use vcp_base::{Memory, Row};
 use vcp_outside::{Failed, Sink};
 
 /// Carries one cycle of a pair, and writes its row of outputs where it is released. It answers how the cycle ended, or that the row of a
@@ -118,6 +118,40 @@ fn print_end<O: Sink>(out: &mut O, graph: &Graph, cycles: u32, end: &PairEnd) ->
     }
 }
 
+/// Runs a pair that made no cycle yet over the rows that are left, and prints its run, as `run_pair` does. The pair is lent: a function that
+/// owned it would give up its parts at each of its ends.
+fn print_run<U: Unit, V: Unit, O: Sink>(
+    alloc: Global,
+    graph: &Graph,
+    pair: &mut Pair<'_>,
+    rows: &mut Rows<'_>,
+    first: &mut U,
+    second: &mut V,
+    out: &mut O,
+) -> Result<PairEnd, RunFault>
+    requires fresh { pair.old ≡ fresh_pair graph.now pair.old.first.table pair.old.second.table }
+    requires table { IsTable pair.old.first.table }
+    requires other { IsTable pair.old.second.table }
+    requires few { length rows.old.rows ≤ most_cycles }
+    requires width { length rows.old.types ≡ length graph.now.inputs }
+    ensures ran { PairRunsTo graph.now pair.old.first.table pair.old.second.table rows.old
+        (pair_moment (U.seen first.old) (V.seen second.old) (O.seen out.old))
+        (pair_moment (U.seen first.new) (V.seen second.new) (O.seen out.new)) result }
+    ensures stayed { result ≢ Err fault.Write → (O.seen out.new).faults ≡ (O.seen out.old).faults }
+    ensures stopped { (op : ℕ) (why : StopKind) → result ≡ Ok (ends.Stopped op why)
+        → TellsStop stop_text (moment (U.seen first.old) (O.seen out.old)) (moment (U.seen first.new) (O.seen out.new)) op why }
+{
+    // What the laws below and this call ensure is known of the run.
+    pairs_follow_their_answers();
+    counts_bound_a_pair();
+    let _rules = graph.len();
+    let names = graph.output_columns(alloc)?;
+    header_line(out, &names)?;
+    let end = run_rows(alloc, graph, pair, rows, first, second, out)?;
+    print_end(out, graph, pair.cycles(), &end)?;
+    Ok(end)
+}
+
 /// Runs a graph on a pair of channels, whose tables these are and whose seeds differ, over the rows that are left, the first channel on one
 /// unit and the second on another: the header, a line for each cycle that both release, as its row comes, and the last line. It answers how
 /// the run ended; where the rows ended, `Released`.
@@ -155,16 +189,12 @@ pub fn run_pair<U: Unit, V: Unit, O: Sink>(
     ensures stopped { (op : ℕ) (why : StopKind) → result ≡ Ok (ends.Stopped op why)
         → TellsStop stop_text (moment (U.seen first.old) (O.seen out.old)) (moment (U.seen first.new) (O.seen out.new)) op why }
 {
-    // What the laws below and these calls ensure is known of the run.
+    // What the law below and these calls ensure is known of the run.
     pairs_follow_their_answers();
-    counts_bound_a_pair();
-    let _rules = graph.len();
     let _step = table.step();
     let _other = other.step();
-    let mut pair = Pair::new(alloc, graph, table, other)?;
-    let names = graph.output_columns(alloc)?;
-    header_line(out, &names)?;
-    let end = run_rows(alloc, graph, &mut pair, rows, first, second, out)?;
-    print_end(out, graph, pair.cycles(), &end)?;
-    Ok(end)
+    match Pair::new(alloc, graph, table, other) {
+        Ok(mut pair) => print_run(alloc, graph, &mut pair, rows, first, second, out),
+        Err(Memory) => Err(RunFault::Memory),
+    }
 }

@@ -6,7 +6,7 @@ use Rattle.pair_channel.proofs.pair.Pair.new.Goals as goal
 pub invariant_of-result : goal.invariant_of-result
 invariant_of-result c =
     let one = c.in_ok-machine.ensures.fresh in
-    let two = c.in_ok-other.ensures.fresh in
+    let two = c.in-Ok.ensures.fresh in
     let wide = ap (λ (s : State). length s.graph.outputs) (sym one) in
     record {
       one_graph = ap (λ (s : State). s.graph) two ∙ sym (ap (λ (s : State). s.graph) one);
