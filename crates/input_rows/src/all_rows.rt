@@ -56,10 +56,12 @@ impl<'a> AllRows<'a> {
         if columns.len() == 0 {
             return Err(RowFault::Form);
         }
-        let table = Twice::new(alloc, bytes, columns)?;
-        Ok(AllRows {
-            source: Source::File(table),
-        })
+        match Twice::new(alloc, bytes, columns) {
+            Ok(table) => Ok(AllRows {
+                source: Source::File(table),
+            }),
+            Err(why) => Err(why),
+        }
     }
 
     /// So many rows of no values.

@@ -12,7 +12,6 @@ use vcp_base::Memory;
 
 /// The records that are left of a text, which are not known after want of memory, and whether their
 /// end was given.
-#[derive(Drop)]
 pub struct Records<'a> {
     reader: Reader<&'a [u8]>,
     ended: bool,
@@ -32,6 +31,17 @@ impl<'a> Model for Records<'a> {
     } };
 
     ghost invariant = { λ r. r.failed ≡ false → r.ended ≡ false → IsPlain r.reader };
+}
+
+// Written out, so that the reader's parts are given up here alone, and not wherever records go out of scope.
+impl Drop for Records<'_> {
+    fn drop(self) {
+        let Records {
+            reader: _,
+            ended: _,
+            failed: _,
+        } = self;
+    }
 }
 
 // Reads a record, unless memory runs out. A text in memory has no other error.

@@ -15,7 +15,6 @@ use vcp_base::{Columns, Row};
 /// The rows that are left, from the front, and the refusal behind them, if there is one. Contracts
 /// see also the types of a row's values, in the order of the columns, and whether the end or the
 /// refusal was given.
-#[derive(Drop)]
 pub struct Rows<'a> {
     rows: AllRows<'a>,
     wanted: Wanted,
@@ -31,6 +30,13 @@ impl<'a> Model for Rows<'a> {
     ghost view = { λ r. wanted_rows r.wanted r.rows };
 
     ghost invariant = { λ r. r.rows.ended ≡ false };
+}
+
+// Written out, so that the parts of both readers are given up here alone, and not wherever rows go out of scope.
+impl Drop for Rows<'_> {
+    fn drop(self) {
+        let Rows { rows: _, wanted: _ } = self;
+    }
 }
 
 impl<'a> Rows<'a> {
@@ -49,11 +55,13 @@ impl<'a> Rows<'a> {
         ensures behind { IfOk result (λ left. IfSome left.refusal IsOfRecord) }
         ensures fresh { IfOk result (λ left. left.ended ≡ false) }
     {
-        let rows = AllRows::new(alloc, bytes, columns)?;
-        Ok(Rows {
-            rows,
-            wanted: Wanted::All,
-        })
+        match AllRows::new(alloc, bytes, columns) {
+            Ok(rows) => Ok(Rows {
+                rows,
+                wanted: Wanted::All,
+            }),
+            Err(why) => Err(why),
+        }
     }
 
     /// So many rows of no values, at most 1,000,000. `Form` where there are columns. It takes no
@@ -67,11 +75,13 @@ impl<'a> Rows<'a> {
         ensures behind { IfOk result (λ left. left.refusal ≡ None) }
         ensures fresh { IfOk result (λ left. left.ended ≡ false) }
     {
-        let rows = AllRows::cycles(number, columns)?;
-        Ok(Rows {
-            rows,
-            wanted: Wanted::All,
-        })
+        match AllRows::cycles(number, columns) {
+            Ok(rows) => Ok(Rows {
+                rows,
+                wanted: Wanted::All,
+            }),
+            Err(why) => Err(why),
+        }
     }
 
     /// The rows through a cycle and no further, where cycles count from 0. Those behind it are not read.
@@ -84,9 +94,10 @@ impl<'a> Rows<'a> {
         ensures behind { IfSome self.entry.refusal IsOfRecord → IfSome result.refusal IsOfRecord }
         ensures fresh { result.ended ≡ self.entry.ended }
     {
+        let Rows { rows, wanted } = self;
         Rows {
-            rows: self.rows,
-            wanted: self.wanted.through(cycle),
+            rows,
+            wanted: wanted.through(cycle),
         }
     }
 

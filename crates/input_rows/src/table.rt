@@ -13,7 +13,7 @@ use csv::ByteRecord;
 use std::alloc::Global;
 use std::marker::Model;
 use std::mem;
-use vcp_base::{Columns, MOST_CYCLES, Row};
+use vcp_base::{Columns, MOST_CYCLES, Memory, Row};
 
 /// The rows that are left of a file. The record at hand and its row are read into room that is used
 /// again.
@@ -79,18 +79,25 @@ impl<'a> Table<'a> {
     {
         let mut records = Records::new(alloc, bytes);
         let mut cells = ByteRecord::new(alloc);
-        if !records.next(&mut cells)? {
-            return Err(RowFault::Header);
+        match records.next(&mut cells) {
+            Ok(true) => {}
+            Ok(false) => return Err(RowFault::Header),
+            Err(Memory) => return Err(RowFault::Memory),
         }
-        let layout = Layout::new(alloc, columns, &cells)?;
-        let row = Row::zeros(alloc, columns.len() as u32)?;
-        Ok(Table {
-            layout,
-            records,
-            cells,
-            cycle: 0,
-            row,
-        })
+        let layout = match Layout::new(alloc, columns, &cells) {
+            Ok(layout) => layout,
+            Err(why) => return Err(why),
+        };
+        match Row::zeros(alloc, columns.len() as u32) {
+            Ok(row) => Ok(Table {
+                layout,
+                records,
+                cells,
+                cycle: 0,
+                row,
+            }),
+            Err(Memory) => Err(RowFault::Memory),
+        }
     }
 
     /// How many values a row has.
