@@ -1,7 +1,7 @@
 -- What was taken of a file, from what was read of it.
-use Rattle.std.proofs.Common.{◌≡◌, ◌≤◌, ℕ, List, ◌++◌, length, Option, Some, None, IsSome, IfSome, ◌∙◌, ap, refl}
-use Rattle.std.proofs.KnownBytes.{Consumes-trans}
-use Rattle.std.specs.Io.KnownBytes.{Consumes}
+use Rattle.std.proofs.Common.{◌≡◌, ◌≤◌, ◌⊎◌, inl, ℕ, List, ◌++◌, length, Option, Some, None, IsSome, IfSome, ◌∙◌, ap, refl, arith}
+use Rattle.std.proofs.KnownBytes.{Consumes-trans, Consumes-kept}
+use Rattle.std.specs.Io.KnownBytes.{Consumes, Keeps}
 use Rattle.vcp_outside.specs.Held.{Held}
 use Rattle.vcp_outside.specs.ReadAll.{TakesBetween}
 
@@ -21,3 +21,16 @@ pub takes_more : (least most : ℕ) (held : Option Held) (name : List ℕ) (mid 
 takes_more least most None name mid rest front piece reads more low high = tt
 takes_more least most (Some held) name mid rest front piece reads more low high =
     takes_front least most held name (held name) rest (front ++ piece) refl reads.0 (Consumes-trans (held name) mid rest front piece reads.1 more) low high
+
+-- the same after a read that failed, whatever else might be said
+pub takes_no_more : (most : ℕ) (held : Option Held) (name : List ℕ) (mid rest : Option (List ℕ)) (front : List ℕ) (Else : Type 0)
+    → IfSome held (λ h. IsSome (h name) × Consumes (h name) mid front) → Keeps mid rest → length front ≤ most
+    → IfSome held (λ h. TakesBetween 0 most h name rest ⊎ Else)
+takes_no_more most None name mid rest front Else reads kept high = tt
+takes_no_more most (Some held) name mid rest front Else reads kept high =
+    inl (takes_front 0 most held name (held name) rest front refl reads.0 (Consumes-kept (held name) mid rest front reads.1 kept) (omega arith) high)
+
+-- what is so of whatever is held
+pub whatever_held : {P : Held → Type 0} (held : Option Held) → ((h : Held) → P h) → IfSome held P
+whatever_held None f = tt
+whatever_held (Some h) f = f h

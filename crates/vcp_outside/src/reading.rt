@@ -10,7 +10,7 @@ ghost use Rattle.vcp_outside.specs.declared.reading.ReadAll.TheVariants as cause
 
 use crate::failed::Failed;
 use crate::files::Files;
-use std::alloc::{AllocError, Global};
+use std::alloc::Global;
 use std::marker::Brand;
 use std::sync::ledger::{Blank, Ledger};
 use vcp_base::{Steps, Text};
@@ -24,22 +24,6 @@ pub enum ReadAll {
     TooLong,
     /// An allocation failed.
     Memory,
-}
-
-impl From<Failed> for ReadAll {
-    ghost from_gives = { λ _ e. e ≡ cause.Failed };
-
-    fn from(_: Failed) -> Self {
-        ReadAll::Failed
-    }
-}
-
-impl From<AllocError> for ReadAll {
-    ghost from_gives = { λ _ e. e ≡ cause.Memory };
-
-    fn from(_: AllocError) -> Self {
-        ReadAll::Memory
-    }
 }
 
 // The most bytes that are read at once.
@@ -96,16 +80,22 @@ pub fn read_all_counting<F: Files, L: Ledger>(
     ensures broken_later { (F.seen files.old).broken ≤ (F.seen files.new).broken }
     ensures broken_capped { (F.seen files.old).broken ≤ last_count → (F.seen files.new).broken ≤ last_count }
 {
-    files.begin(name)?;
+    match files.begin(name) {
+        Ok(()) => {}
+        Err(Failed) => return Err(ReadAll::Failed),
+    }
     let mut content = Vec::new(alloc);
     let mut chunk = [0u8; CHUNK as usize];
     'reading: while content.len() as u64 <= limit {
         let room = (limit + 1 - content.len() as u64).min(CHUNK) as usize;
-        let count = read_counted(files, &mut chunk[..room], reads)?;
-        if count == 0 {
-            return Ok(Text::from_vec(content));
+        match read_counted(files, &mut chunk[..room], reads) {
+            Ok(0) => return Ok(Text::from_vec(content)),
+            Ok(count) => match content.extend_from_slice(&chunk[..count]) {
+                Ok(()) => {}
+                Err(_) => return Err(ReadAll::Memory),
+            },
+            Err(Failed) => return Err(ReadAll::Failed),
         }
-        content.extend_from_slice(&chunk[..count])?;
     }
     Err(ReadAll::TooLong)
 }
