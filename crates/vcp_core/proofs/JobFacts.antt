@@ -17,7 +17,7 @@ use Rattle.op_graph.specs.Rules.{IsGraph}
 use Rattle.signature_table.specs.Signatures.{IsTable, Numbers, table_of}
 use Rattle.coded_machine.specs.declared.cycle_end.CycleEnd.{CycleEnd}
 use Rattle.coded_machine.specs.declared.cycle_end.CycleEnd.TheVariants as cycle
-use Rattle.coded_machine.specs.State.{State, fresh}
+use Rattle.coded_machine.specs.State.{State}
 use Rattle.flat_expr.specs.Told.{Means, halted_at}
 use Rattle.machine_run.specs.declared.fault.RunFault.{RunFault}
 use Rattle.machine_run.specs.declared.fault.RunFault.TheVariants as given_up
@@ -65,21 +65,13 @@ names-are g t left s code outputs carries is = ap (map (λ (c : Column). c.name)
 pub width-is : (g : Lists) (p : Program) (types : List Ty) → Means g p → types ≡ input_types p.slots → length types ≡ length g.inputs
 width-is g p types means is = ap length is ∙ sym (inputs-count p.slots) ∙ ap length (sym means.inputs) ∙ length-map g.inputs (column g.names)
 
--- what a fresh machine's run leaves, for its graph and table
-pub leaves-here : (m n : State) (g : Lists) (u t : Numbers) (left : RowsLeft) (text : ℕ → List ℤ
-    → List ℕ) (before after : Moment) (kept_before kept_after : List (List ℤ) → Type 0) (r : Result CycleEnd RunFault) →
-    m ≡ fresh g u → u ≡ t → Leaves m.graph m.table left text before after kept_before kept_after n r
-    → Leaves g t left text before after kept_before kept_after n r
-leaves-here m n g u t left text before after kept_before kept_after r is same h =
-    subst (λ x. Leaves g x left text before after kept_before kept_after n r) same
-    (subst (λ (x : State). Leaves x.graph x.table left text before after kept_before kept_after n r) is h)
-
--- the same where this is printed of each row
-pub leaves-shown : (n : State) (g : Lists) (t : Numbers) (left : RowsLeft) (text shown : ℕ → List ℤ → List ℕ) (before after : Moment)
-    (kept_before kept_after : List (List ℤ) → Type 0) (r : Result CycleEnd RunFault) → text ≡ shown →
-    Leaves g t left text before after kept_before kept_after n r → Leaves g t left shown before after kept_before kept_after n r
-leaves-shown n g t left text shown before after kept_before kept_after r is h =
-    subst (λ (x : ℕ → List ℤ → List ℕ). Leaves g t left x before after kept_before kept_after n r) is h
+-- what a machine's run leaves, by these numbers, where this is printed of each row
+pub leaves-shown : (n : State) (g : Lists) (t u : Numbers) (left : RowsLeft) (text shown : ℕ → List ℤ → List ℕ) (before after : Moment)
+    (kept_before kept_after : List (List ℤ) → Type 0) (r : Result CycleEnd RunFault) → t ≡ u → text ≡ shown →
+    Leaves g t left text before after kept_before kept_after n r → Leaves g u left shown before after kept_before kept_after n r
+leaves-shown n g t u left text shown before after kept_before kept_after r same is h =
+    subst (λ (x : ℕ → List ℤ → List ℕ). Leaves g u left x before after kept_before kept_after n r) is
+    (subst (λ (x : Numbers). Leaves g x left text before after kept_before kept_after n r) same h)
 
 -- the rows before a wrong answer, by the numbers of a job's code
 pub first-rows : FirstRowsLaw → (g : Lists) (t u : Numbers) (rows : List (List ℤ)) → IsGraph g → IsTable t → t ≡ u → length rows ≤ most_cycles →

@@ -15,7 +15,6 @@ use vcp_outside::Files;
 use vcp_words::RowsWord;
 
 /// An image, and the rows that it is run on.
-#[derive(Drop)]
 pub struct ImageRows {
     /// The image.
     pub image: Image,
@@ -23,6 +22,17 @@ pub struct ImageRows {
     pub columns: Columns,
     /// The rows, before they are read.
     pub rows: RowsSource,
+}
+
+// Written out, so that the parts are given up here alone, and not in each command that loads them.
+impl Drop for ImageRows {
+    fn drop(self) {
+        let ImageRows {
+            image: _,
+            columns: _,
+            rows: _,
+        } = self;
+    }
 }
 
 /// Whether the seed of a second channel, if there is one, is the table's own.

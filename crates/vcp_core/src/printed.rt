@@ -6,10 +6,11 @@ ghost use Rattle.vcp_base.specs.Types.{AreIn};
 ghost use Rattle.vcp_outside.specs.Written.{WritesTo};
 ghost use Rattle.vcp_typed.specs.Fitting.{input_types};
 ghost use Rattle.input_rows.specs.RowsOf.{IsOfRecord};
-ghost use Rattle.op_graph.specs.Lists.{Lists};
-ghost use Rattle.signature_table.specs.Signatures.{IsTableOf};
+ghost use Rattle.op_graph.specs.Lists.{Lists, output_column};
+ghost use Rattle.op_graph.specs.Rules.{IsGraph};
+ghost use Rattle.signature_table.specs.Signatures.{IsTable, IsTableOf};
 ghost use Rattle.coded_machine.specs.Calls.{Whole};
-ghost use Rattle.coded_machine.specs.State.{State};
+ghost use Rattle.coded_machine.specs.State.{State, fresh};
 ghost use Rattle.coded_machine.specs.declared.cycle_end.CycleEnd.{CycleEnd as CycleEndOf};
 ghost use Rattle.vcp_words.specs.Forms.{Code as CodeOf, as_code, IsCode};
 ghost use Rattle.command_meaning.specs.Answer.{Subject};
@@ -30,7 +31,7 @@ use op_graph::Graph;
 use run_report::{end_line, graph_stop_line, refused_line};
 use signature_table::Table;
 use std::alloc::Global;
-use vcp_base::Columns;
+use vcp_base::{Columns, Memory};
 use vcp_outside::{Failed, Sink};
 use vcp_typed::Typed;
 use vcp_words::Code;
@@ -131,15 +132,56 @@ pub fn run_printed<U: Unit, O: Sink, R: ReleasedRows, P: Printed<R>>(
         (moment (U.seen unit.old) (O.seen out.old)) (moment (U.seen unit.new) (O.seen out.new)) result }
     ensures causes { HasCauses (moment (U.seen unit.old) (O.seen out.old)) (moment (U.seen unit.new) (O.seen out.new)) result }
 {
-    // So the rows before a wrong answer are those that are meant.
-    rows_before_a_wrong_answer_follow_the_graph();
     let _rules = graph.len();
     let _ranges = table.step();
-    let mut machine = Machine::new(alloc, graph, table)?;
     let outputs = graph.output_columns(alloc)?;
-    printed.print_first(out, &outputs)?;
-    let end = run_rows(alloc, &mut machine, rows, unit, out, released)?;
-    Ok(printed.print_last(out, &machine, &outputs, released, &end)?)
+    match Machine::new(alloc, graph, table) {
+        Ok(mut machine) => run_machine(
+            alloc,
+            &mut machine,
+            &outputs,
+            rows,
+            unit,
+            out,
+            printed,
+            released,
+        ),
+        Err(Memory) => Err(RunFault::Memory),
+    }
+}
+
+/// The same by a machine before its first cycle, with the columns of its graph's outputs.
+fn run_machine<U: Unit, O: Sink, R: ReleasedRows, P: Printed<R>>(
+    alloc: Global,
+    machine: &mut Machine<'_>,
+    outputs: &Columns,
+    rows: &mut Rows<'_>,
+    unit: &mut U,
+    out: &mut O,
+    printed: &P,
+    released: &mut R,
+) -> Result<Ending, RunFault>
+    requires sound { P.IsSound printed.now }
+    requires fresh { machine.old ≡ fresh machine.old.graph machine.old.table }
+    requires rules { IsGraph machine.old.graph }
+    requires ranges { IsTable machine.old.table }
+    requires table { IsTableOf machine.old.table machine.old.graph }
+    requires outputs { outputs.now ≡ map (output_column machine.old.graph.names) machine.old.graph.outputs }
+    requires width { length rows.old.types ≡ length machine.old.graph.inputs }
+    requires few { length rows.old.rows ≤ most_cycles }
+    requires behind { IfSome rows.old.refusal IsOfRecord }
+    ensures ran { (s : Subject) (code : CodeOf) (name : List ℕ) (p : Printing) (words : ShownWords)
+        → CarriesOut machine.old.graph machine.old.table rows.old s code →
+        Shows (P.first printed.now) R.text (P.last printed.now) R.Keeps released.old (job_of s code rows.old name p words) machine.old.graph →
+        RunsTo (job_of s code rows.old name p words)
+        (moment (U.seen unit.old) (O.seen out.old)) (moment (U.seen unit.new) (O.seen out.new)) result }
+    ensures causes { HasCauses (moment (U.seen unit.old) (O.seen out.old)) (moment (U.seen unit.new) (O.seen out.new)) result }
+{
+    // So the rows before a wrong answer are those that are meant.
+    rows_before_a_wrong_answer_follow_the_graph();
+    printed.print_first(out, outputs)?;
+    let end = run_rows(alloc, machine, rows, unit, out, released)?;
+    Ok(printed.print_last(out, machine, outputs, released, &end)?)
 }
 
 /// Runs a program's operations on the rows that are left, on the unit, as words of the code, and prints

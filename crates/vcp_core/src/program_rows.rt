@@ -15,7 +15,6 @@ use vcp_typed::Typed;
 use vcp_words::RowsWord;
 
 /// A program, and the rows that it is run on.
-#[derive(Drop)]
 pub struct ProgramRows {
     /// The program.
     pub program: Typed,
@@ -23,6 +22,17 @@ pub struct ProgramRows {
     pub columns: Columns,
     /// The rows, before they are read.
     pub rows: RowsSource,
+}
+
+// Written out, so that the parts are given up here alone, and not in each command that loads them.
+impl Drop for ProgramRows {
+    fn drop(self) {
+        let ProgramRows {
+            program: _,
+            columns: _,
+            rows: _,
+        } = self;
+    }
 }
 
 /// ROWS for a program that was read, up to their header. Where there is nothing of them, the command that
