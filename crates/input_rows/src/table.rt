@@ -17,7 +17,6 @@ use vcp_base::{Columns, MOST_CYCLES, Memory, Row};
 
 /// The rows that are left of a file. The record at hand and its row are read into room that is used
 /// again.
-#[derive(Drop)]
 pub struct Table<'a> {
     layout: Layout<'a>,
     records: Records<'a>,
@@ -37,6 +36,19 @@ impl<'a> Model for Table<'a> {
     ghost view = { λ t. left_from t.layout t.cycle t.records.left };
 
     ghost invariant = { λ t. (length t.row ≡ length t.layout.types) × (t.cycle ≤ most_cycles) };
+}
+
+// Written out, so that the parts of a table are given up here alone, and not wherever one goes out of scope.
+impl Drop for Table<'_> {
+    fn drop(self) {
+        let Table {
+            layout: _,
+            records: _,
+            cells: _,
+            cycle: _,
+            row: _,
+        } = self;
+    }
 }
 
 // Reads the row of a cycle, and answers whether there is one. It stands apart, so that the addresses of the caller's row and answer

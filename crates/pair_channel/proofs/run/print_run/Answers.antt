@@ -1,4 +1,4 @@
-use Rattle.std.proofs.Common.{◌≡◌, refl, subst, sym, ap, ◌∙◌, map, None, Ok, Err}
+use Rattle.std.proofs.Common.{◌≡◌, refl, subst, ap, ◌∙◌, map, None, Ok, Err}
 use Rattle.std.proofs.lemmas.Result.{err_from_is_err_and}
 use Rattle.vcp_base.specs.declared.columns.Column.{Column}
 use Rattle.std.specs.Io.KnownBytes.{Appends}
