@@ -32,7 +32,6 @@ pub struct Opened {
 }
 
 /// What the lines so far left, none of which was refused.
-#[derive(Drop)]
 pub struct Reading {
     /// The groups that are whole.
     pub script: Script,
@@ -40,6 +39,16 @@ pub struct Reading {
     pub opened: Option<Opened>,
     /// How many fault lines there were.
     pub count: usize,
+}
+
+impl Drop for Reading {
+    fn drop(self) {
+        let Reading {
+            script: _,
+            opened: _,
+            count: _,
+        } = self;
+    }
 }
 
 impl Reading {

@@ -9,7 +9,6 @@ use vcp_base::Memory;
 
 /// The groups of a script in the order of its lines, seen as a list. A fault outside `begin` and `end` is a
 /// group of one.
-#[derive(Drop)]
 pub struct Script {
     groups: Vec<Group>,
 }
@@ -21,6 +20,12 @@ impl Model for Script {
     ghost Value = { List (List Fault) };
 
     ghost view = { λ s. s.groups.items };
+}
+
+impl Drop for Script {
+    fn drop(self) {
+        let Script { groups: _ } = self;
+    }
 }
 
 impl Script {
