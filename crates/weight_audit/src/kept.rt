@@ -19,7 +19,6 @@ pub enum AuditFault {
 
 /// For one output and one number of cycle borders: the weight of each operation, and whether a path
 /// leads from it.
-#[derive(Drop)]
 pub(crate) struct Distance {
     weights: Vec<Residue>,
     reached: Vec<bool>,
@@ -31,6 +30,15 @@ impl Model for Distance {
     ghost Value = { Distance };
 
     ghost view = { λ d. record { weights = d.weights.items; reached = d.reached.items } };
+}
+
+impl Drop for Distance {
+    fn drop(self) {
+        let Distance {
+            weights: _,
+            reached: _,
+        } = self;
+    }
 }
 
 impl Distance {
@@ -116,7 +124,6 @@ impl Distances {
 
 /// The weights of a graph's operations at its outputs, after each number of cycle borders up to a
 /// horizon.
-#[derive(Drop)]
 pub struct Weights {
     operations: u32,
     horizon: u32,
@@ -131,6 +138,16 @@ impl Model for Weights {
     ghost view = { λ w. record { operations = w.operations; horizon = w.horizon; outputs = w.outputs.items } };
 
     ghost invariant = { λ w. IsWhole (record { operations = w.operations; horizon = w.horizon; outputs = w.outputs.items }) };
+}
+
+impl Drop for Weights {
+    fn drop(self) {
+        let Weights {
+            operations: _,
+            horizon: _,
+            outputs: _,
+        } = self;
+    }
 }
 
 impl Weights {
