@@ -1,5 +1,5 @@
 -- Gathering: the readings of each word, one after another.
-use Rattle.std.proofs.Common.{◌≡◌, ◌≢◌, ⊎_elim, ℕ, suc, ◌+◌, ◌<◌, ◌≤◌, ◌==◌, ◌&&◌, cond, Bool, true, false, List, [], ◌∷◌, ◌++◌, length, set, drop}
+use Rattle.std.proofs.Common.{◌≡◌, ◌≢◌, ⊎_elim, ℕ, zero, suc, ◌+◌, ◌<◌, ◌≤◌, ◌==◌, ◌&&◌, cond, Bool, true, false, List, [], ◌∷◌, ◌++◌, length, set, drop}
 use Rattle.std.proofs.Common.{slice_get, Some, pos, ap, sym, subst, ◌∙◌, refl, append_assoc, arith}
 use Rattle.std.specs.Option.{is_some}
 use Rattle.std.proofs.lemmas.Bool.Decides.{eqb_tells}
@@ -45,6 +45,18 @@ adds_both first second old mid new one other = record {
       other.each k (let same = one.many in omega (arith, lt, same)) ∙ ap (λ xs. xs ++ second k) (one.each k lt)
       ∙ append_assoc (word old k) (first k) (second k);
 }
+
+-- ---- no readings
+
+-- one more word without any
+pub none_more : (old new : List (List Reading)) (r : List Reading) → new ≡ old ++ r ∷ [] → r ≡ [] → ((k : ℕ) → word old k ≡ []) → (k : ℕ) → word new k ≡ []
+none_more old new r is none empty k = ap (λ xs. word xs k) is ∙ (ap (λ (rs : List Reading). word (old ++ rs ∷ []) k) none ∙ last old empty k)
+  where
+    last : (xs : List (List Reading)) → ((k : ℕ) → word xs k ≡ []) → (k : ℕ) → word (xs ++ [] ∷ []) k ≡ []
+    last [] empty zero = refl
+    last [] empty (suc k) = refl
+    last (x ∷ xs) empty zero = empty 0
+    last (x ∷ xs) empty (suc k) = last xs (λ j. empty (suc j)) k
 
 -- ---- one operand, and one cell
 

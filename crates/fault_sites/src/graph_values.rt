@@ -13,7 +13,6 @@ use std::marker::Model;
 use vcp_base::{Kind, Memory, Row, StopKind, operands, short_outcome};
 
 /// The run of a graph on plain integers, cycle by cycle. It borrows the graph. All memory that it ever takes is taken by `new`.
-#[derive(Drop)]
 pub struct GraphValues<'a> {
     graph: &'a Graph,
     cells: Vec<i64>,
@@ -32,6 +31,16 @@ impl<'a> Model for GraphValues<'a> {
       cells : length r.graph.now.stores ≤ vec_capacity r.cells;
       values : length r.graph.now.operations ≤ vec_capacity r.values;
     } };
+}
+
+impl Drop for GraphValues<'_> {
+    fn drop(self) {
+        let GraphValues {
+            graph: _,
+            cells: _,
+            values: _,
+        } = self;
+    }
 }
 
 /// The value at place `n`; 0 where there is none.

@@ -313,10 +313,15 @@ fn then_cycle_or_pass<O: Sink>(
 }
 
 /// The readings of a cycle behind which there is another one, and of the last one.
-#[derive(Drop)]
 pub(crate) struct RunReadings {
     pub(crate) going: CycleReadings,
     pub(crate) last: CycleReadings,
+}
+
+impl Drop for RunReadings {
+    fn drop(self) {
+        let RunReadings { going: _, last: _ } = self;
+    }
 }
 
 /// The readings of all cycles.

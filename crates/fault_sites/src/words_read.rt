@@ -77,8 +77,7 @@ fn read_one(q: u32, op: &Op, j: u32, n: u32, by_word: &mut [WordReadings]) -> Re
         borders: 0,
         multiplier: multiplier(op.kind, j),
     };
-    add(by_word, n, reading)?;
-    Ok(())
+    add(by_word, n, reading)
 }
 
 /// The reading of operand `j` by operation `q`, which names operation `n` there.
@@ -102,8 +101,7 @@ fn read_all(q: u32, op: &Op, by_word: &mut [WordReadings]) -> Result<(), Memory>
 {
     read(q, op, 0, op.a, by_word)?;
     read(q, op, 1, op.b, by_word)?;
-    read(q, op, 2, op.c, by_word)?;
-    Ok(())
+    read(q, op, 2, op.c, by_word)
 }
 
 /// The readings of each operation's word by the operations of its cycle.
@@ -132,8 +130,7 @@ fn cross(cell: &Cell, by_word: &mut [WordReadings]) -> Result<(), Memory>
         borders: 1,
         multiplier: 1,
     };
-    add(by_word, cell.store, reading)?;
-    Ok(())
+    add(by_word, cell.store, reading)
 }
 
 /// The readings of the STOREs' words in the next cycle.
@@ -184,8 +181,7 @@ fn gather(graph: &Graph, more: bool, by_word: &mut [WordReadings]) -> Result<(),
     ensures { OnOk result (AreReadings graph.now more by_word.new) }
 {
     read_in_cycle(graph, by_word)?;
-    read_next(graph, more, by_word)?;
-    Ok(())
+    read_next(graph, more, by_word)
 }
 
 /// The readings of each operation's word, of a cycle behind which there is another one or none.

@@ -36,10 +36,12 @@ fn two_runs(alloc: Global, graph: &Graph) -> Result<Runs<'_>, Memory>
     ensures past { IfOk result (λ r. r.past ≡ begun graph.now) }
     ensures row { IfOk result (λ r. length r.row ≡ length graph.now.inputs) }
 {
-    let run = GraphValues::new(alloc, graph)?;
-    let past = GraphValues::new(alloc, graph)?;
     let row = Row::zeros(alloc, graph.inputs())?;
-    Ok(Runs { run, past, row })
+    let run = GraphValues::new(alloc, graph)?;
+    match GraphValues::new(alloc, graph) {
+        Ok(past) => Ok(Runs { run, past, row }),
+        Err(why) => Err(why),
+    }
 }
 
 /// How many sites a class has in the run over all rows, or up to its stop.
