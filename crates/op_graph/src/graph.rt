@@ -17,7 +17,6 @@ use vcp_base::{Column, Columns, Memory, Profile, Text, Ty};
 /// Its first operations are the INPUTs, in order; each output has one OUT, and each cell one LOAD and one
 /// later STORE. Operands are earlier operations, whose types are within those in which they are read. A
 /// narrow one has no LINT: no operation on it, and no cell of it.
-#[derive(Drop)]
 pub struct Graph {
     lists: GraphLists,
 }
@@ -31,6 +30,12 @@ impl Model for Graph {
     ghost view = { λ g. lists_of g.lists };
 
     ghost invariant = { λ g. IsGraph (lists_of g.lists) };
+}
+
+impl Drop for Graph {
+    fn drop(self) {
+        let Graph { lists: _ } = self;
+    }
 }
 
 impl Graph {
@@ -47,7 +52,8 @@ impl Graph {
         ensures lists { lists_of result ≡ self }
         ensures rules { IsGraph self }
     {
-        self.lists
+        let Graph { lists } = self;
+        lists
     }
 
     /// The same lists with other operations, where they are a graph by the rules. It takes no memory.
@@ -55,7 +61,7 @@ impl Graph {
         requires { IsGraph (record self { operations = operations.items }) }
         ensures { result ≡ record self { operations = operations.items } }
     {
-        let mut lists = self.lists;
+        let Graph { mut lists } = self;
         lists.operations = operations;
         Graph { lists }
     }
@@ -73,7 +79,7 @@ impl Graph {
         ensures lists { result ≡ record self { profile = Profile.Wide } }
         ensures run { (rows : List (List ℤ)) → graph_run result rows ≡ graph_run self rows }
     {
-        let mut lists = self.lists;
+        let Graph { mut lists } = self;
         lists.profile = Profile::Wide;
         Graph { lists }
     }

@@ -21,7 +21,6 @@ use vcp_base::{Kind, MOST_OPERATIONS, Memory, Profile, Spot, Text, Ty};
 /// A graph that is built from its front. Each call appends its one entry and operation, and changes nothing
 /// else; after a refusal nothing is changed. `Full` comes exactly where 65,536 operations are there, and
 /// never for an INPUT.
-#[derive(Drop)]
 pub struct GraphBuilder {
     alloc: Global,
     profile: Profile,
@@ -63,6 +62,22 @@ impl Model for GraphBuilder {
           turn_nodes = g.turn_nodes.items;
           operations = g.operations.items;
         }) };
+}
+
+impl Drop for GraphBuilder {
+    fn drop(self) {
+        let GraphBuilder {
+            alloc: _,
+            profile: _,
+            names: _,
+            inputs: _,
+            outputs: _,
+            loads: _,
+            stores: _,
+            turn_nodes: _,
+            operations: _,
+        } = self;
+    }
 }
 
 /// Appends an operation and an entry of another list, or neither.
@@ -296,15 +311,26 @@ impl GraphBuilder {
         requires { length self.stores ≡ length self.loads }
         ensures { result ≡ self }
     {
+        let GraphBuilder {
+            alloc: _,
+            profile,
+            names,
+            inputs,
+            outputs,
+            loads,
+            stores,
+            turn_nodes,
+            operations,
+        } = self;
         Graph::from_lists(GraphLists {
-            profile: self.profile,
-            names: self.names,
-            inputs: self.inputs,
-            outputs: self.outputs,
-            loads: self.loads,
-            stores: self.stores,
-            turn_nodes: self.turn_nodes,
-            operations: self.operations,
+            profile,
+            names,
+            inputs,
+            outputs,
+            loads,
+            stores,
+            turn_nodes,
+            operations,
         })
     }
 }
