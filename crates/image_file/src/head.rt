@@ -33,11 +33,10 @@ fn magic_here(wanted: u8, bytes: &[u8]) -> Result<(u8, &[u8]), FieldFault>
     ensures { GivesExactly (λ x. (x.0, x.1.now)) result
         ((byte_field (λ n. Some n) (λ n. n) IsByte (λ n. n == wanted) (λ left. fault.Magic left)).read bytes.now) }
 {
-    let (n, rest) = u8_at(bytes)?;
-    if n == wanted {
-        Ok((n, rest))
-    } else {
-        Err(FieldFault::Magic { left: bytes.len() })
+    match u8_at(bytes) {
+        Ok((n, rest)) if n == wanted => Ok((n, rest)),
+        Ok(_) => Err(FieldFault::Magic { left: bytes.len() }),
+        Err(fault) => Err(fault),
     }
 }
 
@@ -56,10 +55,12 @@ fn profile_named(n: u16) -> Option<Profile>
 fn version_here(bytes: &[u8]) -> Result<(Profile, &[u8]), FieldFault>
     ensures { GivesExactly (λ x. (x.0, x.1.now)) result (version_field.read bytes.now) }
 {
-    let (n, rest) = u16_at(bytes)?;
-    match profile_named(n) {
-        None => Err(FieldFault::Version { left: bytes.len() }),
-        Some(profile) => Ok((profile, rest)),
+    match u16_at(bytes) {
+        Ok((n, rest)) => match profile_named(n) {
+            None => Err(FieldFault::Version { left: bytes.len() }),
+            Some(profile) => Ok((profile, rest)),
+        },
+        Err(fault) => Err(fault),
     }
 }
 
@@ -69,11 +70,10 @@ fn step_here(bytes: &[u8]) -> Result<(u16, &[u8]), FieldFault>
     ensures from { IfOk result (λ x. 1 ≤ x.0) }
     ensures to { IfOk result (λ x. x.0 ≤ most_step) }
 {
-    let (n, rest) = u16_at(bytes)?;
-    if 1 <= n && n <= MOST_STEP {
-        Ok((n, rest))
-    } else {
-        Err(FieldFault::Field { left: bytes.len() })
+    match u16_at(bytes) {
+        Ok((n, rest)) if 1 <= n && n <= MOST_STEP => Ok((n, rest)),
+        Ok(_) => Err(FieldFault::Field { left: bytes.len() }),
+        Err(fault) => Err(fault),
     }
 }
 
@@ -82,11 +82,10 @@ fn operations_here(low: u32, bytes: &[u8]) -> Result<(u32, &[u8]), FieldFault>
     ensures is { GivesExactly (λ x. (x.0, x.1.now)) result ((number (λ n. nat_le low n && nat_le n most_operations)).read bytes.now) }
     ensures below { IfOk result (λ x. x.0 ≤ most_operations) }
 {
-    let (n, rest) = u32_at(bytes)?;
-    if low <= n && n <= MOST_OPERATIONS {
-        Ok((n, rest))
-    } else {
-        Err(FieldFault::Field { left: bytes.len() })
+    match u32_at(bytes) {
+        Ok((n, rest)) if low <= n && n <= MOST_OPERATIONS => Ok((n, rest)),
+        Ok(_) => Err(FieldFault::Field { left: bytes.len() }),
+        Err(fault) => Err(fault),
     }
 }
 

@@ -27,16 +27,13 @@ use vcp_base::{Kind, Profile, Residue, Spot, Ty, kind_of_code};
 fn kind_here<'a>(p: &Place, bytes: &'a [u8]) -> Result<(Kind, &'a [u8]), FieldFault>
     ensures { GivesExactly (λ x. (x.0, x.1.now)) result ((kind_field (kind_fits_of p.now)).read bytes.now) }
 {
-    let (n, rest) = u8_at(bytes)?;
-    match kind_of_code(n) {
-        None => Err(FieldFault::Field { left: bytes.len() }),
-        Some(kind) => {
-            if kind_fits(p, kind) {
-                Ok((kind, rest))
-            } else {
-                Err(FieldFault::Field { left: bytes.len() })
-            }
-        }
+    match u8_at(bytes) {
+        Ok((n, rest)) => match kind_of_code(n) {
+            Some(kind) if kind_fits(p, kind) => Ok((kind, rest)),
+            Some(_) => Err(FieldFault::Field { left: bytes.len() }),
+            None => Err(FieldFault::Field { left: bytes.len() }),
+        },
+        Err(fault) => Err(fault),
     }
 }
 
@@ -49,16 +46,13 @@ fn from_here<'a>(
 ) -> Result<(Ty, &'a [u8]), FieldFault>
     ensures { GivesExactly (λ x. (x.0, x.1.now)) result ((type_field profile (from_fits_of (entry_of_place p.now kind) kind)).read bytes.now) }
 {
-    let (n, rest) = u8_at(bytes)?;
-    match ty_named(profile, n) {
-        None => Err(FieldFault::Field { left: bytes.len() }),
-        Some(ty) => {
-            if from_fits(entry_of(p, kind), kind, ty) {
-                Ok((ty, rest))
-            } else {
-                Err(FieldFault::Field { left: bytes.len() })
-            }
-        }
+    match u8_at(bytes) {
+        Ok((n, rest)) => match ty_named(profile, n) {
+            Some(ty) if from_fits(entry_of(p, kind), kind, ty) => Ok((ty, rest)),
+            Some(_) => Err(FieldFault::Field { left: bytes.len() }),
+            None => Err(FieldFault::Field { left: bytes.len() }),
+        },
+        Err(fault) => Err(fault),
     }
 }
 
@@ -66,16 +60,13 @@ fn from_here<'a>(
 fn ty_here(profile: Profile, kind: Kind, from: Ty, bytes: &[u8]) -> Result<(Ty, &[u8]), FieldFault>
     ensures { GivesExactly (λ x. (x.0, x.1.now)) result ((type_field profile (ty_fits_of kind from)).read bytes.now) }
 {
-    let (n, rest) = u8_at(bytes)?;
-    match ty_named(profile, n) {
-        None => Err(FieldFault::Field { left: bytes.len() }),
-        Some(ty) => {
-            if ty_fits(kind, from, ty) {
-                Ok((ty, rest))
-            } else {
-                Err(FieldFault::Field { left: bytes.len() })
-            }
-        }
+    match u8_at(bytes) {
+        Ok((n, rest)) => match ty_named(profile, n) {
+            Some(ty) if ty_fits(kind, from, ty) => Ok((ty, rest)),
+            Some(_) => Err(FieldFault::Field { left: bytes.len() }),
+            None => Err(FieldFault::Field { left: bytes.len() }),
+        },
+        Err(fault) => Err(fault),
     }
 }
 
@@ -89,11 +80,10 @@ fn operand_here<'a>(
 ) -> Result<(u32, &'a [u8]), FieldFault>
     ensures { GivesExactly (λ x. (x.0, x.1.now)) result ((operand (operand_fits_of earlier.now (reads_as_of kind from j))).read bytes.now) }
 {
-    let (n, rest) = u32_at(bytes)?;
-    if operand_fits(earlier, reads_as(kind, from, j), n) {
-        Ok((n, rest))
-    } else {
-        Err(FieldFault::Operand { left: bytes.len() })
+    match u32_at(bytes) {
+        Ok((n, rest)) if operand_fits(earlier, reads_as(kind, from, j), n) => Ok((n, rest)),
+        Ok(_) => Err(FieldFault::Operand { left: bytes.len() }),
+        Err(fault) => Err(fault),
     }
 }
 
@@ -106,12 +96,16 @@ fn imm_here<'a>(
 ) -> Result<(i64, &'a [u8]), FieldFault>
     ensures { GivesExactly (λ x. (x.0, x.1.now)) result ((signed (imm_fits_of (entry_of_place p.now kind) kind to)).read bytes.now) }
 {
-    let (n, rest) = u64_at(bytes)?;
-    let imm = n.cast_signed();
-    if imm_fits(entry_of(p, kind), kind, to, imm) {
-        Ok((imm, rest))
-    } else {
-        Err(FieldFault::Field { left: bytes.len() })
+    match u64_at(bytes) {
+        Ok((n, rest)) => {
+            let imm = n.cast_signed();
+            if imm_fits(entry_of(p, kind), kind, to, imm) {
+                Ok((imm, rest))
+            } else {
+                Err(FieldFault::Field { left: bytes.len() })
+            }
+        }
+        Err(fault) => Err(fault),
     }
 }
 
@@ -124,11 +118,10 @@ fn turn_here<'a>(
 ) -> Result<(u32, &'a [u8]), FieldFault>
     ensures { GivesExactly (λ x. (x.0, x.1.now)) result ((number (turn_fits_of (entry_of_place p.now kind) turn_nodes)).read bytes.now) }
 {
-    let (n, rest) = u32_at(bytes)?;
-    if turn_fits(entry_of(p, kind), turn_nodes, n) {
-        Ok((n, rest))
-    } else {
-        Err(FieldFault::Field { left: bytes.len() })
+    match u32_at(bytes) {
+        Ok((n, rest)) if turn_fits(entry_of(p, kind), turn_nodes, n) => Ok((n, rest)),
+        Ok(_) => Err(FieldFault::Field { left: bytes.len() }),
+        Err(fault) => Err(fault),
     }
 }
 
@@ -172,15 +165,14 @@ fn corrected_here<'a>(
     ensures { GivesExactly (λ x. (x.0, x.1.now)) result ((corrected (said_of s.now) earlier.now op).read bytes.now) }
 {
     let expected = expected(s, earlier, &op);
-    let (n, rest) = residue_at(s.profile, bytes)?;
-    if n == expected {
-        Ok((op, rest))
-    } else {
-        Err(FieldFault::Table {
+    match residue_at(s.profile, bytes) {
+        Ok((n, rest)) if n == expected => Ok((op, rest)),
+        Ok((n, _)) => Err(FieldFault::Table {
             left: bytes.len(),
             stored: n,
             expected,
-        })
+        }),
+        Err(fault) => Err(fault),
     }
 }
 

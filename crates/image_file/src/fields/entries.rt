@@ -115,11 +115,10 @@ fn input_name_here<'a>(
 ) -> Result<(u32, &'a [u8]), FieldFault>
     ensures { GivesExactly (λ x. (x.0, x.1.now)) result ((number (λ n. nat_lt n names && rises (λ w. w.name) before.now n)).read bytes.now) }
 {
-    let (n, rest) = u32_at(bytes)?;
-    if input_name_fits(names, before, n) {
-        Ok((n, rest))
-    } else {
-        Err(FieldFault::Field { left: bytes.len() })
+    match u32_at(bytes) {
+        Ok((n, rest)) if input_name_fits(names, before, n) => Ok((n, rest)),
+        Ok(_) => Err(FieldFault::Field { left: bytes.len() }),
+        Err(fault) => Err(fault),
     }
 }
 
@@ -131,11 +130,10 @@ fn output_name_here<'a>(
 ) -> Result<(u32, &'a [u8]), FieldFault>
     ensures { GivesExactly (λ x. (x.0, x.1.now)) result ((number (λ n. nat_lt n names && rises (λ w. w.name) before.now n)).read bytes.now) }
 {
-    let (n, rest) = u32_at(bytes)?;
-    if output_name_fits(names, before, n) {
-        Ok((n, rest))
-    } else {
-        Err(FieldFault::Field { left: bytes.len() })
+    match u32_at(bytes) {
+        Ok((n, rest)) if output_name_fits(names, before, n) => Ok((n, rest)),
+        Ok(_) => Err(FieldFault::Field { left: bytes.len() }),
+        Err(fault) => Err(fault),
     }
 }
 
@@ -147,11 +145,10 @@ fn output_op_here<'a>(
 ) -> Result<(u32, &'a [u8]), FieldFault>
     ensures { GivesExactly (λ x. (x.0, x.1.now)) result ((number (λ n. nat_lt n operations && rises (λ w. w.op) before.now n)).read bytes.now) }
 {
-    let (n, rest) = u32_at(bytes)?;
-    if output_op_fits(operations, before, n) {
-        Ok((n, rest))
-    } else {
-        Err(FieldFault::Field { left: bytes.len() })
+    match u32_at(bytes) {
+        Ok((n, rest)) if output_op_fits(operations, before, n) => Ok((n, rest)),
+        Ok(_) => Err(FieldFault::Field { left: bytes.len() }),
+        Err(fault) => Err(fault),
     }
 }
 
@@ -163,11 +160,10 @@ fn load_here<'a>(
 ) -> Result<(u32, &'a [u8]), FieldFault>
     ensures { GivesExactly (λ x. (x.0, x.1.now)) result ((number (λ n. nat_lt n operations && rises (λ w. w.load) before.now n)).read bytes.now) }
 {
-    let (n, rest) = u32_at(bytes)?;
-    if load_fits(operations, before, n) {
-        Ok((n, rest))
-    } else {
-        Err(FieldFault::Field { left: bytes.len() })
+    match u32_at(bytes) {
+        Ok((n, rest)) if load_fits(operations, before, n) => Ok((n, rest)),
+        Ok(_) => Err(FieldFault::Field { left: bytes.len() }),
+        Err(fault) => Err(fault),
     }
 }
 
@@ -181,11 +177,10 @@ fn store_here<'a>(
     ensures { GivesExactly (λ x. (x.0, x.1.now)) result
         ((number (λ n. nat_lt load n && nat_lt n operations && rises (λ w. w.store) before.now n)).read bytes.now) }
 {
-    let (n, rest) = u32_at(bytes)?;
-    if store_fits(load, operations, before, n) {
-        Ok((n, rest))
-    } else {
-        Err(FieldFault::Field { left: bytes.len() })
+    match u32_at(bytes) {
+        Ok((n, rest)) if store_fits(load, operations, before, n) => Ok((n, rest)),
+        Ok(_) => Err(FieldFault::Field { left: bytes.len() }),
+        Err(fault) => Err(fault),
     }
 }
 

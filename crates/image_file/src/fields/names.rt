@@ -14,7 +14,6 @@ use std::marker::Model;
 use vcp_base::{MOST_NAME_BYTES, Memory, Text, is_name};
 
 /// Names in lower case, in the order in which they came; none is there twice.
-#[derive(Drop)]
 pub struct Keys {
     alloc: Global,
     keys: IndexSet<Vec<u8>>,
@@ -26,6 +25,12 @@ impl Model for Keys {
     ghost Value = { List (List ℕ) };
 
     ghost view = { λ t. map (λ k. k.items) t.keys.keys };
+}
+
+impl Drop for Keys {
+    fn drop(self) {
+        let Keys { alloc: _, keys: _ } = self;
+    }
 }
 
 impl Keys {

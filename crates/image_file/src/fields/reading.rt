@@ -49,10 +49,10 @@ pub fn residue_at(profile: Profile, bytes: &[u8]) -> Result<(Residue, &[u8]), Fi
     ensures { GivesExactly (λ x. (x.0, x.1.now)) result (number_at (correction_width profile) bytes.now) }
 {
     match profile {
-        Profile::Narrow => {
-            let (n, rest) = u32_at(bytes)?;
-            Ok((n as Residue, rest))
-        }
+        Profile::Narrow => match u32_at(bytes) {
+            Ok((n, rest)) => Ok((n as Residue, rest)),
+            Err(fault) => Err(fault),
+        },
         Profile::Wide => u64_at(bytes),
     }
 }
@@ -85,10 +85,12 @@ pub fn ty_named(profile: Profile, n: u8) -> Option<Ty>
 pub(crate) fn any_ty_here(profile: Profile, bytes: &[u8]) -> Result<(Ty, &[u8]), FieldFault>
     ensures { GivesExactly (λ x. (x.0, x.1.now)) result ((type_field profile (λ t. true)).read bytes.now) }
 {
-    let (n, rest) = u8_at(bytes)?;
-    match ty_named(profile, n) {
-        None => Err(FieldFault::Field { left: bytes.len() }),
-        Some(ty) => Ok((ty, rest)),
+    match u8_at(bytes) {
+        Ok((n, rest)) => match ty_named(profile, n) {
+            None => Err(FieldFault::Field { left: bytes.len() }),
+            Some(ty) => Ok((ty, rest)),
+        },
+        Err(fault) => Err(fault),
     }
 }
 
@@ -96,11 +98,10 @@ pub(crate) fn any_ty_here(profile: Profile, bytes: &[u8]) -> Result<(Ty, &[u8]),
 pub fn below_here(limit: u32, bytes: &[u8]) -> Result<(u32, &[u8]), FieldFault>
     ensures { GivesExactly (λ x. (x.0, x.1.now)) result ((number (λ n. nat_lt n limit)).read bytes.now) }
 {
-    let (n, rest) = u32_at(bytes)?;
-    if n < limit {
-        Ok((n, rest))
-    } else {
-        Err(FieldFault::Field { left: bytes.len() })
+    match u32_at(bytes) {
+        Ok((n, rest)) if n < limit => Ok((n, rest)),
+        Ok(_) => Err(FieldFault::Field { left: bytes.len() }),
+        Err(fault) => Err(fault),
     }
 }
 
@@ -109,11 +110,10 @@ pub fn at_most_here(limit: u32, bytes: &[u8]) -> Result<(u32, &[u8]), FieldFault
     ensures is { GivesExactly (λ x. (x.0, x.1.now)) result ((number (λ n. nat_le n limit)).read bytes.now) }
     ensures below { IfOk result (λ x. x.0 ≤ limit) }
 {
-    let (n, rest) = u32_at(bytes)?;
-    if n <= limit {
-        Ok((n, rest))
-    } else {
-        Err(FieldFault::Field { left: bytes.len() })
+    match u32_at(bytes) {
+        Ok((n, rest)) if n <= limit => Ok((n, rest)),
+        Ok(_) => Err(FieldFault::Field { left: bytes.len() }),
+        Err(fault) => Err(fault),
     }
 }
 
@@ -122,11 +122,10 @@ pub(crate) fn between_here(low: u32, high: u32, bytes: &[u8]) -> Result<(u32, &[
     ensures is { GivesExactly (λ x. (x.0, x.1.now)) result ((number (λ n. nat_le low n && nat_le n high)).read bytes.now) }
     ensures below { IfOk result (λ x. x.0 ≤ high) }
 {
-    let (n, rest) = u32_at(bytes)?;
-    if low <= n && n <= high {
-        Ok((n, rest))
-    } else {
-        Err(FieldFault::Field { left: bytes.len() })
+    match u32_at(bytes) {
+        Ok((n, rest)) if low <= n && n <= high => Ok((n, rest)),
+        Ok(_) => Err(FieldFault::Field { left: bytes.len() }),
+        Err(fault) => Err(fault),
     }
 }
 
@@ -141,12 +140,16 @@ pub fn any_number_here(bytes: &[u8]) -> Result<(u32, &[u8]), FieldFault>
 pub(crate) fn value_here(ty: Ty, bytes: &[u8]) -> Result<(i64, &[u8]), FieldFault>
     ensures { GivesExactly (λ x. (x.0, x.1.now)) result ((signed (fits_of ty)).read bytes.now) }
 {
-    let (n, rest) = u64_at(bytes)?;
-    let v = n.cast_signed();
-    if fits(ty, v as i128) {
-        Ok((v, rest))
-    } else {
-        Err(FieldFault::Field { left: bytes.len() })
+    match u64_at(bytes) {
+        Ok((n, rest)) => {
+            let v = n.cast_signed();
+            if fits(ty, v as i128) {
+                Ok((v, rest))
+            } else {
+                Err(FieldFault::Field { left: bytes.len() })
+            }
+        }
+        Err(fault) => Err(fault),
     }
 }
 
@@ -154,6 +157,8 @@ pub(crate) fn value_here(ty: Ty, bytes: &[u8]) -> Result<(i64, &[u8]), FieldFaul
 pub(crate) fn any_value_here(bytes: &[u8]) -> Result<(i64, &[u8]), FieldFault>
     ensures { GivesExactly (λ x. (x.0, x.1.now)) result ((signed (λ v. true)).read bytes.now) }
 {
-    let (n, rest) = u64_at(bytes)?;
-    Ok((n.cast_signed(), rest))
+    match u64_at(bytes) {
+        Ok((n, rest)) => Ok((n.cast_signed(), rest)),
+        Err(fault) => Err(fault),
+    }
 }
