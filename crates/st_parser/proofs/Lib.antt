@@ -29,3 +29,4 @@ pub mod Verdicts
 pub mod Frames
 pub mod LevelViews
 pub mod Running
+pub mod HandedOn

@@ -43,15 +43,15 @@ fn with_name(source: Source, names: DeclaredNames, t: Token) -> Result<DeclaredN
     Ok(names)
 }
 
-// The block with one declaration more.
+// The end of a declaration, which is one more of its block.
 fn with_decl(
     opening: Opening,
     names: DeclaredNames,
     ty: Ty,
     init: Option<Expr>,
-) -> Result<Opening, Memory>
-    ensures { IfOk result (λ o. view.opening o
-        ≡ machine.with_decl (view.opening opening) (map declared_tree names.items.items) ty (expr_tree_or_none init)) }
+) -> Result<State, SyntaxFault>
+    ensures { Gives view.program result
+        (Ok (machine.at_decl (machine.with_decl (view.opening opening) (map declared_tree names.items.items) ty (expr_tree_or_none init)))) }
 {
     let Opening {
         front,
@@ -59,17 +59,22 @@ fn with_decl(
         decls,
     } = opening;
     let mut decls = decls;
-    decls.push(Decl { names, ty, init })?;
-    Ok(Opening {
-        front,
-        section,
-        decls,
-    })
+    match decls.push(Decl { names, ty, init }) {
+        Ok(()) => {
+            let opening = Opening {
+                front,
+                section,
+                decls,
+            };
+            Ok(State::AtDecl { opening })
+        }
+        Err(Memory) => Err(SyntaxFault::Memory),
+    }
 }
 
-// The program's front with the block that ends.
-fn with_block(opening: Opening) -> Result<Front, Memory>
-    ensures { IfOk result (λ f. view.front f ≡ machine.with_block (view.opening opening)) }
+// The end of a block, which is one more of the program's front.
+fn with_block(opening: Opening) -> Result<State, SyntaxFault>
+    ensures { Gives view.program result (Ok (machine.at_block (machine.with_block (view.opening opening)))) }
 {
     let Opening {
         front,
@@ -78,8 +83,13 @@ fn with_block(opening: Opening) -> Result<Front, Memory>
     } = opening;
     let Front { name, blocks } = front;
     let mut blocks = blocks;
-    blocks.push(Block { section, decls })?;
-    Ok(Front { name, blocks })
+    match blocks.push(Block { section, decls }) {
+        Ok(()) => {
+            let front = Front { name, blocks };
+            Ok(State::AtBlock { front })
+        }
+        Err(Memory) => Err(SyntaxFault::Memory),
+    }
 }
 
 // A block of no declarations yet.
@@ -106,8 +116,7 @@ fn decl_at(source: Source, opening: Opening, mark: Mark, t: Token) -> Result<Sta
         };
     }
     if is(mark, Mark::EndVar) {
-        let front = with_block(opening)?;
-        return Ok(State::AtBlock { front });
+        return with_block(opening);
     }
     give_up_block(opening, SyntaxFault::Syntax { spot: t.spot })
 }
@@ -119,9 +128,7 @@ fn body_step(front: Front, at: Result<At, SyntaxFault>) -> Result<State, SyntaxF
 {
     match at {
         Ok(at) => Ok(State::InBody { front, at }),
-        Err(SyntaxFault::Syntax { spot }) => Err(SyntaxFault::Syntax { spot }),
-        Err(SyntaxFault::Depth { spot }) => Err(SyntaxFault::Depth { spot }),
-        Err(SyntaxFault::Memory) => Err(SyntaxFault::Memory),
+        Err(fault) => Err(fault),
     }
 }
 
@@ -153,11 +160,14 @@ fn name_at(source: Source, t: Token) -> Result<State, SyntaxFault>
         (machine.program_step (record { bytes = bytes_in source.entry.text.now; most = source.entry.most }) machine.at_name t) }
 {
     if is(mark_of(t.tok), Mark::Name) {
-        let front = Front {
-            name: name_of(source.alloc, source.text, t)?,
-            blocks: Blocks::new(source.alloc),
+        let blocks = Blocks::new(source.alloc);
+        return match name_of(source.alloc, source.text, t) {
+            Ok(name) => {
+                let front = Front { name, blocks };
+                Ok(State::AtBlock { front })
+            }
+            Err(Memory) => Err(SyntaxFault::Memory),
         };
-        return Ok(State::AtBlock { front });
     }
     refuse_program(t)
 }
@@ -289,8 +299,7 @@ fn init_begins(
 {
     let mark = mark_of(t.tok);
     if is(mark, Mark::Semi) {
-        let opening = with_decl(opening, names, ty, None)?;
-        return Ok(State::AtDecl { opening });
+        return with_decl(opening, names, ty, None);
     }
     if is(mark, Mark::Assign) {
         return Ok(expects(alloc, opening, names, ty));
@@ -312,8 +321,7 @@ fn init_ends(
         (refused_of t)) }
 {
     if is(mark_of(t.tok), Mark::Semi) {
-        let opening = with_decl(opening, names, ty, Some(init))?;
-        return Ok(State::AtDecl { opening });
+        return with_decl(opening, names, ty, Some(init));
     }
     discard(init);
     refuse_names(opening, names, t)
@@ -347,17 +355,9 @@ fn init_at(
             discard_forms(forms);
             init_ends(opening, names, ty, e, t)
         }
-        Err(SyntaxFault::Syntax { spot }) => {
+        Err(fault) => {
             discard_forms(forms);
-            give_up_names(opening, names, SyntaxFault::Syntax { spot })
-        }
-        Err(SyntaxFault::Depth { spot }) => {
-            discard_forms(forms);
-            give_up_names(opening, names, SyntaxFault::Depth { spot })
-        }
-        Err(SyntaxFault::Memory) => {
-            discard_forms(forms);
-            give_up_names(opening, names, SyntaxFault::Memory)
+            give_up_names(opening, names, fault)
         }
     }
 }

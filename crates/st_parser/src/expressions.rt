@@ -1,6 +1,6 @@
 //! Expressions, read token by token.
 
-ghost use Rattle.std.specs.Prelude.{◌≡◌};
+ghost use Rattle.std.specs.Prelude.{◌≡◌, ◌∷◌, Ok};
 ghost use Rattle.st_lexer.specs.Reading.{IsInside};
 ghost use Rattle.st_tree.specs.ExprViews.{expr_tree};
 ghost use Rattle.st_spelling.specs.Spelling.{bytes_in};
@@ -17,6 +17,7 @@ use st_lexer::Token;
 use st_spelling::level_of;
 use st_tree::{Expr, Exprs};
 use std::alloc::Global;
+use vcp_base::Memory;
 
 // The level of any expression.
 const ANY_LEVEL: u8 = 1;
@@ -51,12 +52,22 @@ pub fn read(
         Mode::Want => want(source, depth, forms, t),
         Mode::AfterName(name, spot) => {
             if begins_by(t.tok) == Begins::Opens {
-                add(forms, Form::Arguments(name, spot, Exprs::new(source.alloc)))?;
-                return Ok(Progress::On(Mode::Want));
+                return opens(forms, Form::Arguments(name, spot, Exprs::new(source.alloc)));
             }
             go_on(source.alloc, forms, Expr::name(name, spot), t)
         }
         Mode::Have(e) => go_on(source.alloc, forms, e, t),
+    }
+}
+
+// A form is opened, and an operand is wanted in it.
+fn opens(forms: &mut Vec<Form>, form: Form) -> Result<Progress, SyntaxFault>
+    ensures { view.GoesOn result forms.new.items
+        (Ok (record { forms = view.form form ∷ view.forms forms.old.items; mode = spec.want })) }
+{
+    match add(forms, form) {
+        Ok(()) => Ok(Progress::On(Mode::Want)),
+        Err(Memory) => Err(SyntaxFault::Memory),
     }
 }
 
@@ -98,18 +109,12 @@ fn operand(
         Begins::Literal { ty, value } => {
             Ok(Progress::On(Mode::Have(Expr::literal(ty, value, t.spot))))
         }
-        Begins::Named => {
-            let name = name_of(source.alloc, source.text, t)?;
-            Ok(Progress::On(Mode::AfterName(name, t.spot)))
-        }
-        Begins::Sign(op) => {
-            add(forms, Form::Sign(op, t.spot))?;
-            Ok(Progress::On(Mode::Want))
-        }
-        Begins::Opens => {
-            add(forms, Form::Bracket)?;
-            Ok(Progress::On(Mode::Want))
-        }
+        Begins::Named => match name_of(source.alloc, source.text, t) {
+            Ok(name) => Ok(Progress::On(Mode::AfterName(name, t.spot))),
+            Err(Memory) => Err(SyntaxFault::Memory),
+        },
+        Begins::Sign(op) => opens(forms, Form::Sign(op, t.spot)),
+        Begins::Opens => opens(forms, Form::Bracket),
         Begins::Nothing => Err(SyntaxFault::Syntax { spot: t.spot }),
     }
 }
@@ -128,8 +133,7 @@ fn go_on(
     match goes_by(t.tok) {
         Goes::Joins(op) => {
             let left = close(alloc, forms, level_of(op), have)?;
-            add(forms, Form::Left(op, left, t.spot))?;
-            Ok(Progress::On(Mode::Want))
+            opens(forms, Form::Left(op, left, t.spot))
         }
         Goes::Closes => {
             let e = close(alloc, forms, ANY_LEVEL, have)?;
@@ -171,8 +175,7 @@ fn part_at(forms: &mut Vec<Form>, e: Expr, t: Token) -> Result<Progress, SyntaxF
     match taken {
         Some(Form::Arguments(name, spot, args)) => {
             let args = extend(args, e)?;
-            add(forms, Form::Arguments(name, spot, args))?;
-            Ok(Progress::On(Mode::Want))
+            opens(forms, Form::Arguments(name, spot, args))
         }
         Some(Form::Bracket) | Some(Form::Sign(_, _)) | Some(Form::Left(_, _, _)) | None => {
             refuse_form(taken, e, t)

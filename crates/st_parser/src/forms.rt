@@ -88,18 +88,13 @@ pub fn close(alloc: Global, forms: &mut Vec<Form>, level: u8, have: Expr) -> Res
             Some(Form::Sign(op, spot)) => have = Expr::unary(alloc, op, have, spot)?,
             Some(Form::Left(op, left, spot)) => {
                 if level_of(op) < level {
-                    let open = reopened(forms, Form::Left(op, left, spot), have)?;
-                    return Ok(open);
+                    return reopened(forms, Form::Left(op, left, spot), have);
                 }
                 have = Expr::binary(alloc, op, left, have, spot)?;
             }
-            Some(Form::Bracket) => {
-                let open = reopened(forms, Form::Bracket, have)?;
-                return Ok(open);
-            }
+            Some(Form::Bracket) => return reopened(forms, Form::Bracket, have),
             Some(Form::Arguments(name, spot, args)) => {
-                let open = reopened(forms, Form::Arguments(name, spot, args), have)?;
-                return Ok(open);
+                return reopened(forms, Form::Arguments(name, spot, args), have);
             }
             None => return Ok(have),
         }

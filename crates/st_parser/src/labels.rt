@@ -183,21 +183,7 @@ fn with_phase(
                 phase,
             },
         }),
-        Err(SyntaxFault::Syntax { spot }) => {
-            give_up_case(
-                selection,
-                labels,
-                outer,
-                stmts,
-                SyntaxFault::Syntax { spot },
-            )
-        }
-        Err(SyntaxFault::Depth { spot }) => {
-            give_up_case(selection, labels, outer, stmts, SyntaxFault::Depth { spot })
-        }
-        Err(SyntaxFault::Memory) => {
-            give_up_case(selection, labels, outer, stmts, SyntaxFault::Memory)
-        }
+        Err(fault) => give_up_case(selection, labels, outer, stmts, fault),
     }
 }
 

@@ -54,12 +54,15 @@ pub fn opened(
     ensures { view.Gives view.state result (machine.opened (view.body body) (view.levels outer.items) (stmt_trees before.items.items)) }
 {
     let mut outer = outer;
-    enter(&mut outer, Level { body, before })?;
-    Ok(At {
-        outer,
-        stmts: Stmts::new(alloc),
-        phase: Phase::Start,
-    })
+    let stmts = Stmts::new(alloc);
+    match enter(&mut outer, Level { body, before }) {
+        Ok(()) => Ok(At {
+            outer,
+            stmts,
+            phase: Phase::Start,
+        }),
+        Err(Memory) => give_up(outer, stmts, SyntaxFault::Memory),
+    }
 }
 
 /// A statement is whole up to its semicolon.

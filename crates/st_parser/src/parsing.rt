@@ -110,7 +110,10 @@ fn read_program(
     let source = Source { alloc, text, most };
     let mut state = State::AtProgram;
     for i in 0..tokens.len() {
-        state = program_step(source, state, tokens.at(i))?;
+        match program_step(source, state, tokens.at(i)) {
+            Ok(next) => state = next,
+            Err(fault) => return Err(fault),
+        }
     }
     finish(tokens.end(), state)
 }

@@ -459,20 +459,10 @@ fn read_at(
             discard_forms(forms);
             take(source.alloc, outer, stmts, purpose, e, t)
         }
-        Err(SyntaxFault::Syntax { spot }) => {
+        Err(fault) => {
             discard_forms(forms);
             discard_purpose(purpose);
-            give_up(outer, stmts, SyntaxFault::Syntax { spot })
-        }
-        Err(SyntaxFault::Depth { spot }) => {
-            discard_forms(forms);
-            discard_purpose(purpose);
-            give_up(outer, stmts, SyntaxFault::Depth { spot })
-        }
-        Err(SyntaxFault::Memory) => {
-            discard_forms(forms);
-            discard_purpose(purpose);
-            give_up(outer, stmts, SyntaxFault::Memory)
+            give_up(outer, stmts, fault)
         }
     }
 }

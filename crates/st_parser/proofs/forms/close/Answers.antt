@@ -1,4 +1,5 @@
 use Rattle.std.proofs.Common.{sym, ap, ◌∙◌, arith}
+use Rattle.std.proofs.lemmas.Result.{IfOk-weaker}
 use Rattle.st_tree.specs.ExprTree.{ExprTree}
 use Rattle.st_parser.specs.ExprMachine as machine
 use Rattle.st_parser.specs.FormViews.{forms}
@@ -20,20 +21,20 @@ closing-preserved c =
 pub returns-then-level_of-level : goal.returns-then-level_of-level
 returns-then-level_of-level c =
     let o = rw c.in-Some-Left.field-0-is at c.in-Some-Left.ensures.items in
-    sym c.closing.invariant ∙ close-reopens c.args.level c.closing.forms.items c.pop.new.self.items _ _ o (omega arith)
-    ∙ sym c.in_ok-open-in-Some-Left.ensures
+    IfOk-weaker c.reopened.result _ _ (λ e p.
+    sym c.closing.invariant ∙ close-reopens c.args.level c.closing.forms.items c.pop.new.self.items _ _ o (omega arith) ∙ sym p) c.reopened.ensures
 
 pub returns-in-Some-Bracket : goal.returns-in-Some-Bracket
 returns-in-Some-Bracket c =
     let o = rw c.in-Some-Bracket.field-0-is at c.in-Some-Bracket.ensures.items in
-    sym c.closing.invariant ∙ close-reopens c.args.level c.closing.forms.items c.pop.new.self.items _ _ o tt
-    ∙ sym c.in_ok-open-in-Some-Bracket.ensures
+    IfOk-weaker c.reopened-in-Some-Bracket.result _ _ (λ e p.
+    sym c.closing.invariant ∙ close-reopens c.args.level c.closing.forms.items c.pop.new.self.items _ _ o tt ∙ sym p) c.reopened-in-Some-Bracket.ensures
 
 pub returns-in-Some-Arguments : goal.returns-in-Some-Arguments
 returns-in-Some-Arguments c =
     let o = rw c.in-Some-Arguments.field-0-is at c.in-Some-Arguments.ensures.items in
-    sym c.closing.invariant ∙ close-reopens c.args.level c.closing.forms.items c.pop.new.self.items _ _ o tt
-    ∙ sym c.in_ok-open-in-Some-Arguments.ensures
+    IfOk-weaker c.reopened-in-Some-Arguments.result _ _ (λ e p.
+    sym c.closing.invariant ∙ close-reopens c.args.level c.closing.forms.items c.pop.new.self.items _ _ o tt ∙ sym p) c.reopened-in-Some-Arguments.ensures
 
 pub returns-in-None : goal.returns-in-None
 returns-in-None c =
