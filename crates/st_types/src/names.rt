@@ -10,13 +10,24 @@ use std::marker::Model;
 use vcp_base::{Memory, Text, Ty};
 
 /// A declared name, as it is written: its section and type; a constant's value, and a variable's slot.
-#[derive(Drop)]
 pub struct Entry {
     pub name: Text,
     pub section: Section,
     pub ty: Ty,
     pub value: i64,
     pub slot: u32,
+}
+
+impl Drop for Entry {
+    fn drop(self) {
+        let Entry {
+            name: _,
+            section: _,
+            ty: _,
+            value: _,
+            slot: _,
+        } = self;
+    }
 }
 
 /// The declared names, in order of declaration; none is there twice.
