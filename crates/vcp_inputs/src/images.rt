@@ -62,6 +62,8 @@ pub fn load_image<F: Files>(alloc: Global, files: &mut F, name: &Text) -> Result
     ensures later { (F.seen files.old).faults ≤ (F.seen files.new).faults }
     ensures broken_later { (F.seen files.old).broken ≤ (F.seen files.new).broken }
 {
-    let text = read_file(alloc, files, name, MOST_IMAGE_BYTES)?;
-    image_of(alloc, text.bytes())
+    match read_file(alloc, files, name, MOST_IMAGE_BYTES) {
+        Ok(text) => image_of(alloc, text.bytes()),
+        Err(input) => Err(input),
+    }
 }

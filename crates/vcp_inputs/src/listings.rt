@@ -67,6 +67,8 @@ pub fn load_il<F: Files>(alloc: Global, files: &mut F, name: &Text) -> Result<Ty
     ensures later { (F.seen files.old).faults ≤ (F.seen files.new).faults }
     ensures broken_later { (F.seen files.old).broken ≤ (F.seen files.new).broken }
 {
-    let text = read_file(alloc, files, name, MOST_IL_BYTES)?;
-    listed_twice(alloc, text.bytes())
+    match read_file(alloc, files, name, MOST_IL_BYTES) {
+        Ok(text) => listed_twice(alloc, text.bytes()),
+        Err(input) => Err(input),
+    }
 }

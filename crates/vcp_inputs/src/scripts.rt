@@ -61,6 +61,8 @@ pub fn load_script<F: Files>(
     ensures later { (F.seen files.old).faults ≤ (F.seen files.new).faults }
     ensures broken_later { (F.seen files.old).broken ≤ (F.seen files.new).broken }
 {
-    let text = read_file(alloc, files, name, MOST_SOURCE_BYTES)?;
-    script_of(alloc, text.bytes(), graph)
+    match read_file(alloc, files, name, MOST_SOURCE_BYTES) {
+        Ok(text) => script_of(alloc, text.bytes(), graph),
+        Err(input) => Err(input),
+    }
 }

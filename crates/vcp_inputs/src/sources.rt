@@ -113,8 +113,10 @@ pub fn load_program<F: Files>(alloc: Global, files: &mut F, name: &Text) -> Resu
     ensures later { (F.seen files.old).faults ≤ (F.seen files.new).faults }
     ensures broken_later { (F.seen files.old).broken ≤ (F.seen files.new).broken }
 {
-    let source = read_file(alloc, files, name, MOST_SOURCE_BYTES)?;
-    program_of(alloc, source.bytes())
+    match read_file(alloc, files, name, MOST_SOURCE_BYTES) {
+        Ok(source) => program_of(alloc, source.bytes()),
+        Err(input) => Err(input),
+    }
 }
 
 /// The typed program of the file under a name, which is read whole, or why there is none. Its
@@ -141,6 +143,8 @@ pub fn load_typed<F: Files>(
     ensures later { (F.seen files.old).faults ≤ (F.seen files.new).faults }
     ensures broken_later { (F.seen files.old).broken ≤ (F.seen files.new).broken }
 {
-    let source = read_file(alloc, files, name, MOST_SOURCE_BYTES)?;
-    typed_program(alloc, source.bytes(), how_often)
+    match read_file(alloc, files, name, MOST_SOURCE_BYTES) {
+        Ok(source) => typed_program(alloc, source.bytes(), how_often),
+        Err(input) => Err(input),
+    }
 }

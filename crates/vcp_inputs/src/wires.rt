@@ -52,6 +52,8 @@ pub fn load_wire<F: Files>(alloc: Global, files: &mut F, name: &Text) -> Result<
     ensures later { (F.seen files.old).faults ≤ (F.seen files.new).faults }
     ensures broken_later { (F.seen files.old).broken ≤ (F.seen files.new).broken }
 {
-    let text = read_file(alloc, files, name, MOST_SOURCE_BYTES)?;
-    wire_of(alloc, text.bytes())
+    match read_file(alloc, files, name, MOST_SOURCE_BYTES) {
+        Ok(text) => wire_of(alloc, text.bytes()),
+        Err(input) => Err(input),
+    }
 }
