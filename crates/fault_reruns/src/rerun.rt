@@ -22,6 +22,7 @@ ghost use Rattle.fault_reruns.specs.Standing.{IsStanding};
 ghost use Rattle.fault_reruns.specs.Touched.{cycle_marks, held_marks};
 
 use crate::again::{Begun, rerun_cycle};
+use crate::kept::append;
 use crate::laws::{
     groups_are_rerun_one_after_another, reruns_ask_at_touched_operations,
     reruns_of_right_answers_are_right_runs, touched_operations_are_told_by_what_they_read,
@@ -48,7 +49,6 @@ use std::mem::swap;
 use vcp_base::{Memory, Row};
 
 /// What a rerun works on.
-#[derive(Drop)]
 pub(crate) struct Work {
     /// The answers of the cycle that is rerun.
     pub own: Vec<Answer>,
@@ -70,6 +70,22 @@ pub(crate) struct Work {
     pub inputs: Row,
 }
 
+impl Drop for Work {
+    fn drop(self) {
+        let Work {
+            own: _,
+            past: _,
+            held: _,
+            past_held: _,
+            touched: _,
+            cell_marks: _,
+            marked_by: _,
+            steady: _,
+            inputs: _,
+        } = self;
+    }
+}
+
 impl Work {
     /// What a rerun begins with; `Memory` where there is no room for it.
     fn new(alloc: Global, reference: &Reference<'_>) -> Result<Work, Memory>
@@ -84,17 +100,26 @@ impl Work {
         let _sound = reference.cycles();
         let operations = graph.len() as usize;
         let cells = graph.cells() as usize;
-        Ok(Work {
-            own: Vec::with_capacity(alloc, operations)?,
-            past: Vec::with_capacity(alloc, operations)?,
-            held: first_words(alloc, graph, table)?,
-            past_held: Vec::with_capacity(alloc, cells)?,
-            touched: Vec::with_capacity(alloc, operations)?,
-            cell_marks: Vec::with_capacity(alloc, cells)?,
-            marked_by: Vec::with_capacity(alloc, cells)?,
+        let inputs = Row::zeros(alloc, graph.inputs())?;
+        let mut work = Work {
+            own: Vec::new(alloc),
+            past: Vec::new(alloc),
+            held: Vec::new(alloc),
+            past_held: Vec::new(alloc),
+            touched: Vec::new(alloc),
+            cell_marks: Vec::new(alloc),
+            marked_by: Vec::new(alloc),
             steady: false,
-            inputs: Row::zeros(alloc, graph.inputs())?,
-        })
+            inputs,
+        };
+        work.own = Vec::with_capacity(alloc, operations)?;
+        work.past = Vec::with_capacity(alloc, operations)?;
+        work.held = first_words(alloc, graph, table)?;
+        work.past_held = Vec::with_capacity(alloc, cells)?;
+        work.touched = Vec::with_capacity(alloc, operations)?;
+        work.cell_marks = Vec::with_capacity(alloc, cells)?;
+        work.marked_by = Vec::with_capacity(alloc, cells)?;
+        Ok(work)
     }
 }
 
@@ -106,9 +131,7 @@ fn copy_words(from: &[Word], to: &mut Vec<Word>)
 {
     to.clear();
     'words: for i in 0..from.len() {
-        if to.push(from[i]).is_err() {
-            unreachable!()
-        }
+        append(to, from[i]);
     }
 }
 
