@@ -53,26 +53,18 @@ next_from (w ∷ words) r is rows = ap (option_and_then next_by) rows
 pub last_rows : (r : Rows) (rest : List (List ℕ)) → is_end rest ≡ true → next_by (r, rest) ≡ Some (the_rows r)
 last_rows r rest is = ap (λ (b : Bool). cond b (Some (the_rows r)) (part_by r rest)) is
 
-not_last : (r : Rows) (rest : List (List ℕ)) → is_end rest ≡ false → next_by (r, rest) ≡ part_by r rest
-not_last r rest is = ap (λ (b : Bool). cond b (Some (the_rows r)) (part_by r rest)) is
-
--- what stands next where the first of several words gives these rows
-first_of_more : (words rest : List (List ℕ)) (r : Rows) → is_end words ≡ false → Some (r, rest) ≡ rows_and_rest words → is_end rest ≡ false
-    → part_by r rest ≡ next_of words
-first_of_more words rest r some rows more = sym (not_last r rest more) ∙ next_from words (Some (r, rest)) some rows
+not_last : (r : Rows) (rest : List (List ℕ)) → is_end rest ≡ false → part_by r rest ≡ next_by (r, rest)
+not_last r rest is = sym (ap (λ (b : Bool). cond b (Some (the_rows r)) (part_by r rest)) is)
 
 -- a script's name: the part's other name follows, or it is missing
-pub script_first : (words rest : List (List ℕ)) (r : Rows) (script : List ℕ) (v : Option (List ℕ × List (List ℕ))) → is_end words ≡ false
-    → Some (r, rest) ≡ rows_and_rest words → is_end rest ≡ false → r ≡ from_file script → v ≡ name_and_rest rest
-    → option_map (λ (x : List ℕ × List (List ℕ)). a_part x.1) v ≡ next_of words
-script_first words rest r script v some rows more is named =
-    ap (option_map (λ (x : List ℕ × List (List ℕ)). a_part x.1)) named
-    ∙ (ap (λ (x : Rows). part_by x rest) (sym is) ∙ first_of_more words rest r some rows more)
+pub script_next : (rest : List (List ℕ)) (r : Rows) (script : List ℕ) (v : Option (List ℕ × List (List ℕ))) → is_end rest ≡ false → r ≡ from_file script
+    → v ≡ name_and_rest rest → option_map (λ (x : List ℕ × List (List ℕ)). a_part x.1) v ≡ next_by (r, rest)
+script_next rest r script v more is named =
+    ap (option_map (λ (x : List ℕ × List (List ℕ)). a_part x.1)) named ∙ (ap (λ (x : Rows). part_by x rest) (sym is) ∙ not_last r rest more)
 
 -- and `--cycles N` is no script
-pub cycles_first : (words rest : List (List ℕ)) (r : Rows) (n : ℕ) → is_end words ≡ false → Some (r, rest) ≡ rows_and_rest words → is_end rest ≡ false
-    → r ≡ from_cycles n → None ≡ next_of words
-cycles_first words rest r n some rows more is = ap (λ (x : Rows). part_by x rest) (sym is) ∙ first_of_more words rest r some rows more
+pub cycles_next : (rest : List (List ℕ)) (r : Rows) (n : ℕ) → is_end rest ≡ false → r ≡ from_cycles n → None ≡ next_by (r, rest)
+cycles_next rest r n more is = ap (λ (x : Rows). part_by x rest) (sym is) ∙ not_last r rest more
 
 -- ---- how many parts there are
 

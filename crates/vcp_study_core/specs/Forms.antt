@@ -51,18 +51,22 @@ pub data Form : Type 0 where
 
 -- ---- words behind M
 
--- a study, where no words are left
-abbrev pub at_end : Study → List (List ℕ) → Option Study
-at_end s words = cond (is_end words) (Some s) None
+-- what was taken, where no words are left
+abbrev pub last_taken : {X : Type 0} → X × List (List ℕ) → Option X
+last_taken x = cond (is_end x.1) (Some x.0) None
 
--- of `graph` and of `dot`: HORIZON
-abbrev pub horizon_form : (ℕ → Study) → List (List ℕ) → Option Study
-horizon_form s words = option_and_then (λ h. at_end (s h.0) h.1) (number_and_rest 0 most_horizon words)
+-- a file's name, as the last word
+abbrev pub last_name : List (List ℕ) → Option (List ℕ)
+last_name words = option_and_then last_taken (name_and_rest words)
+
+-- HORIZON, as the last word
+abbrev pub last_horizon : List (List ℕ) → Option ℕ
+last_horizon words = option_and_then last_taken (number_and_rest 0 most_horizon words)
 
 -- of `ranges`, behind `--all` where it is said: `--inputs` and FILE
 abbrev pub inputs_form : Bool → List ℕ → List (List ℕ) → Option Study
 inputs_form all w rest =
-    cond (bytes_eq w (codes "--inputs")) (option_and_then (λ f. at_end (ranges all (Some f.0)) f.1) (name_and_rest rest)) None
+    cond (bytes_eq w (codes "--inputs")) (option_map (λ f. ranges all (Some f)) (last_name rest)) None
 
 -- behind `--all`: FILE may be said
 abbrev pub all_form : List (List ℕ) → Option Study
@@ -75,12 +79,12 @@ ranges_form [] = Some (ranges false None)
 ranges_form (w ∷ rest) = cond (bytes_eq w (codes "--all")) (all_form rest) (inputs_form false w rest)
 
 -- of `cover`: HORIZON and CLASS
-abbrev pub class_word : ℕ → List (List ℕ) → Option Study
-class_word horizon [] = None
-class_word horizon (w ∷ rest) = option_and_then (λ c. at_end (cover horizon c) rest) (classes_in w)
+abbrev pub last_class : List (List ℕ) → Option CoverClasses
+last_class [] = None
+last_class (w ∷ rest) = option_and_then (λ c. last_taken (c, rest)) (classes_in w)
 
 abbrev pub cover_form : List (List ℕ) → Option Study
-cover_form words = option_and_then (λ h. class_word h.0 h.1) (number_and_rest 0 most_horizon words)
+cover_form words = option_and_then (λ h. option_map (cover h.0) (last_class h.1)) (number_and_rest 0 most_horizon words)
 
 -- which of the sites: without more words all; `--count` asks how many there are; FROM COUNT is a part
 abbrev pub number_word : List ℕ → Option Chosen
@@ -181,11 +185,11 @@ sum_form words = option_and_then (sum_behind words) (behind_of most_parts words)
 -- of `faults`: SCRIPT and VERDICTS
 abbrev pub faults_form : List (List ℕ) → Option Study
 faults_form words =
-    option_and_then (λ s. option_and_then (λ v. at_end (faults (record { script = s.0; verdicts = v.0 })) v.1) (name_and_rest s.1)) (name_and_rest words)
+    option_and_then (λ s. option_map (λ v. faults (record { script = s.0; verdicts = v })) (last_name s.1)) (name_and_rest words)
 
 -- of `script`: NAMED
 abbrev pub script_form : List (List ℕ) → Option Study
-script_form words = option_and_then (λ n. at_end (script_named n.0) n.1) (name_and_rest words)
+script_form words = option_map script_named (last_name words)
 
 -- what a command's name and its words behind M say, a line a form: of the studies of scripts of faults, and of all
 abbrev pub fault_study_of : List ℕ → List (List ℕ) → Option Study
@@ -197,19 +201,19 @@ fault_study_of w words =
 
 abbrev pub study_of : List ℕ → List (List ℕ) → Option Study
 study_of w words =
-    cond (bytes_eq w (codes "graph")) (horizon_form graph words)
-    (cond (bytes_eq w (codes "dot")) (horizon_form dot words)
+    cond (bytes_eq w (codes "graph")) (option_map graph (last_horizon words))
+    (cond (bytes_eq w (codes "dot")) (option_map dot (last_horizon words))
     (cond (bytes_eq w (codes "ranges")) (ranges_form words)
     (cond (bytes_eq w (codes "cover")) (cover_form words) (fault_study_of w words))))
 
 -- of `waves`, behind FILE: `--cycle-time` and TIME may be said
-abbrev pub timed_form : List ℕ → List (List ℕ) → Option Form
-timed_form file [] = None
-timed_form file (w ∷ rest) = option_and_then (λ period. cond (is_end rest) (Some (waves file (Some period))) None) (period_of w)
+abbrev pub last_period : List (List ℕ) → Option Period
+last_period [] = None
+last_period (w ∷ rest) = option_and_then (λ period. last_taken (period, rest)) (period_of w)
 
 abbrev pub waves_form : List ℕ → List (List ℕ) → Option Form
 waves_form file [] = Some (waves file None)
-waves_form file (w ∷ rest) = cond (bytes_eq w (codes "--cycle-time")) (timed_form file rest) None
+waves_form file (w ∷ rest) = cond (bytes_eq w (codes "--cycle-time")) (option_map (λ period. waves file (Some period)) (last_period rest)) None
 
 -- the command that a name, a file's name and the words behind it say
 abbrev pub named_form : List ℕ → List ℕ → List (List ℕ) → Option Form

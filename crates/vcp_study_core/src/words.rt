@@ -4,17 +4,17 @@ ghost use Rattle.std.specs.Prelude.{ℕ, List, ◌≡◌, ◌≤◌, IfSome, Som
 ghost use Rattle.std.specs.Option.{option_map};
 ghost use Rattle.vcp_base.specs.Limits.{most_cycles, most_horizon};
 ghost use Rattle.vcp_study_core.specs.Forms.{list_image, list_text};
-ghost use Rattle.vcp_study_core.specs.Forms.{form, form_of, named_form, waves_form, timed_form, study, study_of, fault_study_of, graph, dot, horizon_form, ranges_form, all_form, inputs_form, cover_form, IsSound, IsSoundStudy};
-ghost use Rattle.vcp_study_core.specs.Forms.{class_word as class_word_of, faults_form, sites_form, behind_form, class_form, cycles_in as cycles_in_of, rest_form, run_sites, names_of, next_of, behind_of, sum_with, sum_form, script_form, chosen_of, number_word, part_of};
+ghost use Rattle.vcp_study_core.specs.Forms.{form, form_of, named_form, waves_form, last_name as last_name_of, last_period as last_period_of, study, study_of, fault_study_of, graph, dot, last_horizon as last_horizon_of, ranges_form, all_form, inputs_form, cover_form, IsSound, IsSoundStudy};
+ghost use Rattle.vcp_study_core.specs.Forms.{last_class as last_class_of, faults_form, sites_form, behind_form, class_form, cycles_in as cycles_in_of, rest_form, run_sites, names_of, next_by, next_of, behind_of, sum_with, sum_form, script_form, chosen_of, number_word, part_of};
 ghost use Rattle.vcp_study_core.specs.SumSteps.{as_next, as_behind, ended_of, IsFew, FewBehind};
 ghost use Rattle.verdict_tables.specs.Parts.{most_parts};
 ghost use Rattle.vcp_words.specs.Forms.{rows_of, AreFew, code_of, is_end};
 
 use crate::command::{ImageStudy, StudyCommand};
 use crate::part_words::{Named, PartWords};
-use fault_cover::classes_named as cover_classes_named;
+use fault_cover::{CoverClasses, classes_named as cover_classes_named};
 use fault_sites::{Chosen, Part, RunClass, classes_named, run_class_named};
-use run_picture::period_named;
+use run_picture::{Period, period_named};
 use vcp_base::{MOST_CYCLES, MOST_HORIZON, Text, Words, numeral};
 use vcp_words::{CommandWords, RowsWord};
 use verdict_tables::MOST_PARTS;
@@ -57,17 +57,26 @@ fn named_words<'a>(
     if is_word(command, b"text") {
         return list_text_words(name, words);
     }
-    let study = study_words(all, command, words)?;
-    Some(StudyCommand::On { image: name, study })
+    match study_words(all, command, words) {
+        Some(study) => Some(StudyCommand::On { image: name, study }),
+        None => None,
+    }
 }
 
 /// Behind FILE, of `waves`.
 fn waves_words<'a>(file: &'a Text, words: &mut CommandWords<'a>) -> Option<StudyCommand<'a>>
-    ensures { option_map form result ≡ waves_form file.now words.old }
+    ensures form { option_map form result ≡ waves_form file.now words.old }
+    ensures sound { IfSome result (λ command. IsSound (form command)) }
 {
     match words.next() {
         Some(word) => if is_word(word.bytes(), b"--cycle-time") {
-            timed_words(file, words)
+            match last_period(words) {
+                Some(period) => Some(StudyCommand::Waves {
+                    file,
+                    period: Some(period),
+                }),
+                None => None,
+            }
         } else {
             None
         },
@@ -75,18 +84,12 @@ fn waves_words<'a>(file: &'a Text, words: &mut CommandWords<'a>) -> Option<Study
     }
 }
 
-/// Behind `--cycle-time`.
-fn timed_words<'a>(file: &'a Text, words: &mut CommandWords<'a>) -> Option<StudyCommand<'a>>
-    ensures { option_map form result ≡ timed_form file.now words.old }
+/// Behind `--cycle-time`: TIME, as the last word.
+fn last_period(words: &mut CommandWords<'_>) -> Option<Period>
+    ensures { result ≡ last_period_of words.old }
 {
     let period = period_named(words.next()?.bytes())?;
-    if !words.is_end() {
-        return None;
-    }
-    Some(StudyCommand::Waves {
-        file,
-        period: Some(period),
-    })
+    if words.is_end() { Some(period) } else { None }
 }
 
 /// The words of `image`, behind the name of an instruction list.
@@ -94,8 +97,10 @@ fn list_image_words<'a>(source: &'a Text, words: &mut CommandWords<'a>) -> Optio
     ensures form { option_map form result ≡ option_map (list_image source.now) (code_of words.old) }
     ensures sound { IfSome result (λ command. IsSound (form command)) }
 {
-    let code = words.code()?;
-    Some(StudyCommand::ListImage { source, code })
+    match words.code() {
+        Some(code) => Some(StudyCommand::ListImage { source, code }),
+        None => None,
+    }
 }
 
 /// The words of `text`, behind the name of an instruction list: none.
@@ -160,29 +165,42 @@ fn fault_study_words<'a>(
     None
 }
 
-/// The word of `graph`.
-fn graph_words<'a>(words: &mut CommandWords<'a>) -> Option<ImageStudy<'a>>
-    ensures form { option_map study result ≡ horizon_form graph words.old }
-    ensures sound { IfSome result (λ s. IsSoundStudy (study s)) }
+/// A file's name, as the last word.
+fn last_name<'a>(words: &mut CommandWords<'a>) -> Option<&'a Text>
+    ensures { option_map (λ name. name.now) result ≡ last_name_of words.old }
+{
+    let name = words.name()?;
+    if words.is_end() { Some(name) } else { None }
+}
+
+/// HORIZON, as the last word.
+fn last_horizon(words: &mut CommandWords<'_>) -> Option<u32>
+    ensures horizon { result ≡ last_horizon_of words.old }
+    ensures most { IfSome result (λ n. n ≤ most_horizon) }
 {
     let horizon = words.number(0, MOST_HORIZON)?;
-    if words.is_end() {
-        Some(ImageStudy::Graph { horizon })
-    } else {
-        None
+    if words.is_end() { Some(horizon) } else { None }
+}
+
+/// The word of `graph`.
+fn graph_words<'a>(words: &mut CommandWords<'a>) -> Option<ImageStudy<'a>>
+    ensures form { option_map study result ≡ option_map graph (last_horizon_of words.old) }
+    ensures sound { IfSome result (λ s. IsSoundStudy (study s)) }
+{
+    match last_horizon(words) {
+        Some(horizon) => Some(ImageStudy::Graph { horizon }),
+        None => None,
     }
 }
 
 /// The word of `dot`.
 fn dot_words<'a>(words: &mut CommandWords<'a>) -> Option<ImageStudy<'a>>
-    ensures form { option_map study result ≡ horizon_form dot words.old }
+    ensures form { option_map study result ≡ option_map dot (last_horizon_of words.old) }
     ensures sound { IfSome result (λ s. IsSoundStudy (study s)) }
 {
-    let horizon = words.number(0, MOST_HORIZON)?;
-    if words.is_end() {
-        Some(ImageStudy::Dot { horizon })
-    } else {
-        None
+    match last_horizon(words) {
+        Some(horizon) => Some(ImageStudy::Dot { horizon }),
+        None => None,
     }
 }
 
@@ -194,14 +212,13 @@ fn inputs_words<'a>(all: bool, word: &Text, words: &mut CommandWords<'a>) -> Opt
     if !is_word(word.bytes(), b"--inputs") {
         return None;
     }
-    let file = words.name()?;
-    if !words.is_end() {
-        return None;
+    match last_name(words) {
+        Some(file) => Some(ImageStudy::Ranges {
+            all,
+            inputs: Some(file),
+        }),
+        None => None,
     }
-    Some(ImageStudy::Ranges {
-        all,
-        inputs: Some(file),
-    })
 }
 
 /// Behind `--all`.
@@ -236,18 +253,12 @@ fn ranges_words<'a>(words: &mut CommandWords<'a>) -> Option<ImageStudy<'a>>
     }
 }
 
-/// Of `cover`, CLASS behind HORIZON.
-fn class_word<'a>(horizon: u32, words: &mut CommandWords<'a>) -> Option<ImageStudy<'a>>
-    requires { horizon ≤ most_horizon }
-    ensures form { option_map study result ≡ class_word_of horizon words.old }
-    ensures sound { IfSome result (λ s. IsSoundStudy (study s)) }
+/// Of `cover`, CLASS, as the last word.
+fn last_class(words: &mut CommandWords<'_>) -> Option<CoverClasses>
+    ensures { result ≡ last_class_of words.old }
 {
-    let word = words.next()?;
-    let classes = cover_classes_named(word.bytes())?;
-    if !words.is_end() {
-        return None;
-    }
-    Some(ImageStudy::Cover { horizon, classes })
+    let classes = cover_classes_named(words.next()?.bytes())?;
+    if words.is_end() { Some(classes) } else { None }
 }
 
 /// The words of `cover`: HORIZON and CLASS.
@@ -255,8 +266,13 @@ fn cover_words<'a>(words: &mut CommandWords<'a>) -> Option<ImageStudy<'a>>
     ensures form { option_map study result ≡ cover_form words.old }
     ensures sound { IfSome result (λ s. IsSoundStudy (study s)) }
 {
-    let horizon = words.number(0, MOST_HORIZON)?;
-    class_word(horizon, words)
+    match words.number(0, MOST_HORIZON) {
+        Some(horizon) => match last_class(words) {
+            Some(classes) => Some(ImageStudy::Cover { horizon, classes }),
+            None => None,
+        },
+        None => None,
+    }
 }
 
 /// Whether only the number is wanted: `--count` says so.
@@ -323,14 +339,20 @@ fn class_words<'a>(
     ensures form { option_map study result ≡ class_form (rows_of rows.entry) class.now words.old }
     ensures sound { IfSome result (λ s. IsSoundStudy (study s)) }
 {
-    let cycles = cycles_in(rows)?;
-    let classes = classes_named(class.bytes())?;
-    let chosen = chosen_words(words)?;
-    Some(ImageStudy::Sites {
-        cycles,
-        classes,
-        chosen,
-    })
+    match cycles_in(rows) {
+        Some(cycles) => match classes_named(class.bytes()) {
+            Some(classes) => match chosen_words(words) {
+                Some(chosen) => Some(ImageStudy::Sites {
+                    cycles,
+                    classes,
+                    chosen,
+                }),
+                None => None,
+            },
+            None => None,
+        },
+        None => None,
+    }
 }
 
 /// Which of the sites that the words of a run decide.
@@ -343,12 +365,14 @@ fn run_words<'a>(
     ensures form { option_map study result ≡ option_map (run_sites (rows_of rows.entry) class) (chosen_of words.old) }
     ensures sound { IfSome result (λ s. IsSoundStudy (study s)) }
 {
-    let chosen = chosen_words(words)?;
-    Some(ImageStudy::RunSites {
-        rows,
-        class,
-        chosen,
-    })
+    match chosen_words(words) {
+        Some(chosen) => Some(ImageStudy::RunSites {
+            rows,
+            class,
+            chosen,
+        }),
+        None => None,
+    }
 }
 
 /// CYCLES, and which of the groups of `rest`.
@@ -356,9 +380,13 @@ fn rest_words<'a>(rows: RowsWord<'a>, words: &mut CommandWords<'a>) -> Option<Im
     ensures form { option_map study result ≡ rest_form (rows_of rows.entry) words.old }
     ensures sound { IfSome result (λ s. IsSoundStudy (study s)) }
 {
-    let cycles = cycles_in(rows)?;
-    let chosen = chosen_words(words)?;
-    Some(ImageStudy::RestSites { cycles, chosen })
+    match cycles_in(rows) {
+        Some(cycles) => match chosen_words(words) {
+            Some(chosen) => Some(ImageStudy::RestSites { cycles, chosen }),
+            None => None,
+        },
+        None => None,
+    }
 }
 
 /// Of `sites`, what is behind ROWS, or behind CYCLES: CLASS, and which of the sites.
@@ -367,13 +395,16 @@ fn behind_words<'a>(rows: RowsWord<'a>, words: &mut CommandWords<'a>) -> Option<
     ensures form { option_map study result ≡ behind_form (rows_of rows.entry) words.old }
     ensures sound { IfSome result (λ s. IsSoundStudy (study s)) }
 {
-    let word = words.next()?;
-    if is_word(word.bytes(), b"rest") {
-        return rest_words(rows, words);
-    }
-    match run_class_named(word.bytes()) {
-        Some(class) => run_words(rows, class, words),
-        None => class_words(rows, word, words),
+    match words.next() {
+        Some(word) => if is_word(word.bytes(), b"rest") {
+            rest_words(rows, words)
+        } else {
+            match run_class_named(word.bytes()) {
+                Some(class) => run_words(rows, class, words),
+                None => class_words(rows, word, words),
+            }
+        },
+        None => None,
     }
 }
 
@@ -382,8 +413,10 @@ fn sites_words<'a>(words: &mut CommandWords<'a>) -> Option<ImageStudy<'a>>
     ensures form { option_map study result ≡ sites_form words.old }
     ensures sound { IfSome result (λ s. IsSoundStudy (study s)) }
 {
-    let rows = words.rows()?;
-    behind_words(rows, words)
+    match words.rows() {
+        Some(rows) => behind_words(rows, words),
+        None => None,
+    }
 }
 
 /// What is next behind M of `sum`.
@@ -406,6 +439,24 @@ pub(crate) struct BehindWords<'a> {
     pub rows: Option<RowsWord<'a>>,
 }
 
+/// Takes what follows ROWS, or the name of a part's script: no more words, or the name of its verdicts.
+fn next_after<'a>(rows: RowsWord<'a>, words: &mut CommandWords<'a>) -> Option<NextWord<'a>>
+    requires { AreFew (rows_of rows) }
+    ensures next { option_map (as_next words.new) result ≡ next_by (rows_of rows.entry, words.old) }
+    ensures few { IfSome result IsFew }
+{
+    if words.is_end() {
+        return Some(NextWord::Rows(rows));
+    }
+    match rows {
+        RowsWord::File(_) => match words.name() {
+            Some(_) => Some(NextWord::Part),
+            None => None,
+        },
+        RowsWord::Cycles(_) => None,
+    }
+}
+
 /// Takes what is next behind M: the names of a part's files, or ROWS as the last word.
 fn next_behind<'a>(words: &mut CommandWords<'a>) -> Option<NextWord<'a>>
     ensures next { option_map (as_next words.new) result ≡ next_of words.old }
@@ -414,16 +465,9 @@ fn next_behind<'a>(words: &mut CommandWords<'a>) -> Option<NextWord<'a>>
     if words.is_end() {
         return Some(NextWord::NoMore);
     }
-    let rows = words.rows()?;
-    if words.is_end() {
-        return Some(NextWord::Rows(rows));
-    }
-    match rows {
-        RowsWord::File(_) => {
-            words.name()?;
-            Some(NextWord::Part)
-        }
-        RowsWord::Cycles(_) => None,
+    match words.rows() {
+        Some(rows) => next_after(rows, words),
+        None => None,
     }
 }
 
@@ -497,13 +541,15 @@ fn faults_words<'a>(words: &mut CommandWords<'a>) -> Option<ImageStudy<'a>>
     ensures form { option_map study result ≡ faults_form words.old }
     ensures sound { IfSome result (λ s. IsSoundStudy (study s)) }
 {
-    let script = words.name()?;
-    let verdicts = words.name()?;
-    if !words.is_end() {
-        return None;
+    match words.name() {
+        Some(script) => match last_name(words) {
+            Some(verdicts) => Some(ImageStudy::Faults {
+                names: Named { script, verdicts },
+            }),
+            None => None,
+        },
+        None => None,
     }
-    let names = Named { script, verdicts };
-    Some(ImageStudy::Faults { names })
 }
 
 /// The word of `script`: NAMED.
@@ -511,9 +557,8 @@ fn script_words<'a>(words: &mut CommandWords<'a>) -> Option<ImageStudy<'a>>
     ensures form { option_map study result ≡ script_form words.old }
     ensures sound { IfSome result (λ s. IsSoundStudy (study s)) }
 {
-    let named = words.name()?;
-    if !words.is_end() {
-        return None;
+    match last_name(words) {
+        Some(named) => Some(ImageStudy::Script { named }),
+        None => None,
     }
-    Some(ImageStudy::Script { named })
 }
