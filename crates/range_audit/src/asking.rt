@@ -1,9 +1,11 @@
 //! Why one operation may stop, by what the operations before it gave in the same cycle, and which values a BOOL output has: by cases of conditions.
 
-ghost use Rattle.std.specs.Prelude.{◌≡◌, ◌<◌, ◌≤◌, ℤ, List, length, IfOk};
+ghost use Rattle.std.specs.Prelude.{◌≡◌, ◌<◌, ◌≤◌, ℕ, ℤ, List, length, slice_get, Some, IfOk};
 ghost use Rattle.range_walk.specs.Intervals.{Fit, Hold};
 ghost use Rattle.range_audit.specs.Searching.{IsAlwaysIn, IsFound, StopsFrom, StopsIn};
 ghost use Rattle.range_walk.specs.Walking.{Given, IsWalk};
+ghost use Rattle.range_walk.specs.declared.range.Range.{Range as Interval};
+ghost use Rattle.range_walk.specs.declared.range.Stops.{Stops as Reasons};
 
 use crate::boxes::{Cycle, has_none};
 use crate::cases::{CONDITIONS, cases_of, narrowed, range_by_cases, spend};
@@ -58,8 +60,7 @@ fn stops_after(cycle: &Cycle<'_>, known: &[Range], i: u32, left: &mut u64) -> Re
 {
     let first = first_ranges(known, i);
     let ranges = narrowed(cycle, first)?;
-    let stops = stops_by_cases(cycle, &ranges, i, CONDITIONS, left)?;
-    Ok(stops)
+    stops_by_cases(cycle, &ranges, i, CONDITIONS, left)
 }
 
 /// Whether operation `i` is looked at closer: it may stop, is wanted and isn't done with.
@@ -94,8 +95,7 @@ fn stops_of(
     if asked {
         let enough = spend(cycle.graph, left);
         if enough {
-            let closer = stops_after(cycle, known, i, left)?;
-            return Ok(closer);
+            return stops_after(cycle, known, i, left);
         }
     }
     let plain = stops_at(stops, i as usize);
@@ -130,8 +130,48 @@ fn output_range(cycle: &Cycle<'_>, known: &[Range], i: u32, left: &mut u64) -> R
     }
     let first = first_ranges(known, i + 1);
     let ranges = narrowed(cycle, first)?;
-    let r = range_by_cases(cycle, &ranges, i, Range::only(0), CASES, left)?;
-    Ok(r)
+    range_by_cases(cycle, &ranges, i, Range::only(0), CASES, left)
+}
+
+/// The ranges of the operations in a cycle from cells in these ranges, where they are in those: closer of BOOL outputs.
+fn closer_ranges(cycle: &Cycle<'_>, known: &[Range], left: &mut u64) -> Result<Vec<Range>, Memory>
+    requires { length known.now ≡ length cycle.now.graph.now.operations }
+    ensures many { IfOk result (λ rs. length rs.items ≡ length cycle.now.graph.now.operations) }
+    ensures each { IfOk result (λ rs. (k : ℕ) (r : Interval) → slice_get rs.items k ≡ Some r
+        → IsAlwaysIn cycle.now.graph.now.operations cycle.now.cells.now known.now k r) }
+{
+    let count = cycle.graph.len();
+    let mut ranges = Vec::with_capacity(cycle.alloc, count as usize)?;
+    'operations: for i in 0..count {
+        let range = output_range(cycle, known, i, left)?;
+        ranges.push(range)?;
+    }
+    Ok(ranges)
+}
+
+/// Why each operation may stop in a cycle from cells in these ranges, on a row whose inputs are in these, of which `told` tells: closer for
+/// those that may, that are wanted and not done with.
+fn closer_stops(
+    cycle: &Cycle<'_>,
+    inputs: &[Range],
+    told: &Ranges,
+    wanted: &[Stops],
+    done: &[Stops],
+    left: &mut u64,
+) -> Result<Vec<Stops>, Memory>
+    requires { IsWalk cycle.now.graph.now.operations cycle.now.cells.now inputs.now told.now }
+    ensures many { IfOk result (λ ss. length ss.items ≡ length cycle.now.graph.now.operations) }
+    ensures each { IfOk result (λ ss. (k : ℕ) (s : Reasons) → slice_get ss.items k ≡ Some s
+        → StopsFrom cycle.now.graph.now.operations inputs.now (Hold cycle.now.cells.now) k s) }
+{
+    let count = cycle.graph.len();
+    let mut all = Vec::with_capacity(cycle.alloc, count as usize)?;
+    'operations: for i in 0..count {
+        let asked = is_asked(told.stops(), wanted, done, i as usize);
+        let stops = stops_of(cycle, inputs, told, i, asked, left)?;
+        all.push(stops)?;
+    }
+    Ok(all)
 }
 
 /// What is found of each operation in a cycle from cells in these ranges, on a row whose inputs are in these, of which `told` tells: why it
@@ -149,15 +189,7 @@ pub(crate) fn closer_found(
     ensures stops { IfOk result (λ a. length a.stops ≡ length cycle.now.graph.now.operations) }
     ensures found { IfOk result (λ a. IsFound cycle.now.graph.now.operations inputs.now (Hold cycle.now.cells.now) a) }
 {
-    let count = cycle.graph.len();
-    let mut known = Vec::with_capacity(cycle.alloc, count as usize)?;
-    let mut found = Vec::with_capacity(cycle.alloc, count as usize)?;
-    'operations: for i in 0..count {
-        let range = output_range(cycle, told.known(), i, &mut left.answers)?;
-        known.push(range)?;
-        let asked = is_asked(told.stops(), wanted, done, i as usize);
-        let stops = stops_of(cycle, inputs, told, i, asked, &mut left.stops)?;
-        found.push(stops)?;
-    }
+    let known = closer_ranges(cycle, told.known(), &mut left.answers)?;
+    let found = closer_stops(cycle, inputs, told, wanted, done, &mut left.stops)?;
     Ok(Ranges::new(known, found))
 }

@@ -20,8 +20,7 @@ fn typed_ranges(alloc: Global, graph: &Graph, inputs: &[Range]) -> Result<Ranges
     operands_are_in_their_types();
     let _operations = graph.len();
     let cells = loaded_cells(alloc, graph, true)?;
-    let told = walk(alloc, graph, &cells, inputs)?;
-    Ok(told)
+    walk(alloc, graph, &cells, inputs)
 }
 
 /// What is found of the operations of a graph, an answer for any number of cycles, where ranges of inputs are assumed: of the first ones, as

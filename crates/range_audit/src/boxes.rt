@@ -12,7 +12,7 @@ use std::alloc::Global;
 use vcp_base::Memory;
 
 /// A cycle of a graph, at whose beginning the cells are in these ranges.
-#[derive(Drop)]
+#[derive(Clone, Copy)]
 pub(crate) struct Cycle<'a> {
     /// From where memory is taken.
     pub(crate) alloc: Global,

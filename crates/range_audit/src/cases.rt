@@ -48,12 +48,17 @@ fn part(cycle: &Cycle<'_>, ranges: &[Range], n: u32, r: Range) -> Result<Vec<Ran
 }
 
 /// The ranges of the operations of a cycle, of all or of the first ones, in the two cases of the value of one.
-#[derive(Drop)]
 pub(crate) struct Halves {
     /// Where it is no more than a number.
     pub(crate) low: Vec<Range>,
     /// Where it is more.
     pub(crate) high: Vec<Range>,
+}
+
+impl Drop for Halves {
+    fn drop(self) {
+        let Halves { low: _, high: _ } = self;
+    }
 }
 
 /// The ranges of the operations of a cycle in the two cases of the value of operation `q`: no more than `m`, and more.
@@ -222,8 +227,7 @@ fn ends_closely(
 {
     let wanted = box_of(cycle.graph, ranges, boxes, n);
     narrow_stores(cycle, ranges, wanted, left)?;
-    let is = ends(cycle, ranges, boxes, missed)?;
-    Ok(is)
+    ends(cycle, ranges, boxes, missed)
 }
 
 /// The same by the cases of the value of operation `n`, so many of them.

@@ -101,13 +101,11 @@ fn is_box_kept(
     let told = walk(alloc, graph, cycle.cells, inputs)?;
     let known = told.known();
     let Some(n) = pivot else {
-        let plain = ends(&cycle, known, boxes, missed)?;
-        return Ok(plain);
+        return ends(&cycle, known, boxes, missed);
     };
     let mut ranges = narrowed(&cycle, known)?;
     let depth = if boxes.len() == 1 { 0 } else { VALUES };
-    let is = ends_by_cases(&cycle, &mut ranges, boxes, n, depth, left, missed)?;
-    Ok(is)
+    ends_by_cases(&cycle, &mut ranges, boxes, n, depth, left, missed)
 }
 
 /// Whether that is so of each of the boxes in `from`.
@@ -209,6 +207,31 @@ fn grow(
     }
 }
 
+/// The box of the initial values of the cells.
+fn first_box(alloc: Global, graph: &Graph) -> Result<Vec<Vec<Range>>, Memory> {
+    let mut boxes = Vec::new(alloc);
+    boxes.push(loaded_cells(alloc, graph, false)?)?;
+    Ok(boxes)
+}
+
+/// Whether the cells are always in one of the boxes, as far as that is seen; the ranges in which cycles from these boxes end, where that isn't
+/// seen to be in one of them, are told by `missed`.
+fn is_kept(
+    alloc: Global,
+    graph: &Graph,
+    inputs: &[Range],
+    boxes: &[Vec<Range>],
+    pivot: Option<u32>,
+    left: &mut u64,
+    missed: &mut Vec<Vec<Range>>,
+) -> Result<bool, Memory>
+    requires there { IfSome pivot (λ n. n < length graph.now.operations) }
+    ensures { IfOk result (λ is. is ≡ true → Always graph.now inputs.now (InBox boxes.now (length graph.now.stores))) }
+{
+    *missed = Vec::new(alloc);
+    is_family(alloc, graph, inputs, boxes, pivot, left, missed)
+}
+
 /// Boxes in one of which the cells always are, one for each of these values, by the cases of operation `pivot`, which stores them; None where
 /// none are found in so many rounds, or with the operations that are left.
 fn family(
@@ -224,29 +247,26 @@ fn family(
     ensures { IfOk result (λ found. IfSome found (λ boxes. Always graph.now inputs.now (InBox boxes.items (length graph.now.stores)))) }
 {
     let mut boxes = empty_boxes(alloc, graph, values.count)?;
-    let mut missed = Vec::new(alloc);
-    missed.push(loaded_cells(alloc, graph, false)?)?;
+    let mut missed = first_box(alloc, graph)?;
     'rounds: for round in 0..rounds {
-        let step = step_of(round.saturating_sub(1));
-        grow(graph, &mut boxes, &missed, values, step, budget.numbers);
         let spent = budget.left == 0;
         if spent {
             return Ok(None);
         }
-        let mut more = Vec::new(alloc);
-        let is = is_family(
+        let step = step_of(round.saturating_sub(1));
+        grow(graph, &mut boxes, &missed, values, step, budget.numbers);
+        let is = is_kept(
             alloc,
             graph,
             inputs,
             &boxes,
             pivot,
             &mut budget.left,
-            &mut more,
+            &mut missed,
         )?;
         if is {
             return Ok(Some(boxes));
         }
-        missed = more;
     }
     Ok(None)
 }
@@ -262,8 +282,7 @@ fn nearest(
     requires { Always graph.now inputs.now (InBox boxes.items (length graph.now.stores)) }
     ensures { IfOk result (λ next. Always graph.now inputs.now (InBox next.items (length graph.now.stores))) }
 {
-    let mut next = Vec::new(alloc);
-    next.push(loaded_cells(alloc, graph, false)?)?;
+    let mut next = first_box(alloc, graph)?;
     let mut left = 0;
     let mut stored = Vec::new(alloc);
     let _kept = are_boxes_kept(

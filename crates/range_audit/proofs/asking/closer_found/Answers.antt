@@ -2,37 +2,24 @@ use Rattle.std.proofs.Common.{◌≡◌, true, length, refl, sym, subst, arith}
 use Rattle.std.proofs.lemmas.Option.{slice_get_within}
 use Rattle.range_walk.specs.Known.{is_named}
 use Rattle.range_audit.specs.Searching.{IsAlwaysIn}
-use Rattle.range_audit.proofs.Steps.{get_there, none_at, one_more}
+use Rattle.range_audit.proofs.Steps.{get_there}
 use Rattle.range_audit.proofs.asking.closer_found.Goals as goal
-
-pub operations-init : goal.operations-init
-operations-init c = record { known = none_at _ _ c.in_ok-known.ensures.items; stops = none_at _ _ c.in_ok-found.ensures.items }
-
-pub operations-preserved : goal.operations-preserved
-operations-preserved c =
-    let g = c.args.cycle.now.graph.now in
-    let i = c.operations.i in
-    let range = subst (λ ks. IsAlwaysIn g.operations c.args.cycle.now.cells.now ks i c.in_ok-range.range) c.known.ensures c.in_ok-range.ensures in
-    record {
-      known = one_more _ _ _ c.in_ok-range.range i c.operations.invariant.known range c.in_ok-push.ensures.items;
-      stops = one_more _ _ _ c.in_ok-stops.stops i c.operations.invariant.stops c.in_ok-stops.ensures c.in_ok-push-2.ensures.items;
-    }
 
 pub returns : goal.returns
 returns c =
-    let known = c.operations.invariant.known in
-    let stops = c.operations.invariant.stops in
-    let ops = c.args.cycle.now.graph.now.operations in
-    let all : c.operations.i ≡ length ops = omega (arith, c.operations-test.false, c.operations.auto.i-end, c.len-count.ensures.count) in
+    let g = c.args.cycle.now.graph.now in
+    let ops = g.operations in
     rw c.new.ensures (record {
-      known = omega (arith, known.many, all);
-      stops = omega (arith, stops.many, all);
+      known = c.in_ok-known.ensures.many;
+      stops = c.in_ok-found.ensures.many;
       found = record {
         fits = λ held row vs hold row_in given k r lt there.
-            known.each k r there held row vs hold given lt (c.requires.walk.fits held row vs hold row_in given);
+            let always = subst (λ ks. IsAlwaysIn ops c.args.cycle.now.cells.now ks k r) c.known.ensures (c.in_ok-known.ensures.each k r there) in
+            always held row vs hold given lt (c.requires.walk.fits held row vs hold row_in given);
         names = λ held row vs op why hold row_in given there own no e.
             let within = slice_get_within ops (length vs) op there in
-            let s = get_there c.operations.found.items (length vs) (omega (arith, within, stops.many, all)) in
-            subst (λ o. is_named why o ≡ true) (sym s.1) (stops.each (length vs) s.0 s.1 held row vs op why hold row_in given refl there own no e);
+            let s = get_there c.in_ok-found.found.items (length vs) (omega (arith, within, c.in_ok-found.ensures.many)) in
+            subst (λ o. is_named why o ≡ true) (sym s.1)
+            (c.in_ok-found.ensures.each (length vs) s.0 s.1 held row vs op why hold row_in given refl there own no e);
       };
     })

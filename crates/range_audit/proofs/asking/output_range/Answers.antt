@@ -1,6 +1,7 @@
 use Rattle.std.proofs.Common.{◌≡◌, ◌+◌, ◌≤◌, length, take, pos, ap, sym, subst, ◌∙◌, length-take-le, get_or-take, arith}
 use Rattle.range_walk.specs.Intervals.{IsIn, Fit}
 use Rattle.range_audit.proofs.Closer.{given_first, fit_first}
+use Rattle.range_audit.proofs.Steps.{and_so}
 use Rattle.range_audit.proofs.asking.output_range.Goals as goal
 
 pub returns-then-not-asked : goal.returns-then-not-asked
@@ -14,7 +15,7 @@ range_by_cases-requires c =
     record { there = omega (arith, many); many = omega (arith, many, c.requires.there) }
 
 pub returns : goal.returns
-returns c = λ held row vs hold given lt fit.
+returns c = and_so c.range_by_cases.result c.range_by_cases.ensures (λ r is held row vs hold given lt fit.
     let i = c.args.i in
     let le : i + 1 ≤ length vs = omega (arith, lt) in
     let many : length (take (i + 1) vs) ≡ i + 1 = length-take-le (i + 1) vs le in
@@ -23,5 +24,5 @@ returns c = λ held row vs hold given lt fit.
     let fit_so = c.first_ranges-first.ensures.fits (take (i + 1) vs) (fit_first c.args.known.now vs (i + 1) le fit) in
     let narrow = c.in_ok-ranges.ensures.fits held row (take (i + 1) vs) hold given_so (many ∙ sym count) fit_so in
     let whole = many ∙ sym (ap length c.deref.ensures.value ∙ c.in_ok-ranges.ensures.many ∙ count) in
-    subst (λ v. IsIn c.in_ok-r.r v) (get_or-take (i + 1) vs i (pos 0) (omega arith))
-    (c.in_ok-r.ensures held row (take (i + 1) vs) hold given_so whole (subst (λ rs. Fit rs (take (i + 1) vs)) (sym c.deref.ensures.value) narrow))
+    subst (λ v. IsIn r v) (get_or-take (i + 1) vs i (pos 0) (omega arith))
+    (is held row (take (i + 1) vs) hold given_so whole (subst (λ rs. Fit rs (take (i + 1) vs)) (sym c.deref.ensures.value) narrow)))

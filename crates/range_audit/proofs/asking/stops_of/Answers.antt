@@ -1,12 +1,13 @@
 use Rattle.std.proofs.Common.{◌≡◌, true, slice_get, Some, sym, ap, subst, ◌∙◌}
 use Rattle.range_walk.specs.Known.{is_named}
 use Rattle.range_walk.specs.Intervals.{Fit}
+use Rattle.range_audit.proofs.Steps.{and_so}
 use Rattle.range_audit.proofs.asking.stops_of.Goals as goal
 
 pub returns-then-enough : goal.returns-then-enough
-returns-then-enough c = λ held row vs op why hold row_in given whole there own no e.
+returns-then-enough c = and_so c.stops_after.result c.stops_after.ensures (λ s is held row vs op why hold row_in given whole there own no e.
     let fit = subst (λ ks. Fit ks vs) (sym c.known-known.ensures) (c.requires.walk.fits held row vs hold row_in given) in
-    c.in_ok-closer.ensures held row vs op why hold given whole fit there own no e
+    is held row vs op why hold given whole fit there own no e)
 
 pub returns : goal.returns
 returns c = λ held row vs op why hold row_in given whole there own no e.
