@@ -7,7 +7,6 @@ use std::marker::Model;
 
 /// The range of the values of each operation of a graph, and why it may stop. It is read as two
 /// lists, in the order of the operations.
-#[derive(Drop)]
 pub struct Ranges {
     known: Vec<Range>,
     stops: Vec<Stops>,
@@ -19,6 +18,12 @@ impl Model for Ranges {
     ghost Value = { KnownRanges };
 
     ghost view = { λ r. record { known = r.known.items; stops = r.stops.items } };
+}
+
+impl Drop for Ranges {
+    fn drop(self) {
+        let Ranges { known: _, stops: _ } = self;
+    }
 }
 
 impl Ranges {

@@ -22,3 +22,55 @@ pub returns-in-Sel : goal.returns-in-Sel
 returns-in-Sel c = λ x y z i j k d.
     subst (λ t. IsWithin c.bounds-in-Sel.result (value t c.args.op.now.imm x y z)) (sym c.in-Sel.is)
     (c.bounds-in-Sel.ensures _ (c.chosen-value.ensures x y z i (λ e. j) (λ e. k)))
+
+pub returns-in-Load : goal.returns-in-Load
+returns-in-Load c = λ x y z i j k d.
+    subst (λ t. IsWithin c.bounds.result (value t c.args.op.now.imm x y z)) (sym c.in-Load.is) (c.bounds.ensures x i)
+
+pub returns-in-Store : goal.returns-in-Store
+returns-in-Store c = λ x y z i j k d.
+    subst (λ t. IsWithin c.bounds-in-Store.result (value t c.args.op.now.imm x y z)) (sym c.in-Store.is) (c.bounds-in-Store.ensures x i)
+
+pub returns-in-Out : goal.returns-in-Out
+returns-in-Out c = λ x y z i j k d.
+    subst (λ t. IsWithin c.bounds-in-Out.result (value t c.args.op.now.imm x y z)) (sym c.in-Out.is) (c.bounds-in-Out.ensures x i)
+
+pub returns-in-Conv : goal.returns-in-Conv
+returns-in-Conv c = λ x y z i j k d.
+    subst (λ t. IsWithin c.bounds-in-Conv.result (value t c.args.op.now.imm x y z)) (sym c.in-Conv.is) (c.bounds-in-Conv.ensures x i)
+
+pub returns-in-Neg : goal.returns-in-Neg
+returns-in-Neg c = λ x y z i j k d.
+    subst (λ t. IsWithin c.negated.result (value t c.args.op.now.imm x y z)) (sym c.in-Neg.is) (c.negated.ensures x i)
+
+pub returns-in-Add : goal.returns-in-Add
+returns-in-Add c = λ x y z i j k d.
+    subst (λ t. IsWithin c.sum.result (value t c.args.op.now.imm x y z)) (sym c.in-Add.is) (c.sum.ensures x y i j)
+
+pub returns-in-Sub : goal.returns-in-Sub
+returns-in-Sub c = λ x y z i j k d.
+    subst (λ t. IsWithin c.difference-in-Sub.result (value t c.args.op.now.imm x y z)) (sym c.in-Sub.is) (c.difference-in-Sub.ensures x y i j)
+
+pub returns-in-Mul : goal.returns-in-Mul
+returns-in-Mul c = λ x y z i j k d.
+    subst (λ t. IsWithin c.product.result (value t c.args.op.now.imm x y z)) (sym c.in-Mul.is) (c.product.ensures x y i j)
+
+pub returns-in-Eq : goal.returns-in-Eq
+returns-in-Eq c = λ x y z i j k d.
+    subst (λ t. IsWithin c.equal.result (value t c.args.op.now.imm x y z)) (sym c.in-Eq.is) (c.equal.ensures x y i j)
+
+pub returns-in-Lt : goal.returns-in-Lt
+returns-in-Lt c = λ x y z i j k d.
+    subst (λ t. IsWithin c.less.result (value t c.args.op.now.imm x y z)) (sym c.in-Lt.is) (c.less.ensures x y i j)
+
+pub returns-in-And : goal.returns-in-And
+returns-in-And c = λ x y z i j k d.
+    subst (λ t. IsWithin c.both.result (value t c.args.op.now.imm x y z)) (sym c.in-And.is) (c.both.ensures x y i j)
+
+pub returns-in-Or : goal.returns-in-Or
+returns-in-Or c = λ x y z i j k d.
+    subst (λ t. IsWithin c.either.result (value t c.args.op.now.imm x y z)) (sym c.in-Or.is) (c.either.ensures x y i j)
+
+pub returns-in-Xor : goal.returns-in-Xor
+returns-in-Xor c = λ x y z i j k d.
+    subst (λ t. IsWithin c.differing.result (value t c.args.op.now.imm x y z)) (sym c.in-Xor.is) (c.differing.ensures x y i j)
