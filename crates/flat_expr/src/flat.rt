@@ -39,7 +39,6 @@ use vcp_typed::{Fun, Slot, Slots, TExpr, Typed, conversion, trees_of_nodes};
 
 /// The state of a flattening: the graph so far, the operation that has each slot's value, the path
 /// condition and the present turn.
-#[derive(Drop)]
 pub struct Flat<'a> {
     slots: &'a Slots,
     graph: GraphBuilder,
@@ -67,6 +66,20 @@ impl<'a> Model for Flat<'a> {
 
     ghost invariant = { λ f. IsState
         (record { slots = f.slots.now.items.items; graph = f.graph; known = f.known.items; path = f.path; turn = f.turn; nought = f.nought; unit = f.unit }) };
+}
+
+impl Drop for Flat<'_> {
+    fn drop(self) {
+        let Flat {
+            slots: _,
+            graph: _,
+            known: _,
+            path: _,
+            turn: _,
+            nought: _,
+            unit: _,
+        } = self;
+    }
 }
 
 /// The code of a program: the wide one where it has values of LINT.
@@ -628,7 +641,10 @@ impl<'a> Flat<'a> {
             slots,
             mut graph,
             mut known,
-            ..
+            path: _,
+            turn: _,
+            nought: _,
+            unit: _,
         } = self;
         close_outputs(slots, &mut graph, &mut known)?;
         close_cells(slots, &mut graph, &known)?;

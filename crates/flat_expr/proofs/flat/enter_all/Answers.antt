@@ -1,5 +1,7 @@
-use Rattle.std.proofs.Common.{◌≡◌, ◌+◌, ◌<◌, ◌≤◌, ◌++◌, ◌∷◌, [], length, take, All, sym, ap, ◌∙◌, subst, arith}
+use Rattle.std.proofs.Common.{◌≡◌, ◌+◌, ◌<◌, ◌≤◌, ◌++◌, ◌∷◌, [], true, length, take, slice_get, Some, All, sym, ap, ◌∙◌, subst, arith}
 use Rattle.std.proofs.lemmas.List.{length-map, length-take-le, take_all, take_more}
+use Rattle.std.proofs.lemmas.Option.{slice_get-get_or}
+use Rattle.vcp_base.specs.Code.{admits}
 use Rattle.op_graph.specs.declared.op.Var.{Var}
 use Rattle.op_graph.specs.Lists.{Lists}
 use Rattle.flat_expr.specs.Begin.{entered, held_from, inputs_from}
@@ -19,6 +21,14 @@ enter-requires-clause-rises c =
     subst (λ l. All (λ (v : Var). v.name < c.slots.i) l) (sym (ap (λ (g : Lists). g.inputs) e))
     (subst (λ n. All (λ (v : Var). v.name < n) (inputs_from 0 (take c.slots.i c.args.slots.now))) (length-take-le c.slots.i c.args.slots.now le)
     (names_rise (take c.slots.i c.args.slots.now)))
+
+pub enter-requires-clause-code : goal.enter-requires-clause-code
+enter-requires-clause-code c =
+    let s = c.index-slots-i.result in
+    let slots = c.args.slots.now in
+    let there : slice_get slots c.slots.i ≡ Some s = slice_get-get_or slots c.slots.i s c.slots-test.true ∙ ap Some (sym c.index-slots-i.is) in
+    let profile = ap (λ (g : Lists). g.profile) c.slots.invariant.graph in
+    subst (λ p. admits p s.ty ≡ true) (sym profile) (c.requires.code c.slots.i s there)
 
 pub slots-preserved : goal.slots-preserved
 slots-preserved c =
