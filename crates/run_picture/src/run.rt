@@ -1,9 +1,11 @@
 //! A run as it was printed.
 
-ghost use Rattle.std.specs.Prelude.{◌≡◌, ◌≢◌, ◌<◌, ◌≤◌, length, slice_get, Ok, Err, Some, IfOk, IfErr};
+ghost use Rattle.std.specs.Prelude.{◌≡◌, ◌≢◌, ◌<◌, ◌≤◌, ℕ, List, length, slice_get, Ok, Err, Some, IfOk, IfErr};
+ghost use Rattle.csv.specs.Reading.{records, default_config, strip_bom};
 ghost use Rattle.vcp_base.specs.Limits.{most_cycles, most_names};
+ghost use Rattle.run_picture.specs.Answers.{Answers};
 ghost use Rattle.run_picture.specs.Drawn.{value_at};
-ghost use Rattle.run_picture.specs.RunOf.{run_of, ends_a_line as ends_a_line_of};
+ghost use Rattle.run_picture.specs.RunOf.{run_of, run_of_records, ends_a_line as ends_a_line_of};
 
 use crate::ending::Ending;
 use crate::fault::RunTextFault;
@@ -18,7 +20,6 @@ use vcp_base::{Text, Words};
 
 /// A run: the names of its outputs, at most 1,024; the values of each cycle, at most 1,000,000, in the
 /// order of the names; and how it ended.
-#[derive(Drop)]
 pub struct Run {
     names: Words,
     rows: RowTable,
@@ -38,11 +39,52 @@ impl Model for Run {
     ghost invariant = { λ r. (length r.names ≤ most_names) × (length r.rows ≤ most_cycles) × HasWidth (length r.names) r.rows };
 }
 
+impl Drop for Run {
+    fn drop(self) {
+        let Run {
+            names: _,
+            rows: _,
+            ending: _,
+        } = self;
+    }
+}
+
 // Whether the last byte is LF.
 fn ends_a_line(text: &[u8]) -> bool
     ensures { result ≡ ends_a_line_of text.now }
 {
     !text.is_empty() && text[text.len() - 1] == b'\n'
+}
+
+/// The run that records tell, each of which is read into `cells`.
+fn read_records(
+    alloc: Global,
+    records: &mut Records<'_>,
+    cells: &mut ByteRecord,
+) -> Result<Run, RunTextFault>
+    ensures { (left : List (List (List ℕ))) → records.old.left ≡ Some left → Answers (run_of_records left) result }
+{
+    if !records.next(cells)? {
+        return Err(RunTextFault::Header);
+    }
+    let names = names(alloc, cells)?;
+    match read_lines(alloc, records, cells, names.len() as u32) {
+        Ok((rows, ending)) => Ok(Run {
+            names,
+            rows,
+            ending,
+        }),
+        Err(fault) => Err(fault),
+    }
+}
+
+/// The run that the records of a text tell.
+fn read_text(alloc: Global, text: &[u8]) -> Result<Run, RunTextFault>
+    ensures { Answers (run_of_records (records default_config (strip_bom text.now))) result }
+{
+    let mut records = Records::new(alloc, text);
+    let mut cells = ByteRecord::new(alloc);
+    read_records(alloc, &mut records, &mut cells)
 }
 
 /// The run that a text tells. `Memory` where there is no room for it: a value takes 8 bytes, and a row
@@ -56,21 +98,16 @@ pub fn read_run(alloc: Global, text: &[u8]) -> Result<Run, RunTextFault>
     ensures run { IfOk result (λ run. run_of text.now ≡ Ok run) }
     ensures fault { IfErr result (λ f. f ≢ RunTextFault.Memory → run_of text.now ≡ Err f) }
 {
-    let mut records = Records::new(alloc, text);
-    let mut cells = ByteRecord::new(alloc);
-    if !records.next(&mut cells)? {
-        return Err(RunTextFault::Header);
+    match read_text(alloc, text) {
+        Ok(run) => {
+            if ends_a_line(text) {
+                Ok(run)
+            } else {
+                Err(RunTextFault::Cut)
+            }
+        }
+        Err(fault) => Err(fault),
     }
-    let names = names(alloc, &cells)?;
-    let (rows, ending) = read_lines(alloc, &mut records, &mut cells, names.len() as u32)?;
-    if !ends_a_line(text) {
-        return Err(RunTextFault::Cut);
-    }
-    Ok(Run {
-        names,
-        rows,
-        ending,
-    })
 }
 
 impl Run {

@@ -1,0 +1,11 @@
+use Rattle.std.proofs.Common.{rules, w64, SFits}
+use Rattle.std.proofs.lemmas.Int.{to_z-of_z}
+use Rattle.run_picture.proofs.lanes.then_ramp.Goals as goal
+
+pub returns : goal.returns
+returns g c =
+    let first : SFits w64 c.args.stretch.first = search rules in
+    let last : SFits w64 c.args.stretch.last = search rules in
+    let drawn = rw (c.height_by-from.ensures, c.height_by-to.ensures, c.start.ensures.begin, c.start-2.ensures.begin) at c.then_element.ensures in
+    let begun = rw (to_z-of_z w64 c.args.stretch.first first) at drawn in
+    rw (to_z-of_z w64 c.args.stretch.last last) at begun
