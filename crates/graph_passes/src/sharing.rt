@@ -76,7 +76,6 @@ fn done_by(op: &Op, numbers: &[u32]) -> Work
 }
 
 /// What the operations do that were kept and may be joined to, each with the operation's new number.
-#[derive(Drop)]
 struct Firsts {
     firsts: IndexMap<Work, u32>,
 }
@@ -88,6 +87,12 @@ impl Model for Firsts {
     ghost Value = { List (Work × ℕ) };
 
     ghost view = { λ t. t.firsts.entries };
+}
+
+impl Drop for Firsts {
+    fn drop(self) {
+        let Firsts { firsts: _ } = self;
+    }
 }
 
 impl Firsts {
