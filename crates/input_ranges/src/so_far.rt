@@ -14,7 +14,6 @@ use std::marker::Model;
 use vcp_base::{Columns, Memory, Ty, greatest, is_same_name, least};
 
 /// A range for each input, and which of them no record has named.
-#[derive(Drop)]
 pub(crate) struct SoFar {
     ranges: Vec<Range>,
     free: Vec<bool>,
@@ -26,6 +25,12 @@ impl Model for SoFar {
     ghost Value = { RangesSoFar };
 
     ghost view = { λ s. record { ranges = s.ranges.items; free = s.free.items } };
+}
+
+impl Drop for SoFar {
+    fn drop(self) {
+        let SoFar { ranges: _, free: _ } = self;
+    }
 }
 
 /// All values of a type.
@@ -92,7 +97,8 @@ impl SoFar {
     pub(crate) fn into_ranges(self) -> Vec<Range>
         ensures { result.items ≡ self.ranges }
     {
-        self.ranges
+        let SoFar { ranges, free: _ } = self;
+        ranges
     }
 
     /// What is known with a range of the input at place `i`, which is named then.
@@ -101,8 +107,10 @@ impl SoFar {
         requires free { i < length self.free }
         ensures { result ≡ record { ranges = slice_set self.ranges i range; free = slice_set self.free i false } }
     {
-        let mut ranges = self.ranges;
-        let mut free = self.free;
+        let SoFar {
+            mut ranges,
+            mut free,
+        } = self;
         ranges[i] = range;
         free[i] = false;
         SoFar { ranges, free }
