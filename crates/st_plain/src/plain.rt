@@ -20,7 +20,6 @@ use vcp_base::{Memory, Row, Turns};
 use vcp_typed::{Typed, causes_of_stops, values_fit};
 
 /// The evaluator of a checked program on plain values. After a stop it gives that stop for good.
-#[derive(Drop)]
 pub struct Plain<'p> {
     program: &'p Typed,
     /// The values of all slots between two cycles.
@@ -31,6 +30,19 @@ pub struct Plain<'p> {
     stop: Option<Stop>,
     turns: Turns,
     alloc: Global,
+}
+
+impl Drop for Plain<'_> {
+    fn drop(self) {
+        let Plain {
+            program: _,
+            values: _,
+            working: _,
+            stop: _,
+            turns: _,
+            alloc: _,
+        } = self;
+    }
 }
 
 impl<'p> Model for Plain<'p> {

@@ -20,10 +20,18 @@ use vcp_typed::{TArm, TBranch, TLabel, TStmt, TStmts, next_value, trees_of_nodes
 
 /// What a cycle works on: the values of the slots so far, and the turns in which it is, outermost
 /// first. After a stop the turns are those round it.
-#[derive(Drop)]
 pub struct Working {
     pub values: Row,
     pub turns: Vec<Turn>,
+}
+
+impl Drop for Working {
+    fn drop(self) {
+        let Working {
+            values: _,
+            turns: _,
+        } = self;
+    }
 }
 
 impl Working {
