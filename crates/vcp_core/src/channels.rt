@@ -22,6 +22,7 @@ use machine_run::RunFault;
 use pair_channel::{PairEnd, run_beside};
 use signature_table::Table;
 use std::alloc::Global;
+use vcp_base::Memory;
 use vcp_inputs::Image;
 use vcp_outside::Sink;
 
@@ -60,7 +61,12 @@ pub fn run_channels<U: Unit, O: Sink>(
         (moment (U.seen unit.old) (O.seen out.old)) (moment (U.seen unit.new) (O.seen out.new)) result }
     ensures causes { HasCauses (moment (U.seen unit.old) (O.seen out.old)) (moment (U.seen unit.new) (O.seen out.new)) result }
 {
-    let other = Table::new(alloc, &image.graph, seed, image.table.step())?;
-    let last = run_beside(alloc, &image.graph, &image.table, &other, rows, unit, out)?;
-    Ok(ending_of(&last))
+    let other = match Table::new(alloc, &image.graph, seed, image.table.step()) {
+        Ok(other) => other,
+        Err(Memory) => return Err(RunFault::Memory),
+    };
+    match run_beside(alloc, &image.graph, &image.table, &other, rows, unit, out) {
+        Ok(last) => Ok(ending_of(&last)),
+        Err(fault) => Err(fault),
+    }
 }

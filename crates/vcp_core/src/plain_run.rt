@@ -80,14 +80,14 @@ fn print_cycle<O: Sink>(
     values_fit();
     turns_name_slots();
     match plain.cycle(inputs, outputs) {
-        Ok(()) => {
-            row_line(out, cycle, outputs)?;
-            Ok(true)
-        }
-        Err(stop) => {
-            stop_line(out, cycle, stop.kind, stop.spot, plain.turns(), names)?;
-            Ok(false)
-        }
+        Ok(()) => match row_line(out, cycle, outputs) {
+            Ok(()) => Ok(true),
+            Err(Failed) => Err(Failed),
+        },
+        Err(stop) => match stop_line(out, cycle, stop.kind, stop.spot, plain.turns(), names) {
+            Ok(()) => Ok(false),
+            Err(Failed) => Err(Failed),
+        },
     }
 }
 
@@ -117,13 +117,16 @@ fn print_cycles<O: Sink>(
 {
     let mut count: u32 = 0;
     'cycles: while rows.next(alloc, inputs)? {
-        if !print_cycle(plain, count, names, inputs, outputs, out)? {
-            return Ok(Ending::Stopped);
+        match print_cycle(plain, count, names, inputs, outputs, out) {
+            Ok(true) => count += 1,
+            Ok(false) => return Ok(Ending::Stopped),
+            Err(Failed) => return Err(RunFault::Write),
         }
-        count += 1;
     }
-    end_line(out, count)?;
-    Ok(Ending::Done)
+    match end_line(out, count) {
+        Ok(()) => Ok(Ending::Done),
+        Err(Failed) => Err(RunFault::Write),
+    }
 }
 
 /// Prints a program's own run on the rows that are left: the header, a line for each cycle as its row
@@ -142,9 +145,14 @@ pub fn print_run<O: Sink>(
     ensures write { result ≡ Err fault.Write → Rose (O.seen out.old).faults (O.seen out.new).faults }
     ensures stayed { result ≢ Err fault.Write → (O.seen out.new).faults ≡ (O.seen out.old).faults }
 {
-    let columns = program.output_columns(alloc)?;
-    let names = slot_names(alloc, &program.slots().items)?;
-    print_named(alloc, program, &columns, &names, rows, out)
+    let columns = match program.output_columns(alloc) {
+        Ok(columns) => columns,
+        Err(Memory) => return Err(RunFault::Memory),
+    };
+    match slot_names(alloc, &program.slots().items) {
+        Ok(names) => print_named(alloc, program, &columns, &names, rows, out),
+        Err(Memory) => Err(RunFault::Memory),
+    }
 }
 
 /// The same under the columns of the program's outputs and the names of its slots.
@@ -166,8 +174,14 @@ fn print_named<O: Sink>(
     ensures write { result ≡ Err fault.Write → Rose (O.seen out.old).faults (O.seen out.new).faults }
     ensures stayed { result ≢ Err fault.Write → (O.seen out.new).faults ≡ (O.seen out.old).faults }
 {
-    let mut inputs = input_zeros(alloc, program)?;
-    let mut outputs = zeros(alloc, columns)?;
+    let mut inputs = match input_zeros(alloc, program) {
+        Ok(row) => row,
+        Err(Memory) => return Err(RunFault::Memory),
+    };
+    let mut outputs = match zeros(alloc, columns) {
+        Ok(row) => row,
+        Err(Memory) => return Err(RunFault::Memory),
+    };
     match Plain::new(alloc, program) {
         Ok(mut plain) => print_begun(
             alloc,
@@ -208,6 +222,8 @@ fn print_begun<O: Sink>(
     ensures stayed { result ≢ Err fault.Write → (O.seen out.new).faults ≡ (O.seen out.old).faults }
 {
     values_fit();
-    header_line(out, columns)?;
-    print_cycles(alloc, plain, names, rows, inputs, outputs, out)
+    match header_line(out, columns) {
+        Ok(()) => print_cycles(alloc, plain, names, rows, inputs, outputs, out),
+        Err(Failed) => Err(RunFault::Write),
+    }
 }

@@ -134,7 +134,10 @@ pub fn run_printed<U: Unit, O: Sink, R: ReleasedRows, P: Printed<R>>(
 {
     let _rules = graph.len();
     let _ranges = table.step();
-    let outputs = graph.output_columns(alloc)?;
+    let outputs = match graph.output_columns(alloc) {
+        Ok(outputs) => outputs,
+        Err(Memory) => return Err(RunFault::Memory),
+    };
     match Machine::new(alloc, graph, table) {
         Ok(mut machine) => run_machine(
             alloc,
@@ -208,7 +211,12 @@ pub fn run_program<U: Unit, O: Sink, R: ReleasedRows, P: Printed<R>>(
         (moment (U.seen unit.old) (O.seen out.old)) (moment (U.seen unit.new) (O.seen out.new)) result }
     ensures causes { HasCauses (moment (U.seen unit.old) (O.seen out.old)) (moment (U.seen unit.new) (O.seen out.new)) result }
 {
-    let graph = graph_of(alloc, program)?;
-    let table = Table::new(alloc, &graph, code.seed, code.step)?;
-    run_printed(alloc, &graph, &table, rows, unit, out, printed, released)
+    let graph = match graph_of(alloc, program) {
+        Ok(graph) => graph,
+        Err(Memory) => return Err(RunFault::Memory),
+    };
+    match Table::new(alloc, &graph, code.seed, code.step) {
+        Ok(table) => run_printed(alloc, &graph, &table, rows, unit, out, printed, released),
+        Err(Memory) => Err(RunFault::Memory),
+    }
 }

@@ -1,5 +1,4 @@
 use Rattle.std.proofs.Common.{◌≡◌, inl, refl, sym, ap, ◌∙◌, Ok}
-use Rattle.std.proofs.lemmas.Result.{err_from_is_err_and}
 use Rattle.signature_table.specs.Signatures.{Numbers}
 use Rattle.vcp_core.specs.declared.ending.Ending.TheVariants as ending
 use Rattle.vcp_core.specs.Tasks.{pair_job}
@@ -14,50 +13,44 @@ pub run_beside-requires-clause-table : goal.run_beside-requires-clause-table
 run_beside-requires-clause-table g c = table-is-of c.args.image.now.table c.args.image.now.graph c.requires.table
 
 pub run_beside-requires-clause-seeds : goal.run_beside-requires-clause-seeds
-run_beside-requires-clause-seeds g c = λ same. c.requires.apart (sym (same ∙ ap (λ (t : Numbers). t.seed) c.in_ok-other.ensures.numbers))
+run_beside-requires-clause-seeds g c = λ same. c.requires.apart (sym (same ∙ ap (λ (t : Numbers). t.seed) c.in-Ok.ensures.numbers))
 
 -- ---- memory was wanted, or the run was given up
 
-pub returns-in_err-other-clause-ran : goal.returns-in_err-other-clause-ran
-returns-in_err-other-clause-ran g c name =
-    let q = err_from_is_err_and c.from_residual.result c.from_residual.ensures.1 in
-    rw (q.1, q.2) (inl (still _))
-
-pub returns-in_err-last-clause-ran : goal.returns-in_err-last-clause-ran
-returns-in_err-last-clause-ran g c name =
-    let q = err_from_is_err_and c.from_residual-in_err-last.result c.from_residual-in_err-last.ensures.1 in
-    rw (q.1, q.2) (gave_up (pair_job name c.args.image.now c.args.rows.now) _ _ c.in_err-last.field-0.0 c.requires.behind c.in_err-last.ensures.ran)
-
--- ---- causes
-
-pub returns-in_err-other-clause-causes : goal.returns-in_err-other-clause-causes
-returns-in_err-other-clause-causes g c =
-    let q = err_from_is_err_and c.from_residual.result c.from_residual.ensures.1 in
-    rw (q.1, q.2) (failed-causes _ _ given_up.Memory (λ is. absurd cc) (λ no. refl))
-
-pub returns-in_err-last-clause-causes : goal.returns-in_err-last-clause-causes
-returns-in_err-last-clause-causes g c =
-    let q = err_from_is_err_and c.from_residual-in_err-last.result c.from_residual-in_err-last.ensures.1 in
-    rw (q.1, q.2)
-    (failed-causes _ _ c.in_err-last.field-0.0
-    (wrote c.args.image.now.graph c.args.image.now.table c.args.rows.now _ _ c.in_err-last.field-0.0 c.in_err-last.ensures.ran)
-    (λ no. c.in_err-last.ensures.stayed (λ e. no cc)))
-
--- ---- it came to its end
+pub returns-in-Err-clause-ran : goal.returns-in-Err-clause-ran
+returns-in-Err-clause-ran g c name = inl (still _)
 
 pub returns-clause-ran : goal.returns-clause-ran
 returns-clause-ran g c name =
-    came_to_end (pair_job name c.args.image.now c.args.rows.now) _ _ c.in_ok-last.last c.ending_of.result c.ending_of.ensures.status c.in_ok-last.ensures.ran
+    let gone = c.in-Err-run_beside in
+    gave_up (pair_job name c.args.image.now c.args.rows.now) _ _ gone.fault c.requires.behind gone.ensures.ran
+
+-- ---- causes
+
+pub returns-in-Err-clause-causes : goal.returns-in-Err-clause-causes
+returns-in-Err-clause-causes g c = failed-causes _ _ given_up.Memory (λ is. absurd cc) (λ no. refl)
 
 pub returns-clause-causes : goal.returns-clause-causes
-returns-clause-causes g c = record {
+returns-clause-causes g c =
+    let gone = c.in-Err-run_beside in
+    failed-causes _ _ gone.fault (wrote c.args.image.now.graph c.args.image.now.table c.args.rows.now _ _ gone.fault gone.ensures.ran)
+    (λ no. gone.ensures.stayed (λ e. no cc))
+
+-- ---- it came to its end
+
+pub returns-in-Ok-run_beside-clause-ran : goal.returns-in-Ok-run_beside-clause-ran
+returns-in-Ok-run_beside-clause-ran g c name =
+    came_to_end (pair_job name c.args.image.now c.args.rows.now) _ _ c.in-Ok-run_beside.last c.ending_of.result c.ending_of.ensures.status c.in-Ok-run_beside.ensures.ran
+
+pub returns-in-Ok-run_beside-clause-causes : goal.returns-in-Ok-run_beside-clause-causes
+returns-in-Ok-run_beside-clause-causes g c = record {
   write = λ is. absurd cc;
   refused = λ is.
       let same : c.ending_of.result ≡ ending.Refused = cc in
-      c.in_ok-last.ensures.ran.0.rose (c.ending_of.ensures.refused same);
+      c.in-Ok-run_beside.ensures.ran.0.rose (c.ending_of.ensures.refused same);
   stopped = λ is.
       let same : c.ending_of.result ≡ ending.Stopped = cc in
       let (op, why, last) = c.ending_of.ensures.stopped same in
-      (op, why, c.in_ok-last.ensures.stopped op why (ap Ok last));
-  stayed = λ no. c.in_ok-last.ensures.stayed (λ e. cc);
+      (op, why, c.in-Ok-run_beside.ensures.stopped op why (ap Ok last));
+  stayed = λ no. c.in-Ok-run_beside.ensures.stayed (λ e. cc);
 }

@@ -29,8 +29,8 @@ stop_line-requires g c =
     (named e.program.slots _ _ (c.turns_name_slots.ensures.cycle e.program e.values c.args.inputs.now c.requires.checked)
     (goes e c.args.inputs.now _ c.requires.going c.in-Err.ensures.stop))
 
-pub returns-in_ok-row_line-in-Ok-clause-cells : goal.returns-in_ok-row_line-in-Ok-clause-cells
-returns-in_ok-row_line-in-Ok-clause-cells g c = λ _.
+pub returns-in-Ok-row_line-clause-cells : goal.returns-in-Ok-row_line-clause-cells
+returns-in-Ok-row_line-clause-cells g c = λ _.
     let e = c.args.plain.now in
     let is = goes e c.args.inputs.now _ c.requires.going c.in-Ok.ensures.values in
     let Fits : Result (List ℤ) Stop → Type 0 = λ r. IfOk r (AreFit e.program.slots) in

@@ -1,6 +1,5 @@
-use Rattle.std.proofs.Common.{◌≡◌, ◌≤◌, ℕ, ℤ, suc, Ok, Err, List, ◌∷◌, sym, ap, subst, ◌∙◌, arith}
+use Rattle.std.proofs.Common.{◌≡◌, ◌≤◌, ℕ, ℤ, suc, Ok, Err, List, ◌∷◌, refl, sym, ap, subst, ◌∙◌, arith}
 use Rattle.std.specs.Prelude.{All}
-use Rattle.std.proofs.lemmas.Result.{err_from_is_err_and}
 use Rattle.vcp_base.specs.Types.{AreIn}
 use Rattle.vcp_typed.specs.Fitting.{input_types}
 use Rattle.vcp_outside.specs.Counts.{Rose}
@@ -23,37 +22,33 @@ rows-behind P before left row taken h = λ k d below.
 rose-later : (f g h : ℕ) → f ≤ g → Rose g h → Rose f h
 rose-later f g h later rose = omega (arith, later, rose)
 
-pub returns-in_err-print_cycle-clause-prints : goal.returns-in_err-print_cycle-clause-prints
-returns-in_err-print_cycle-clause-prints g c =
-    let p = err_from_is_err_and c.from_residual-in_err-print_cycle.result c.from_residual-in_err-print_cycle.ensures.1 in
-    let part = rw c.cycles.invariant.program at c.in_err-print_cycle.ensures.line.part in
-    rw (p.1, p.2)
+pub returns-in-Err-clause-prints : goal.returns-in-Err-clause-prints
+returns-in-Err-clause-prints g c =
+    let part = rw c.cycles.invariant.program at c.in-Err.ensures.line.part in
     (going-ends c.args.plain.now.program c.args.plain.now.values c.args.rows.now (g.O.Sink.seen c.args.out.now).written (g.O.Sink.seen c.cycles.out).written
     (g.O.Sink.seen c.print_cycle.new.out).written c.cycles.count c.cycles.plain.values c.cycles.rows (Err fault.Write) c.cycles.invariant.going
     (fails-here c.args.plain.now.program c.cycles.count c.cycles.plain.values c.next.new.out c.cycles.rows c.next.new.self (g.O.Sink.seen c.cycles.out).written
     (g.O.Sink.seen c.print_cycle.new.out).written (c.in_ok-next.ensures.row c.if-branch.true) part))
 
-pub returns-in_err-print_cycle-clause-write : goal.returns-in_err-print_cycle-clause-write
-returns-in_err-print_cycle-clause-write g c = λ _. rose-later _ _ _ c.cycles.invariant.later c.in_err-print_cycle.ensures.line.cause.failed
+pub returns-in-Err-clause-write : goal.returns-in-Err-clause-write
+returns-in-Err-clause-write g c = λ _. rose-later _ _ _ c.cycles.invariant.later c.in-Err.ensures.line.cause.failed
 
-pub returns-in_err-end_line-clause-prints : goal.returns-in_err-end_line-clause-prints
-returns-in_err-end_line-clause-prints g c =
-    let p = err_from_is_err_and c.from_residual-in_err-end_line.result c.from_residual-in_err-end_line.ensures.1 in
+pub returns-in-Err-end_line-clause-prints : goal.returns-in-Err-end_line-clause-prints
+returns-in-Err-end_line-clause-prints g c =
     let none = c.in_ok-next.ensures.end c.if-branch.false in
-    rw (p.1, p.2)
     (going-ends c.args.plain.now.program c.args.plain.now.values c.args.rows.now (g.O.Sink.seen c.args.out.now).written (g.O.Sink.seen c.cycles.out).written
     (g.O.Sink.seen c.end_line.new.out).written c.cycles.count c.cycles.plain.values c.cycles.rows (Err fault.Write) c.cycles.invariant.going
     (end-fails c.args.plain.now.program c.cycles.count c.cycles.plain.values c.cycles.rows (g.O.Sink.seen c.cycles.out).written
-    (g.O.Sink.seen c.end_line.new.out).written (record { rows = none.0; refusal_is = none.1 }) c.in_err-end_line.ensures.part))
+    (g.O.Sink.seen c.end_line.new.out).written (record { rows = none.0; refusal_is = none.1 }) c.in-Err-end_line.ensures.part))
 
-pub returns-in_err-end_line-clause-write : goal.returns-in_err-end_line-clause-write
-returns-in_err-end_line-clause-write g c = λ _. rose-later _ _ _ c.cycles.invariant.later c.in_err-end_line.ensures.cause.failed
+pub returns-in-Err-end_line-clause-write : goal.returns-in-Err-end_line-clause-write
+returns-in-Err-end_line-clause-write g c = λ _. rose-later _ _ _ c.cycles.invariant.later c.in-Err-end_line.ensures.cause.failed
 
 pub cycles-preserved : goal.cycles-preserved
 cycles-preserved g c =
     let taken = c.in_ok-next.ensures.row c.if-branch.true in
-    let more = c.if-not-branch.false in
-    let here = c.in_ok-print_cycle.ensures in
+    let more = c.in-Ok-true.field-0-test in
+    let here = c.in-Ok-true.ensures in
     let program : c.print_cycle.new.plain.program ≡ c.args.plain.now.program = here.program ∙ c.cycles.invariant.program in
     record {
       program = program;
@@ -71,11 +66,11 @@ cycles-preserved g c =
           (rw c.cycles.invariant.program at (here.values more)) (rw c.cycles.invariant.program at here.line.whole);
     }
 
-pub returns-then-not-branch-clause-prints : goal.returns-then-not-branch-clause-prints
-returns-then-not-branch-clause-prints g c =
+pub returns-in-Ok-false-clause-prints : goal.returns-in-Ok-false-clause-prints
+returns-in-Ok-false-clause-prints g c =
     let p = c.args.plain.now.program in
-    let here = c.in_ok-print_cycle.ensures in
-    let stopped = here.stopped c.if-not-branch.true in
+    let here = c.in-Ok-false.ensures in
+    let stopped = here.stopped c.in-Ok-false.field-0-test in
     going-ends p c.args.plain.now.values c.args.rows.now (g.O.Sink.seen c.args.out.now).written (g.O.Sink.seen c.cycles.out).written
     (g.O.Sink.seen c.print_cycle.new.out).written c.cycles.count c.cycles.plain.values c.cycles.rows (Ok end.Stopped) c.cycles.invariant.going
     (stops-here p c.cycles.count c.cycles.plain.values c.next.new.out stopped.0 c.cycles.rows c.next.new.self (g.O.Sink.seen c.cycles.out).written
@@ -87,18 +82,14 @@ returns-then-not-branch-clause-prints g c =
 pub returns-in_err-next-clause-stayed : goal.returns-in_err-next-clause-stayed
 returns-in_err-next-clause-stayed g c = λ other. c.cycles.invariant.stayed
 
-pub returns-in_err-print_cycle-clause-stayed : goal.returns-in_err-print_cycle-clause-stayed
-returns-in_err-print_cycle-clause-stayed g c = λ other.
-    let p = err_from_is_err_and c.from_residual-in_err-print_cycle.result c.from_residual-in_err-print_cycle.ensures.1 in
-    absurd (other (p.1 ∙ ap Err p.2))
+pub returns-in-Err-clause-stayed : goal.returns-in-Err-clause-stayed
+returns-in-Err-clause-stayed g c = λ other. absurd (other refl)
 
-pub returns-then-not-branch-clause-stayed : goal.returns-then-not-branch-clause-stayed
-returns-then-not-branch-clause-stayed g c = λ other. c.in_ok-print_cycle.ensures.line.cause.stayed ∙ c.cycles.invariant.stayed
+pub returns-in-Ok-false-clause-stayed : goal.returns-in-Ok-false-clause-stayed
+returns-in-Ok-false-clause-stayed g c = λ other. c.in-Ok-false.ensures.line.cause.stayed ∙ c.cycles.invariant.stayed
 
-pub returns-in_err-end_line-clause-stayed : goal.returns-in_err-end_line-clause-stayed
-returns-in_err-end_line-clause-stayed g c = λ other.
-    let p = err_from_is_err_and c.from_residual-in_err-end_line.result c.from_residual-in_err-end_line.ensures.1 in
-    absurd (other (p.1 ∙ ap Err p.2))
+pub returns-in-Err-end_line-clause-stayed : goal.returns-in-Err-end_line-clause-stayed
+returns-in-Err-end_line-clause-stayed g c = λ other. absurd (other refl)
 
-pub returns-clause-stayed : goal.returns-clause-stayed
-returns-clause-stayed g c = λ other. c.in_ok-end_line.ensures.cause.stayed ∙ c.cycles.invariant.stayed
+pub returns-in-Ok-clause-stayed : goal.returns-in-Ok-clause-stayed
+returns-in-Ok-clause-stayed g c = λ other. c.in-Ok.ensures.cause.stayed ∙ c.cycles.invariant.stayed
