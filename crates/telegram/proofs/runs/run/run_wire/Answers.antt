@@ -271,3 +271,25 @@ returns-in_err-end_line-clause-stayed g c = λ other.
 
 pub returns-clause-stayed : goal.returns-clause-stayed
 returns-clause-stayed g c = λ other. c.in_ok-end_line.ensures.cause.stayed ∙ c.events.invariant.stayed
+
+-- ---- that count never falls
+
+pub returns-in_err-words-clause-later : goal.returns-in_err-words-clause-later
+returns-in_err-words-clause-later g c = omega arith
+
+pub returns-in_err-unsent_line-in-Cycle-clause-later : goal.returns-in_err-unsent_line-in-Cycle-clause-later
+returns-in_err-unsent_line-in-Cycle-clause-later g c =
+    omega (arith, c.events.invariant.faults, c.in_err-unsent_line-in-Cycle.ensures.cause.later)
+
+pub returns-in-Some-clause-later : goal.returns-in-Some-clause-later
+returns-in-Some-clause-later g c = omega (arith, c.events.invariant.faults, c.in_ok-unsent_line-in-Cycle.ensures.cause.later)
+
+pub returns-in_err-receipt_line-in-Deliver-clause-later : goal.returns-in_err-receipt_line-in-Deliver-clause-later
+returns-in_err-receipt_line-in-Deliver-clause-later g c =
+    omega (arith, c.events.invariant.faults, c.in_err-receipt_line-in-Deliver.ensures.cause.later)
+
+pub returns-in_err-end_line-clause-later : goal.returns-in_err-end_line-clause-later
+returns-in_err-end_line-clause-later g c = omega (arith, c.events.invariant.faults, c.in_err-end_line.ensures.cause.later)
+
+pub returns-clause-later : goal.returns-clause-later
+returns-clause-later g c = omega (arith, c.events.invariant.faults, c.in_ok-end_line.ensures.cause.later)
