@@ -73,7 +73,6 @@ impl Endings {
 }
 
 /// The same for each part of a campaign, in order. Seen as a list.
-#[derive(Drop)]
 pub struct EndingsOfParts {
     endings: Vec<Endings>,
 }
@@ -85,6 +84,12 @@ impl Model for EndingsOfParts {
     ghost Value = { List (List (Option SameEnding)) };
 
     ghost view = { λ e. e.endings.items };
+}
+
+impl Drop for EndingsOfParts {
+    fn drop(self) {
+        let EndingsOfParts { endings: _ } = self;
+    }
 }
 
 impl EndingsOfParts {

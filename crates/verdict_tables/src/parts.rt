@@ -15,7 +15,6 @@ use vcp_outside::{Line, Sink};
 pub const MOST_PARTS: u32 = 10_000;
 
 /// A part of a campaign: a script, and the verdicts of its groups.
-#[derive(Drop)]
 pub struct Part {
     /// The script.
     pub script: Script,
@@ -23,8 +22,16 @@ pub struct Part {
     pub verdicts: Verdicts,
 }
 
+impl Drop for Part {
+    fn drop(self) {
+        let Part {
+            script: _,
+            verdicts: _,
+        } = self;
+    }
+}
+
 /// The parts of a campaign, seen as a list.
-#[derive(Drop)]
 pub struct Parts {
     parts: Vec<Part>,
 }
@@ -36,6 +43,12 @@ impl Model for Parts {
     ghost Value = { List Part };
 
     ghost view = { λ p. p.parts.items };
+}
+
+impl Drop for Parts {
+    fn drop(self) {
+        let Parts { parts: _ } = self;
+    }
 }
 
 impl Parts {
