@@ -59,20 +59,14 @@ pub(crate) struct Left {
 
 impl Left {
     /// None.
-    fn new(alloc: Global) -> Left {
+    fn new(alloc: Global) -> Left
+        ensures { Leaves result [] }
+    {
         Left {
             runs: Vec::new(alloc),
             beyond: 0,
             lacked: false,
         }
-    }
-
-    /// Begins anew.
-    fn clear(&mut self)
-        ensures { Leaves self.new [] }
-    {
-        self.runs.clear();
-        self.beyond = 0;
     }
 
     /// One more that runs on.
@@ -259,8 +253,8 @@ fn add_lines(
 
 /// The lines of operation `k`.
 fn add_lines_at(
+    alloc: Global,
     lines: &mut Vec<LeftLine>,
-    left: &mut Left,
     nowhere: &mut MemSink,
     subject: &Subject<'_>,
     classes: &[CoverClass],
@@ -274,10 +268,10 @@ fn add_lines_at(
         → AreLinesAt (subject_of subject.now.graph.now subject.now.table.now subject.now.survey.now.horizon stops) classes.now k lines.old.items
         lines.new.items) }
 {
-    left.clear();
+    let mut left = Left::new(alloc);
     // Nothing is written.
     let mut line = Line::new();
-    then_faults_at(&mut line, nowhere, left, subject, classes, k);
+    then_faults_at(&mut line, nowhere, &mut left, subject, classes, k);
     if left.lacked {
         return Err(Memory);
     }
@@ -301,10 +295,9 @@ pub(crate) fn lines_left(
         (length subject.now.graph.now.operations) lines.items) }
 {
     let mut nowhere = MemSink::new(alloc, 0)?;
-    let mut left = Left::new(alloc);
     let mut lines = Vec::new(alloc);
     'operations: for k in 0..subject.graph.len() {
-        add_lines_at(&mut lines, &mut left, &mut nowhere, subject, classes, k)?;
+        add_lines_at(alloc, &mut lines, &mut nowhere, subject, classes, k)?;
     }
     Ok(lines)
 }

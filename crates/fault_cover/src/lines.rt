@@ -205,8 +205,7 @@ fn front(disturbance: &Disturbance) -> &'static [u8]
 fn then_number<O: Sink>(line: &mut Line, out: &mut O, n: u32, words: &[u8])
     ensures { GathersTo (O.seen out.old) (O.seen out.new) line.old line.new (codes " " ++ (decimal n ++ words.now)) }
 {
-    line.text(out, b" ");
-    line.count(out, n as u64);
+    then_counted(line, out, b" ", n as u64);
     line.text(out, words);
 }
 
@@ -214,10 +213,8 @@ fn then_number<O: Sink>(line: &mut Line, out: &mut O, n: u32, words: &[u8])
 fn then_numbers<O: Sink>(line: &mut Line, out: &mut O, n: u32, words: &[u8], m: u32)
     ensures { GathersTo (O.seen out.old) (O.seen out.new) line.old line.new (codes " " ++ (decimal n ++ (words.now ++ decimal m))) }
 {
-    line.text(out, b" ");
-    line.count(out, n as u64);
-    line.text(out, words);
-    line.count(out, m as u64);
+    then_counted(line, out, b" ", n as u64);
+    then_counted(line, out, words, m as u64);
 }
 
 /// Goes on with what is behind the operation of a fault.
@@ -238,8 +235,7 @@ fn then_single<O: Sink>(line: &mut Line, out: &mut O, k: u32, disturbance: &Dist
     ensures { GathersTo (O.seen out.old) (O.seen out.new) line.old line.new (single_text (fault_at k disturbance.now)) }
 {
     line.text(out, front(disturbance));
-    line.text(out, b"N ");
-    line.count(out, k as u64);
+    then_counted(line, out, b"N ", k as u64);
     then_back(line, out, disturbance);
 }
 
@@ -255,8 +251,7 @@ fn then_shows<O: Sink>(
 )
     ensures { GathersTo (O.seen out.old) (O.seen out.new) line.old line.new (shows_text graph.now (fault_at k disturbance.now) (told.Shows borders output)) }
 {
-    line.text(out, b"shows ");
-    line.count(out, borders as u64);
+    then_counted(line, out, b"shows ", borders as u64);
     line.text(out, b" ");
     line.text(out, variable_name(graph, Kind::Out, output as u64));
     line.text(out, b": ");
@@ -294,8 +289,7 @@ impl Listener for Showing {
 fn then_faults_of<O: Sink>(line: &mut Line, out: &mut O, graph: &Graph, k: u32, faults: u64)
     ensures { GathersTo (O.seen out.old) (O.seen out.new) line.old line.new (number_text graph.now k faults) }
 {
-    line.text(out, b": faults ");
-    line.count(out, faults);
+    then_counted(line, out, b": faults ", faults);
     line.text(out, b" of ");
     then_operation(line, out, graph, k);
     line.text(out, b"\n");
@@ -313,10 +307,8 @@ fn then_runs_on<O: Sink>(
 )
     ensures { GathersTo (O.seen out.old) (O.seen out.new) line.old line.new (line_text graph.now (LeftLine.RunsOn at borders op faults)) }
 {
-    line.text(out, b"runs-on ");
-    line.count(out, borders);
-    line.text(out, b" ");
-    line.count(out, op);
+    then_counted(line, out, b"runs-on ", borders);
+    then_counted(line, out, b" ", op);
     then_faults_of(line, out, graph, at, faults);
 }
 

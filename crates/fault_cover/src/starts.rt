@@ -118,8 +118,7 @@ pub(crate) fn readings(
     ensures { IfOk result (λ by_word. AreReadings graph.now by_word.items) }
 {
     let by_word = readings_of(alloc, graph, true)?;
-    let starts = starts_by_word(alloc, profile, &by_word)?;
-    Ok(starts)
+    starts_by_word(alloc, profile, &by_word)
 }
 
 /// The signature of what the LOAD of a cell reads: that of its STORE, less the step.

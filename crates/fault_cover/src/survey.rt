@@ -23,7 +23,6 @@ use weight_audit::{AuditFault, Weights};
 
 /// The weights of a graph up to a horizon, what is reached first from each operation, the readings of each operation's word, and what the later of
 /// them come to.
-#[derive(Drop)]
 pub struct Survey {
     pub(crate) horizon: u32,
     pub(crate) weights: Weights,
@@ -48,6 +47,20 @@ impl Model for Survey {
       readings = s.readings.items;
       rests = s.rests.items;
     } };
+}
+
+impl Drop for Survey {
+    fn drop(self) {
+        let Survey {
+            horizon: _,
+            weights: _,
+            outputs: _,
+            stops: _,
+            numbers: _,
+            readings: _,
+            rests: _,
+        } = self;
+    }
 }
 
 impl Survey {
@@ -162,8 +175,7 @@ fn first_outputs(alloc: Global, graph: &Graph) -> Result<Vec<Option<Nearest>>, M
 {
     let _operations = graph.len();
     let outs = are_outputs(alloc, graph)?;
-    let found = find_nearest(alloc, graph, &outs)?;
-    Ok(found)
+    find_nearest(alloc, graph, &outs)
 }
 
 /// Which operation that may stop is reached first from each operation.
@@ -174,8 +186,7 @@ fn first_stops(alloc: Global, graph: &Graph) -> Result<Vec<Option<Nearest>>, Mem
     let _operations = graph.len();
     let ranges = ranges_of(alloc, graph)?;
     let able = may_stop(alloc, ranges.stops())?;
-    let found = find_nearest(alloc, graph, &able)?;
-    Ok(found)
+    find_nearest(alloc, graph, &able)
 }
 
 /// The rest of a survey, where the weights are there.

@@ -129,11 +129,20 @@ fn then_tables<O: Sink>(line: &mut Line, out: &mut O, counts: &[ClassCount])
 }
 
 /// What a cover is written of.
-#[derive(Drop)]
 struct Found {
     counts: Vec<ClassCount>,
     all: Tally,
     lines: Vec<LeftLine>,
+}
+
+impl Drop for Found {
+    fn drop(self) {
+        let Found {
+            counts: _,
+            all: _,
+            lines: _,
+        } = self;
+    }
 }
 
 /// What a cover is written of. All memory is taken here.

@@ -3,8 +3,4 @@ use Rattle.fault_cover.proofs.lines.then_faults_of.Goals as goal
 
 pub returns : goal.returns
 returns g c =
-    and_then c.text.ensures.gathers
-    (and_then c.count.ensures.gathers
-    (and_then c.text-2.ensures.gathers
-    (and_then c.then_operation.ensures
-    (c.text-3.ensures.gathers))))
+    and_then c.then_counted.ensures (and_then c.text.ensures.gathers (and_then c.then_operation.ensures c.text-2.ensures.gathers))

@@ -2,8 +2,4 @@ use Rattle.fault_cover.proofs.Going.{and_then}
 use Rattle.fault_cover.proofs.lines.then_numbers.Goals as goal
 
 pub returns : goal.returns
-returns g c =
-    and_then c.text.ensures.gathers
-    (and_then c.count.ensures.gathers
-    (and_then c.text-2.ensures.gathers
-    (c.count-2.ensures.gathers)))
+returns g c = and_then c.then_counted.ensures c.then_counted-2.ensures
