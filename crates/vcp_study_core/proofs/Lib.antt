@@ -14,3 +14,4 @@ mod SumWords
 mod Tables
 mod TextFaults
 mod Weights
+mod WordForms
