@@ -97,3 +97,47 @@ returns-in_default-clause-ran g c =
     (subst (λ (xs : List Answer). Comes (source b xs there.0) c.answer_again.result before.log after.log before.wrong after.wrong) c.deref.ensures.value
     (c.answer_again.ensures there.0 (ap (λ (xs : List Answer). slice_get ops (length xs)) c.deref.ensures.value ∙ there.1))) in
     ends b (length own) own there.0 first.log before.log after.log first.wrong before.wrong after.wrong there.1 i.midway comes
+
+pub copy_untouched-requires-clause-few : goal.copy_untouched-requires-clause-few
+copy_untouched-requires-clause-few g c = omega (arith, ap length c.requires.empty)
+
+pub append-requires : goal.append-requires
+append-requires g c =
+    let i = c.operations.invariant in
+    omega (arith, i.room, i.all, c.requires.room, c.len.ensures, c.operations-test.true)
+
+pub returns-in_default-clause-few : goal.returns-in_default-clause-few
+returns-in_default-clause-few g c = c.operations.invariant.few
+
+pub returns-in_default-clause-capacity : goal.returns-in_default-clause-capacity
+returns-in_default-clause-capacity g c = c.operations.invariant.room
+
+pub returns-then-not-is_word-clause-few : goal.returns-then-not-is_word-clause-few
+returns-then-not-is_word-clause-few g c =
+    let longer = ap length c.append.ensures.items ∙ length-append c.operations.own.items (c.in-Some.answer ∷ []) in
+    omega (arith, longer, c.operations.invariant.all, c.len.ensures, c.operations-test.true)
+
+pub returns-then-not-is_word-clause-capacity : goal.returns-then-not-is_word-clause-capacity
+returns-then-not-is_word-clause-capacity g c = omega (arith, c.operations.invariant.room, c.append.ensures.capacity)
+
+pub copy_untouched-requires-in-operations-clause-few : goal.copy_untouched-requires-in-operations-clause-few
+copy_untouched-requires-in-operations-clause-few g c =
+    let longer = ap length c.append.ensures.items ∙ length-append c.operations.own.items (c.in-Some.answer ∷ []) in
+    omega (arith, longer, c.operations.invariant.all, c.len.ensures, c.operations-test.true)
+
+pub copy_untouched-requires-in-operations-clause-room : goal.copy_untouched-requires-in-operations-clause-room
+copy_untouched-requires-in-operations-clause-room g c = omega (arith, c.operations.invariant.room, c.requires.room, c.append.ensures.capacity)
+
+pub operations-smaller : goal.operations-smaller
+operations-smaller g c =
+    let longer = ap length c.append.ensures.items ∙ length-append c.operations.own.items (c.in-Some.answer ∷ []) in
+    omega (arith, longer, c.copy_untouched-in-operations.ensures.longer, c.operations.invariant.all, c.len.ensures, c.operations-test.true)
+
+pub returns-clause-words : goal.returns-clause-words
+returns-clause-words g c = λ _. c.operations.invariant.words
+
+pub returns-clause-few : goal.returns-clause-few
+returns-clause-few g c = c.operations.invariant.few
+
+pub returns-clause-capacity : goal.returns-clause-capacity
+returns-clause-capacity g c = c.operations.invariant.room
