@@ -1,6 +1,6 @@
 //! The run without faults.
 
-ghost use Rattle.std.specs.Prelude.{◌≡◌, ◌<◌, ◌≤◌, ◌++◌, [], Some, All, IfOk, OnErr, drop, length, slice_get, slice_index_or};
+ghost use Rattle.std.specs.Prelude.{◌≡◌, ◌<◌, ◌≤◌, ◌*◌, ◌++◌, [], Some, All, IfOk, OnErr, drop, length, slice_get, slice_index_or, vec_capacity};
 ghost use Rattle.vcp_base.specs.Limits.{most_cycles};
 ghost use Rattle.coded_unit.specs.Seen.{StaysHonest};
 ghost use Rattle.signature_table.specs.Signatures.{IsTableOf};
@@ -54,6 +54,33 @@ impl<'a> Model for Reference<'a> {
     }) r.kept.whole (length r.kept.words.items) };
 }
 
+/// What a run is carried with: the values of the inputs and of the outputs, and room for all words.
+#[derive(Drop)]
+struct RunRoom {
+    inputs: Row,
+    outputs: Row,
+    words: Vec<Word>,
+}
+
+/// Room for the run of a graph over these rows.
+fn run_room(alloc: Global, graph: &Graph, rows: &RowList) -> Result<RunRoom, Memory>
+    requires { length rows.now ≤ most_cycles }
+    ensures inputs { IfOk result (λ r. length r.inputs ≡ length graph.now.inputs) }
+    ensures outputs { IfOk result (λ r. length r.outputs ≡ length graph.now.outputs) }
+    ensures empty { IfOk result (λ r. r.words.items ≡ []) }
+    ensures room { IfOk result (λ r. length rows.now * length graph.now.operations ≤ vec_capacity r.words) }
+{
+    let operations = graph.len() as usize;
+    let inputs = Row::zeros(alloc, graph.inputs())?;
+    let outputs = Row::zeros(alloc, graph.outputs())?;
+    let words = Vec::with_capacity(alloc, rows.len() * operations)?;
+    Ok(RunRoom {
+        inputs,
+        outputs,
+        words,
+    })
+}
+
 /// The answers of one cycle: its words, and behind them the stop of an operation, where one stopped.
 #[derive(Clone, Copy)]
 pub struct CycleAnswers<'r> {
@@ -87,19 +114,29 @@ impl<'a> Reference<'a> {
         ensures err { OnErr result (unit.new ≡ unit.old) }
     {
         // The rules of the graph and of the table are kept.
-        let operations = graph.len() as usize;
+        let _operations = graph.len();
         let _step = table.step();
-        let mut machine = Machine::new(alloc, graph, table)?;
-        let mut inputs = Row::zeros(alloc, graph.inputs())?;
-        let mut outputs = Row::zeros(alloc, graph.outputs())?;
-        let words = Vec::with_capacity(alloc, rows.len() * operations)?;
-        let kept = keep_run(&mut machine, rows, &mut inputs, &mut outputs, words, unit);
-        Ok(Reference {
-            graph,
-            table,
-            rows,
-            kept,
-        })
+        match run_room(alloc, graph, rows) {
+            Ok(
+                RunRoom {
+                    mut inputs,
+                    mut outputs,
+                    words,
+                },
+            ) => match Machine::new(alloc, graph, table) {
+                Ok(mut machine) => {
+                    let kept = keep_run(&mut machine, rows, &mut inputs, &mut outputs, words, unit);
+                    Ok(Reference {
+                        graph,
+                        table,
+                        rows,
+                        kept,
+                    })
+                }
+                Err(why) => Err(why),
+            },
+            Err(why) => Err(why),
+        }
     }
 
     /// The graph.
