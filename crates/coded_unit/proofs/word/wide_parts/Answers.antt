@@ -1,5 +1,5 @@
 use Rattle.std.proofs.Common.{arith, ◌≡◌, pos, ◌+ℤ◌, ◌*ℤ◌, ◌^◌}
-use Rattle.std.proofs.lemmas.Int.{to_z-of_z}
+use Rattle.std.proofs.lemmas.Int.{ints, to_z-of_z}
 use Rattle.coded_unit.proofs.Modular.{wide_split, cut_twice}
 use Rattle.coded_unit.proofs.word.wide_parts.Goals as goal
 
@@ -28,3 +28,33 @@ returns-clause-residue c =
     grind (arith, to_z-of_z) in
     (wide_split c.args.code c.step_to.result.0 c.step_to.result.1 c.step_to.ensures.below
     (cut_twice c.args.code h l m r c.step_to.result.0 c.step_to.result.1 first more stepped)).1
+
+pub plus-requires-clause-second : goal.plus-requires-clause-second
+plus-requires-clause-second c = omega (arith, ints)
+
+pub plus-requires-2-clause-first : goal.plus-requires-2-clause-first
+plus-requires-2-clause-first c = omega (arith, ints)
+
+pub plus-requires-2-clause-second : goal.plus-requires-2-clause-second
+plus-requires-2-clause-second c = omega (arith, ints)
+
+pub plus-requires-3-clause-first : goal.plus-requires-3-clause-first
+plus-requires-3-clause-first c = omega (arith, ints)
+
+pub plus-requires-3-clause-second : goal.plus-requires-3-clause-second
+plus-requires-3-clause-second c = omega (arith, ints)
+
+pub step_to-requires-clause-value_low : goal.step_to-requires-clause-value_low
+step_to-requires-clause-value_low c = omega (arith, ints)
+
+pub step_to-requires-clause-value_high : goal.step_to-requires-clause-value_high
+step_to-requires-clause-value_high c = omega (arith, ints)
+
+pub step_to-requires-clause-rest_low : goal.step_to-requires-clause-rest_low
+step_to-requires-clause-rest_low c = omega (arith, ints)
+
+pub step_to-requires-clause-rest_high : goal.step_to-requires-clause-rest_high
+step_to-requires-clause-rest_high c = omega (arith, ints)
+
+pub returns-clause-below : goal.returns-clause-below
+returns-clause-below c = omega (arith, ints)
