@@ -17,7 +17,7 @@ overflow_cast-unsigned_abs c =
     let walks = c.entries_are_found_by_one_walk.ensures in
     let fit : SFits w64 op.imm = search rules in
     let value : c.unsigned_abs.result ≡ unsigned_abs op.imm = c.unsigned_abs.ensures.value ∙ ap unsigned_abs (to_z-of_z w64 op.imm fit) in
-    let is : op.kind ≡ kind.Load = first_of (cc, grind (arith, common_steps)) in
+    let is : op.kind ≡ kind.Load = c.in-Load.is in
     let inside = load_inside entries walks g c.requires.graph c.args.q op c.operation-op.ensures is in
     let few = c.requires.graph.part.few_cells in
     omega (arith, inside, few, value)
@@ -30,7 +30,7 @@ cell-requires c =
     let walks = c.entries_are_found_by_one_walk.ensures in
     let fit : SFits w64 op.imm = search rules in
     let value : c.unsigned_abs.result ≡ unsigned_abs op.imm = c.unsigned_abs.ensures.value ∙ ap unsigned_abs (to_z-of_z w64 op.imm fit) in
-    let is : op.kind ≡ kind.Load = first_of (cc, grind (arith, common_steps)) in
+    let is : op.kind ≡ kind.Load = c.in-Load.is in
     let inside = load_inside entries walks g c.requires.graph c.args.q op c.operation-op.ensures is in
     let long = joined_long g.loads g.stores c.requires.graph.all_stored in
     omega (arith, inside, long, value)
@@ -43,7 +43,7 @@ overflow_cast-unsigned_abs-in-Store c =
     let walks = c.entries_are_found_by_one_walk.ensures in
     let fit : SFits w64 op.imm = search rules in
     let value : c.unsigned_abs-in-Store.result ≡ unsigned_abs op.imm = c.unsigned_abs-in-Store.ensures.value ∙ ap unsigned_abs (to_z-of_z w64 op.imm fit) in
-    let is : op.kind ≡ kind.Store = first_of (cc, grind (arith, common_steps)) in
+    let is : op.kind ≡ kind.Store = c.in-Store.is in
     let inside = store_inside entries walks g c.requires.graph c.args.q op c.operation-op.ensures is in
     let few = c.requires.graph.part.few_cells in
     omega (arith, inside, few, value)
@@ -56,7 +56,7 @@ cell-requires-in-Store c =
     let walks = c.entries_are_found_by_one_walk.ensures in
     let fit : SFits w64 op.imm = search rules in
     let value : c.unsigned_abs-in-Store.result ≡ unsigned_abs op.imm = c.unsigned_abs-in-Store.ensures.value ∙ ap unsigned_abs (to_z-of_z w64 op.imm fit) in
-    let is : op.kind ≡ kind.Store = first_of (cc, grind (arith, common_steps)) in
+    let is : op.kind ≡ kind.Store = c.in-Store.is in
     let inside = store_inside entries walks g c.requires.graph c.args.q op c.operation-op.ensures is in
     let long = joined_long g.loads g.stores c.requires.graph.all_stored in
     omega (arith, inside, long, value)
@@ -69,7 +69,7 @@ returns-in-Load c =
     let walks = c.entries_are_found_by_one_walk.ensures in
     let fit : SFits w64 op.imm = search rules in
     let value : c.unsigned_abs.result ≡ unsigned_abs op.imm = c.unsigned_abs.ensures.value ∙ ap unsigned_abs (to_z-of_z w64 op.imm fit) in
-    let is : op.kind ≡ kind.Load = first_of (cc, grind (arith, common_steps)) in
+    let is : op.kind ≡ kind.Load = c.in-Load.is in
     let stored = subst (λ i. slice_get g.stores i ≡ Some c.cell.result.store) value
     (cell_parts g.loads g.stores c.unsigned_abs.result c.cell.result c.cell.ensures).store in
     let other = other_of_load entries walks g c.requires.graph c.args.q op c.operation-op.ensures is
@@ -84,7 +84,7 @@ returns-in-Store c =
     let walks = c.entries_are_found_by_one_walk.ensures in
     let fit : SFits w64 op.imm = search rules in
     let value : c.unsigned_abs-in-Store.result ≡ unsigned_abs op.imm = c.unsigned_abs-in-Store.ensures.value ∙ ap unsigned_abs (to_z-of_z w64 op.imm fit) in
-    let is : op.kind ≡ kind.Store = first_of (cc, grind (arith, common_steps)) in
+    let is : op.kind ≡ kind.Store = c.in-Store.is in
     let parts = cell_parts g.loads g.stores c.unsigned_abs-in-Store.result c.cell-in-Store.result c.cell-in-Store.ensures in
     let other = other_of_store entries walks g c.requires.graph c.args.q op c.operation-op.ensures is
     (record { name = c.cell-in-Store.result.name; ty = c.cell-in-Store.result.ty; init = c.cell-in-Store.result.init; load = c.cell-in-Store.result.load })
