@@ -35,7 +35,6 @@ use vcp_base::{Memory, Row};
 /// release is the last one: its end is repeated from then on, and no call is made any more.
 ///
 /// All memory that it ever takes is taken by `new`.
-#[derive(Drop)]
 pub struct Machine<'a> {
     graph: &'a Graph,
     table: &'a Table,
@@ -74,6 +73,21 @@ impl<'a> Model for Machine<'a> {
           m.cycles;
       ended = m.ended;
     }) m.halted (vec_capacity m.answers) };
+}
+
+impl Drop for Machine<'_> {
+    fn drop(self) {
+        let Machine {
+            graph: _,
+            table: _,
+            held: _,
+            answers: _,
+            under_way: _,
+            halted: _,
+            cycles: _,
+            ended: _,
+        } = self;
+    }
 }
 
 impl<'a> Machine<'a> {
