@@ -1,5 +1,5 @@
 #!/usr/bin/env python3
-"""How many worked rows there are: in the sessions that play_sessions plays, and in the files of play_rows.
+"""How many worked rows there are in the files of rows and in the sessions that play_worked plays.
 
     checks/count_rows.py [--write]
 
@@ -7,12 +7,12 @@ Of a session: its calls, `$ plain,run ..` as two, and the lines that say what th
 that say what they tell.
 
 It reads the texts alone. Run it before and after a change of them, to see that no row was lost. With `--write` it writes the files args and
-stdout of both programs anew, by the texts that are there: their names, and how many calls or rows each has.
+stdout of the program anew, by the texts that are there: their names, and how many rows or calls each has.
 """
 import sys
 from pathlib import Path
 
-CRATES = Path(__file__).resolve().parent.parent / "crates"
+CRATE = Path(__file__).resolve().parent.parent / "crates" / "play_worked"
 MARKS = ("#", "<", "+", "@", "%", "!", "$")
 
 
@@ -38,19 +38,22 @@ def counts_of_rows(lines):
     return rows, sum(1 for line in lines if line.startswith("|") or " =>" in line and not line.endswith(" =>"))
 
 
-KINDS = (("play_sessions", "session", "calls", counts_of_session), ("play_rows", "rows", "rows", counts_of_rows))
+KINDS = (("rows", "rows", counts_of_rows), ("session", "calls", counts_of_session))
 
 
 def main():
-    for crate, suffix, what, counts_of in KINDS:
-        counts = {file.name: counts_of(lines_of(file)) for file in sorted((CRATES / crate / "data").glob(f"*.{suffix}"))}
-        if "--write" in sys.argv[1:]:
-            (CRATES / crate / "args").write_text("".join(f"{name}\n" for name in counts))
-            (CRATES / crate / "stdout").write_text("".join(f"{name}: {made} {what}\n" for name, (made, _) in counts.items()))
-        print(f"{crate}: {what}, lines of what they give")
+    args, stdout = "", ""
+    for suffix, what, counts_of in KINDS:
+        counts = {file.name: counts_of(lines_of(file)) for file in sorted((CRATE / "data").glob(f"*.{suffix}"))}
+        args += "".join(f"{name}\n" for name in counts)
+        stdout += "".join(f"{name}: {made} {what}\n" for name, (made, _) in counts.items())
+        print(f"files *.{suffix}: {what}, lines of what they give")
         for name, (made, wanted) in counts.items():
             print(f"  {name}: {made}, {wanted}")
-        print(f"all of {crate}: {sum(made for made, _ in counts.values())}, {sum(wanted for _, wanted in counts.values())}")
+        print(f"all of *.{suffix}: {sum(made for made, _ in counts.values())}, {sum(wanted for _, wanted in counts.values())}")
+    if "--write" in sys.argv[1:]:
+        (CRATE / "args").write_text(args)
+        (CRATE / "stdout").write_text(stdout)
 
 
 main()

@@ -33,7 +33,7 @@ def types_of_two_crates(crates):
     """The types and traits that more than one crate exports, each with its crates."""
     found = {}
     for crate in crates.values():
-        if not crate.name.startswith("worked_") and not is_for_tests(crate.name):
+        if not is_for_tests(crate.name):
             for item in crate.items:
                 if item.kind in ("type", "trait"):
                     found.setdefault(item.path.split("::")[-1], set()).add(crate.name)

@@ -19,7 +19,7 @@ def listed_crates():
 
 
 def is_for_tests(crate):
-    return crate in ("play_sessions", "play_rows", "worked_texts")
+    return crate == "play_worked"
 
 
 def imports_of(text, keyword):

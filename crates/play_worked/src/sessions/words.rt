@@ -1,0 +1,35 @@
+//! Words of a call, as a text.
+
+use std::alloc::Global;
+use vcp_base::Words;
+
+/// The line of error of `vcp` where the words are none of the forms.
+pub const USAGE: &[u8] =
+    b"usage: vcp check P, format P, plain P ROWS, run P ROWS CODE, compile P CODE, list M, exec M ROWS, trace M ROWS CYCLE, inject M ROWS F, audit M HORIZON, \
+      widen M, il P ROWS CODE, pair M ROWS SEED, pairs M ROWS SEED F, wire F or demo N\n";
+
+/// That of `vcp_study`.
+pub const STUDY_USAGE: &[u8] =
+    b"usage: vcp_study graph M HORIZON, dot M HORIZON, waves FILE, waves FILE --cycle-time TIME, ranges M, ranges M --all, ranges M --inputs FILE, ranges M --all --inputs FILE, \
+      cover M HORIZON CLASS, sites M CYCLES CLASS, sites M CYCLES CLASS FROM COUNT, \
+      sites M CYCLES CLASS --count, sites M ROWS flips, sites M ROWS flips FROM COUNT, sites M ROWS flips --count, \
+      sites M ROWS late, sites M ROWS late FROM COUNT, sites M ROWS late --count, sum M SCRIPT VERDICTS .., \
+      sum M SCRIPT VERDICTS .. ROWS, faults M SCRIPT VERDICTS, script M NAMED, image P CODE or text P\n";
+
+/// Adds a word, which is empty where it is written `''`; nothing where it isn't written at all.
+fn add_word(words: &mut Words, word: &str) {
+    if !word.is_empty() {
+        let word = if word == "''" { "" } else { word };
+        words.push(word.as_bytes()).ok();
+    }
+}
+
+/// A command and these words behind it, with a blank between them; `''` is an empty word.
+pub fn words_of(alloc: Global, command: &str, behind: &str) -> Words {
+    let mut words = Words::new(alloc);
+    add_word(&mut words, command);
+    for word in behind.split(' ') {
+        add_word(&mut words, word);
+    }
+    words
+}
