@@ -17,13 +17,19 @@ mod texts;
 use host::play_files;
 use std::process::ExitCode;
 use texts::Told;
-use vcp_outside::{HostSink, given_words, write_all};
+use vcp_outside::{HostFiles, HostSink, given_words, write_all};
 
 fn main(rt: HostRuntime) -> ExitCode {
     let mut told = Told::new(rt.alloc());
     let mut faults = Told::new(rt.alloc());
     match given_words(&rt) {
-        Ok(names) => play_files(&rt, &names, &mut told, &mut faults),
+        Ok(names) => play_files(
+            rt.alloc(),
+            &mut HostFiles::new(&rt),
+            &names,
+            &mut told,
+            &mut faults,
+        ),
         Err(_) => faults.lack_memory(),
     }
     let mut out = HostSink::new(rt.stdout());

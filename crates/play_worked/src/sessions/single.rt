@@ -25,18 +25,19 @@ pub fn single_call(
 ) -> u8 {
     let mut told = Told::new(alloc);
     let words = called.behind;
-    let mut written: Result<(), Failed> = Ok(());
     match called.command {
         "files" => file_steps(alloc, files, words, &mut told),
         "sink" => room_steps(alloc, words, &mut told),
         "unflushed" => unflushed_steps(words, &mut told),
         "made" => made_sums(alloc, words, &mut told),
-        _ => written = write_element(out),
+        _ => return status_of(write_element(out)),
     }
-    if !told.as_str().is_empty() {
-        told.text("\n");
-        written = write_all(out, told.as_str().as_bytes());
-    }
+    told.text("\n");
+    status_of(write_all(out, told.as_str().as_bytes()))
+}
+
+/// The status of a call whose output was written, or had no room.
+fn status_of(written: Result<(), Failed>) -> u8 {
     match written {
         Ok(()) => 0,
         Err(Failed) => 6,
