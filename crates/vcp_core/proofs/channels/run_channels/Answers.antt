@@ -40,7 +40,8 @@ returns-clause-causes g c =
 
 pub returns-in-Ok-run_beside-clause-ran : goal.returns-in-Ok-run_beside-clause-ran
 returns-in-Ok-run_beside-clause-ran g c name =
-    came_to_end (pair_job name c.args.image.now c.args.rows.now) _ _ c.in-Ok-run_beside.last c.ending_of.result c.ending_of.ensures.status c.in-Ok-run_beside.ensures.ran
+    came_to_end (pair_job name c.args.image.now c.args.rows.now) _ _ c.in-Ok-run_beside.last c.ending_of.result
+    c.ending_of.ensures.status c.in-Ok-run_beside.ensures.ran
 
 pub returns-in-Ok-run_beside-clause-causes : goal.returns-in-Ok-run_beside-clause-causes
 returns-in-Ok-run_beside-clause-causes g c = record {

@@ -95,7 +95,8 @@ returns-in_err-print_first-clause-ran g c s code name p words carries shows =
     let names = names-are graph c.args.machine.now.table left s code c.args.outputs.now carries c.requires.outputs in
     rw (q.1, q.2)
     (header-left (job_of s code left name p words) graph carries.may carries.told shows.words_are
-    (first-rows c.rows_before_a_wrong_answer_follow_the_graph.ensures graph c.args.machine.now.table _ left.rows c.requires.rules c.requires.ranges carries.numbers c.requires.few) (g.U.Unit.seen c.args.unit.now)
+    (first-rows c.rows_before_a_wrong_answer_follow_the_graph.ensures graph c.args.machine.now.table _ left.rows
+    c.requires.rules c.requires.ranges carries.numbers c.requires.few) (g.U.Unit.seen c.args.unit.now)
     (g.U.Unit.seen c.args.unit.now) _ _
     (rw (names, shows.first_is) at c.in_err-print_first.ensures.part))
 
@@ -108,7 +109,8 @@ returns-in_err-end-clause-ran g c s code name p words carries shows =
     let leaves = leaves-shown _ graph _ _ left _ _ _ _ _ _ _ carries.numbers shows.row_is c.in_err-end.ensures.leaves in
     rw (q.1, q.2)
     (given-up-run (job_of s code left name p words) graph carries.may carries.told shows.words_are
-    (first-rows c.rows_before_a_wrong_answer_follow_the_graph.ensures graph c.args.machine.now.table _ left.rows c.requires.rules c.requires.ranges carries.numbers c.requires.few) (g.U.Unit.seen c.args.unit.now)
+    (first-rows c.rows_before_a_wrong_answer_follow_the_graph.ensures graph c.args.machine.now.table _ left.rows
+    c.requires.rules c.requires.ranges carries.numbers c.requires.few) (g.U.Unit.seen c.args.unit.now)
     (g.U.Unit.seen c.run_rows.new.unit) _ (g.O.Sink.seen c.args.out.now) (g.O.Sink.seen c.print_first.new.out) (g.O.Sink.seen c.run_rows.new.out)
     c.requires.behind
     (rw (names, shows.first_is) at c.in_ok-print_first.ensures.whole) leaves.run)
@@ -125,7 +127,8 @@ returns-in_err-print_last-clause-ran g c s code name p words carries shows =
     (record { came = leaves.run.ends.0; all_taken = leaves.run.ends.1; machine = leaves.machine; keeps = leaves.kept; there = there }) in
     rw (q.1, q.2)
     (last-left (job_of s code left name p words) graph carries.may carries.told shows.words_are
-    (first-rows c.rows_before_a_wrong_answer_follow_the_graph.ensures graph c.args.machine.now.table _ left.rows c.requires.rules c.requires.ranges carries.numbers c.requires.few) (g.U.Unit.seen c.args.unit.now)
+    (first-rows c.rows_before_a_wrong_answer_follow_the_graph.ensures graph c.args.machine.now.table _ left.rows
+    c.requires.rules c.requires.ranges carries.numbers c.requires.few) (g.U.Unit.seen c.args.unit.now)
     (g.U.Unit.seen c.run_rows.new.unit) c.in_ok-end.end (g.O.Sink.seen c.args.out.now) (g.O.Sink.seen c.print_first.new.out)
     (g.O.Sink.seen c.run_rows.new.out) (g.O.Sink.seen c.print_last.new.out)
     (rw (names, shows.first_is) at c.in_ok-print_first.ensures.whole) leaves.run there
@@ -142,7 +145,8 @@ returns-clause-ran g c s code name p words carries shows =
     let last = shows.last_is c.run_rows.new.released leaves.run.cycles c.run_rows.new.machine c.in_ok-end.end
     (record { came = leaves.run.ends.0; all_taken = leaves.run.ends.1; machine = leaves.machine; keeps = leaves.kept; there = there }) in
     ended-run (job_of s code left name p words) graph carries.may carries.told shows.words_are
-    (first-rows c.rows_before_a_wrong_answer_follow_the_graph.ensures graph c.args.machine.now.table _ left.rows c.requires.rules c.requires.ranges carries.numbers c.requires.few) (g.U.Unit.seen c.args.unit.now)
+    (first-rows c.rows_before_a_wrong_answer_follow_the_graph.ensures graph c.args.machine.now.table _ left.rows
+    c.requires.rules c.requires.ranges carries.numbers c.requires.few) (g.U.Unit.seen c.args.unit.now)
     (g.U.Unit.seen c.run_rows.new.unit) c.in_ok-end.end (g.O.Sink.seen c.args.out.now) (g.O.Sink.seen c.print_first.new.out)
     (g.O.Sink.seen c.run_rows.new.out) (g.O.Sink.seen c.print_last.new.out)
     (rw (names, shows.first_is) at c.in_ok-print_first.ensures.whole) leaves.run there c.in_ok-print_last.field-0

@@ -29,7 +29,8 @@ returns-in-Err-clause-left g c = λ is.
 
 pub returns-in-Ok-clause-left : goal.returns-in-Ok-clause-left
 returns-in-Ok-clause-left g c = λ is.
-    absurd (never_long (NotScript c.args.graph.now c.in-Ok.text) c.script_of.result (script_not_bytes c.args.graph.now c.in-Ok.text) (rw c.bytes.ensures at c.script_of.ensures.err) is)
+    absurd (never_long (NotScript c.args.graph.now c.in-Ok.text) c.script_of.result (script_not_bytes c.args.graph.now c.in-Ok.text)
+    (rw c.bytes.ensures at c.script_of.ensures.err) is)
 
 pub returns-in-Err-clause-stayed : goal.returns-in-Err-clause-stayed
 returns-in-Err-clause-stayed g c =
