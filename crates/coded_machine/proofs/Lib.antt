@@ -12,3 +12,12 @@ pub mod Reading
 pub mod RunLaws
 pub mod Turns
 pub mod Worked
+pub mod Exits
+pub mod Failing
+pub mod FirstRows
+pub mod Longer
+pub mod Outs
+pub mod Overall
+pub mod Stopping
+pub mod UpTo
+pub mod Writing

@@ -6,3 +6,10 @@ pub mod Laws
 pub mod Runs
 pub mod Sound
 pub mod State
+pub mod Cycles
+pub mod FirstRows
+pub mod Leaves
+pub mod Moments
+pub mod Refusals
+pub mod RowRuns
+pub mod Stops

@@ -10,6 +10,7 @@ mod cycle_end;
 mod laws;
 mod machine;
 mod releasing;
+mod rows;
 
 pub use calling::{Operands, Setting, call_after, cell_at, is_word, operation_call, word_at};
 pub use cycle_end::{CycleEnd, end_of_answers};
@@ -19,3 +20,4 @@ pub use laws::{
 };
 pub use machine::Machine;
 pub use releasing::{first_words, store_words};
+pub use rows::{ReleasedRows, RunFault, rows_before_a_wrong_answer_follow_the_graph, run_rows};

@@ -6,7 +6,7 @@ use Rattle.input_rows.specs.declared.fault.RowFault.TheVariants as row
 use Rattle.coded_unit.specs.declared.call.Answer.TheVariants as answer
 use Rattle.coded_unit.specs.Words.{coded}
 use Rattle.signature_table.specs.Signatures.{signature}
-use Rattle.vcp_words.specs.Forms.{Code}
+use Rattle.vcp_inputs.specs.Forms.{Code}
 use Rattle.command_meaning.specs.CycleWords.{words_for, words_in}
 use Rattle.command_meaning.specs.Printing.{Printing, last_part, no_report}
 use Rattle.command_meaning.specs.Reports.{complete}

@@ -6,8 +6,8 @@ use Rattle.std.specs.Prelude.{ℕ, ◌≡◌, ◌⊎◌, Bool, true, false, List
 use Rattle.vcp_base.specs.Limits.{most_source_bytes, most_image_bytes, most_rows_bytes}
 use Rattle.il_front.specs.Answers.{most_il_bytes}
 use Rattle.vcp_outside.specs.Held.{Held}
-use Rattle.vcp_words.specs.Tables.{rows_name}
-use Rattle.vcp_words.specs.Forms.{Form, Rows, check, format, plain, run, il, compile, list, exec, trace, widen, audit, inject, pair, pairs, wire, demo, file, cycles}
+use Rattle.vcp_inputs.specs.Tables.{rows_name}
+use Rattle.vcp_inputs.specs.Forms.{Form, Rows, check, format, plain, run, il, compile, list, exec, trace, widen, audit, inject, pair, pairs, wire, demo, file, cycles}
 
 -- ---- files that words name
 

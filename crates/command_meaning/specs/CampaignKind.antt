@@ -20,7 +20,7 @@ use Rattle.fault_campaign.specs.PairVerdicts.{told_verdicts}
 use Rattle.fault_campaign.specs.Written.{EarlierWritten}
 use Rattle.command_meaning.specs.Answer.{Answer, Campaign, printed}
 use Rattle.coded_unit.specs.Seen.{UnitSeen, StaysHonest}
-use Rattle.machine_run.specs.Moments.{Moment}
+use Rattle.coded_machine.specs.Moments.{Moment}
 use Rattle.command_meaning.specs.Seen.{Appending}
 
 -- ---- verdicts of either kind

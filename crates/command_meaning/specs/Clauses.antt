@@ -37,7 +37,7 @@ use Rattle.std.specs.Io.KnownBytes.{Appends, IsAtEnd}
 use Rattle.vcp_outside.specs.Counts.{Rose}
 use Rattle.vcp_outside.specs.Held.{Held}
 use Rattle.run_report.specs.Lines.{stop_text}
-use Rattle.vcp_words.specs.Forms.{usage_text}
+use Rattle.vcp_inputs.specs.Forms.{usage_text}
 use Rattle.vcp_inputs.specs.declared.refusal.Refusal.TheVariants as refusal
 use Rattle.vcp_inputs.specs.declared.refusal.Refusal.{Refusal}
 use Rattle.vcp_inputs.specs.Lines.{diagnostic_of, memory_text, read_fault_text, refusal_text, write_fault_text}
@@ -45,7 +45,7 @@ use Rattle.command_meaning.specs.Answer.{Answer}
 use Rattle.command_meaning.specs.Abouts.{Among, About, FileWord, AllHeld}
 use Rattle.command_meaning.specs.Endings.{Answered, Came, Causes, NothingFailed, TellsLine}
 use Rattle.command_meaning.specs.Kinds.{Task, Meant}
-use Rattle.machine_run.specs.Stops.{TellsSomeStop}
+use Rattle.coded_machine.specs.Stops.{TellsSomeStop}
 use Rattle.vcp_outside.specs.Seen.{SinkSeen}
 use Rattle.coded_unit.specs.Seen.{StaysHonest}
 use Rattle.command_meaning.specs.Seen.{Outside, moment_of}

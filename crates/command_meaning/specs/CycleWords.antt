@@ -10,7 +10,7 @@ use Rattle.op_graph.specs.Lists.{Lists}
 use Rattle.op_graph.specs.GraphRun.{Cycle, cycle, initial, stored}
 use Rattle.signature_table.specs.Signatures.{Numbers, expected}
 use Rattle.run_report.specs.OperationLines.{trace_text}
-use Rattle.vcp_words.specs.Forms.{Code}
+use Rattle.vcp_inputs.specs.Forms.{Code}
 
 -- ---- read off the unit's answers
 

@@ -9,7 +9,7 @@ use Rattle.image_file.specs.Graphs.{HasImage}
 use Rattle.image_file.specs.Image.{image_of}
 use Rattle.vcp_typed.specs.SourceRun.{Program}
 use Rattle.il_front.specs.TypedForm.{typed_il}
-use Rattle.vcp_words.specs.Forms.{Code}
+use Rattle.vcp_inputs.specs.Forms.{Code}
 use Rattle.command_meaning.specs.Answer.{Answer, Subject, source, listed, image, printed}
 
 -- A graph that may stand for a program: any that means it, has at most as many operations as its Size, and of which no pass leaves

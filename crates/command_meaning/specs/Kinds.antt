@@ -8,13 +8,13 @@
 use Rattle.std.specs.Prelude.{ℕ, ◌≡◌, List, []}
 use Rattle.op_graph.specs.Lists.{Lists}
 use Rattle.vcp_typed.specs.SourceRun.{Program}
-use Rattle.vcp_words.specs.Forms.{Code}
+use Rattle.vcp_inputs.specs.Forms.{Code}
 use Rattle.vcp_inputs.specs.declared.refusal.Refusal.{Refusal}
 use Rattle.vcp_inputs.specs.Lines.{read_fault_text, refusal_text}
 use Rattle.command_meaning.specs.Answer.{Answer, Campaign, printed}
 use Rattle.command_meaning.specs.GraphsOf.{MayCompile, image_answer}
 use Rattle.coded_unit.specs.Seen.{UnitSeen}
-use Rattle.machine_run.specs.Moments.{Moment}
+use Rattle.coded_machine.specs.Moments.{Moment}
 use Rattle.command_meaning.specs.Seen.{Appending}
 use Rattle.command_meaning.specs.RunKind.{Job, RunDone, RunLeft, meant_answer}
 use Rattle.fault_campaign.specs.Campaign.{verdict_lines}

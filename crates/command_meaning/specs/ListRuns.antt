@@ -7,7 +7,7 @@ use Rattle.vcp_typed.specs.Fitting.{AreRows, input_columns, input_types, output_
 use Rattle.il_front.specs.Accumulator.{Il}
 use Rattle.il_front.specs.Answers.{IsIl}
 use Rattle.il_front.specs.TypedForm.{typed_il}
-use Rattle.vcp_words.specs.Forms.{Code}
+use Rattle.vcp_inputs.specs.Forms.{Code}
 use Rattle.command_meaning.specs.GraphsOf.{IsImageFor, MayCompile}
 use Rattle.command_meaning.specs.Reports.{told_listed}
 

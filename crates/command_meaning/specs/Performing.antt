@@ -10,9 +10,9 @@ use Rattle.command_meaning.specs.Answer.{Answer}
 use Rattle.command_meaning.specs.Abouts.{Among, About, FileWord}
 use Rattle.command_meaning.specs.Clauses.{IsEnd, IsLine, IsTooLong, MayHold}
 use Rattle.command_meaning.specs.Kinds.{Task, Done, Left}
-use Rattle.machine_run.specs.Stops.{TellsSomeStop}
+use Rattle.coded_machine.specs.Stops.{TellsSomeStop}
 use Rattle.vcp_outside.specs.Seen.{FilesSeen}
-use Rattle.machine_run.specs.Moments.{Moment}
+use Rattle.coded_machine.specs.Moments.{Moment}
 use Rattle.command_meaning.specs.Seen.{Still}
 
 -- How far a command comes. Its task is done, but for the answer's line; or was cut off, where the sink failed or, of a command that takes

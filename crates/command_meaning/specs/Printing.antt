@@ -5,9 +5,9 @@ use Rattle.input_rows.specs.RowsOf.{RowsLeft}
 use Rattle.coded_unit.specs.declared.call.Answer.{Answer as UnitAnswer}
 use Rattle.op_graph.specs.Lists.{Lists}
 use Rattle.signature_table.specs.Signatures.{table_of}
-use Rattle.machine_run.specs.RowRuns.{texts_from}
+use Rattle.coded_machine.specs.RowRuns.{texts_from}
 use Rattle.run_report.specs.Lines.{header_text, row_text, end_text, stop_text, refused_text}
-use Rattle.vcp_words.specs.Forms.{Code}
+use Rattle.vcp_inputs.specs.Forms.{Code}
 use Rattle.command_meaning.specs.Answer.{Answer}
 use Rattle.command_meaning.specs.CycleWords.{words_in, words_meant, word_lines}
 use Rattle.command_meaning.specs.Reports.{RunEnd, complete, stopped, refused, behind_text, run_status}

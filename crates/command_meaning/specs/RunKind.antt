@@ -27,14 +27,14 @@ use Rattle.signature_table.specs.Signatures.{Numbers, table_of}
 use Rattle.coded_machine.specs.Calls.{AllRight}
 use Rattle.coded_machine.specs.CycleEnds.{initial_words}
 use Rattle.coded_machine.specs.Runs.{AllCycles, calls_over, outcome_over}
-use Rattle.machine_run.specs.RowRuns.{EarlierPrinted, SomeCycles}
-use Rattle.vcp_words.specs.Forms.{Code}
+use Rattle.coded_machine.specs.RowRuns.{EarlierPrinted, SomeCycles}
+use Rattle.vcp_inputs.specs.Forms.{Code}
 use Rattle.command_meaning.specs.Answer.{Answer, Subject}
 use Rattle.command_meaning.specs.GraphsOf.{MayRun}
 use Rattle.command_meaning.specs.Reports.{end_read, end_told, subject_outputs, told_of}
 use Rattle.command_meaning.specs.Printing.{Report, ShownWords, Printing, no_report, run_then, told_answer}
 use Rattle.coded_unit.specs.Seen.{UnitSeen, StaysHonest}
-use Rattle.machine_run.specs.Moments.{Moment}
+use Rattle.coded_machine.specs.Moments.{Moment}
 use Rattle.command_meaning.specs.Seen.{Appending}
 
 -- A run on a unit: of what, the rows of its inputs with the refusal behind them, the name by which lines tell ROWS, the numbers of its

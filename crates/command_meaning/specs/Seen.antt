@@ -3,7 +3,7 @@ use Rattle.std.specs.Prelude.{ℕ, ◌≡◌, List, [], Option}
 use Rattle.std.specs.Io.KnownBytes.{Appends}
 use Rattle.coded_unit.specs.Seen.{UnitSeen}
 use Rattle.vcp_outside.specs.Seen.{FilesSeen, SinkSeen}
-use Rattle.machine_run.specs.Moments.{Moment}
+use Rattle.coded_machine.specs.Moments.{Moment}
 
 -- all that is handed to a program
 pub record Outside : Type 0 where

@@ -17,7 +17,7 @@ use Rattle.telegram.specs.declared.script.script.WireScript.{WireScript}
 use Rattle.telegram.specs.ScriptOf.{ScriptFits}
 use Rattle.telegram.specs.Runs.{AreWords, EarlierTold, RoseBy, meant_text, told_handings, told_text}
 use Rattle.telegram.specs.Sends.{Cut, calls_of}
-use Rattle.machine_run.specs.Moments.{Moment}
+use Rattle.coded_machine.specs.Moments.{Moment}
 use Rattle.command_meaning.specs.Answer.{Answer, printed}
 use Rattle.command_meaning.specs.Seen.{Appending}
 

@@ -1,7 +1,7 @@
 //! The image that is written for a program.
 
 ghost use Rattle.std.specs.Prelude.{IfOk};
-ghost use Rattle.vcp_words.specs.Forms.{as_code, IsCode};
+ghost use Rattle.vcp_inputs.specs.Forms.{as_code, IsCode};
 ghost use Rattle.command_meaning.specs.GraphsOf.{IsImageFor};
 
 use crate::graphs::graph_of;
@@ -9,8 +9,8 @@ use image_file::write_image;
 use signature_table::Table;
 use std::alloc::Global;
 use vcp_base::{Memory, Text};
+use vcp_inputs::Code;
 use vcp_typed::Typed;
-use vcp_words::Code;
 
 /// The image of a graph that may represent a program, with the seed and the step of a code. Want of memory is the only refusal.
 pub fn image_for(alloc: Global, program: &Typed, code: Code) -> Result<Text, Memory>

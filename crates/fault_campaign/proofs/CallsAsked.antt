@@ -15,7 +15,7 @@ use Rattle.fault_script.specs.declared.act.Act.{Act}
 use Rattle.fault_script.specs.declared.act.Act.TheVariants as act
 use Rattle.fault_script.specs.declared.act.Fault.{Fault}
 use Rattle.fault_script.specs.Changes.{act_at_call, kept_after}
-use Rattle.fault_runs.specs.Scripts.{Performed, handed, handed_by, passed, right_under, skips, skips_by, word_at_call}
+use Rattle.fault_injector.specs.Scripts.{Performed, handed, handed_by, passed, right_under, skips, skips_by, word_at_call}
 use Rattle.fault_campaign.proofs.CarriedByHand.{CallsDone, call_done, drop_at, get_there, kept_whole, none_done, performed_rises, right_whole}
 use Rattle.pair_channel.specs.PairStates.{PairFinished, PairState}
 use Rattle.fault_campaign.specs.GroupCalls.{AskedFrom, AskedOne}

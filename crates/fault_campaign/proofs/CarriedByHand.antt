@@ -14,8 +14,8 @@ use Rattle.coded_machine.specs.State.{State, given, setting, with_answer}
 use Rattle.fault_script.specs.declared.act.Fault.{Fault}
 use Rattle.fault_script.specs.Changes.{kept_after}
 use Rattle.coded_unit.specs.Seen.{StoodStill}
-use Rattle.fault_runs.specs.Scripts.{right_under, passed, skips, Performed}
-use Rattle.fault_runs.specs.ScriptedRun.{ScriptedCycle, kept_through}
+use Rattle.fault_injector.specs.Scripts.{right_under, passed, skips, Performed}
+use Rattle.fault_injector.specs.ScriptedRun.{ScriptedCycle, kept_through}
 
 -- what stands at a place, and after it
 pub drop_at : {X : Type 0} (xs : List X) (k : ℕ) (x : X) → slice_get xs k ≡ Some x → drop k xs ≡ x ∷ drop (k + 1) xs

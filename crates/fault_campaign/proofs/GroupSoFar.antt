@@ -18,9 +18,9 @@ use Rattle.fault_campaign.proofs.Growing.{grows_on, grows_by_none}
 use Rattle.fault_script.specs.declared.act.Fault.{Fault}
 use Rattle.fault_script.specs.Changes.{acts_of, none_kept}
 use Rattle.fault_script.specs.Differences.{no_frame}
-use Rattle.fault_runs.specs.Accepted.{EndsAreRead, OutputsAreRead}
-use Rattle.fault_runs.specs.RunLaw.{GroupStands, RunsKept}
-use Rattle.fault_runs.specs.ScriptedRun.{ScriptedRun, ScriptedRunsAreRight, kept_through}
+use Rattle.fault_injector.specs.Accepted.{EndsAreRead, OutputsAreRead}
+use Rattle.fault_injector.specs.RunLaw.{GroupStands, RunsKept}
+use Rattle.fault_injector.specs.ScriptedRun.{ScriptedRun, ScriptedRunsAreRight, kept_through}
 use Rattle.fault_campaign.proofs.CarriedByHand.{honest_first, honest_second}
 use Rattle.pair_channel.specs.declared.pair_end.PairEnd.{PairEnd}
 use Rattle.pair_channel.specs.declared.pair_end.PairEnd.TheVariants as pair

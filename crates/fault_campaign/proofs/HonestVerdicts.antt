@@ -16,9 +16,9 @@ use Rattle.fault_script.specs.declared.act.Fault.{Fault}
 use Rattle.fault_script.specs.Changes.{acts_of}
 use Rattle.fault_script.specs.Differences.{Frame}
 use Rattle.fault_script.specs.Fits.{Fits}
-use Rattle.fault_runs.specs.Accepted.{RefusedAt, first_unaccepted, ending, EndsAreRead, OutputsAreRead}
-use Rattle.fault_runs.specs.FaultRun.{begun, cycle_under, cycles_from, operation_stop, outside, stop_or, stop_under, unless_stopped}
-use Rattle.fault_runs.specs.RunLaw.{CycleKept, RunKept}
+use Rattle.fault_injector.specs.Accepted.{RefusedAt, first_unaccepted, ending, EndsAreRead, OutputsAreRead}
+use Rattle.fault_injector.specs.FaultRun.{begun, cycle_under, cycles_from, operation_stop, outside, stop_or, stop_under, unless_stopped}
+use Rattle.fault_injector.specs.RunLaw.{CycleKept, RunKept}
 use Rattle.fault_injector.specs.declared.verdict.Verdict.{Verdict}
 use Rattle.fault_injector.specs.declared.verdict.Verdict.TheVariants as verdict
 use Rattle.fault_injector.specs.Verdicts.{judged, judged_cycle, verdict_or, compared, plain_cycles}

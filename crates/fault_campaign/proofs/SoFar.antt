@@ -14,10 +14,10 @@ use Rattle.fault_injector.specs.Names.{Names}
 use Rattle.coded_unit.specs.declared.call.Answer.{Answer}
 use Rattle.coded_unit.specs.Seen.{StaysHonest, StoodStill, UnitSeen}
 use Rattle.fault_injector.specs.Verdicts.{verdict_of}
-use Rattle.fault_reruns.specs.Groups.{GroupsJudged}
-use Rattle.fault_reruns.specs.Laws.{GroupLaws}
-use Rattle.fault_reruns.specs.References.{KeptRun}
-use Rattle.fault_reruns.specs.Reruns.{IsReference, Reran}
+use Rattle.fault_campaign.specs.Groups.{GroupsJudged}
+use Rattle.fault_campaign.specs.Laws.{GroupLaws}
+use Rattle.fault_campaign.specs.References.{KeptRun}
+use Rattle.fault_campaign.specs.Reruns.{IsReference, Reran}
 use Rattle.fault_injector.specs.declared.lines.Totals.{Totals}
 use Rattle.fault_injector.specs.FaultLines.{verdict_text, counted, no_verdicts, totals_of, totals_text}
 use Rattle.fault_campaign.specs.declared.fault.CampaignFault.TheVariants as fault

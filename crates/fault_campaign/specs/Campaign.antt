@@ -8,9 +8,9 @@ use Rattle.fault_injector.specs.Names.{Names}
 use Rattle.coded_unit.specs.declared.call.Answer.{Answer}
 use Rattle.coded_unit.specs.Seen.{StaysHonest, UnitSeen}
 use Rattle.fault_injector.specs.Verdicts.{verdict_of}
-use Rattle.fault_reruns.specs.Groups.{GroupsJudged}
-use Rattle.fault_reruns.specs.References.{KeptRun}
-use Rattle.fault_reruns.specs.Reruns.{IsReference}
+use Rattle.fault_campaign.specs.Groups.{GroupsJudged}
+use Rattle.fault_campaign.specs.References.{KeptRun}
+use Rattle.fault_campaign.specs.Reruns.{IsReference}
 pub use Rattle.fault_injector.specs.FaultLines.{verdict_lines, campaign_text}
 use Rattle.fault_campaign.specs.declared.fault.CampaignFault.{CampaignFault}
 use Rattle.fault_campaign.specs.declared.fault.CampaignFault.TheVariants as fault

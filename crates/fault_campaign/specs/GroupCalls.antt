@@ -13,8 +13,8 @@ use Rattle.coded_machine.specs.CycleEnds.{stored_words}
 use Rattle.coded_machine.specs.Runs.{setting_at}
 use Rattle.fault_script.specs.declared.act.Fault.{Fault}
 use Rattle.fault_script.specs.Changes.{kept_after}
-use Rattle.fault_runs.specs.Scripts.{handed, passed, skips, word_at_call}
-use Rattle.fault_runs.specs.ScriptedRun.{kept_through}
+use Rattle.fault_injector.specs.Scripts.{handed, passed, skips, word_at_call}
+use Rattle.fault_injector.specs.ScriptedRun.{kept_through}
 
 -- One operation of a run with a group that has kept these words, where its answer is `a`. At a skip the unit is asked nothing, and `a` is the kept
 -- word; else the first of the entries is the call with the group's change, and `a` is what the group makes of its answer. `Later` holds of the

@@ -10,7 +10,7 @@ use Rattle.coded_machine.specs.Calls.{Setting}
 use Rattle.coded_machine.specs.CycleEnds.{initial_words}
 use Rattle.fault_script.specs.declared.act.Fault.{Fault}
 use Rattle.fault_script.specs.Changes.{none_kept}
-use Rattle.fault_runs.specs.ScriptedRun.{ScriptedCycle, kept_through}
+use Rattle.fault_injector.specs.ScriptedRun.{ScriptedCycle, kept_through}
 use Rattle.fault_injector.specs.Verdicts.{verdict_of}
 use Rattle.pair_channel.specs.Beside.{AllBeside, beside}
 use Rattle.fault_campaign.specs.declared.pairs.verdict.PairVerdict.{PairVerdict}

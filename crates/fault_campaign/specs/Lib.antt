@@ -5,3 +5,13 @@ pub mod GroupRuns
 pub mod PairCampaigns
 pub mod PairVerdicts
 pub mod Written
+pub mod Begun
+pub mod Crossing
+pub mod Groups
+pub mod Kept
+pub mod Laws
+pub mod PassedOver
+pub mod References
+pub mod Reruns
+pub mod Standing
+pub mod Touched

@@ -10,9 +10,9 @@ ghost use Rattle.fault_campaign.specs.Campaign.{Told, ToldBehind};
 ghost use Rattle.fault_campaign.specs.declared.fault.CampaignFault.TheVariants as fault;
 
 use crate::fault::CampaignFault;
+use crate::{Reference, groups_are_rerun_one_after_another};
 use coded_unit::Unit;
 use fault_injector::{Totals, totals_line, verdict_line};
-use fault_reruns::{Reference, groups_are_rerun_one_after_another};
 use fault_script::Script;
 use input_rows::RowList;
 use op_graph::Graph;

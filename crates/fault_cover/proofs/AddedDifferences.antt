@@ -24,8 +24,8 @@ use Rattle.fault_script.specs.declared.act.Act.{Act}
 use Rattle.fault_script.specs.declared.act.Act.TheVariants as act
 use Rattle.fault_script.specs.Changes.{Acts}
 use Rattle.fault_script.specs.Differences.{Frame, brought, cycle_after, difference, frame, given_from, held_after, no_frame, read, read_as}
-use Rattle.fault_runs.specs.Accepted.{RefusedAt, first_unaccepted}
-use Rattle.fault_runs.specs.FaultRun.{operation_stop, stop_under}
+use Rattle.fault_injector.specs.Accepted.{RefusedAt, first_unaccepted}
+use Rattle.fault_injector.specs.FaultRun.{operation_stop, stop_under}
 use Rattle.fault_injector.specs.Verdicts.{compared, judged, judged_cycle, verdict_or}
 use Rattle.fault_cover.specs.Additions.{Addends, AreAdded, compared_with, difference_with, frame_after, frame_with, given_with, unaccepted_with}
 use Rattle.fault_cover.proofs.Dividing.{times_plus}

@@ -20,8 +20,8 @@ use Rattle.fault_script.specs.declared.act.Act.{Act}
 use Rattle.fault_script.specs.declared.act.Act.TheVariants as act
 use Rattle.fault_script.specs.Changes.{Acts}
 use Rattle.fault_script.specs.Differences.{Frame, frame, no_frame}
-use Rattle.fault_runs.specs.FaultRun.{begun, course, cycle_under, cycle_under_from, cycles_from, given_by, run_under}
-use Rattle.fault_runs.specs.Stepping.{carry, operand_residue, operand_under, outcome_under, plain_operand}
+use Rattle.fault_injector.specs.FaultRun.{begun, course, cycle_under, cycle_under_from, cycles_from, given_by, run_under}
+use Rattle.fault_injector.specs.Stepping.{carry, operand_residue, operand_under, outcome_under, plain_operand}
 use Rattle.fault_injector.specs.Verdicts.{compared, plain_cycles}
 use Rattle.fault_cover.specs.Additions.{Addends, AreAdded, cycle_with, cycle_with_from, cycles_with, frame_with, operand_with, outcome_with, run_with}
 use Rattle.fault_cover.specs.Additions.{verdict_with}

@@ -25,8 +25,8 @@ use Rattle.range_walk.specs.Known.{is_any_named, is_named}
 use Rattle.fault_script.specs.declared.act.Act.{Act}
 use Rattle.fault_script.specs.Changes.{Acts}
 use Rattle.fault_script.specs.Differences.{difference_at, made}
-use Rattle.fault_runs.specs.FaultRun.{operation_stop, outside, stop_under}
-use Rattle.fault_runs.specs.Accepted.{first_unaccepted}
+use Rattle.fault_injector.specs.FaultRun.{operation_stop, outside, stop_under}
+use Rattle.fault_injector.specs.Accepted.{first_unaccepted}
 use Rattle.fault_injector.specs.declared.verdict.Verdict.{Verdict}
 use Rattle.fault_injector.specs.declared.verdict.Verdict.TheVariants as verdict
 use Rattle.fault_injector.specs.Verdicts.{compared, judged, judged_cycle, plain_cycles, stops_alike}

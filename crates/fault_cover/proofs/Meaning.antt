@@ -17,8 +17,8 @@ use Rattle.range_audit.specs.Audit.{RowsFit}
 use Rattle.fault_script.specs.declared.act.Act.{Act}
 use Rattle.fault_script.specs.Changes.{Acts}
 use Rattle.fault_script.specs.Differences.{difference_at, made, origin}
-use Rattle.fault_runs.specs.FaultRun.{run_under}
-use Rattle.fault_runs.specs.Stepping.{word_of}
+use Rattle.fault_injector.specs.FaultRun.{run_under}
+use Rattle.fault_injector.specs.Stepping.{word_of}
 use Rattle.fault_injector.specs.declared.verdict.Verdict.{Verdict}
 use Rattle.fault_injector.specs.declared.verdict.Verdict.TheVariants as verdict
 use Rattle.fault_injector.specs.Verdicts.{compared, plain_cycles}

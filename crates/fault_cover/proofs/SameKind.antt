@@ -27,13 +27,13 @@ use Rattle.fault_script.specs.declared.act.Act.TheVariants as act
 use Rattle.fault_script.specs.Differences.{Frame, brought, cycle_after, difference, difference_at, exchanged, frame, given_from, held_after, no_frame, origin}
 use Rattle.fault_script.specs.Differences.{read}
 use Rattle.fault_script.specs.Changes.{Acts}
-use Rattle.fault_runs.specs.FaultRun.{Begun, begun, course, cycle_under, cycle_under_from, cycles_from, followed, given_by, operation_stop, outside, stop_or}
-use Rattle.fault_runs.specs.FaultRun.{stop_under, unless_stopped}
-use Rattle.fault_runs.specs.Stepping.{outcome_under, plain_operand}
+use Rattle.fault_injector.specs.FaultRun.{Begun, begun, course, cycle_under, cycle_under_from, cycles_from, followed, given_by, operation_stop, outside, stop_or}
+use Rattle.fault_injector.specs.FaultRun.{stop_under, unless_stopped}
+use Rattle.fault_injector.specs.Stepping.{outcome_under, plain_operand}
 use Rattle.fault_cover.specs.Touched.{UntouchedDifferByNothing}
 use Rattle.coded_unit.specs.Words.{modulo}
 use Rattle.coded_unit.specs.WordLaws.{WordLaws}
-use Rattle.fault_runs.specs.Accepted.{first_unaccepted}
+use Rattle.fault_injector.specs.Accepted.{first_unaccepted}
 use Rattle.fault_injector.specs.declared.verdict.Verdict.TheVariants as verdict
 use Rattle.fault_injector.specs.Verdicts.{compared, judged, judged_cycle, plain_cycles, stops_alike, verdict_or}
 use Rattle.vcp_base.specs.Differences.{first_difference}

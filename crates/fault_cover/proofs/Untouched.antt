@@ -19,8 +19,8 @@ use Rattle.op_graph.specs.Rules.{reads_as, is_load}
 use Rattle.fault_script.specs.declared.act.Act.{Act}
 use Rattle.fault_script.specs.Changes.{Acts}
 use Rattle.fault_script.specs.Differences.{Frame, read_as}
-use Rattle.fault_runs.specs.FaultRun.{Begun, course, cycle_under_from, given_by}
-use Rattle.fault_runs.specs.Stepping.{outcome_under, plain_operand}
+use Rattle.fault_injector.specs.FaultRun.{Begun, course, cycle_under_from, given_by}
+use Rattle.fault_injector.specs.Stepping.{outcome_under, plain_operand}
 use Rattle.weight_audit.specs.Paths.{Crosses, Leads, Step}
 use Rattle.fault_cover.specs.Touched.{IsTouched, SameUntouched}
 

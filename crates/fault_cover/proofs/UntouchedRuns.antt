@@ -18,8 +18,8 @@ use Rattle.op_graph.specs.Rules.{IsGraph, is_load}
 use Rattle.signature_table.specs.Signatures.{Numbers}
 use Rattle.fault_script.specs.Changes.{Acts}
 use Rattle.fault_script.specs.Differences.{Frame, no_frame}
-use Rattle.fault_runs.specs.FaultRun.{begun, cycle_under, cycles_from, followed, given_by, operation_stop, outside, run_under, stop_or, stop_under}
-use Rattle.fault_runs.specs.FaultRun.{unless_stopped}
+use Rattle.fault_injector.specs.FaultRun.{begun, cycle_under, cycles_from, followed, given_by, operation_stop, outside, run_under, stop_or, stop_under}
+use Rattle.fault_injector.specs.FaultRun.{unless_stopped}
 use Rattle.fault_injector.specs.Verdicts.{plain_cycles}
 use Rattle.weight_audit.specs.Paths.{Crosses}
 use Rattle.fault_cover.specs.Touched.{IsTouched, SameUntouched}

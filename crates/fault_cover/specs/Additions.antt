@@ -14,9 +14,9 @@ use Rattle.signature_table.specs.Signatures.{Numbers, expected}
 use Rattle.fault_script.specs.declared.act.Act.TheVariants as act
 use Rattle.fault_script.specs.Changes.{Acts}
 use Rattle.fault_script.specs.Differences.{Frame, brought, held_after, no_frame}
-use Rattle.fault_runs.specs.Accepted.{RefusedAt}
-use Rattle.fault_runs.specs.FaultRun.{followed, operation_stop, stop_under}
-use Rattle.fault_runs.specs.Stepping.{carry, operand_residue, plain_operand}
+use Rattle.fault_injector.specs.Accepted.{RefusedAt}
+use Rattle.fault_injector.specs.FaultRun.{followed, operation_stop, stop_under}
+use Rattle.fault_injector.specs.Stepping.{carry, operand_residue, plain_operand}
 use Rattle.fault_injector.specs.declared.verdict.Verdict.{Verdict}
 use Rattle.fault_injector.specs.declared.verdict.Verdict.TheVariants as verdict
 use Rattle.fault_injector.specs.Verdicts.{judged, plain_cycles, verdict_or}

@@ -9,7 +9,7 @@ use Rattle.signature_table.specs.Signatures.{Numbers}
 use Rattle.fault_script.specs.declared.act.Act.{Act}
 use Rattle.fault_script.specs.Changes.{Acts}
 use Rattle.fault_script.specs.Differences.{difference_at, made}
-use Rattle.fault_runs.specs.FaultRun.{run_under}
+use Rattle.fault_injector.specs.FaultRun.{run_under}
 use Rattle.fault_injector.specs.Verdicts.{plain_cycles}
 use Rattle.weight_audit.specs.Paths.{Reached}
 use Rattle.weight_audit.specs.Weights.{sums}

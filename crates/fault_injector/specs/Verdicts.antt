@@ -10,8 +10,8 @@ use Rattle.fault_script.specs.declared.act.Fault.{Fault}
 use Rattle.fault_script.specs.Changes.{Acts, acts_of}
 use Rattle.fault_injector.specs.declared.verdict.Verdict.{Verdict}
 use Rattle.fault_injector.specs.declared.verdict.Verdict.TheVariants as verdict
-use Rattle.fault_runs.specs.FaultRun.{operation_stop, stop_under, followed, fault_run}
-use Rattle.fault_runs.specs.Accepted.{RefusedAt, first_unaccepted}
+use Rattle.fault_injector.specs.FaultRun.{operation_stop, stop_under, followed, fault_run}
+use Rattle.fault_injector.specs.Accepted.{RefusedAt, first_unaccepted}
 
 -- ---- the run without the faults, cycle by cycle
 

@@ -6,8 +6,8 @@ use Rattle.std.proofs.lemmas.Bool.Decides.{nat_tests}
 use Rattle.std.proofs.lemmas.List.Elements.{All-nil, All-cons, All-head, All-tail, All-append, All-take}
 use Rattle.std.proofs.lemmas.List.Splits.{slice_split-cons_yes, slice_split-cons_no}
 use Rattle.op_graph.specs.Lists.{Lists}
-use Rattle.script_text.specs.Lines.{Line, is_skipped, read_lines}
-use Rattle.script_text.specs.Words.{words}
+use Rattle.vcp_base.specs.Lines.{Line, is_skipped, read_lines}
+use Rattle.vcp_base.specs.Words.{words}
 use Rattle.fault_script.specs.ScriptOf.{most_faults}
 use Rattle.fault_sites.specs.Laws.{IsLineRead}
 use Rattle.fault_names.specs.declared.refused.Why.{Why}

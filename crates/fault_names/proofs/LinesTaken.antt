@@ -1,7 +1,7 @@
 -- LinesTaken: what the lines so far leave.
 use Rattle.std.proofs.Common.{◌≡◌, ℕ, List, [], ◌∷◌, Result, Ok, Err, Bool, true, false, cond, ap, refl, sym, ◌∙◌}
 use Rattle.op_graph.specs.Lists.{Lists}
-use Rattle.script_text.specs.Lines.{Line}
+use Rattle.vcp_base.specs.Lines.{Line}
 use Rattle.fault_names.specs.declared.refused.Refused.{Refused}
 use Rattle.fault_names.specs.Entries.{taken, going, lines_checked}
 

@@ -15,8 +15,8 @@ use Rattle.vcp_base.specs.declared.kind.Kind.{Kind}
 use Rattle.vcp_base.specs.Kinds.{operands}
 use Rattle.vcp_base.specs.Spellings.{kind_name}
 use Rattle.op_graph.specs.Lists.{Lists}
-use Rattle.script_text.specs.Lines.{Line, is_skipped, read_lines}
-use Rattle.script_text.specs.Words.{words}
+use Rattle.vcp_base.specs.Lines.{Line, is_skipped, read_lines}
+use Rattle.vcp_base.specs.Words.{words}
 use Rattle.fault_script.specs.declared.act.Act.{Act}
 use Rattle.fault_script.specs.declared.act.Act.TheVariants as act
 use Rattle.fault_script.specs.Fits.{ActFits, Fits}

@@ -2,8 +2,8 @@
 use Rattle.std.specs.Prelude.{ℕ, ◌+◌, Bool, false, not, cond, ◌&&◌, nat_le, List, [], ◌∷◌, Option, Some, None, Result, Ok, Err, codes, bytes_eq}
 use Rattle.std.specs.Str.Lines.{lines}
 use Rattle.op_graph.specs.Lists.{Lists}
-use Rattle.script_text.specs.Lines.{Line, read_lines}
-use Rattle.script_text.specs.Words.{words}
+use Rattle.vcp_base.specs.Lines.{Line, read_lines}
+use Rattle.vcp_base.specs.Words.{words}
 use Rattle.fault_script.specs.ScriptOf.{most_faults}
 use Rattle.fault_script.specs.declared.act.Act.{Act}
 use Rattle.fault_names.specs.declared.refused.Why.{Why}

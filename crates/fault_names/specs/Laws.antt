@@ -3,7 +3,7 @@ use Rattle.std.specs.Prelude.{◌≡◌, ℕ, ◌^◌, ◌≤◌, List, length, 
 use Rattle.std.specs.Str.Lines.{lines}
 use Rattle.vcp_base.specs.Limits.{most_source_bytes}
 use Rattle.op_graph.specs.Lists.{Lists}
-use Rattle.script_text.specs.Lines.{read_lines}
+use Rattle.vcp_base.specs.Lines.{read_lines}
 use Rattle.fault_script.specs.ScriptOf.{script_of}
 use Rattle.fault_names.specs.Script.{groups_from}
 use Rattle.fault_names.specs.Entries.{most_named_bytes, checked, entries_in, text_of_script}

@@ -1,8 +1,8 @@
 -- Script: the script of lines that name faults, and what it says.
 use Rattle.std.specs.Prelude.{ℕ, zero, suc, ◌+◌, ◌-◌, Bool, cond, List, [], ◌∷◌, ◌++◌, length, Option, Some, None, Result, Ok, Err, codes}
 use Rattle.op_graph.specs.Lists.{Lists}
-use Rattle.script_text.specs.Lines.{Line}
-use Rattle.script_text.specs.Words.{words}
+use Rattle.vcp_base.specs.Lines.{Line}
+use Rattle.vcp_base.specs.Words.{words}
 use Rattle.fault_script.specs.declared.act.Act.{Act}
 use Rattle.fault_script.specs.declared.act.Fault.{Fault}
 use Rattle.fault_sites.specs.declared.site.Site.{Site}

@@ -9,7 +9,7 @@ use memchr::memchr;
 use vcp_base::Spot;
 
 /// How many bytes are before the first such byte, or in the whole word.
-#[tactic(auto, using(script_text::proofs::Firsts::first_place))]
+#[tactic(auto, using(vcp_base::proofs::Firsts::first_place))]
 fn front_length(word: &[u8], byte: u8) -> usize
     ensures place { result ≡ position_or_len (λ b. b == byte) word.now }
     ensures bound { result ≤ length word.now }

@@ -1,15 +1,14 @@
 //! What a line does, and to what.
 
 ghost use Rattle.std.specs.Prelude.{◌≡◌, ◌<◌, IfOk, length};
-ghost use Rattle.script_text.specs.Words.{words as words_of};
+ghost use Rattle.vcp_base.specs.Words.{words as words_of};
 ghost use Rattle.fault_names.specs.Lines.{with_rest, of_kind as of_kind_of, place_at as place_at_of, place_of, operand_of, target_of, add_of, as_of, read_of, operator_of, doing_of};
 
 use crate::operations::operation_named;
 use crate::refused::Why;
 use fault_script::{index_number, kind_named};
 use op_graph::Graph;
-use script_text::WordsLeft;
-use vcp_base::{Kind, Ty, number_in};
+use vcp_base::{Kind, Ty, WordsLeft, number_in};
 
 /// What the words before the operation say.
 #[derive(Clone, Copy)]

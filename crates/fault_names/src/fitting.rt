@@ -7,8 +7,7 @@ ghost use Rattle.fault_names.specs.Lines.{unfit as unfit_of, unfit_other as unfi
 use crate::meant::Acts;
 use crate::refused::Why;
 use fault_script::{Act, is_alike, is_sited, is_timely};
-use script_text::is_addend;
-use vcp_base::Kind;
+use vcp_base::{Kind, is_addend};
 
 /// Whether what an act adds is at most 2^62 in size.
 fn is_moderate(act: &Act) -> bool

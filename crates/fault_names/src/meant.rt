@@ -1,7 +1,7 @@
 //! What a line means.
 
 ghost use Rattle.std.specs.Prelude.{◌≡◌, ◌<◌, ◌^◌, pos, length};
-ghost use Rattle.script_text.specs.Words.{words as words_of};
+ghost use Rattle.vcp_base.specs.Words.{words as words_of};
 ghost use Rattle.fault_sites.specs.Sites.{adding as adding_of};
 ghost use Rattle.fault_names.specs.Lines.{act_of, acts_of, is_together as is_together_of, fitted as fitted_of, ended as ended_of, timed as timed_of, aimed as aimed_of, meant_of, both_flips as both_flips_of, flips_of, plain_acts as plain_acts_of};
 
@@ -11,7 +11,7 @@ use crate::refused::Why;
 use crate::when::{Ending, Span, is_together, take_ending, when};
 use fault_script::Act;
 use op_graph::Graph;
-use script_text::WordsLeft;
+use vcp_base::WordsLeft;
 
 /// The acts of a line: one, or the two of which one flips a bit.
 #[derive(Clone, Copy)]

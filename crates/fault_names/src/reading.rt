@@ -3,10 +3,10 @@
 ghost use Rattle.std.specs.Prelude.{◌≡◌, ◌≤◌, ◌^◌, Ok, Err, IfOk, IfErr, length, option_map};
 ghost use Rattle.std.specs.Str.Lines.{lines};
 ghost use Rattle.vcp_base.specs.Limits.{most_source_bytes};
-ghost use Rattle.script_text.specs.Words.{words as words_of};
+ghost use Rattle.vcp_base.specs.Words.{words as words_of};
 ghost use Rattle.fault_script.specs.ScriptOf.{most_faults};
 ghost use Rattle.fault_names.specs.Entries.{image_named as image_named_of, is_other as is_other_of, names_other as names_other_of, other_count, fault_count as fault_count_of, counted as counted_of, taken as taken_of, lines_checked, checked};
-ghost use Rattle.script_text.specs.Lines.{read_lines};
+ghost use Rattle.vcp_base.specs.Lines.{read_lines};
 ghost use Rattle.fault_names.specs.Script.{cycles_of};
 
 use crate::meant::{Meant, meaning};
@@ -14,7 +14,7 @@ use crate::refused::{Refused, Why};
 use crate::when::Span;
 use fault_script::MOST_FAULTS;
 use op_graph::Graph;
-use script_text::{WordsLeft, first_line, first_read};
+use vcp_base::{WordsLeft, first_line, first_read};
 
 /// The most bytes of a text whose script a file can have.
 pub const MOST_NAMED_BYTES: usize = 262_144;

@@ -8,7 +8,7 @@ ghost use Rattle.fault_names.specs.Lines.{ending_of, bit_of, when_of, with_rest,
 use crate::cutting::cut_at;
 use crate::refused::Why;
 use fault_script::{cycle_number, index_number};
-use script_text::WordsLeft;
+use vcp_base::WordsLeft;
 
 /// Cycles, from one to another, which may be the same.
 #[derive(Clone, Copy)]

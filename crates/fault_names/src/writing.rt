@@ -5,8 +5,8 @@ ghost use Rattle.std.specs.Str.Lines.{lines};
 ghost use Rattle.vcp_base.specs.Limits.{most_source_bytes};
 ghost use Rattle.vcp_outside.specs.Written.{WritesTo};
 ghost use Rattle.vcp_outside.specs.Gathering.{GathersTo};
-ghost use Rattle.script_text.specs.Lines.{read_lines};
-ghost use Rattle.script_text.specs.Words.{words as words_of};
+ghost use Rattle.vcp_base.specs.Lines.{read_lines};
+ghost use Rattle.vcp_base.specs.Words.{words as words_of};
 ghost use Rattle.fault_sites.specs.SiteText.{site_lines, site_text};
 ghost use Rattle.fault_names.specs.Lines.{meant_of};
 ghost use Rattle.fault_names.specs.Script.{sites_over, other_sites, sites_meant, begin_text, end_text, meant_text, entry_text, entry_texts, entries, entry_of};
@@ -18,7 +18,7 @@ use crate::when::Span;
 use fault_script::Act;
 use fault_sites::{Site, then_site};
 use op_graph::Graph;
-use script_text::first_read;
+use vcp_base::first_read;
 use vcp_outside::{Failed, Line, Sink};
 
 /// Goes on with the line of a site.

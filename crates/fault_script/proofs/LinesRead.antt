@@ -9,8 +9,8 @@ use Rattle.fault_script.specs.declared.reading.Reading.{Reading as State}
 use Rattle.fault_script.specs.declared.script_fault.ScriptFault.{ScriptFault}
 use Rattle.fault_script.specs.declared.script_fault.ScriptFault.TheVariants as refusal
 use Rattle.fault_script.specs.declared.forms.Mark.TheVariants as mark
-use Rattle.script_text.specs.Lines.{Line, is_skipped, read_lines}
-use Rattle.script_text.specs.Words.{words}
+use Rattle.vcp_base.specs.Lines.{Line, is_skipped, read_lines}
+use Rattle.vcp_base.specs.Words.{words}
 use Rattle.fault_script.specs.Forms.{mark_of}
 use Rattle.fault_script.specs.Groups.{is_taken}
 use Rattle.fault_script.specs.ScriptOf.{Item, begins, ends, says, said_after, item_by, item_of, items_of, counted, onto, ended, with_fault}

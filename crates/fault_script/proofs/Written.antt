@@ -11,7 +11,7 @@ use Rattle.vcp_base.specs.declared.ty.Ty.TheVariants as ty
 use Rattle.vcp_base.specs.Spellings.{kinds, kind_name}
 use Rattle.vcp_base.specs.Types.{fits}
 use Rattle.vcp_base.specs.Numerals.{in_type}
-use Rattle.script_text.specs.Integers.{is_addend}
+use Rattle.vcp_base.specs.Integers.{is_addend}
 use Rattle.fault_script.specs.Forms.{first_named}
 
 -- what may be added is a number of 64 bits

@@ -8,7 +8,7 @@ use Rattle.op_graph.specs.Lists.{Lists}
 use Rattle.fault_script.specs.declared.act.Act.{Act}
 use Rattle.fault_script.specs.declared.act.Act.TheVariants as act
 use Rattle.fault_script.specs.declared.act.Fault.{Fault}
-use Rattle.script_text.specs.Integers.{is_addend}
+use Rattle.vcp_base.specs.Integers.{is_addend}
 
 -- an operation of the kind has the operand that the act changes, and the register that it reads stands before operation k
 abbrev pub is_sited : Kind → ℕ → Act → Bool

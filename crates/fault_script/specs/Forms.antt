@@ -4,8 +4,8 @@ use Rattle.vcp_base.specs.Limits.{most_cycles}
 use Rattle.vcp_base.specs.declared.kind.Kind.{Kind}
 use Rattle.vcp_base.specs.Spellings.{kinds, kind_name}
 use Rattle.vcp_base.specs.Numerals.{numeral_of, integer_of}
-use Rattle.script_text.specs.Words.{is_end, only}
-pub use Rattle.script_text.specs.Integers.{is_addend}
+use Rattle.vcp_base.specs.Words.{is_end, only}
+pub use Rattle.vcp_base.specs.Integers.{is_addend}
 use Rattle.fault_script.specs.declared.act.Act.{Act}
 use Rattle.fault_script.specs.declared.act.Act.TheVariants as act
 use Rattle.fault_script.specs.declared.forms.Change.{Change}

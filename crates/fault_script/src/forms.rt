@@ -4,13 +4,13 @@ ghost use Rattle.std.specs.Prelude.{◌≡◌, ◌<◌, true, IfSome};
 ghost use Rattle.vcp_base.specs.Limits.{most_cycles};
 ghost use Rattle.fault_script.specs.Forms.{operand_change as operand_change_of, operand_act as operand_act_of, result_act as result_act_of};
 ghost use Rattle.fault_script.specs.Forms.{operator_act as operator_act_of, skip_act as skip_act_of, act_of, change_of};
-ghost use Rattle.script_text.specs.Words.{words as words_of};
+ghost use Rattle.vcp_base.specs.Words.{words as words_of};
 ghost use Rattle.fault_script.specs.Forms.{mark_named as mark_named_of, mark_of};
 ghost use Rattle.fault_script.specs.Fits.{is_moderate};
 
 use crate::act::Act;
 use crate::numbers::{addend, cycle_number, index_number, kind_named};
-use script_text::WordsLeft;
+use vcp_base::WordsLeft;
 
 /// What a well-formed line says: an act at an operation in a cycle.
 #[derive(Clone, Copy)]

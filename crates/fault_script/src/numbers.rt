@@ -3,10 +3,9 @@
 ghost use Rattle.std.specs.Prelude.{◌≡◌, ◌<◌, ◌≤◌, ◌^◌, true, IfSome};
 ghost use Rattle.vcp_base.specs.Limits.{most_cycles};
 ghost use Rattle.fault_script.specs.Forms.{number_below as number_below_of, cycle_of, index_of, addend_of, kind_of};
-ghost use Rattle.script_text.specs.Integers.{is_addend as is_addend_of};
+ghost use Rattle.vcp_base.specs.Integers.{is_addend as is_addend_of};
 
-use script_text::is_addend;
-use vcp_base::{Kind, MOST_CYCLES, Ty, kind_name, kind_of_code, number_in, numeral};
+use vcp_base::{Kind, MOST_CYCLES, Ty, is_addend, kind_name, kind_of_code, number_in, numeral};
 
 // The number that one to ten digits write, where it is below the bound.
 fn number_below(bound: u64, word: &[u8]) -> Option<u32>

@@ -9,8 +9,8 @@ use crate::reading::Reading;
 use crate::script::Script;
 use crate::script_fault::ScriptFault;
 use op_graph::Graph;
-use script_text::{first_line, is_skipped};
 use std::alloc::Global;
+use vcp_base::{first_line, is_skipped};
 
 /// The script of a text of at most 1,048,576 bytes, over the graph that it is for; or the first refused
 /// line. `Memory` where there is no room for it.

@@ -10,7 +10,7 @@ use Rattle.op_graph.specs.declared.op.Op.{Op}
 use Rattle.op_graph.specs.GraphRun.{Cycle, cycle}
 use Rattle.op_graph.specs.Lists.{Lists}
 use Rattle.signature_table.specs.Signatures.{Numbers}
-use Rattle.script_text.specs.Integers.{is_addend}
+use Rattle.vcp_base.specs.Integers.{is_addend}
 use Rattle.fault_script.specs.declared.act.Act.TheVariants as act
 use Rattle.fault_sites.specs.declared.class.Class.{Class}
 use Rattle.fault_sites.specs.declared.class.Class.TheVariants as class

@@ -4,7 +4,7 @@ use Rattle.std.specs.Str.Lines.{lines}
 use Rattle.std.proofs.lemmas.Bool.Decides.{nat_tests}
 use Rattle.std.proofs.lemmas.List.Elements.{All-nil, All-cons, All-head, All-tail, All-append}
 use Rattle.op_graph.specs.Lists.{Lists}
-use Rattle.script_text.specs.Lines.{read_lines}
+use Rattle.vcp_base.specs.Lines.{read_lines}
 use Rattle.fault_script.specs.declared.act.Fault.{Fault}
 use Rattle.fault_script.specs.declared.reading.Opened.{Opened}
 use Rattle.fault_script.specs.declared.script_fault.ScriptFault.TheVariants as refusal

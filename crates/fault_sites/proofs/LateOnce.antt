@@ -11,7 +11,7 @@ use Rattle.coded_unit.specs.WordLaws.{WordLaws}
 use Rattle.op_graph.specs.declared.op.Op.{Op}
 use Rattle.op_graph.specs.Lists.{Lists}
 use Rattle.signature_table.specs.Signatures.{IsTable, Numbers, expected, signature, stamp}
-use Rattle.script_text.specs.Integers.{is_addend}
+use Rattle.vcp_base.specs.Integers.{is_addend}
 use Rattle.fault_script.specs.declared.act.Act.{Act}
 use Rattle.fault_script.specs.declared.act.Act.TheVariants as act
 use Rattle.fault_sites.specs.declared.run_class.RunClass.{RunClass}

@@ -16,8 +16,8 @@ use Rattle.vcp_base.specs.Kinds.{operands}
 use Rattle.vcp_base.specs.Spellings.{kind_name}
 use Rattle.op_graph.specs.declared.op.Op.{Op}
 use Rattle.op_graph.specs.Lists.{Lists}
-use Rattle.script_text.specs.Lines.{Line, is_skipped, read_lines}
-use Rattle.script_text.specs.Words.{is_word, words}
+use Rattle.vcp_base.specs.Lines.{Line, is_skipped, read_lines}
+use Rattle.vcp_base.specs.Words.{is_word, words}
 use Rattle.fault_script.specs.declared.act.Act.{Act}
 use Rattle.fault_script.specs.declared.act.Act.TheVariants as act
 use Rattle.fault_script.specs.declared.act.Fault.{Fault}

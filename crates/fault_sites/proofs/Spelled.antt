@@ -14,7 +14,7 @@ use Rattle.vcp_base.specs.declared.kind.Kind.{Kind}
 use Rattle.vcp_base.specs.declared.kind.Kind.TheVariants as kind
 use Rattle.vcp_base.specs.Numerals.{number_of, natural_of, integer_of, numeral_of}
 use Rattle.vcp_base.specs.Spellings.{kind_name}
-use Rattle.script_text.specs.Words.{is_word}
+use Rattle.vcp_base.specs.Words.{is_word}
 use Rattle.fault_script.specs.Forms.{is_addend, number_below, cycle_of, index_of, addend_of, kind_of}
 
 -- ---- digits

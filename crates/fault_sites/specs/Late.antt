@@ -12,7 +12,7 @@ use Rattle.op_graph.specs.Lists.{Lists, cells}
 use Rattle.op_graph.specs.Reads.{named}
 use Rattle.op_graph.specs.Rules.{is_load}
 use Rattle.signature_table.specs.Signatures.{store_of}
-use Rattle.script_text.specs.Integers.{is_addend}
+use Rattle.vcp_base.specs.Integers.{is_addend}
 use Rattle.fault_script.specs.declared.act.Act.{Act}
 use Rattle.fault_script.specs.declared.act.Act.TheVariants as act
 use Rattle.fault_sites.specs.declared.site.Site.{Site}

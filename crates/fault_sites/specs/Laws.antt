@@ -5,7 +5,7 @@ use Rattle.vcp_base.specs.Limits.{most_cycles, most_operations, most_source_byte
 use Rattle.op_graph.specs.Lists.{Lists}
 use Rattle.op_graph.specs.Rules.{IsPart}
 use Rattle.signature_table.specs.Signatures.{IsTable, Numbers}
-use Rattle.script_text.specs.Lines.{read_lines}
+use Rattle.vcp_base.specs.Lines.{read_lines}
 use Rattle.fault_script.specs.Fits.{Fits}
 use Rattle.fault_script.specs.ScriptOf.{says, items_of, most_faults, script_of}
 use Rattle.fault_sites.specs.declared.class.Classes.{Classes}

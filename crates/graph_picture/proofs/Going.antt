@@ -3,10 +3,10 @@ use Rattle.std.proofs.Common.{◌≡◌, ℕ, List, [], ◌∷◌, ◌++◌, Opt
 use Rattle.std.proofs.lemmas.Grind.{flat_map-append}
 use Rattle.std.proofs.lemmas.List.{append-nil}
 use Rattle.vcp_outside.specs.Gathering.{Gathered, Gathers}
-use Rattle.svg_text.specs.Elements.{Element, element_text}
-use Rattle.svg_text.specs.Characters.{escaped_in}
-use Rattle.svg_text.specs.declared.characters.Escaping.TheVariants as escaping
-use Rattle.svg_text.specs.Drawing.{each_below}
+use Rattle.vcp_outside.specs.Elements.{Element, element_text}
+use Rattle.vcp_outside.specs.Characters.{escaped_in}
+use Rattle.vcp_outside.specs.declared.svg.characters.Escaping.TheVariants as escaping
+use Rattle.vcp_outside.specs.Drawing.{each_below}
 use Rattle.graph_picture.specs.DotText.{written}
 
 -- nothing

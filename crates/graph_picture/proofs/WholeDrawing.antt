@@ -6,7 +6,7 @@ use Rattle.op_graph.specs.declared.op.Op.{Op}
 use Rattle.op_graph.specs.Lists.{Lists}
 use Rattle.graph_picture.specs.declared.layout.BoxPlace.{BoxPlace}
 use Rattle.graph_picture.specs.Arrangement.{place_at}
-use Rattle.svg_text.specs.Drawing.{each_below}
+use Rattle.vcp_outside.specs.Drawing.{each_below}
 use Rattle.graph_picture.specs.Drawn.{box_of, box_drawn, box_at, boxes_below}
 use Rattle.graph_picture.specs.Whole.{DrawsOperations}
 

@@ -8,8 +8,8 @@ use Rattle.op_graph.specs.declared.op.Op.{Op}
 use Rattle.op_graph.specs.Lists.{Lists}
 use Rattle.op_graph.specs.Reads.{named}
 use Rattle.op_graph.specs.Rules.{reads_as}
-use Rattle.svg_text.specs.Elements.{Element}
-use Rattle.svg_text.specs.WellFormed.{HasEachOnce}
+use Rattle.vcp_outside.specs.Elements.{Element}
+use Rattle.vcp_outside.specs.WellFormed.{HasEachOnce}
 use Rattle.graph_picture.specs.declared.colours.Colour.{Colour}
 use Rattle.graph_picture.specs.declared.colours.Colour.TheVariants as colour
 use Rattle.graph_picture.specs.declared.layout.BoxPlace.{BoxPlace}

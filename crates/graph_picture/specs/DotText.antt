@@ -9,14 +9,14 @@ use Rattle.op_graph.specs.declared.op.Cell.{Cell}
 use Rattle.op_graph.specs.Lists.{Lists, cells}
 use Rattle.weight_audit.specs.Audit.{Audit, IsAudit}
 use Rattle.run_report.specs.Variables.{output_name}
-use Rattle.svg_text.specs.Drawing.{each_below}
+use Rattle.vcp_outside.specs.Drawing.{each_below}
 use Rattle.graph_picture.specs.declared.colours.Colour.{Colour}
 use Rattle.graph_picture.specs.declared.colours.Colour.TheVariants as colour
 use Rattle.graph_picture.specs.Colours.{colours}
 use Rattle.graph_picture.specs.Constants.{is_constant}
 use Rattle.graph_picture.specs.Drawn.{Box, Wire, Drawing, drawing, own_of}
-use Rattle.svg_text.specs.declared.characters.Escaping.TheVariants as escaping
-use Rattle.svg_text.specs.Characters.{escaped_in}
+use Rattle.vcp_outside.specs.declared.svg.characters.Escaping.TheVariants as escaping
+use Rattle.vcp_outside.specs.Characters.{escaped_in}
 
 -- pieces of a label as they are written between double quotes
 abbrev pub written : List (List ℕ) → List ℕ

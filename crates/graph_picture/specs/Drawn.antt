@@ -9,7 +9,7 @@ use Rattle.op_graph.specs.Lists.{Lists}
 use Rattle.op_graph.specs.Reads.{named}
 use Rattle.op_graph.specs.Rules.{reads_as}
 use Rattle.run_report.specs.Variables.{variable_name}
-use Rattle.svg_text.specs.Drawing.{each_below}
+use Rattle.vcp_outside.specs.Drawing.{each_below}
 use Rattle.graph_picture.specs.declared.layout.BoxPlace.{BoxPlace}
 use Rattle.graph_picture.specs.Arrangement.{place_at}
 

@@ -10,9 +10,9 @@ use Rattle.op_graph.specs.Lists.{Lists}
 use Rattle.op_graph.specs.Reads.{named}
 use Rattle.op_graph.specs.Rules.{reads_as}
 use Rattle.weight_audit.specs.Audit.{Audit, IsAudit}
-use Rattle.svg_text.specs.declared.names.Tag.TheVariants as tag
-use Rattle.svg_text.specs.declared.names.Name.TheVariants as name
-use Rattle.svg_text.specs.Elements.{Element, attribute, element, picture_text}
+use Rattle.vcp_outside.specs.declared.svg.names.Tag.TheVariants as tag
+use Rattle.vcp_outside.specs.declared.svg.names.Name.TheVariants as name
+use Rattle.vcp_outside.specs.Elements.{Element, attribute, element, picture_text}
 use Rattle.graph_picture.specs.declared.colours.Colour.{Colour}
 use Rattle.graph_picture.specs.declared.colours.Colour.TheVariants as colour
 use Rattle.graph_picture.specs.declared.layout.BoxPlace.{BoxPlace}

@@ -1,7 +1,7 @@
 -- FaultsText: the text of the picture of a graph by the verdicts of a script's groups.
 use Rattle.std.specs.Prelude.{◌≡◌, ℕ, List, ◌∷◌, ◌++◌, Some, None, codes}
 use Rattle.op_graph.specs.Lists.{Lists}
-use Rattle.svg_text.specs.Elements.{Element}
+use Rattle.vcp_outside.specs.Elements.{Element}
 use Rattle.fault_script.specs.declared.act.Fault.{Fault}
 use Rattle.fault_injector.specs.declared.verdict.Verdict.{Verdict}
 use Rattle.fault_injector.specs.declared.lines.Totals.{Totals}

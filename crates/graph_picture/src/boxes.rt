@@ -2,8 +2,8 @@
 
 ghost use Rattle.std.specs.Prelude.{◌≡◌, ◌<◌, ◌≤◌, [], ◌∷◌, codes, decimal, length, map, flat_map};
 ghost use Rattle.vcp_outside.specs.Gathering.{GathersTo};
-ghost use Rattle.svg_text.specs.Characters.{piece_bytes};
-ghost use Rattle.svg_text.specs.Elements.{element_text};
+ghost use Rattle.vcp_outside.specs.Characters.{piece_bytes};
+ghost use Rattle.vcp_outside.specs.Elements.{element_text};
 ghost use Rattle.graph_picture.specs.Drawn.{box_of, boxes_below};
 ghost use Rattle.graph_picture.specs.Elements.{colour_class as colour_class_of, worst_class as worst_class_of, class_of, outline, words, head, own, source, blindness, note, bar, cell_bar, body_elements, box_elements};
 
@@ -14,9 +14,8 @@ use crate::looks::{Look, Looks, Worst};
 use crate::names::{is_constant, own_piece};
 use op_graph::{Graph, Op};
 use run_report::variable_name;
-use svg_text::{Name, Piece, Tag, then_element};
 use vcp_base::{Kind, Spot, kind_name};
-use vcp_outside::{Line, Sink};
+use vcp_outside::{Line, Name, Piece, Sink, Tag, then_element};
 
 /// The class of a colour.
 fn colour_class(colour: Colour) -> &'static [u8]

@@ -3,8 +3,8 @@
 ghost use Rattle.std.specs.Prelude.{◌≡◌, ◌<◌, length, flat_map, slice_get};
 ghost use Rattle.vcp_outside.specs.Gathering.{GathersTo};
 ghost use Rattle.op_graph.specs.Reads.{named};
-ghost use Rattle.svg_text.specs.Characters.{piece_bytes};
-ghost use Rattle.svg_text.specs.Elements.{element_text};
+ghost use Rattle.vcp_outside.specs.Characters.{piece_bytes};
+ghost use Rattle.vcp_outside.specs.Elements.{element_text};
 ghost use Rattle.graph_picture.specs.Drawn.{own_of};
 ghost use Rattle.graph_picture.specs.Elements.{patch, patch_value, constant_elements, constant_of, constant_at};
 
@@ -13,8 +13,7 @@ use crate::layout::{BoxPlace, left, top};
 use crate::looks::{Look, Looks};
 use crate::names::{is_constant, own_piece};
 use op_graph::{Graph, Op, reads_operation};
-use svg_text::{Name, Piece, Tag, then_element};
-use vcp_outside::{Line, Sink};
+use vcp_outside::{Line, Name, Piece, Sink, Tag, then_element};
 
 /// Draws the small rectangle of constant `k` in a box at this place, for operand `which`.
 fn then_patch<O: Sink>(

@@ -4,8 +4,8 @@ ghost use Rattle.std.specs.Prelude.{◌≡◌, ◌+◌, ℕ, List};
 ghost use Rattle.std.specs.List.{AllByRecursion};
 ghost use Rattle.op_graph.specs.Lists.{Lists};
 ghost use Rattle.weight_audit.specs.Audit.{Audit, IsAudit};
-ghost use Rattle.svg_text.specs.Elements.{Element};
-ghost use Rattle.svg_text.specs.WellFormed.{HasEachOnce, IsDocument};
+ghost use Rattle.vcp_outside.specs.Elements.{Element};
+ghost use Rattle.vcp_outside.specs.WellFormed.{HasEachOnce, IsDocument};
 ghost use Rattle.graph_picture.specs.declared.layout.BoxPlace.{BoxPlace as PlaceOf};
 ghost use Rattle.graph_picture.specs.declared.looks.Look.{Look as LookOf};
 ghost use Rattle.graph_picture.specs.Arrangement.{Arrangement};
@@ -15,7 +15,7 @@ ghost use Rattle.graph_picture.specs.Elements.{graph_text, picture_of};
 ghost use Rattle.graph_picture.specs.Looks.{audit_looks, IsAuditLook};
 ghost use Rattle.graph_picture.specs.Whole.{IsWhole};
 
-use svg_text::pictures_are_well_formed;
+use vcp_outside::pictures_are_well_formed;
 use weight_audit::an_audit_has_one_text;
 
 /// What is drawn of a graph has each operation once, with its look, and each pair of an operand and its

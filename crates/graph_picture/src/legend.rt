@@ -2,12 +2,11 @@
 
 ghost use Rattle.std.specs.Prelude.{◌≡◌, flat_map};
 ghost use Rattle.vcp_outside.specs.Gathering.{GathersTo};
-ghost use Rattle.svg_text.specs.Characters.{piece_bytes};
-ghost use Rattle.svg_text.specs.Elements.{element_text};
+ghost use Rattle.vcp_outside.specs.Characters.{piece_bytes};
+ghost use Rattle.vcp_outside.specs.Elements.{element_text};
 ghost use Rattle.graph_picture.specs.Elements.{style, swatch, caption, sample, sample_of, legend_of};
 
-use svg_text::{Name, Piece, Tag, then_element};
-use vcp_outside::{Line, Sink};
+use vcp_outside::{Line, Name, Piece, Sink, Tag, then_element};
 
 /// A sample of a legend: a small rectangle of a class, and beside it what it says.
 #[derive(Clone, Copy)]

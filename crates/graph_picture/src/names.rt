@@ -1,14 +1,14 @@
 //! The names and values that operations have of their own.
 
 ghost use Rattle.std.specs.Prelude.{◌≡◌, unsigned_abs};
-ghost use Rattle.svg_text.specs.Characters.{piece_bytes};
+ghost use Rattle.vcp_outside.specs.Characters.{piece_bytes};
 ghost use Rattle.graph_picture.specs.Constants.{is_constant as is_constant_of};
 ghost use Rattle.graph_picture.specs.Drawn.{own_of};
 
 use op_graph::Graph;
 use run_report::variable_name;
-use svg_text::Piece;
 use vcp_base::Kind;
+use vcp_outside::Piece;
 
 /// Whether operations of a kind are constants.
 pub fn is_constant(kind: Kind) -> bool

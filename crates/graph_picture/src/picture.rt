@@ -12,8 +12,7 @@ use crate::legend::{Sample, then_legend};
 use crate::looks::{AuditLooks, Looks};
 use crate::wires::then_wires;
 use op_graph::Graph;
-use svg_text::{begin_picture, end_picture};
-use vcp_outside::{Failed, Sink};
+use vcp_outside::{Failed, Sink, begin_picture, end_picture};
 use weight_audit::Weights;
 
 /// The rules of style of the picture by weights.

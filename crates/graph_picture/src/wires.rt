@@ -3,15 +3,14 @@
 ghost use Rattle.std.specs.Prelude.{◌≡◌, ◌<◌, ◌≤◌, length, flat_map, slice_get};
 ghost use Rattle.vcp_outside.specs.Gathering.{GathersTo};
 ghost use Rattle.op_graph.specs.Reads.{named};
-ghost use Rattle.svg_text.specs.Elements.{element_text};
+ghost use Rattle.vcp_outside.specs.Elements.{element_text};
 ghost use Rattle.graph_picture.specs.Drawn.{wire_of, wires_of, wires_below};
 ghost use Rattle.graph_picture.specs.Elements.{wire_element, line_from, wire_elements};
 
 use crate::layout::{BoxPlace, GraphLayout, left, top};
 use crate::names::is_constant;
 use op_graph::{Graph, Op, reads_operation};
-use svg_text::{Name, Piece, Tag, then_element};
-use vcp_outside::{Line, Sink};
+use vcp_outside::{Line, Name, Piece, Sink, Tag, then_element};
 
 /// Draws the line from operation `operand` to operation `reader`, which reads it as its operand
 /// `which`.

@@ -14,7 +14,7 @@ use Rattle.st_lexer.specs.declared.fault.LexFault.TheVariants as lexer
 use Rattle.st_parser.specs.declared.fault.SyntaxFault.{SyntaxFault}
 use Rattle.st_parser.specs.declared.fault.SyntaxFault.TheVariants as syntax
 use Rattle.st_parser.specs.Answers.{Refuses as RefusesTokens}
-use Rattle.st_spelling.specs.Spelling.{Spells, SpellsWithin}
+use Rattle.st_tree.specs.Spelling.{Spells, SpellsWithin}
 use Rattle.st_tree.specs.Declarable.{HasNames, names_of}
 use Rattle.st_tree.specs.ProgramTree.{DeclaredTree, DeclTree, BlockTree, ProgramTree}
 use Rattle.st_types.specs.declared.fault.TypeFault.{TypeFault}

@@ -4,7 +4,7 @@ use Rattle.std.proofs.Common.{Some}
 use Rattle.std.proofs.Common.{refl, sym, ap, subst, ◌∙◌, arith, All}
 use Rattle.std.proofs.lemmas.List.Elements.{All-get_or}
 use Rattle.std.proofs.lemmas.Option.{get_or_from_slice_get, slice_get_within}
-use Rattle.st_spelling.specs.Spelling.{bytes_in}
+use Rattle.st_tree.specs.Spelling.{bytes_in}
 use Rattle.il_front.specs.Judging.{Operator, operator_of, Written, written_negative, Line, line_with, line_of, is_last_word}
 use Rattle.st_lexer.specs.declared.token.Token.{Token}
 use Rattle.il_front.specs.Lines.{and_token, lines_of}

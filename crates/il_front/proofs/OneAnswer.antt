@@ -14,7 +14,7 @@ use Rattle.st_lexer.specs.Spots.{spot_at}
 use Rattle.st_parser.specs.declared.fault.SyntaxFault.{SyntaxFault}
 use Rattle.st_parser.specs.declared.fault.SyntaxFault.TheVariants as syntax
 use Rattle.st_parser.specs.Answers.{Refuses}
-use Rattle.st_spelling.specs.Spelling.{Spells, SpellsWithin}
+use Rattle.st_tree.specs.Spelling.{Spells, SpellsWithin}
 use Rattle.st_tree.specs.ProgramTree.{ProgramTree}
 use Rattle.st_tree.specs.Declarable.{names_of}
 use Rattle.st_types.specs.declared.fault.TypeFault.{TypeFault}

@@ -13,8 +13,8 @@ use Rattle.st_lexer.specs.declared.token.Tok.TheVariants as tok
 use Rattle.st_lexer.specs.declared.token.Token.{Token}
 use Rattle.st_tree.specs.declared.expr.BinOp.TheVariants as bin
 use Rattle.st_tree.specs.declared.program.Section.{Section}
-use Rattle.st_spelling.specs.Spelling.{bytes_in}
-use Rattle.st_spelling.specs.Expressions.{Value, literal_of}
+use Rattle.st_tree.specs.Spelling.{bytes_in}
+use Rattle.st_tree.specs.Expressions.{Value, literal_of}
 use Rattle.vcp_base.specs.Names.{is_same_name}
 use Rattle.st_types.specs.ExprTyping.{literal_type}
 use Rattle.vcp_typed.specs.declared.slot.Slot.{Slot}

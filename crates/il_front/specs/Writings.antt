@@ -2,7 +2,7 @@
 use Rattle.std.specs.Prelude.{◌≡◌, ℕ, ◌<◌, ◌==◌, Bool, false, neg_ℤ, List, [], ◌∷◌, length, None}
 use Rattle.st_lexer.specs.declared.token.Token.{Token}
 use Rattle.st_lexer.specs.Reading.{IsInside}
-use Rattle.st_spelling.specs.Spelling.{bytes_in}
+use Rattle.st_tree.specs.Spelling.{bytes_in}
 use Rattle.il_front.specs.declared.line.Words.{Words}
 use Rattle.il_front.specs.declared.line.Words.TheVariants as words
 use Rattle.il_front.specs.declared.line.Writing.{Writing}

@@ -2,7 +2,7 @@
 
 ghost use Rattle.std.specs.Prelude.{◌≡◌, Some};
 ghost use Rattle.st_lexer.specs.Reading.{IsInside};
-ghost use Rattle.st_spelling.specs.Spelling.{bytes_in};
+ghost use Rattle.st_tree.specs.Spelling.{bytes_in};
 ghost use Rattle.il_front.specs.declared.operator.Operator.TheVariants as operator_;
 ghost use Rattle.il_front.specs.Judging.{operator_named as named_of, operator_reserved as reserved_of, operator_of as operator_of_bytes, sets as sets_of};
 

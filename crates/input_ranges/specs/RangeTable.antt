@@ -10,7 +10,7 @@ use Rattle.vcp_base.specs.Numerals.{integer_of, in_type}
 use Rattle.vcp_base.specs.Types.{least, greatest}
 use Rattle.input_rows.specs.declared.fault.RowFault.{RowFault}
 use Rattle.input_rows.specs.declared.fault.RowFault.TheVariants as fault
-use Rattle.script_text.specs.Words.{words, only}
+use Rattle.vcp_base.specs.Words.{words, only}
 use Rattle.range_walk.specs.declared.range.Range.{Range}
 
 -- the three cells of a record

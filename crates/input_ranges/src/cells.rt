@@ -3,15 +3,14 @@
 ghost use Rattle.std.specs.Prelude.{◌≡◌};
 ghost use Rattle.std.specs.Option.{option_map};
 ghost use Rattle.csv.specs.Records.{fields_of};
-ghost use Rattle.script_text.specs.Words.{words, only};
+ghost use Rattle.vcp_base.specs.Words.{words, only};
 ghost use Rattle.input_ranges.specs.RangeTable.{cells_of, is_same_word, is_head as is_head_of, end_of as end_in, range_between as between};
 
 use csv::ByteRecord;
 use input_rows::{RowFault, field};
 use range_walk::Range;
-use script_text::WordsLeft;
 use std::marker::Model;
-use vcp_base::{Ty, is_same_name, number_in};
+use vcp_base::{Ty, WordsLeft, is_same_name, number_in};
 
 /// The three cells of a record, seen as texts.
 #[derive(Drop)]

@@ -15,10 +15,10 @@ use Rattle.op_graph.specs.GraphRun.{Run, after_cycle, cycle, graph_run, initial,
 use Rattle.signature_table.specs.Signatures.{Numbers, IsTable}
 use Rattle.run_report.specs.Lines.{row_text}
 use Rattle.coded_machine.specs.CycleEnds.{outputs_of}
-use Rattle.machine_run.specs.RowRuns.{EarlierPrinted, texts_from}
-use Rattle.machine_run.specs.declared.fault.RunFault.{RunFault}
-use Rattle.machine_run.specs.declared.fault.RunFault.TheVariants as fault
-use Rattle.machine_run.proofs.Writing.{appends_nothing, appends_on, texts_on}
+use Rattle.coded_machine.specs.RowRuns.{EarlierPrinted, texts_from}
+use Rattle.coded_machine.specs.declared.rows.fault.RunFault.{RunFault}
+use Rattle.coded_machine.specs.declared.rows.fault.RunFault.TheVariants as fault
+use Rattle.coded_machine.proofs.Writing.{appends_nothing, appends_on, texts_on}
 use Rattle.pair_channel.specs.declared.pair_end.PairEnd.{PairEnd}
 use Rattle.pair_channel.specs.declared.pair_end.PairEnd.TheVariants as pair
 use Rattle.pair_channel.specs.PairLaws.{PairCounts, PairRunLaws}

@@ -11,11 +11,11 @@ use Rattle.op_graph.specs.Lists.{Lists}
 use Rattle.signature_table.specs.Signatures.{Numbers}
 use Rattle.coded_machine.specs.CycleEnds.{outputs_of}
 use Rattle.run_report.specs.Lines.{row_text}
-use Rattle.machine_run.specs.Refusals.{given_up_by}
-use Rattle.machine_run.specs.RowRuns.{texts_from}
-use Rattle.machine_run.specs.declared.fault.RunFault.TheVariants as fault
-use Rattle.machine_run.proofs.UpTo.{map_more}
-use Rattle.machine_run.proofs.Writing.{appends_on, part_written}
+use Rattle.coded_machine.specs.Refusals.{given_up_by}
+use Rattle.coded_machine.specs.RowRuns.{texts_from}
+use Rattle.coded_machine.specs.declared.rows.fault.RunFault.TheVariants as fault
+use Rattle.coded_machine.proofs.UpTo.{map_more}
+use Rattle.coded_machine.proofs.Writing.{appends_on, part_written}
 use Rattle.pair_channel.specs.declared.pair_end.PairEnd.{PairEnd}
 use Rattle.pair_channel.specs.declared.pair_end.PairEnd.TheVariants as pair
 use Rattle.pair_channel.specs.PairLaws.{PairRunLaws}

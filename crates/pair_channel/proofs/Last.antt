@@ -9,9 +9,9 @@ use Rattle.vcp_outside.specs.declared.failed.Failed.{Failed}
 use Rattle.op_graph.specs.declared.op.Op.{Op}
 use Rattle.op_graph.specs.Lists.{Lists, turns_of}
 use Rattle.run_report.specs.Lines.{stop_text}
-use Rattle.machine_run.specs.Moments.{Moment}
-use Rattle.machine_run.specs.Stops.{GrowsToStop, TellsStop}
-use Rattle.machine_run.proofs.Writing.{appends_on}
+use Rattle.coded_machine.specs.Moments.{Moment}
+use Rattle.coded_machine.specs.Stops.{GrowsToStop, TellsStop}
+use Rattle.coded_machine.proofs.Writing.{appends_on}
 use Rattle.pair_channel.specs.declared.pair_end.PairEnd.{PairEnd}
 use Rattle.pair_channel.specs.declared.pair_end.PairEnd.TheVariants as pair
 use Rattle.pair_channel.specs.PairDone.{PairIsThere}

@@ -11,9 +11,9 @@ use Rattle.coded_unit.specs.declared.call.Answer.{Answer}
 use Rattle.op_graph.specs.Lists.{Lists}
 use Rattle.op_graph.specs.GraphRun.{graph_run, initial}
 use Rattle.signature_table.specs.Signatures.{Numbers}
-use Rattle.machine_run.specs.Moments.{Moment}
-use Rattle.machine_run.specs.declared.fault.RunFault.{RunFault}
-use Rattle.machine_run.specs.declared.fault.RunFault.TheVariants as fault
+use Rattle.coded_machine.specs.Moments.{Moment}
+use Rattle.coded_machine.specs.declared.rows.fault.RunFault.{RunFault}
+use Rattle.coded_machine.specs.declared.rows.fault.RunFault.TheVariants as fault
 use Rattle.pair_channel.specs.declared.pair_end.PairEnd.{PairEnd}
 use Rattle.pair_channel.specs.declared.pair_end.PairEnd.TheVariants as pair
 use Rattle.pair_channel.specs.Beside.{AllBeside}

@@ -14,8 +14,8 @@ use Rattle.coded_machine.specs.declared.cycle_end.CycleEnd.{CycleEnd}
 use Rattle.coded_machine.specs.declared.cycle_end.CycleEnd.TheVariants as end
 use Rattle.coded_machine.specs.Calls.{Whole}
 use Rattle.coded_machine.specs.CycleEnds.{Cause, outputs_of}
-use Rattle.machine_run.specs.Stops.{GrowsToStop}
-use Rattle.machine_run.proofs.Stopping.{refusal_numbered, stop_placed, stopped_log}
+use Rattle.coded_machine.specs.Stops.{GrowsToStop}
+use Rattle.coded_machine.proofs.Stopping.{refusal_numbered, stop_placed, stopped_log}
 use Rattle.pair_channel.specs.declared.pair_end.PairEnd.{PairEnd}
 use Rattle.pair_channel.specs.declared.pair_end.PairEnd.TheVariants as pair
 use Rattle.pair_channel.specs.PairEnds.{PairCause}

@@ -13,9 +13,9 @@ use Rattle.op_graph.specs.Lists.{Lists}
 use Rattle.signature_table.specs.Signatures.{Numbers}
 use Rattle.coded_machine.specs.CycleEnds.{outputs_of}
 use Rattle.run_report.specs.Lines.{row_text}
-use Rattle.machine_run.specs.RowRuns.{texts_from}
-use Rattle.machine_run.proofs.UpTo.{map_more, rows_on}
-use Rattle.machine_run.proofs.Writing.{appends_nothing, rows_written}
+use Rattle.coded_machine.specs.RowRuns.{texts_from}
+use Rattle.coded_machine.proofs.UpTo.{map_more, rows_on}
+use Rattle.coded_machine.proofs.Writing.{appends_nothing, rows_written}
 use Rattle.pair_channel.specs.declared.pair_end.PairEnd.{PairEnd}
 use Rattle.pair_channel.specs.declared.pair_end.PairEnd.TheVariants as pair
 use Rattle.pair_channel.specs.PairLaws.{PairRunLaws}

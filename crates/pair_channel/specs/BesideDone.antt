@@ -13,10 +13,10 @@ use Rattle.signature_table.specs.Signatures.{Numbers}
 use Rattle.coded_machine.specs.CycleEnds.{initial_words}
 use Rattle.coded_machine.specs.Runs.{calls_over}
 use Rattle.run_report.specs.Lines.{row_text}
-use Rattle.machine_run.specs.Moments.{Moment}
-use Rattle.machine_run.specs.RowRuns.{EarlierPrinted}
-use Rattle.machine_run.specs.declared.fault.RunFault.{RunFault}
-use Rattle.machine_run.specs.declared.fault.RunFault.TheVariants as fault
+use Rattle.coded_machine.specs.Moments.{Moment}
+use Rattle.coded_machine.specs.RowRuns.{EarlierPrinted}
+use Rattle.coded_machine.specs.declared.rows.fault.RunFault.{RunFault}
+use Rattle.coded_machine.specs.declared.rows.fault.RunFault.TheVariants as fault
 use Rattle.pair_channel.specs.declared.pair_end.PairEnd.{PairEnd}
 use Rattle.pair_channel.specs.declared.pair_end.PairEnd.TheVariants as pair
 use Rattle.pair_channel.specs.Beside.{AllBeside, beside}

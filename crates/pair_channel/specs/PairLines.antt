@@ -11,7 +11,7 @@ use Rattle.coded_machine.specs.declared.cycle_end.CycleEnd.{CycleEnd}
 use Rattle.coded_machine.specs.declared.cycle_end.CycleEnd.TheVariants as end
 use Rattle.run_report.specs.Lines.{header_text, row_text, end_text, stop_text}
 use Rattle.run_report.specs.Variables.{output_name}
-use Rattle.machine_run.specs.RowRuns.{texts_from}
+use Rattle.coded_machine.specs.RowRuns.{texts_from}
 use Rattle.pair_channel.specs.declared.pair_end.PairEnd.{PairEnd}
 use Rattle.pair_channel.specs.declared.pair_end.PairEnd.TheVariants as pair
 use Rattle.pair_channel.specs.PairRuns.{PairOutcome}

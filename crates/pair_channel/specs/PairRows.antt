@@ -10,9 +10,9 @@ use Rattle.coded_unit.specs.declared.call.Answer.{Answer}
 use Rattle.op_graph.specs.Lists.{Lists}
 use Rattle.signature_table.specs.Signatures.{Numbers}
 use Rattle.run_report.specs.Lines.{row_text}
-use Rattle.machine_run.specs.RowRuns.{EarlierPrinted, texts_from}
-use Rattle.machine_run.specs.declared.fault.RunFault.{RunFault}
-use Rattle.machine_run.specs.declared.fault.RunFault.TheVariants as fault
+use Rattle.coded_machine.specs.RowRuns.{EarlierPrinted, texts_from}
+use Rattle.coded_machine.specs.declared.rows.fault.RunFault.{RunFault}
+use Rattle.coded_machine.specs.declared.rows.fault.RunFault.TheVariants as fault
 use Rattle.pair_channel.specs.declared.pair_end.PairEnd.{PairEnd}
 use Rattle.pair_channel.specs.declared.pair_end.PairEnd.TheVariants as pair
 use Rattle.pair_channel.specs.PairRuns.{PairOver}

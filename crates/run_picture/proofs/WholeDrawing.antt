@@ -4,7 +4,7 @@ use Rattle.std.proofs.lemmas.List.{append-nil}
 use Rattle.std.proofs.lemmas.Bool.Decides.{nat_tests}
 use Rattle.run_picture.specs.declared.stretches.Stretch.{Stretch}
 use Rattle.run_picture.specs.RunOf.{Recorded}
-use Rattle.svg_text.specs.Drawing.{each_below}
+use Rattle.vcp_outside.specs.Drawing.{each_below}
 use Rattle.run_picture.specs.Drawn.{value_at, step_of, end_of, stretch_of, stretches_from, lane, lanes}
 use Rattle.run_picture.specs.Whole.{is_in, drawn_in, IsToldOnce, IsWhole}
 use Rattle.run_picture.proofs.Going.{each_suc}

@@ -1,9 +1,9 @@
 -- WholeText: no element of a picture has an attribute twice.
 use Rattle.std.proofs.Common.{ℕ, zero, suc, ◌+◌, ◌%◌, ◌==◌, ◌&&◌, nat_lt, List, [], ◌∷◌, ◌++◌, flat_map, length, refl, Bool, true, false, cond, codes, Option, Some, None}
 use Rattle.std.specs.List.{AllByRecursion}
-use Rattle.svg_text.specs.Drawing.{each_below}
-use Rattle.svg_text.specs.Elements.{Element}
-use Rattle.svg_text.specs.WellFormed.{HasEachOnce}
+use Rattle.vcp_outside.specs.Drawing.{each_below}
+use Rattle.vcp_outside.specs.Elements.{Element}
+use Rattle.vcp_outside.specs.WellFormed.{HasEachOnce}
 use Rattle.run_picture.specs.declared.layout.Layout.{Layout}
 use Rattle.run_picture.specs.declared.stretches.Stretch.{Stretch}
 use Rattle.run_picture.specs.declared.times.Period.{Period}

@@ -1,7 +1,7 @@
 -- Drawn: what is drawn of the values of a run: each column in stretches, in which the value changes by the same amount with each cycle, or doesn't.
 use Rattle.std.specs.Prelude.{ℕ, zero, suc, ◌+◌, ◌-◌, Bool, true, ◌&&◌, ◌||◌, cond, nat_lt, List, [], ◌∷◌, length, slice_index_or, ℤ, pos, ◌-ℤ◌}
 use Rattle.std.specs.Ordering.{int_eq}
-use Rattle.svg_text.specs.Drawing.{each_below}
+use Rattle.vcp_outside.specs.Drawing.{each_below}
 use Rattle.run_picture.specs.declared.stretches.Stretch.{Stretch}
 use Rattle.run_picture.specs.RunOf.{Recorded}
 

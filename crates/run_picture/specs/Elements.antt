@@ -3,9 +3,9 @@ use Rattle.std.specs.Prelude.{◌≡◌, ◌<◌, ◌≤◌, ℕ, ◌+◌, ◌-�
 use Rattle.std.specs.Fmt.{signed_decimal}
 use Rattle.std.specs.List.{AllByRecursion, concat}
 use Rattle.std.specs.Ordering.{int_eq}
-use Rattle.svg_text.specs.declared.names.Tag.TheVariants as tag
-use Rattle.svg_text.specs.declared.names.Name.TheVariants as name
-use Rattle.svg_text.specs.Elements.{Element, attribute, element, picture_text}
+use Rattle.vcp_outside.specs.declared.svg.names.Tag.TheVariants as tag
+use Rattle.vcp_outside.specs.declared.svg.names.Name.TheVariants as name
+use Rattle.vcp_outside.specs.Elements.{Element, attribute, element, picture_text}
 use Rattle.run_picture.specs.declared.ending.Mark.{Mark}
 use Rattle.run_picture.specs.declared.ending.Mark.TheVariants as mark
 use Rattle.run_picture.specs.declared.ending.Ending.{Ending}
@@ -15,7 +15,7 @@ use Rattle.run_picture.specs.declared.times.Period.{Period}
 use Rattle.run_picture.specs.RunOf.{Recorded}
 use Rattle.run_picture.specs.Drawn.{lanes, is_level}
 use Rattle.run_picture.specs.Times.{time_pieces}
-use Rattle.svg_text.specs.Drawing.{each_below}
+use Rattle.vcp_outside.specs.Drawing.{each_below}
 
 -- the distance of a cycle's begin from the left, and of a column's upper side from above
 abbrev pub start_of : Layout → ℕ → ℕ

@@ -2,7 +2,7 @@
 
 ghost use Rattle.std.specs.Prelude.{◌≡◌, ◌<◌, ◌≤◌, ◌∷◌, length, flat_map};
 ghost use Rattle.vcp_outside.specs.Gathering.{GathersTo};
-ghost use Rattle.svg_text.specs.Elements.{element_text};
+ghost use Rattle.vcp_outside.specs.Elements.{element_text};
 ghost use Rattle.vcp_base.specs.Limits.{most_cycles};
 ghost use Rattle.run_picture.specs.Elements.{style, begin_element, cycle_element, time_element, time_elements, mark_elements, page_elements, cycle_elements, cycles_elements, name_element, names_elements, base_element, base_elements, bases_elements, class_of as class_of_mark, mark_element, ending_element, ending_elements};
 
@@ -11,8 +11,7 @@ use crate::layout::{Layout, start, top};
 use crate::run::Run;
 use crate::stretches::is_level;
 use crate::times::{Period, drawn_in, thousandths};
-use svg_text::{Name, Piece, Tag, then_element};
-use vcp_outside::{Line, Sink};
+use vcp_outside::{Line, Name, Piece, Sink, Tag, then_element};
 
 /// The rules of style.
 const STYLE: &[u8] =

@@ -2,7 +2,7 @@
 
 ghost use Rattle.std.specs.Prelude.{◌≡◌, ◌<◌, ◌≤◌, ◌+◌, [], ◌∷◌, length, flat_map, cond};
 ghost use Rattle.vcp_outside.specs.Gathering.{GathersTo};
-ghost use Rattle.svg_text.specs.Elements.{element_text};
+ghost use Rattle.vcp_outside.specs.Elements.{element_text};
 ghost use Rattle.vcp_base.specs.Limits.{most_cycles};
 ghost use Rattle.run_picture.specs.Drawn.{lane, lanes};
 ghost use Rattle.run_picture.specs.Elements.{top_of, level_of, rises as rises_of, holds as holds_of, level_element, number_element, ramp_element, value_element, edge_element, edge_elements, first_element, last_element, label_elements, stretch_elements};
@@ -10,8 +10,7 @@ ghost use Rattle.run_picture.specs.Elements.{top_of, level_of, rises as rises_of
 use crate::layout::{Layout, start, top};
 use crate::run::Run;
 use crate::stretches::{Stretch, is_level, stretch_from};
-use svg_text::{Name, Piece, Tag, then_element};
-use vcp_outside::{Line, Sink};
+use vcp_outside::{Line, Name, Piece, Sink, Tag, then_element};
 
 // The height at which a level is drawn.
 fn level(value: i64) -> u64

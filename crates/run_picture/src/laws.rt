@@ -3,7 +3,7 @@
 ghost use Rattle.std.specs.Prelude.{◌≡◌, ◌++◌, ℕ, List, Option, Some, Ok, codes};
 ghost use Rattle.vcp_base.specs.Stops.{ToldStop};
 ghost use Rattle.run_report.specs.Lines.{end_text, stop_text, refused_text};
-ghost use Rattle.svg_text.specs.WellFormed.{IsDocument};
+ghost use Rattle.vcp_outside.specs.WellFormed.{IsDocument};
 ghost use Rattle.run_picture.specs.declared.ending.Mark.TheVariants as mark;
 ghost use Rattle.run_picture.specs.declared.layout.Layout.{Layout as LayoutOf};
 ghost use Rattle.run_picture.specs.declared.times.Period.{Period as PeriodOf};
@@ -14,7 +14,7 @@ ghost use Rattle.run_picture.specs.Printed.{printed, IsPrintable};
 ghost use Rattle.run_picture.specs.RunOf.{Recorded, run_of};
 ghost use Rattle.run_picture.specs.Whole.{IsWhole};
 
-use svg_text::pictures_are_well_formed;
+use vcp_outside::pictures_are_well_formed;
 
 /// Each last line that a run prints behind the rows of the cycles below `cycle` is known for what it is;
 /// and no other text is an end.

@@ -9,8 +9,7 @@ use crate::lanes::then_lanes;
 use crate::layout::{Layout, layout_for, start, top};
 use crate::run::Run;
 use crate::times::Period;
-use svg_text::{begin_picture, end_picture};
-use vcp_outside::{Failed, Sink};
+use vcp_outside::{Failed, Sink, begin_picture, end_picture};
 
 // The height below the columns.
 fn height_below(period: Option<Period>) -> u64

@@ -6,7 +6,7 @@ use Rattle.st_lexer.specs.declared.token.Token.{Token}
 use Rattle.st_tree.specs.ExprTree.{ExprTree}
 use Rattle.st_tree.specs.StmtTree.{LabelTree, StmtTree, StmtTrees, ArmTrees, BranchTrees, no_stmts, and_stmt, no_arms, and_arm, no_branches, and_branch}
 use Rattle.st_tree.specs.Appended.{stmts_and, arms_and, branches_and}
-use Rattle.st_spelling.specs.Placed.{Placed, tokens_of, Within}
+use Rattle.st_tree.specs.Placed.{Placed, tokens_of, Within}
 
 -- ---- trees
 

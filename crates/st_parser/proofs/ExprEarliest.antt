@@ -9,9 +9,9 @@ use Rattle.st_lexer.specs.declared.token.Tok.TheVariants as tok
 use Rattle.st_lexer.specs.declared.token.Token.{Token}
 use Rattle.st_tree.specs.ExprTree.{ExprTree, literal, name, unary, binary, call}
 use Rattle.st_tree.specs.Appended.{exprs_and}
-use Rattle.st_spelling.specs.Operators.{any_level, unary_level, level, chain}
-use Rattle.st_spelling.specs.Placed.{Placed, at, Within}
-use Rattle.st_spelling.specs.Expressions.{SpellsExpr, spells_literal}
+use Rattle.st_tree.specs.Operators.{any_level, unary_level, level, chain}
+use Rattle.st_tree.specs.Placed.{Placed, at, Within}
+use Rattle.st_tree.specs.Expressions.{SpellsExpr, spells_literal}
 use Rattle.st_parser.specs.declared.fault.SyntaxFault.{SyntaxFault}
 use Rattle.st_parser.specs.declared.fault.SyntaxFault.TheVariants as fault
 use Rattle.st_parser.specs.declared.marks.Begins.{Begins}

@@ -10,10 +10,10 @@ use Rattle.st_tree.specs.declared.expr.UnOp.{UnOp}
 use Rattle.st_tree.specs.declared.expr.BinOp.{BinOp}
 use Rattle.st_tree.specs.ExprTree.{ExprTree, ExprTrees, name, unary, binary, call, no_exprs, and_expr}
 use Rattle.st_tree.specs.Appended.{exprs_and}
-use Rattle.st_spelling.specs.Operators.{sign, operator, level, any_level, unary_level, chain}
-use Rattle.st_spelling.specs.Placed.{Placed, at, Within}
-use Rattle.st_spelling.specs.Expressions.{SpellsExpr, SpellsArgs, spells_literal, spells_name, spells_unary, spells_binary, spells_call, spells_brackets}
-use Rattle.st_spelling.specs.Expressions.{spells_last, spells_next}
+use Rattle.st_tree.specs.Operators.{sign, operator, level, any_level, unary_level, chain}
+use Rattle.st_tree.specs.Placed.{Placed, at, Within}
+use Rattle.st_tree.specs.Expressions.{SpellsExpr, SpellsArgs, spells_literal, spells_name, spells_unary, spells_binary, spells_call, spells_brackets}
+use Rattle.st_tree.specs.Expressions.{spells_last, spells_next}
 use Rattle.st_parser.specs.declared.fault.SyntaxFault.{SyntaxFault}
 use Rattle.st_parser.specs.declared.fault.SyntaxFault.TheVariants as fault
 use Rattle.st_parser.specs.declared.marks.Begins.{Begins}

@@ -8,8 +8,8 @@ use Rattle.st_tree.specs.declared.expr.UnOp.{UnOp}
 use Rattle.st_tree.specs.declared.expr.UnOp.TheVariants as un
 use Rattle.st_tree.specs.declared.expr.BinOp.{BinOp}
 use Rattle.st_tree.specs.declared.expr.BinOp.TheVariants as bin
-use Rattle.st_spelling.specs.Operators.{sign, operator}
-use Rattle.st_spelling.specs.Expressions.{Value, literal_of}
+use Rattle.st_tree.specs.Operators.{sign, operator}
+use Rattle.st_tree.specs.Expressions.{Value, literal_of}
 use Rattle.st_parser.specs.declared.marks.Begins.{Begins}
 use Rattle.st_parser.specs.declared.marks.Begins.TheVariants as begins
 use Rattle.st_parser.specs.declared.marks.Goes.{Goes}

@@ -10,7 +10,7 @@ use Rattle.st_tree.specs.declared.expr.BinOp.{BinOp}
 use Rattle.st_tree.specs.declared.expr.Expr.{Expr}
 use Rattle.st_tree.specs.ExprTree.{ExprTree, unary, binary}
 use Rattle.st_tree.specs.ExprViews.{expr_tree}
-use Rattle.st_spelling.specs.Operators.{level}
+use Rattle.st_tree.specs.Operators.{level}
 use Rattle.st_parser.specs.declared.forms.Form.{Form}
 use Rattle.st_parser.specs.declared.forms.Form.TheVariants as program
 use Rattle.st_parser.specs.ExprMachine as machine

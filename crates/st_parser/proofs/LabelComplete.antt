@@ -9,10 +9,10 @@ use Rattle.st_lexer.specs.declared.token.Token.{Token}
 use Rattle.st_tree.specs.declared.expr.UnOp.TheVariants as un
 use Rattle.st_tree.specs.ExprTree.{ExprTree, literal, name, unary}
 use Rattle.st_tree.specs.StmtTree.{LabelTree, StmtTrees, no_stmts}
-use Rattle.st_spelling.specs.Placed.{Placed, at, tokens_of, Within}
-use Rattle.st_spelling.specs.Expressions.{Value, literal_of}
-use Rattle.st_spelling.specs.Labels.{SpellsConst, spells_value, spells_named, spells_negative, SpellsLabel, spells_one, spells_range, SpellsLabels}
-use Rattle.st_spelling.specs.Labels.{spells_last_label, spells_next_label}
+use Rattle.st_tree.specs.Placed.{Placed, at, tokens_of, Within}
+use Rattle.st_tree.specs.Expressions.{Value, literal_of}
+use Rattle.st_tree.specs.Labels.{SpellsConst, spells_value, spells_named, spells_negative, SpellsLabel, spells_one, spells_range, SpellsLabels}
+use Rattle.st_tree.specs.Labels.{spells_last_label, spells_next_label}
 use Rattle.st_parser.specs.declared.fault.SyntaxFault.{SyntaxFault}
 use Rattle.st_parser.specs.declared.marks.Begins.{Begins}
 use Rattle.st_parser.specs.declared.marks.Begins.TheVariants as begins

@@ -9,9 +9,9 @@ use Rattle.st_lexer.specs.declared.token.Token.{Token}
 use Rattle.st_tree.specs.declared.expr.UnOp.TheVariants as un
 use Rattle.st_tree.specs.ExprTree.{ExprTree, literal, name, unary}
 use Rattle.st_tree.specs.StmtTree.{LabelTree, StmtTree, StmtTrees}
-use Rattle.st_spelling.specs.Placed.{Placed, at}
-use Rattle.st_spelling.specs.Labels.{SpellsLabel, spells_value, spells_named, spells_negative, spells_one, spells_range, spells_last_label, spells_next_label}
-use Rattle.st_spelling.specs.Statements.{spells_no_stmt}
+use Rattle.st_tree.specs.Placed.{Placed, at}
+use Rattle.st_tree.specs.Labels.{SpellsLabel, spells_value, spells_named, spells_negative, spells_one, spells_range, spells_last_label, spells_next_label}
+use Rattle.st_tree.specs.Statements.{spells_no_stmt}
 use Rattle.st_parser.specs.declared.fault.SyntaxFault.{SyntaxFault}
 use Rattle.st_parser.specs.declared.fault.SyntaxFault.TheVariants as fault
 use Rattle.st_parser.specs.declared.marks.Begins.{Begins}

@@ -5,7 +5,7 @@ use Rattle.st_lexer.specs.declared.token.Key.TheVariants as key
 use Rattle.st_lexer.specs.declared.token.Sym.TheVariants as symbol
 use Rattle.st_lexer.specs.declared.token.Tok.{Tok}
 use Rattle.st_lexer.specs.declared.token.Tok.TheVariants as tok
-use Rattle.st_spelling.specs.Programs.{type_key}
+use Rattle.st_tree.specs.Programs.{type_key}
 use Rattle.st_parser.specs.declared.marks.Mark.{Mark}
 use Rattle.st_parser.specs.declared.marks.Mark.TheVariants as mark
 use Rattle.st_parser.specs.Marks.{mark_of, mark_number, is}

@@ -4,9 +4,9 @@ use Rattle.vcp_base.specs.Limits.{most_depth}
 use Rattle.vcp_base.specs.declared.spot.Spot.{Spot}
 use Rattle.st_lexer.specs.declared.token.Token.{Token}
 use Rattle.st_tree.specs.ProgramTree.{ProgramTree}
-use Rattle.st_spelling.specs.Placed.{Placed, at, tokens_of}
-use Rattle.st_spelling.specs.Programs.{SpellsProgram}
-use Rattle.st_spelling.specs.Spelling.{Spells, SpellsWithin, Begins, bytes_in, left_aside}
+use Rattle.st_tree.specs.Placed.{Placed, at, tokens_of}
+use Rattle.st_tree.specs.Programs.{SpellsProgram}
+use Rattle.st_tree.specs.Spelling.{Spells, SpellsWithin, Begins, bytes_in, left_aside}
 use Rattle.st_parser.specs.declared.fault.SyntaxFault.{SyntaxFault}
 use Rattle.st_parser.specs.declared.fault.SyntaxFault.TheVariants as fault
 use Rattle.st_parser.specs.Answers.{IsTooDeep, NoneTooDeep, FirstWrong, EndsEarly, FirstTooDeep, Refuses}

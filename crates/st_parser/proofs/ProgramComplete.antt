@@ -15,12 +15,12 @@ use Rattle.st_tree.specs.declared.program.Section.TheVariants as section
 use Rattle.st_tree.specs.ExprTree.{ExprTree}
 use Rattle.st_tree.specs.StmtTree.{StmtTree, StmtTrees, ArmTrees, OtherTree, no_stmts}
 use Rattle.st_tree.specs.ProgramTree.{DeclaredTree, DeclTree, BlockTree, ProgramTree}
-use Rattle.st_spelling.specs.Placed.{Placed, at, tokens_of, Within}
-use Rattle.st_spelling.specs.Statements.{SpellsStmt, spells_assign, spells_if, spells_case, spells_for, SpellsStmts, spells_no_stmt, spells_empty, spells_stmt}
-use Rattle.st_spelling.specs.Statements.{SpellsArms, spells_arm}
-use Rattle.st_spelling.specs.Programs.{type_key, SpellsNames, spells_last_name, spells_next_name, SpellsInit, spells_no_init, spells_init, SpellsDecl}
-use Rattle.st_spelling.specs.Programs.{spells_decl, SpellsDecls, spells_end_var, spells_next_decl, SpellsHead, spells_input, spells_output, spells_local}
-use Rattle.st_spelling.specs.Programs.{spells_constant, spells_retain, SpellsBlocks, spells_no_block, spells_block, SpellsProgram, spells_program}
+use Rattle.st_tree.specs.Placed.{Placed, at, tokens_of, Within}
+use Rattle.st_tree.specs.Statements.{SpellsStmt, spells_assign, spells_if, spells_case, spells_for, SpellsStmts, spells_no_stmt, spells_empty, spells_stmt}
+use Rattle.st_tree.specs.Statements.{SpellsArms, spells_arm}
+use Rattle.st_tree.specs.Programs.{type_key, SpellsNames, spells_last_name, spells_next_name, SpellsInit, spells_no_init, spells_init, SpellsDecl}
+use Rattle.st_tree.specs.Programs.{spells_decl, SpellsDecls, spells_end_var, spells_next_decl, SpellsHead, spells_input, spells_output, spells_local}
+use Rattle.st_tree.specs.Programs.{spells_constant, spells_retain, SpellsBlocks, spells_no_block, spells_block, SpellsProgram, spells_program}
 use Rattle.st_parser.specs.declared.fault.SyntaxFault.{SyntaxFault}
 use Rattle.st_parser.specs.declared.fault.SyntaxFault.TheVariants as fault
 use Rattle.st_parser.specs.declared.marks.Mark.{Mark}

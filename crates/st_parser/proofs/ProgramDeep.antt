@@ -12,13 +12,13 @@ use Rattle.st_tree.specs.declared.program.Section.TheVariants as section
 use Rattle.st_tree.specs.ExprTree.{ExprTree}
 use Rattle.st_tree.specs.StmtTree.{StmtTrees, no_stmts}
 use Rattle.st_tree.specs.ProgramTree.{DeclaredTree, DeclTree, BlockTree, ProgramTree}
-use Rattle.st_spelling.specs.Operators.{any_level}
-use Rattle.st_spelling.specs.Placed.{Placed, at, tokens_of}
-use Rattle.st_spelling.specs.Expressions.{SpellsExpr}
-use Rattle.st_spelling.specs.Statements.{spells_assign, spells_if, spells_case, spells_for, SpellsStmts, spells_no_stmt, spells_empty, spells_stmt, spells_arm}
-use Rattle.st_spelling.specs.Programs.{SpellsNames, spells_last_name, spells_next_name, SpellsInit, spells_no_init, spells_init, SpellsDecl, spells_decl}
-use Rattle.st_spelling.specs.Programs.{SpellsDecls, spells_end_var, spells_next_decl, SpellsHead, spells_input, spells_output, spells_local, spells_constant}
-use Rattle.st_spelling.specs.Programs.{spells_retain, SpellsBlocks, spells_no_block, spells_block, SpellsProgram, spells_program}
+use Rattle.st_tree.specs.Operators.{any_level}
+use Rattle.st_tree.specs.Placed.{Placed, at, tokens_of}
+use Rattle.st_tree.specs.Expressions.{SpellsExpr}
+use Rattle.st_tree.specs.Statements.{spells_assign, spells_if, spells_case, spells_for, SpellsStmts, spells_no_stmt, spells_empty, spells_stmt, spells_arm}
+use Rattle.st_tree.specs.Programs.{SpellsNames, spells_last_name, spells_next_name, SpellsInit, spells_no_init, spells_init, SpellsDecl, spells_decl}
+use Rattle.st_tree.specs.Programs.{SpellsDecls, spells_end_var, spells_next_decl, SpellsHead, spells_input, spells_output, spells_local, spells_constant}
+use Rattle.st_tree.specs.Programs.{spells_retain, SpellsBlocks, spells_no_block, spells_block, SpellsProgram, spells_program}
 use Rattle.st_parser.specs.declared.fault.SyntaxFault.{SyntaxFault}
 use Rattle.st_parser.specs.declared.fault.SyntaxFault.TheVariants as fault
 use Rattle.st_parser.specs.declared.marks.Mark.TheVariants as mark

@@ -12,12 +12,12 @@ use Rattle.st_tree.specs.ExprTree.{ExprTree, literal}
 use Rattle.st_tree.specs.StmtTree.{LabelTree, StmtTree, StmtTrees, no_stmts, no_arms, no_branches, and_branch, no_other}
 use Rattle.st_tree.specs.ProgramTree.{DeclaredTree, ProgramTree}
 use Rattle.st_tree.specs.Appended.{stmts_and}
-use Rattle.st_spelling.specs.Operators.{any_level}
-use Rattle.st_spelling.specs.Placed.{Placed, at}
-use Rattle.st_spelling.specs.Expressions.{SpellsExpr, spells_literal}
-use Rattle.st_spelling.specs.Labels.{SpellsLabel, SpellsLabels, spells_value, spells_one, spells_last_label}
-use Rattle.st_spelling.specs.Statements.{SpellsStmts, spells_no_stmt, spells_no_step, spells_end_if, spells_end_case, spells_branch}
-use Rattle.st_spelling.specs.Programs.{spells_last_name, spells_no_init, spells_end_var, spells_local, SpellsProgram}
+use Rattle.st_tree.specs.Operators.{any_level}
+use Rattle.st_tree.specs.Placed.{Placed, at}
+use Rattle.st_tree.specs.Expressions.{SpellsExpr, spells_literal}
+use Rattle.st_tree.specs.Labels.{SpellsLabel, SpellsLabels, spells_value, spells_one, spells_last_label}
+use Rattle.st_tree.specs.Statements.{SpellsStmts, spells_no_stmt, spells_no_step, spells_end_if, spells_end_case, spells_branch}
+use Rattle.st_tree.specs.Programs.{spells_last_name, spells_no_init, spells_end_var, spells_local, SpellsProgram}
 use Rattle.st_parser.specs.ExprMachine.{Context}
 use Rattle.st_parser.specs.StmtMachine.{Selection, Loop, Body, of_arm, of_if_else, of_branch, of_case_else, of_loop, Level, Purpose, to_assign, to_test}
 use Rattle.st_parser.specs.StmtMachine.{to_select, to_begin, to_end, to_step, LabelPhase, first_wanted, first_negated, first_read, last_wanted, last_negated}

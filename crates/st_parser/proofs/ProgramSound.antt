@@ -13,13 +13,13 @@ use Rattle.st_tree.specs.declared.program.Section.TheVariants as section
 use Rattle.st_tree.specs.ExprTree.{ExprTree}
 use Rattle.st_tree.specs.StmtTree.{StmtTrees, no_stmts}
 use Rattle.st_tree.specs.ProgramTree.{DeclaredTree, DeclTree, BlockTree, ProgramTree}
-use Rattle.st_spelling.specs.Operators.{any_level}
-use Rattle.st_spelling.specs.Placed.{Placed, at, tokens_of, Within}
-use Rattle.st_spelling.specs.Expressions.{SpellsExpr}
-use Rattle.st_spelling.specs.Statements.{SpellsStmts, spells_no_stmt}
-use Rattle.st_spelling.specs.Programs.{type_key, SpellsNames, spells_last_name, spells_next_name, SpellsInit, spells_no_init, spells_init, spells_decl}
-use Rattle.st_spelling.specs.Programs.{SpellsDecls, spells_end_var, spells_next_decl, SpellsHead, spells_input, spells_output, spells_local, spells_constant}
-use Rattle.st_spelling.specs.Programs.{spells_retain, SpellsBlocks, spells_no_block, spells_block, SpellsProgram, spells_program}
+use Rattle.st_tree.specs.Operators.{any_level}
+use Rattle.st_tree.specs.Placed.{Placed, at, tokens_of, Within}
+use Rattle.st_tree.specs.Expressions.{SpellsExpr}
+use Rattle.st_tree.specs.Statements.{SpellsStmts, spells_no_stmt}
+use Rattle.st_tree.specs.Programs.{type_key, SpellsNames, spells_last_name, spells_next_name, SpellsInit, spells_no_init, spells_init, spells_decl}
+use Rattle.st_tree.specs.Programs.{SpellsDecls, spells_end_var, spells_next_decl, SpellsHead, spells_input, spells_output, spells_local, spells_constant}
+use Rattle.st_tree.specs.Programs.{spells_retain, SpellsBlocks, spells_no_block, spells_block, SpellsProgram, spells_program}
 use Rattle.st_parser.specs.declared.fault.SyntaxFault.{SyntaxFault}
 use Rattle.st_parser.specs.declared.marks.Mark.{Mark}
 use Rattle.st_parser.specs.declared.marks.Mark.TheVariants as mark

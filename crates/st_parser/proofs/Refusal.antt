@@ -4,8 +4,8 @@ use Rattle.std.proofs.lemmas.List.{map_push, map-append}
 use Rattle.vcp_base.specs.declared.spot.Spot.{Spot}
 use Rattle.st_lexer.specs.declared.token.Token.{Token}
 use Rattle.st_tree.specs.ProgramTree.{ProgramTree}
-use Rattle.st_spelling.specs.Placed.{Placed, at, tokens_of}
-use Rattle.st_spelling.specs.Programs.{SpellsProgram}
+use Rattle.st_tree.specs.Placed.{Placed, at, tokens_of}
+use Rattle.st_tree.specs.Programs.{SpellsProgram}
 use Rattle.st_parser.specs.declared.fault.SyntaxFault.{SyntaxFault}
 use Rattle.st_parser.specs.declared.fault.SyntaxFault.TheVariants as fault
 use Rattle.st_parser.specs.ExprMachine.{Context}

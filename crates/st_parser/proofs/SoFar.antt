@@ -11,12 +11,12 @@ use Rattle.st_tree.specs.ExprTree.{ExprTree, literal, name, unary}
 use Rattle.st_tree.specs.StmtTree.{LabelTree, StmtTree, StmtTrees, ArmTrees, BranchTrees, OtherTree, assign, if_, case, for_, no_stmts, and_stmt, no_arms}
 use Rattle.st_tree.specs.StmtTree.{and_arm, no_branches, and_branch, other}
 use Rattle.st_tree.specs.Appended.{stmts_and, arms_and, branches_and}
-use Rattle.st_spelling.specs.Operators.{any_level}
-use Rattle.st_spelling.specs.Placed.{Placed, at}
-use Rattle.st_spelling.specs.Expressions.{SpellsExpr}
-use Rattle.st_spelling.specs.Labels.{SpellsConst, SpellsLabel, SpellsLabels}
-use Rattle.st_spelling.specs.Statements.{SpellsStep, SpellsStmt, SpellsStmts, SpellsMoreArms, SpellsBranches, SpellsMoreBranches, spells_no_stmt, spells_empty}
-use Rattle.st_spelling.specs.Statements.{spells_stmt}
+use Rattle.st_tree.specs.Operators.{any_level}
+use Rattle.st_tree.specs.Placed.{Placed, at}
+use Rattle.st_tree.specs.Expressions.{SpellsExpr}
+use Rattle.st_tree.specs.Labels.{SpellsConst, SpellsLabel, SpellsLabels}
+use Rattle.st_tree.specs.Statements.{SpellsStep, SpellsStmt, SpellsStmts, SpellsMoreArms, SpellsBranches, SpellsMoreBranches, spells_no_stmt, spells_empty}
+use Rattle.st_tree.specs.Statements.{spells_stmt}
 use Rattle.st_parser.specs.ExprMachine.{Context}
 use Rattle.st_parser.specs.StmtMachine.{Selection, Loop, Body, of_arm, of_if_else, of_branch, of_case_else, of_loop, Level, Purpose, to_assign, to_test}
 use Rattle.st_parser.specs.StmtMachine.{to_select, to_begin, to_end, to_step, LabelPhase, first_wanted, first_negated, first_read, last_wanted, last_negated}

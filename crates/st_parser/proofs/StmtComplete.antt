@@ -12,13 +12,13 @@ use Rattle.st_tree.specs.StmtTree.{LabelTree, StmtTree, StmtTrees, ArmTrees, Bra
 use Rattle.st_tree.specs.StmtTree.{no_other, other}
 use Rattle.st_tree.specs.ProgramTree.{ProgramTree}
 use Rattle.st_tree.specs.Appended.{stmts_and, arms_and, branches_and}
-use Rattle.st_spelling.specs.Operators.{any_level}
-use Rattle.st_spelling.specs.Placed.{Placed, at, tokens_of, Within}
-use Rattle.st_spelling.specs.Expressions.{SpellsExpr}
-use Rattle.st_spelling.specs.Statements.{SpellsStep, spells_no_step, spells_step, SpellsStmt, spells_assign, spells_if, spells_case, spells_for, SpellsStmts}
-use Rattle.st_spelling.specs.Statements.{spells_no_stmt, spells_empty, spells_stmt, SpellsArms, spells_arm, SpellsMoreArms, spells_elsif, spells_if_else}
-use Rattle.st_spelling.specs.Statements.{spells_end_if, SpellsBranches, spells_branch, SpellsMoreBranches, spells_next_branch, spells_case_else}
-use Rattle.st_spelling.specs.Statements.{spells_end_case}
+use Rattle.st_tree.specs.Operators.{any_level}
+use Rattle.st_tree.specs.Placed.{Placed, at, tokens_of, Within}
+use Rattle.st_tree.specs.Expressions.{SpellsExpr}
+use Rattle.st_tree.specs.Statements.{SpellsStep, spells_no_step, spells_step, SpellsStmt, spells_assign, spells_if, spells_case, spells_for, SpellsStmts}
+use Rattle.st_tree.specs.Statements.{spells_no_stmt, spells_empty, spells_stmt, SpellsArms, spells_arm, SpellsMoreArms, spells_elsif, spells_if_else}
+use Rattle.st_tree.specs.Statements.{spells_end_if, SpellsBranches, spells_branch, SpellsMoreBranches, spells_next_branch, spells_case_else}
+use Rattle.st_tree.specs.Statements.{spells_end_case}
 use Rattle.st_parser.specs.declared.fault.SyntaxFault.{SyntaxFault}
 use Rattle.st_parser.specs.declared.fault.SyntaxFault.TheVariants as fault
 use Rattle.st_parser.specs.declared.marks.Begins.{Begins}

@@ -12,15 +12,15 @@ use Rattle.st_tree.specs.declared.expr.UnOp.TheVariants as un
 use Rattle.st_tree.specs.ExprTree.{ExprTree, literal, name, unary}
 use Rattle.st_tree.specs.StmtTree.{LabelTree, StmtTree, StmtTrees, ArmTrees, BranchTrees, OtherTree, no_stmts, no_arms, no_branches}
 use Rattle.st_tree.specs.Appended.{stmts_and, arms_and}
-use Rattle.st_spelling.specs.Operators.{any_level}
-use Rattle.st_spelling.specs.Placed.{Placed, at, tokens_of, Within}
-use Rattle.st_spelling.specs.Expressions.{SpellsExpr}
-use Rattle.st_spelling.specs.Labels.{SpellsConst, spells_value, spells_named, spells_negative, SpellsLabel, spells_one, spells_range, SpellsLabels}
-use Rattle.st_spelling.specs.Labels.{spells_last_label, spells_next_label}
-use Rattle.st_spelling.specs.Statements.{SpellsStep, spells_no_step, spells_step, SpellsStmt, spells_assign, spells_if, spells_case, spells_for, SpellsStmts}
-use Rattle.st_spelling.specs.Statements.{spells_no_stmt, spells_empty, spells_stmt, SpellsArms, spells_arm, SpellsMoreArms, spells_elsif, spells_if_else}
-use Rattle.st_spelling.specs.Statements.{spells_end_if, SpellsBranches, spells_branch, SpellsMoreBranches, spells_next_branch, spells_case_else}
-use Rattle.st_spelling.specs.Statements.{spells_end_case}
+use Rattle.st_tree.specs.Operators.{any_level}
+use Rattle.st_tree.specs.Placed.{Placed, at, tokens_of, Within}
+use Rattle.st_tree.specs.Expressions.{SpellsExpr}
+use Rattle.st_tree.specs.Labels.{SpellsConst, spells_value, spells_named, spells_negative, SpellsLabel, spells_one, spells_range, SpellsLabels}
+use Rattle.st_tree.specs.Labels.{spells_last_label, spells_next_label}
+use Rattle.st_tree.specs.Statements.{SpellsStep, spells_no_step, spells_step, SpellsStmt, spells_assign, spells_if, spells_case, spells_for, SpellsStmts}
+use Rattle.st_tree.specs.Statements.{spells_no_stmt, spells_empty, spells_stmt, SpellsArms, spells_arm, SpellsMoreArms, spells_elsif, spells_if_else}
+use Rattle.st_tree.specs.Statements.{spells_end_if, SpellsBranches, spells_branch, SpellsMoreBranches, spells_next_branch, spells_case_else}
+use Rattle.st_tree.specs.Statements.{spells_end_case}
 use Rattle.st_parser.specs.declared.fault.SyntaxFault.{SyntaxFault}
 use Rattle.st_parser.specs.declared.fault.SyntaxFault.TheVariants as fault
 use Rattle.st_parser.specs.declared.marks.Begins.{Begins}

@@ -10,12 +10,12 @@ use Rattle.st_tree.specs.ExprTree.{ExprTree, name}
 use Rattle.st_tree.specs.StmtTree.{LabelTree, StmtTree, StmtTrees, ArmTrees, BranchTrees, assign, if_, case, for_, no_arms, and_arm, no_branches, and_branch}
 use Rattle.st_tree.specs.StmtTree.{no_other, other}
 use Rattle.st_tree.specs.Appended.{stmts_and, arms_and, branches_and}
-use Rattle.st_spelling.specs.Operators.{any_level}
-use Rattle.st_spelling.specs.Placed.{Placed, at}
-use Rattle.st_spelling.specs.Expressions.{SpellsExpr}
-use Rattle.st_spelling.specs.Labels.{spells_named}
-use Rattle.st_spelling.specs.Statements.{SpellsStmt, SpellsStmts, spells_no_step, spells_step, spells_assign, spells_if, spells_case, spells_for, spells_arm}
-use Rattle.st_spelling.specs.Statements.{spells_elsif, spells_if_else, spells_end_if, spells_branch, spells_next_branch, spells_case_else, spells_end_case}
+use Rattle.st_tree.specs.Operators.{any_level}
+use Rattle.st_tree.specs.Placed.{Placed, at}
+use Rattle.st_tree.specs.Expressions.{SpellsExpr}
+use Rattle.st_tree.specs.Labels.{spells_named}
+use Rattle.st_tree.specs.Statements.{SpellsStmt, SpellsStmts, spells_no_step, spells_step, spells_assign, spells_if, spells_case, spells_for, spells_arm}
+use Rattle.st_tree.specs.Statements.{spells_elsif, spells_if_else, spells_end_if, spells_branch, spells_next_branch, spells_case_else, spells_end_case}
 use Rattle.st_parser.specs.declared.fault.SyntaxFault.{SyntaxFault}
 use Rattle.st_parser.specs.declared.marks.Mark.{Mark}
 use Rattle.st_parser.specs.declared.marks.Mark.TheVariants as mark

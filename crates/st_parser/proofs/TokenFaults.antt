@@ -11,7 +11,7 @@ use Rattle.st_tree.specs.declared.expr.UnOp.TheVariants as un
 use Rattle.st_tree.specs.ExprTree.{ExprTree, name}
 use Rattle.st_tree.specs.StmtTree.{LabelTree, StmtTrees, no_stmts, no_arms}
 use Rattle.st_tree.specs.ProgramTree.{DeclaredTree}
-use Rattle.st_spelling.specs.Operators.{any_level}
+use Rattle.st_tree.specs.Operators.{any_level}
 use Rattle.st_parser.specs.declared.fault.SyntaxFault.{SyntaxFault}
 use Rattle.st_parser.specs.declared.fault.SyntaxFault.TheVariants as fault
 use Rattle.st_parser.specs.declared.marks.Begins.{Begins}

@@ -7,9 +7,9 @@ use Rattle.st_lexer.specs.declared.token.Token.{Token}
 use Rattle.st_tree.specs.declared.program.Program.{Program}
 use Rattle.st_tree.specs.ProgramTree.{ProgramTree}
 use Rattle.st_tree.specs.ProgramViews.{program_tree}
-use Rattle.st_spelling.specs.Placed.{Placed, at}
-use Rattle.st_spelling.specs.Programs.{SpellsProgram}
-use Rattle.st_spelling.specs.Spelling.{Spells, SpellsWithin, Begins, bytes_in, left_aside}
+use Rattle.st_tree.specs.Placed.{Placed, at}
+use Rattle.st_tree.specs.Programs.{SpellsProgram}
+use Rattle.st_tree.specs.Spelling.{Spells, SpellsWithin, Begins, bytes_in, left_aside}
 use Rattle.st_parser.specs.declared.fault.SyntaxFault.{SyntaxFault}
 use Rattle.st_parser.specs.declared.fault.SyntaxFault.TheVariants as fault
 use Rattle.st_parser.specs.Answers.{IsTooDeep, NoneTooDeep, FirstWrong, EndsEarly, FirstTooDeep, Refuses, IsAnswered}

@@ -8,7 +8,7 @@ use Rattle.st_lexer.specs.declared.token.Token.{Token}
 use Rattle.st_tree.specs.declared.program.Program.{Program}
 use Rattle.st_tree.specs.ProgramTree.{ProgramTree}
 use Rattle.st_tree.specs.ProgramViews.{program_tree}
-use Rattle.st_spelling.specs.Spelling.{Spells, Begins, Depth}
+use Rattle.st_tree.specs.Spelling.{Spells, Begins, Depth}
 use Rattle.st_parser.specs.declared.fault.SyntaxFault.{SyntaxFault}
 use Rattle.st_parser.specs.declared.fault.SyntaxFault.TheVariants as fault
 

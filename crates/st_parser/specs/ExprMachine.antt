@@ -7,7 +7,7 @@ use Rattle.st_tree.specs.declared.expr.UnOp.{UnOp}
 use Rattle.st_tree.specs.declared.expr.BinOp.{BinOp}
 use Rattle.st_tree.specs.ExprTree.{ExprTree, ExprTrees, literal, name, unary, binary, call, no_exprs}
 use Rattle.st_tree.specs.Appended.{exprs_and}
-use Rattle.st_spelling.specs.Operators.{level, any_level, chain}
+use Rattle.st_tree.specs.Operators.{level, any_level, chain}
 use Rattle.st_parser.specs.declared.fault.SyntaxFault.{SyntaxFault}
 use Rattle.st_parser.specs.declared.fault.SyntaxFault.TheVariants as fault
 use Rattle.st_parser.specs.declared.marks.Begins.{Begins}

@@ -5,7 +5,7 @@ use Rattle.st_lexer.specs.declared.token.Token.{Token}
 use Rattle.st_tree.specs.declared.expr.Expr.{Expr}
 use Rattle.st_tree.specs.ExprTree.{ExprTree}
 use Rattle.st_tree.specs.ExprViews.{expr_tree, expr_trees}
-use Rattle.st_spelling.specs.Operators.{level, chain}
+use Rattle.st_tree.specs.Operators.{level, chain}
 use Rattle.st_parser.specs.declared.fault.SyntaxFault.{SyntaxFault}
 use Rattle.st_parser.specs.declared.fault.SyntaxFault.TheVariants as fault
 use Rattle.st_parser.specs.declared.forms.Form.{Form}

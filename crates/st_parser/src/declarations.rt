@@ -5,7 +5,7 @@ ghost use Rattle.st_lexer.specs.Reading.{IsInside};
 ghost use Rattle.st_tree.specs.StmtTree.{no_stmts};
 ghost use Rattle.st_tree.specs.ExprViews.{expr_tree, expr_tree_or_none};
 ghost use Rattle.st_tree.specs.ProgramViews.{declared_tree};
-ghost use Rattle.st_spelling.specs.Spelling.{bytes_in};
+ghost use Rattle.st_tree.specs.Spelling.{bytes_in};
 ghost use Rattle.st_parser.specs.declared.fault.SyntaxFault.{SyntaxFault as FaultOf};
 ghost use Rattle.st_parser.specs.Marks.{mark_of as mark, is as is_mark};
 ghost use Rattle.st_parser.specs.ExprMachine.{Context, want};

@@ -3,7 +3,7 @@
 ghost use Rattle.std.specs.Prelude.{◌≡◌, ◌∷◌, Ok};
 ghost use Rattle.st_lexer.specs.Reading.{IsInside};
 ghost use Rattle.st_tree.specs.ExprViews.{expr_tree};
-ghost use Rattle.st_spelling.specs.Spelling.{bytes_in};
+ghost use Rattle.st_tree.specs.Spelling.{bytes_in};
 ghost use Rattle.st_parser.specs.Marks.{begins_by as begins, goes_by as goes};
 ghost use Rattle.st_parser.specs.ExprMachine as spec;
 ghost use Rattle.st_parser.specs.FormViews as view;
@@ -14,8 +14,7 @@ use crate::marks::{Begins, Goes, begins_by, goes_by};
 use crate::names::{Source, name_of};
 use crate::refusals::refuse_form;
 use st_lexer::Token;
-use st_spelling::level_of;
-use st_tree::{Expr, Exprs};
+use st_tree::{Expr, Exprs, level_of};
 use std::alloc::Global;
 use vcp_base::Memory;
 

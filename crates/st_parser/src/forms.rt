@@ -3,13 +3,12 @@
 ghost use Rattle.std.specs.Prelude.{◌≡◌, ◌+◌, ◌≤◌, ◌∷◌, IfOk, OnOk, ◌↔◌, IsTrue};
 ghost use Rattle.st_tree.specs.Appended.{exprs_and};
 ghost use Rattle.st_tree.specs.ExprViews.{expr_tree, expr_trees};
-ghost use Rattle.st_spelling.specs.Operators.{chain};
+ghost use Rattle.st_tree.specs.Operators.{chain};
 ghost use Rattle.st_parser.specs.ExprMachine as spec;
 ghost use Rattle.st_parser.specs.FormViews as view;
 
 use crate::refusals::discard;
-use st_spelling::level_of;
-use st_tree::{BinOp, Expr, Exprs, UnOp};
+use st_tree::{BinOp, Expr, Exprs, UnOp, level_of};
 use std::alloc::Global;
 use vcp_base::{Memory, Spot, Text};
 

@@ -6,7 +6,7 @@ ghost use Rattle.st_lexer.specs.Reading.{IsInside};
 ghost use Rattle.st_tree.specs.ExprTree.{ExprTree};
 ghost use Rattle.st_tree.specs.ExprViews.{expr_tree};
 ghost use Rattle.st_tree.specs.StmtViews.{label_tree, label_trees, stmt_trees};
-ghost use Rattle.st_spelling.specs.Spelling.{bytes_in};
+ghost use Rattle.st_tree.specs.Spelling.{bytes_in};
 ghost use Rattle.st_parser.specs.declared.fault.SyntaxFault.{SyntaxFault as FaultOf};
 ghost use Rattle.st_parser.specs.Marks.{begins_by as begins, mark_of as mark, is as is_mark};
 ghost use Rattle.st_parser.specs.ExprMachine.{no_deeper};

@@ -5,12 +5,12 @@ ghost use Rattle.vcp_base.specs.Limits.{most_depth};
 ghost use Rattle.vcp_base.specs.declared.spot.Spot.{Spot};
 ghost use Rattle.st_lexer.specs.declared.token.Token.{Token};
 ghost use Rattle.st_tree.specs.ProgramTree.{ProgramTree};
-ghost use Rattle.st_spelling.specs.Spelling.{Spells, SpellsWithin};
+ghost use Rattle.st_tree.specs.Spelling.{Spells, SpellsWithin};
 ghost use Rattle.st_parser.specs.Answers.{NoneTooDeep, Refuses};
 ghost use Rattle.st_parser.specs.declared.fault.SyntaxFault.{SyntaxFault};
 ghost use Rattle.st_parser.specs.declared.fault.SyntaxFault.TheVariants as fault;
 
-use st_spelling::spelling_begins;
+use st_tree::spelling_begins;
 
 /// The laws of the answers. Tokens spell a program within the limit or are refused, never both; they spell
 /// one program at most, and are refused in one way. They spell a program within the limit exactly where they

@@ -2,7 +2,7 @@
 
 ghost use Rattle.std.specs.Prelude.{◌≡◌, IfOk};
 ghost use Rattle.st_lexer.specs.Reading.{IsInside};
-ghost use Rattle.st_spelling.specs.Spelling.{bytes_in};
+ghost use Rattle.st_tree.specs.Spelling.{bytes_in};
 
 use st_lexer::Token;
 use std::alloc::Global;

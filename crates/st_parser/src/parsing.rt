@@ -6,7 +6,7 @@ ghost use Rattle.st_lexer.specs.Reading.{IsInside};
 ghost use Rattle.st_tree.specs.ProgramTree.{ProgramTree};
 ghost use Rattle.st_tree.specs.StmtViews.{stmt_trees};
 ghost use Rattle.st_tree.specs.ProgramViews.{program_tree};
-ghost use Rattle.st_spelling.specs.Spelling.{bytes_in, Spells, SpellsWithin};
+ghost use Rattle.st_tree.specs.Spelling.{bytes_in, Spells, SpellsWithin};
 ghost use Rattle.st_parser.specs.Answers.{NoneTooDeep, Refuses, IsAnswered};
 ghost use Rattle.st_parser.specs.StateViews.{Gives, levels, phase as phase_of};
 ghost use Rattle.st_parser.specs.StmtMachine.{finished};
@@ -20,8 +20,7 @@ use crate::names::Source;
 use crate::refusals::discard_phase;
 use crate::state::{At, Front, Level, Phase, State};
 use st_lexer::Tokens;
-use st_spelling::spelling_begins;
-use st_tree::{Program, Stmts};
+use st_tree::{Program, Stmts, spelling_begins};
 use std::alloc::Global;
 use vcp_base::{MOST_DEPTH, Spot};
 

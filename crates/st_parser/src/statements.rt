@@ -6,7 +6,7 @@ ghost use Rattle.st_tree.specs.ExprTree.{ExprTree};
 ghost use Rattle.st_tree.specs.ExprViews.{expr_tree};
 ghost use Rattle.st_tree.specs.StmtViews.{arm_trees, stmt_trees};
 ghost use Rattle.st_tree.specs.Items.{arm_items};
-ghost use Rattle.st_spelling.specs.Spelling.{bytes_in};
+ghost use Rattle.st_tree.specs.Spelling.{bytes_in};
 ghost use Rattle.st_parser.specs.Marks.{mark_of as mark};
 ghost use Rattle.st_parser.specs.ExprMachine.{Context, no_deeper};
 ghost use Rattle.st_parser.specs.FormViews as form_view;

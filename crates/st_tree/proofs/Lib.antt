@@ -4,3 +4,6 @@ pub mod Pointwise
 pub mod SameExprs
 pub mod SameStmts
 pub mod Worked
+pub mod DeclaredSpellings
+pub mod Renamed
+mod WorkedSpellings

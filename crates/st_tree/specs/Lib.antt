@@ -8,3 +8,10 @@ pub mod Appended
 pub mod Items
 pub mod Bare
 pub mod Declarable
+pub mod Operators
+pub mod Placed
+pub mod Expressions
+pub mod Labels
+pub mod Statements
+pub mod Programs
+pub mod Spelling

@@ -12,10 +12,12 @@ mod program;
 mod same_expr;
 mod same_program;
 mod same_stmt;
+mod spelling;
 mod stmt;
 
 pub use expr::{BinOp, Expr, Exprs, UnOp};
 pub use laws::{trees_of_appended, trees_of_nodes};
 pub use program::{Block, Blocks, Decl, Declared, DeclaredNames, Decls, Program, Section};
 pub use same_program::same_tree;
+pub use spelling::{level_of, spelled_names_are_declarable, spelling_begins};
 pub use stmt::{Arm, Arms, Branch, Branches, Label, Labels, Stmt, Stmts};

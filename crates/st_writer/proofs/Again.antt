@@ -7,11 +7,11 @@ use Rattle.st_tree.specs.declared.program.Section.{Section}
 use Rattle.st_tree.specs.ExprTree.{ExprTree}
 use Rattle.st_tree.specs.ProgramTree.{DeclaredTree, DeclTree, BlockTree, ProgramTree}
 use Rattle.st_tree.specs.Bare.{bare_expr_or_none, bare_declared, bare_decl, bare_block, bare, nowhere}
-use Rattle.st_spelling.specs.Operators.{any_level}
-use Rattle.st_spelling.specs.Placed.{Placed, at, tokens_of, Within}
-use Rattle.st_spelling.specs.Programs.{type_key, SpellsNames, SpellsInit, SpellsDecl, SpellsDecls, SpellsHead, SpellsBlocks, SpellsProgram, spells_last_name}
-use Rattle.st_spelling.specs.Programs.{spells_next_name, spells_no_init, spells_init, spells_decl, spells_end_var, spells_next_decl, spells_input}
-use Rattle.st_spelling.specs.Programs.{spells_output, spells_local, spells_constant, spells_retain, spells_no_block, spells_block, spells_program}
+use Rattle.st_tree.specs.Operators.{any_level}
+use Rattle.st_tree.specs.Placed.{Placed, at, tokens_of, Within}
+use Rattle.st_tree.specs.Programs.{type_key, SpellsNames, SpellsInit, SpellsDecl, SpellsDecls, SpellsHead, SpellsBlocks, SpellsProgram, spells_last_name}
+use Rattle.st_tree.specs.Programs.{spells_next_name, spells_no_init, spells_init, spells_decl, spells_end_var, spells_next_decl, spells_input}
+use Rattle.st_tree.specs.Programs.{spells_output, spells_local, spells_constant, spells_retain, spells_no_block, spells_block, spells_program}
 use Rattle.st_writer.specs.Lexemes as lexeme
 use Rattle.st_writer.specs.Lexemes.{Lexeme}
 use Rattle.st_writer.specs.CanonicalExpr.{expr}

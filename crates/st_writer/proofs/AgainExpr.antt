@@ -10,10 +10,10 @@ use Rattle.st_tree.specs.declared.expr.BinOp.{BinOp}
 use Rattle.st_tree.specs.declared.expr.BinOp.TheVariants as bin
 use Rattle.st_tree.specs.ExprTree.{ExprTree, ExprTrees, literal, name, unary, binary, call, no_exprs, and_expr}
 use Rattle.st_tree.specs.Bare.{bare_expr, bare_exprs, nowhere}
-use Rattle.st_spelling.specs.Operators.{sign, operator, level, any_level, unary_level, chain}
-use Rattle.st_spelling.specs.Placed.{Placed, at, Within}
-use Rattle.st_spelling.specs.Expressions.{SpellsExpr, SpellsArgs, spells_literal, spells_name, spells_unary, spells_binary, spells_call, spells_brackets}
-use Rattle.st_spelling.specs.Expressions.{spells_last, spells_next}
+use Rattle.st_tree.specs.Operators.{sign, operator, level, any_level, unary_level, chain}
+use Rattle.st_tree.specs.Placed.{Placed, at, Within}
+use Rattle.st_tree.specs.Expressions.{SpellsExpr, SpellsArgs, spells_literal, spells_name, spells_unary, spells_binary, spells_call, spells_brackets}
+use Rattle.st_tree.specs.Expressions.{spells_last, spells_next}
 use Rattle.st_writer.specs.Lexemes as lexeme
 use Rattle.st_writer.specs.Lexemes.{Lexeme}
 use Rattle.st_writer.specs.CanonicalExpr as canon

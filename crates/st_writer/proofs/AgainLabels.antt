@@ -6,9 +6,9 @@ use Rattle.st_tree.specs.declared.expr.UnOp.TheVariants as un
 use Rattle.st_tree.specs.ExprTree.{ExprTree, literal, name, unary}
 use Rattle.st_tree.specs.StmtTree.{LabelTree}
 use Rattle.st_tree.specs.Bare.{bare_expr, bare_label, nowhere}
-use Rattle.st_spelling.specs.Placed.{Placed, at, Within}
-use Rattle.st_spelling.specs.Labels.{SpellsConst, SpellsLabel, SpellsLabels, spells_value, spells_named, spells_negative, spells_one, spells_range}
-use Rattle.st_spelling.specs.Labels.{spells_last_label, spells_next_label}
+use Rattle.st_tree.specs.Placed.{Placed, at, Within}
+use Rattle.st_tree.specs.Labels.{SpellsConst, SpellsLabel, SpellsLabels, spells_value, spells_named, spells_negative, spells_one, spells_range}
+use Rattle.st_tree.specs.Labels.{spells_last_label, spells_next_label}
 use Rattle.st_writer.specs.Lexemes as lexeme
 use Rattle.st_writer.specs.Lexemes.{Lexeme}
 use Rattle.st_writer.specs.CanonicalStmt as canon

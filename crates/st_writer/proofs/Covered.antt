@@ -6,7 +6,7 @@ use Rattle.st_lexer.specs.declared.token.Tok.{Tok}
 use Rattle.st_lexer.specs.declared.token.Token.{Token}
 use Rattle.st_lexer.specs.Reading.{StandsAt, Piece, Cover, token_of, tokens_of, Reads}
 use Rattle.st_lexer.specs.Spots.{spot_at}
-use Rattle.st_spelling.specs.Spelling.{bytes_in}
+use Rattle.st_tree.specs.Spelling.{bytes_in}
 use Rattle.st_writer.specs.Lexemes.{Lexeme, text_of}
 use Rattle.st_writer.proofs.Written.{written_one, Written}
 use Rattle.st_writer.proofs.Fits.{Fits}

@@ -5,7 +5,7 @@ use Rattle.vcp_base.specs.declared.spot.Spot.{Spot}
 use Rattle.st_tree.specs.declared.expr.Expr.{Expr}
 use Rattle.st_tree.specs.ExprTree.{call}
 use Rattle.st_tree.specs.ExprViews.{expr_tree, expr_trees}
-use Rattle.st_spelling.specs.Operators.{any_level}
+use Rattle.st_tree.specs.Operators.{any_level}
 use Rattle.st_writer.specs.Lexemes as lexeme
 use Rattle.st_writer.specs.Lexemes.{Lexeme}
 use Rattle.st_writer.specs.CanonicalExpr.{expr, args, more_args}

@@ -7,7 +7,7 @@ use Rattle.st_tree.specs.declared.expr.UnOp.TheVariants as un
 use Rattle.st_tree.specs.declared.expr.BinOp.{BinOp}
 use Rattle.st_tree.specs.declared.expr.BinOp.TheVariants as bin
 use Rattle.st_tree.specs.ExprTree.{ExprTree, ExprTrees, literal, name, unary, binary, call, no_exprs, and_expr}
-use Rattle.st_spelling.specs.Operators.{level, any_level, unary_level}
+use Rattle.st_tree.specs.Operators.{level, any_level, unary_level}
 use Rattle.st_writer.specs.Lexemes as lexeme
 use Rattle.st_writer.specs.CanonicalExpr.{operator, bracketed, expr, args, more_args}
 use Rattle.st_writer.proofs.IsReadable.{ReadableExpr, ReadableExprs}

@@ -7,7 +7,7 @@ use Rattle.st_tree.specs.declared.expr.UnOp.TheVariants as un
 use Rattle.st_tree.specs.ExprTree.{ExprTree, literal, name, unary, binary, call}
 use Rattle.st_tree.specs.StmtTree.{LabelTree, StmtTree, StmtTrees, ArmTrees, BranchTrees, OtherTree, assign, if_, case, for_, no_stmts, and_stmt, no_arms}
 use Rattle.st_tree.specs.StmtTree.{and_arm, no_branches, and_branch, no_other, other}
-use Rattle.st_spelling.specs.Operators.{any_level}
+use Rattle.st_tree.specs.Operators.{any_level}
 use Rattle.st_writer.specs.Lexemes as lexeme
 use Rattle.st_writer.specs.CanonicalExpr.{expr}
 use Rattle.st_writer.specs.CanonicalStmt.{negated, constant, last_of_range, label, more_labels, labels, step, stmt, stmts, arms_from, branches_of, else_of}

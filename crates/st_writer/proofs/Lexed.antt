@@ -9,9 +9,9 @@ use Rattle.st_tree.specs.declared.program.Section.{Section}
 use Rattle.st_tree.specs.declared.program.Section.TheVariants as section
 use Rattle.st_tree.specs.ExprTree.{ExprTree}
 use Rattle.st_tree.specs.ProgramTree.{DeclaredTree, DeclTree, BlockTree, ProgramTree}
-use Rattle.st_spelling.specs.Operators.{any_level}
-use Rattle.st_spelling.specs.Programs.{type_key}
-use Rattle.st_spelling.specs.Spelling.{bytes_in}
+use Rattle.st_tree.specs.Operators.{any_level}
+use Rattle.st_tree.specs.Programs.{type_key}
+use Rattle.st_tree.specs.Spelling.{bytes_in}
 use Rattle.st_writer.specs.Lexemes as lexeme
 use Rattle.st_writer.specs.CanonicalStmt.{stmts}
 use Rattle.st_writer.specs.CanonicalProgram.{more_names, names, init, decl, head, block, program, canonical}

@@ -21,7 +21,7 @@ use Rattle.st_lexer.specs.Literals.{are_digits, number, digits, based, plain, pr
 use Rattle.st_lexer.specs.Reading.{Begins, Stands, StandsAt, Piece, Cover, token_of, tokens_of, Reads}
 use Rattle.st_lexer.specs.Symbols.{begins}
 use Rattle.st_lexer.specs.Words.{word, key_or_name, key_among, all_keys}
-use Rattle.st_spelling.specs.Spelling.{bytes_in}
+use Rattle.st_tree.specs.Spelling.{bytes_in}
 use Rattle.st_writer.proofs.Numbers.{both}
 use Rattle.st_writer.proofs.IsReadable.{IsName, IsValue}
 

@@ -11,18 +11,18 @@ use Rattle.st_lexer.specs.Reading.{Reads}
 use Rattle.st_tree.specs.ExprTree.{ExprTree, ExprTrees}
 use Rattle.st_tree.specs.StmtTree.{LabelTree, StmtTree, StmtTrees, ArmTrees, BranchTrees, OtherTree}
 use Rattle.st_tree.specs.ProgramTree.{DeclaredTree, DeclTree, BlockTree, ProgramTree}
-use Rattle.st_spelling.specs.Placed.{Placed, tokens_of}
-use Rattle.st_spelling.specs.Expressions.{Value, literal_of, SpellsExpr, SpellsArgs, spells_literal, spells_name, spells_unary, spells_binary, spells_call}
-use Rattle.st_spelling.specs.Expressions.{spells_brackets, spells_last, spells_next}
-use Rattle.st_spelling.specs.Labels.{SpellsConst, SpellsLabel, SpellsLabels, spells_value, spells_named, spells_negative, spells_one, spells_range}
-use Rattle.st_spelling.specs.Labels.{spells_last_label, spells_next_label}
-use Rattle.st_spelling.specs.Statements.{SpellsStep, SpellsStmt, SpellsStmts, SpellsArms, SpellsMoreArms, SpellsBranches, SpellsMoreBranches, spells_no_step}
-use Rattle.st_spelling.specs.Statements.{spells_step, spells_assign, spells_if, spells_case, spells_for, spells_no_stmt, spells_empty, spells_stmt, spells_arm}
-use Rattle.st_spelling.specs.Statements.{spells_elsif, spells_if_else, spells_end_if, spells_branch, spells_next_branch, spells_case_else, spells_end_case}
-use Rattle.st_spelling.specs.Programs.{SpellsNames, SpellsInit, SpellsDecl, SpellsDecls, SpellsBlocks, SpellsProgram, spells_last_name, spells_next_name}
-use Rattle.st_spelling.specs.Programs.{spells_no_init, spells_init, spells_decl, spells_end_var, spells_next_decl, spells_no_block, spells_block}
-use Rattle.st_spelling.specs.Programs.{spells_program}
-use Rattle.st_spelling.specs.Spelling.{bytes_in}
+use Rattle.st_tree.specs.Placed.{Placed, tokens_of}
+use Rattle.st_tree.specs.Expressions.{Value, literal_of, SpellsExpr, SpellsArgs, spells_literal, spells_name, spells_unary, spells_binary, spells_call}
+use Rattle.st_tree.specs.Expressions.{spells_brackets, spells_last, spells_next}
+use Rattle.st_tree.specs.Labels.{SpellsConst, SpellsLabel, SpellsLabels, spells_value, spells_named, spells_negative, spells_one, spells_range}
+use Rattle.st_tree.specs.Labels.{spells_last_label, spells_next_label}
+use Rattle.st_tree.specs.Statements.{SpellsStep, SpellsStmt, SpellsStmts, SpellsArms, SpellsMoreArms, SpellsBranches, SpellsMoreBranches, spells_no_step}
+use Rattle.st_tree.specs.Statements.{spells_step, spells_assign, spells_if, spells_case, spells_for, spells_no_stmt, spells_empty, spells_stmt, spells_arm}
+use Rattle.st_tree.specs.Statements.{spells_elsif, spells_if_else, spells_end_if, spells_branch, spells_next_branch, spells_case_else, spells_end_case}
+use Rattle.st_tree.specs.Programs.{SpellsNames, SpellsInit, SpellsDecl, SpellsDecls, SpellsBlocks, SpellsProgram, spells_last_name, spells_next_name}
+use Rattle.st_tree.specs.Programs.{spells_no_init, spells_init, spells_decl, spells_end_var, spells_next_decl, spells_no_block, spells_block}
+use Rattle.st_tree.specs.Programs.{spells_program}
+use Rattle.st_tree.specs.Spelling.{bytes_in}
 use Rattle.st_writer.proofs.IsReadable.{IsName, IsValue, ReadableExpr, ReadableExprs, ReadableOrNone, ReadableLabels, ReadableStmt, ReadableStmts, ReadableArms}
 use Rattle.st_writer.proofs.IsReadable.{ReadableBranches, ReadableOther, ReadableNames, ReadableDecls, ReadableBlocks, Readable}
 use Rattle.st_writer.proofs.OfReading.{Says, EachSays, reading-says}

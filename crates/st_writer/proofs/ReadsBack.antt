@@ -4,7 +4,7 @@ use Rattle.st_lexer.specs.declared.token.Token.{Token}
 use Rattle.st_lexer.specs.Reading.{Reads}
 use Rattle.st_tree.specs.ProgramTree.{ProgramTree}
 use Rattle.st_tree.specs.Bare.{bare}
-use Rattle.st_spelling.specs.Spelling.{bytes_in, SpellsWithin}
+use Rattle.st_tree.specs.Spelling.{bytes_in, SpellsWithin}
 use Rattle.st_writer.specs.CanonicalProgram.{canonical}
 use Rattle.st_writer.proofs.Again.{again}
 use Rattle.st_writer.proofs.Readable.{readable}

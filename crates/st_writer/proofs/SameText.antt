@@ -10,8 +10,8 @@ use Rattle.st_tree.specs.StmtTree.{and_arm, no_branches, and_branch, no_other, o
 use Rattle.st_tree.specs.ProgramTree.{DeclaredTree, DeclTree, BlockTree, ProgramTree}
 use Rattle.st_tree.specs.Bare.{bare_expr, bare_exprs, bare_expr_or_none, bare_label, bare_stmt, bare_stmts, bare_arms, bare_branches, bare_other, bare_declared}
 use Rattle.st_tree.specs.Bare.{bare_decl, bare_block, bare}
-use Rattle.st_spelling.specs.Operators.{level, any_level, unary_level}
-use Rattle.st_spelling.specs.Programs.{type_key}
+use Rattle.st_tree.specs.Operators.{level, any_level, unary_level}
+use Rattle.st_tree.specs.Programs.{type_key}
 use Rattle.st_writer.specs.Lexemes as lexeme
 use Rattle.st_writer.specs.Lexemes.{Lexeme}
 use Rattle.st_writer.specs.CanonicalExpr.{sign, operator, bracketed, expr, args, more_args}

@@ -19,7 +19,7 @@ use Rattle.st_tree.specs.StmtTree.{StmtTree, StmtTrees, ArmTrees, BranchTrees, O
 use Rattle.st_tree.specs.ExprViews.{expr_tree, expr_tree_or_none}
 use Rattle.st_tree.specs.StmtViews.{label_tree, label_trees, stmt_tree, stmt_trees, arm_trees, branch_trees, other_tree}
 use Rattle.st_tree.specs.Items.{arm_items, branch_items}
-use Rattle.st_spelling.specs.Operators.{any_level}
+use Rattle.st_tree.specs.Operators.{any_level}
 use Rattle.st_writer.specs.Lexemes as lexeme
 use Rattle.st_writer.specs.Lexemes.{Lexeme}
 use Rattle.st_writer.specs.CanonicalExpr.{expr}

@@ -9,8 +9,8 @@ use Rattle.st_lexer.specs.declared.token.Sym.TheVariants as symbol
 use Rattle.st_lexer.specs.declared.token.Tok.{Tok}
 use Rattle.st_lexer.specs.declared.token.Tok.TheVariants as tok
 use Rattle.st_lexer.specs.declared.token.Token.{Token}
-use Rattle.st_spelling.specs.Placed.{Placed, at, tokens_of, Within}
-use Rattle.st_spelling.specs.Expressions.{Value, literal_of}
+use Rattle.st_tree.specs.Placed.{Placed, at, tokens_of, Within}
+use Rattle.st_tree.specs.Expressions.{Value, literal_of}
 use Rattle.st_writer.specs.Lexemes as lexeme
 use Rattle.st_writer.specs.Lexemes.{Lexeme}
 use Rattle.st_writer.proofs.Written.{Written, written_one}

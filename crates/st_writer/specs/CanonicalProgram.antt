@@ -6,8 +6,8 @@ use Rattle.st_tree.specs.declared.program.Section.{Section}
 use Rattle.st_tree.specs.declared.program.Section.TheVariants as section
 use Rattle.st_tree.specs.ExprTree.{ExprTree}
 use Rattle.st_tree.specs.ProgramTree.{DeclaredTree, DeclTree, BlockTree, ProgramTree}
-use Rattle.st_spelling.specs.Operators.{any_level}
-use Rattle.st_spelling.specs.Programs.{type_key}
+use Rattle.st_tree.specs.Operators.{any_level}
+use Rattle.st_tree.specs.Programs.{type_key}
 use Rattle.st_writer.specs.Lexemes as lexeme
 use Rattle.st_writer.specs.CanonicalExpr.{expr}
 use Rattle.st_writer.specs.CanonicalStmt.{stmts}

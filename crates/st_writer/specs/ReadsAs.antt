@@ -4,7 +4,7 @@ use Rattle.st_lexer.specs.Reading.{Reads}
 use Rattle.st_lexer.specs.declared.token.Token.{Token}
 use Rattle.st_tree.specs.Bare.{bare}
 use Rattle.st_tree.specs.ProgramTree.{ProgramTree}
-use Rattle.st_spelling.specs.Spelling.{SpellsWithin}
+use Rattle.st_tree.specs.Spelling.{SpellsWithin}
 
 -- the tokens of the text spell the program, spots aside, none deeper than the limit
 abbrev pub ReadsAs : ℕ → ProgramTree → List ℕ → Type 0

@@ -9,8 +9,7 @@ ghost use Rattle.st_writer.specs.Lexemes as lexeme;
 
 use crate::writer::Writer;
 use st_lexer::{Key, Sym};
-use st_spelling::level_of;
-use st_tree::{BinOp, Expr, UnOp, trees_of_nodes};
+use st_tree::{BinOp, Expr, UnOp, level_of, trees_of_nodes};
 use vcp_base::{Memory, Text};
 
 /// The level at which no expression has brackets.

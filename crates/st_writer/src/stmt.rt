@@ -3,7 +3,7 @@
 ghost use Rattle.std.specs.Prelude.{◌≡◌, ◌++◌, ◌∷◌, [], suc, OnOk};
 ghost use Rattle.st_lexer.specs.declared.token.Key.TheVariants as keys;
 ghost use Rattle.st_lexer.specs.declared.token.Sym.TheVariants as sym;
-ghost use Rattle.st_spelling.specs.Operators.{any_level};
+ghost use Rattle.st_tree.specs.Operators.{any_level};
 ghost use Rattle.st_tree.specs.ExprViews.{expr_tree, expr_tree_or_none};
 ghost use Rattle.st_tree.specs.StmtViews.{label_tree, label_trees, stmt_tree, stmt_trees, arm_trees, branch_trees, other_tree};
 ghost use Rattle.st_writer.specs.CanonicalExpr.{expr};

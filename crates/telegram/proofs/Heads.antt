@@ -1,8 +1,8 @@
 -- Heads: the first line of a script.
 use Rattle.std.proofs.Common.{◌≡◌, ℕ, Bool, true, false, ◌||◌, cond, List, [], ◌∷◌, length, slice_get, Option, Some, Err, ℤ, codes, bytes_eq, refl, ap, ◌∙◌, arith}
 use Rattle.std.specs.List.{list_any}
-use Rattle.script_text.specs.Lines.{Line}
-use Rattle.script_text.specs.Words.{words}
+use Rattle.vcp_base.specs.Lines.{Line}
+use Rattle.vcp_base.specs.Words.{words}
 use Rattle.telegram.specs.declared.script.wire_fault.WireFault.TheVariants as refusal
 use Rattle.telegram.specs.Forms.{integers_of, wire_if, wire_of, head_of, names_wire}
 use Rattle.telegram.specs.ScriptOf.{is_head}

@@ -6,7 +6,7 @@ use Rattle.std.proofs.lemmas.Int.{ints}
 use Rattle.vcp_base.specs.declared.ty.Ty.TheVariants as ty
 use Rattle.vcp_base.specs.Types.{fits}
 use Rattle.coded_unit.specs.Words.{Middle}
-use Rattle.script_text.specs.Integers.{is_addend}
+use Rattle.vcp_base.specs.Integers.{is_addend}
 use Rattle.telegram.specs.declared.event.Event.{Event}
 use Rattle.telegram.specs.declared.event.Event.TheVariants as event
 use Rattle.telegram.specs.declared.wire.Wire.{Wire}

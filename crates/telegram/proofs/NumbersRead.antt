@@ -2,7 +2,7 @@
 use Rattle.std.proofs.Common.{◌≡◌, ℕ, List, [], ◌∷◌, ◌++◌, Option, Some, None, option_map, option_and_then, ℤ, refl, sym, ap, ◌∙◌}
 use Rattle.std.proofs.lemmas.List.{append_assoc, append-nil}
 use Rattle.vcp_base.specs.Numerals.{integer_of}
-use Rattle.script_text.specs.Integers.{as_lint}
+use Rattle.vcp_base.specs.Integers.{as_lint}
 use Rattle.telegram.specs.Forms.{integers_of}
 use Rattle.telegram.specs.Reads.{before}
 

@@ -5,7 +5,7 @@ use Rattle.vcp_base.specs.declared.ty.Ty.TheVariants as ty
 use Rattle.vcp_base.specs.Limits.{seeds, most_step, most_cycles}
 use Rattle.vcp_base.specs.Types.{fits}
 use Rattle.vcp_base.specs.Numerals.{integer_of}
-use Rattle.script_text.specs.Integers.{as_lint, is_addend}
+use Rattle.vcp_base.specs.Integers.{as_lint, is_addend}
 use Rattle.telegram.specs.declared.event.Event.{Event}
 use Rattle.telegram.specs.declared.event.Event.TheVariants as event
 use Rattle.telegram.specs.declared.wire.Wire.{Wire}

@@ -2,8 +2,8 @@
 use Rattle.std.specs.Prelude.{ℕ, ◌+◌, ◌<◌, Bool, cond, List, [], ◌∷◌, Result, Ok, Err}
 use Rattle.std.specs.List.{list_any}
 use Rattle.std.specs.Str.Lines.{lines}
-use Rattle.script_text.specs.Lines.{Line, read_lines}
-use Rattle.script_text.specs.Words.{words}
+use Rattle.vcp_base.specs.Lines.{Line, read_lines}
+use Rattle.vcp_base.specs.Words.{words}
 use Rattle.telegram.specs.declared.event.Event.{Event}
 use Rattle.telegram.specs.declared.event.Event.TheVariants as event
 use Rattle.telegram.specs.declared.wire.Wire.{Wire}

@@ -1,3 +1,6 @@
 pub mod NumeralSteps
 pub mod OutcomeLaws
 pub mod Worked
+pub mod Firsts
+pub mod LinesRead
+pub mod Written

@@ -9,3 +9,6 @@ pub mod Spellings
 pub mod Stops
 pub mod Types
 pub mod Values
+pub mod Integers
+pub mod Lines
+pub mod Words

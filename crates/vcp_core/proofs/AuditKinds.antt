@@ -4,7 +4,7 @@ use Rattle.vcp_base.specs.Limits.{most_image_bytes}
 use Rattle.vcp_outside.specs.Held.{Held}
 use Rattle.weight_audit.specs.Audit.{Audit, most_weights, weights_up_to, IsAudit}
 use Rattle.weight_audit.specs.AuditText.{audit_text}
-use Rattle.vcp_words.specs.Forms.{audit}
+use Rattle.vcp_inputs.specs.Forms.{audit}
 use Rattle.vcp_inputs.specs.declared.images.Image.{Image}
 use Rattle.vcp_inputs.specs.declared.refusal.Refusal.TheVariants as refusal
 use Rattle.vcp_inputs.specs.declared.refusal.NoInput.{NoInput}
@@ -16,7 +16,7 @@ use Rattle.command_meaning.specs.Abouts.{about}
 use Rattle.command_meaning.specs.Kinds.{prints, refusal_task}
 use Rattle.command_meaning.specs.Performing.{Reaches, done, unmade}
 use Rattle.vcp_outside.specs.Seen.{FilesSeen}
-use Rattle.machine_run.specs.Moments.{Moment}
+use Rattle.coded_machine.specs.Moments.{Moment}
 use Rattle.vcp_core.specs.Tasks.{Audited, too_large, TaskOf}
 use Rattle.vcp_core.specs.Tasks as tasks
 use Rattle.vcp_core.proofs.Performing.{file_takes, still}

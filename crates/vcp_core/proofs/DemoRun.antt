@@ -5,7 +5,7 @@ use Rattle.input_rows.specs.RowsOf.{RowsLeft}
 use Rattle.program_maker.specs.MadeRows.{made_rows}
 use Rattle.vcp_typed.specs.Fitting.{input_columns}
 use Rattle.vcp_typed.specs.SourceRun.{Program}
-use Rattle.vcp_words.specs.Forms.{demo}
+use Rattle.vcp_inputs.specs.Forms.{demo}
 use Rattle.vcp_inputs.specs.declared.refusal.Refusal.{Refusal}
 use Rattle.vcp_inputs.specs.declared.refusal.NoInput.{NoInput}
 use Rattle.vcp_inputs.specs.declared.refusal.NoInput.TheVariants as input
@@ -20,7 +20,7 @@ use Rattle.command_meaning.specs.Kinds.{Task, refusal_task, runs}
 use Rattle.command_meaning.specs.Seen.{Still}
 use Rattle.command_meaning.specs.Performing.{Reaches, done, unmade}
 use Rattle.vcp_outside.specs.Seen.{FilesSeen, SinkSeen}
-use Rattle.machine_run.specs.Moments.{Moment}
+use Rattle.coded_machine.specs.Moments.{Moment}
 use Rattle.vcp_core.proofs.Performing.{file_takes}
 use Rattle.vcp_outside.specs.declared.failed.Failed.{Failed}
 use Rattle.input_rows.specs.declared.fault.RowFault.{RowFault}

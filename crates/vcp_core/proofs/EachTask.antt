@@ -14,7 +14,7 @@ use Rattle.st_lexer.specs.Spots.{spot_at}
 use Rattle.st_parser.specs.declared.fault.SyntaxFault.{SyntaxFault}
 use Rattle.st_parser.specs.declared.fault.SyntaxFault.TheVariants as syntax
 use Rattle.st_parser.specs.Answers.{Refuses}
-use Rattle.st_spelling.specs.Spelling.{Spells, SpellsWithin}
+use Rattle.st_tree.specs.Spelling.{Spells, SpellsWithin}
 use Rattle.st_tree.specs.ProgramTree.{ProgramTree}
 use Rattle.st_writer.specs.CanonicalProgram.{canonical}
 use Rattle.st_types.specs.declared.fault.TypeFault.{TypeFault}
@@ -43,8 +43,8 @@ use Rattle.telegram.specs.declared.script.wire_fault.WireFault.{WireFault}
 use Rattle.telegram.specs.ScriptOf as wiring
 use Rattle.weight_audit.specs.Audit.{most_weights, weights_up_to}
 use Rattle.weight_audit.specs.AuditText.{AuditOf}
-use Rattle.vcp_words.specs.Forms.{Form, Rows, check, format, plain, run, il, compile, list, exec, trace, widen, audit, inject, pair, pairs, wire, demo}
-use Rattle.vcp_words.specs.Tables.{rows_name}
+use Rattle.vcp_inputs.specs.Forms.{Form, Rows, check, format, plain, run, il, compile, list, exec, trace, widen, audit, inject, pair, pairs, wire, demo}
+use Rattle.vcp_inputs.specs.Tables.{rows_name}
 use Rattle.vcp_inputs.specs.declared.images.Image.{Image}
 use Rattle.vcp_inputs.specs.declared.refusal.Refusal.{Refusal}
 use Rattle.vcp_inputs.specs.declared.refusal.Refusal.TheVariants as refusal

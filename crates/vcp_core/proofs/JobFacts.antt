@@ -19,17 +19,17 @@ use Rattle.coded_machine.specs.declared.cycle_end.CycleEnd.{CycleEnd}
 use Rattle.coded_machine.specs.declared.cycle_end.CycleEnd.TheVariants as cycle
 use Rattle.coded_machine.specs.State.{State}
 use Rattle.flat_expr.specs.Told.{Means, halted_at}
-use Rattle.machine_run.specs.declared.fault.RunFault.{RunFault}
-use Rattle.machine_run.specs.declared.fault.RunFault.TheVariants as given_up
-use Rattle.machine_run.specs.FirstRows.{FirstRowsFollow, FirstRowsLaw}
-use Rattle.machine_run.specs.RowRuns.{RunsRows, SomeCycles}
-use Rattle.machine_run.specs.Stops.{GrowsToStop, TellsStop}
+use Rattle.coded_machine.specs.declared.rows.fault.RunFault.{RunFault}
+use Rattle.coded_machine.specs.declared.rows.fault.RunFault.TheVariants as given_up
+use Rattle.coded_machine.specs.FirstRows.{FirstRowsFollow, FirstRowsLaw}
+use Rattle.coded_machine.specs.RowRuns.{RunsRows, SomeCycles}
+use Rattle.coded_machine.specs.Stops.{GrowsToStop, TellsStop}
 use Rattle.run_report.specs.Lines.{stop_text}
 use Rattle.vcp_outside.specs.Counts.{Rose}
 use Rattle.vcp_outside.specs.Seen.{SinkSeen}
-use Rattle.machine_run.specs.Leaves.{Leaves}
-use Rattle.machine_run.specs.Moments.{Moment}
-use Rattle.vcp_words.specs.Forms.{Code}
+use Rattle.coded_machine.specs.Leaves.{Leaves}
+use Rattle.coded_machine.specs.Moments.{Moment}
+use Rattle.vcp_inputs.specs.Forms.{Code}
 use Rattle.command_meaning.specs.Answer.{Subject, source}
 use Rattle.command_meaning.specs.GraphsOf.{StandsFor}
 use Rattle.command_meaning.specs.Reports.{end_read, end_told, subject_outputs, run_status}

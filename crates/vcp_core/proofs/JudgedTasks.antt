@@ -20,8 +20,8 @@ use Rattle.fault_campaign.specs.Campaign.{JudgedOnce, Told, verdict_lines}
 use Rattle.fault_campaign.specs.Written.{EarlierWritten}
 use Rattle.fault_injector.specs.FaultLines.{lines_by, verdict_text, totals_of, totals_text}
 use Rattle.fault_injector.specs.Names.{Names}
-use Rattle.vcp_words.specs.Forms.{Rows, inject}
-use Rattle.vcp_words.specs.Tables.{rows_name}
+use Rattle.vcp_inputs.specs.Forms.{Rows, inject}
+use Rattle.vcp_inputs.specs.Tables.{rows_name}
 use Rattle.vcp_inputs.specs.declared.images.Image.{Image}
 use Rattle.vcp_inputs.specs.declared.refusal.Refusal.{Refusal}
 use Rattle.vcp_inputs.specs.declared.refusal.Refusal.TheVariants as refusal
@@ -42,7 +42,7 @@ use Rattle.command_meaning.specs.FileTasks.{OnRows, taken}
 use Rattle.command_meaning.specs.Kinds.{Task, judges, refusal_task}
 use Rattle.command_meaning.specs.Performing.{Reaches, done, cut, wanting, unread, unmade, Performs}
 use Rattle.vcp_outside.specs.Seen.{FilesSeen, SinkSeen}
-use Rattle.machine_run.specs.Moments.{Moment, moment}
+use Rattle.coded_machine.specs.Moments.{Moment, moment}
 use Rattle.vcp_core.specs.Tasks.{FewRows, WholeRows, TaskOf, ScriptedTask}
 use Rattle.vcp_core.specs.Tasks as task
 use Rattle.vcp_core.specs.Faults.{campaign_end, of_campaign}

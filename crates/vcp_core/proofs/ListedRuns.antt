@@ -9,8 +9,8 @@ use Rattle.il_front.specs.Accumulator.{Il}
 use Rattle.il_front.specs.Answers.{IsIl, most_il_bytes}
 use Rattle.il_front.specs.Outcomes.{IsTypedIl}
 use Rattle.il_front.specs.TypedForm.{typed_il}
-use Rattle.vcp_words.specs.Forms.{Code, Rows, il}
-use Rattle.vcp_words.specs.Tables.{rows_name}
+use Rattle.vcp_inputs.specs.Forms.{Code, Rows, il}
+use Rattle.vcp_inputs.specs.Tables.{rows_name}
 use Rattle.vcp_inputs.specs.Listings.{NotListing}
 use Rattle.vcp_inputs.specs.RowsOutcome.{RowsOutcome, lacking, opened, refused, rows_outcome}
 use Rattle.command_meaning.specs.Answer.{listed}

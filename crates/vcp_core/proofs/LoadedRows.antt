@@ -7,9 +7,9 @@ use Rattle.vcp_outside.specs.Counts.{Rose}
 use Rattle.vcp_outside.specs.Held.{Held}
 use Rattle.vcp_outside.specs.Seen.{FilesSeen}
 use Rattle.input_rows.specs.RowsOf.{RowsLeft}
-use Rattle.machine_run.specs.Moments.{Moment}
-use Rattle.vcp_words.specs.Forms.{Rows, file, cycles}
-use Rattle.vcp_words.specs.Tables.{rows_name}
+use Rattle.coded_machine.specs.Moments.{Moment}
+use Rattle.vcp_inputs.specs.Forms.{Rows, file, cycles}
+use Rattle.vcp_inputs.specs.Tables.{rows_name}
 use Rattle.vcp_inputs.specs.declared.refusal.Refusal.{Refusal}
 use Rattle.vcp_inputs.specs.declared.refusal.Refusal.TheVariants as refusal
 use Rattle.vcp_inputs.specs.declared.refusal.NoInput.{NoInput}

@@ -18,8 +18,8 @@ use Rattle.vcp_typed.specs.Size.{size}
 use Rattle.st_tree.specs.ProgramTree.{ProgramTree}
 use Rattle.vcp_typed.specs.Fitting.{input_columns}
 use Rattle.vcp_typed.specs.SourceRun.{Program}
-use Rattle.vcp_words.specs.Forms.{Form, Rows, Code, check, format, plain, run, il, compile, list, exec, trace, widen, audit, inject, pair, pairs, wire, demo, file, cycles}
-use Rattle.vcp_words.specs.Tables.{rows_name}
+use Rattle.vcp_inputs.specs.Forms.{Form, Rows, Code, check, format, plain, run, il, compile, list, exec, trace, widen, audit, inject, pair, pairs, wire, demo, file, cycles}
+use Rattle.vcp_inputs.specs.Tables.{rows_name}
 use Rattle.vcp_inputs.specs.declared.images.Image.{Image}
 use Rattle.vcp_inputs.specs.declared.refusal.Refusal.{Refusal}
 use Rattle.vcp_inputs.specs.declared.refusal.Refusal.TheVariants as refusal

@@ -8,7 +8,7 @@ use Rattle.vcp_outside.specs.Counts.{Rose}
 use Rattle.vcp_outside.specs.Held.{Held}
 use Rattle.vcp_outside.specs.Seen.{FilesSeen, SinkSeen}
 use Rattle.input_rows.specs.RowsOf.{RowsLeft}
-use Rattle.machine_run.specs.Moments.{Moment, moment}
+use Rattle.coded_machine.specs.Moments.{Moment, moment}
 use Rattle.fault_script.specs.declared.act.Fault.{Fault as ScriptedFault}
 use Rattle.fault_campaign.specs.Campaign.{verdicts_of}
 use Rattle.fault_campaign.specs.declared.fault.CampaignFault.{CampaignFault}
@@ -17,8 +17,8 @@ use Rattle.fault_campaign.specs.declared.pairs.verdict.PairVerdict.{PairVerdict}
 use Rattle.fault_campaign.specs.GroupLines.{group_text, pair_totals_text, totals_of}
 use Rattle.fault_campaign.specs.PairCampaigns.{PairsTold}
 use Rattle.fault_campaign.specs.PairVerdicts.{told_verdict}
-use Rattle.vcp_words.specs.Forms.{Rows, pairs}
-use Rattle.vcp_words.specs.Tables.{rows_name}
+use Rattle.vcp_inputs.specs.Forms.{Rows, pairs}
+use Rattle.vcp_inputs.specs.Tables.{rows_name}
 use Rattle.vcp_inputs.specs.declared.images.Image.{Image}
 use Rattle.vcp_inputs.specs.declared.refusal.Refusal.{Refusal}
 use Rattle.vcp_inputs.specs.declared.refusal.Refusal.TheVariants as refusal

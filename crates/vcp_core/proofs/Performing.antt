@@ -7,10 +7,10 @@ use Rattle.vcp_outside.specs.Seen.{FilesSeen}
 use Rattle.vcp_outside.specs.Written.{AppendsPart, WritesTo}
 use Rattle.input_rows.specs.declared.fault.RowFault.{RowFault}
 use Rattle.input_rows.specs.declared.fault.RowFault.TheVariants as row
-use Rattle.machine_run.specs.Moments.{Moment}
-use Rattle.machine_run.specs.Stops.{TellsSomeStop}
-use Rattle.machine_run.specs.declared.fault.RunFault.{RunFault}
-use Rattle.machine_run.specs.declared.fault.RunFault.TheVariants as run
+use Rattle.coded_machine.specs.Moments.{Moment}
+use Rattle.coded_machine.specs.Stops.{TellsSomeStop}
+use Rattle.coded_machine.specs.declared.rows.fault.RunFault.{RunFault}
+use Rattle.coded_machine.specs.declared.rows.fault.RunFault.TheVariants as run
 use Rattle.run_report.specs.Lines.{stop_text}
 use Rattle.vcp_inputs.specs.declared.refusal.Refusal.{Refusal}
 use Rattle.vcp_inputs.specs.declared.refusal.Refusal.TheVariants as refusal

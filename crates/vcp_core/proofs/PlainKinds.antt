@@ -7,11 +7,11 @@ use Rattle.vcp_outside.specs.Written.{AppendsFront, AppendsPart}
 use Rattle.input_rows.specs.declared.fault.RowFault.{RowFault}
 use Rattle.input_rows.specs.RowsOf.{RowsLeft}
 use Rattle.flat_expr.specs.Told.{told_source}
-use Rattle.machine_run.specs.RowRuns.{texts_from}
+use Rattle.coded_machine.specs.RowRuns.{texts_from}
 use Rattle.run_report.specs.Lines.{header_text, row_text}
 use Rattle.vcp_typed.specs.SourceRun.{Program}
-use Rattle.vcp_words.specs.Forms.{Rows, plain}
-use Rattle.vcp_words.specs.Tables.{rows_name}
+use Rattle.vcp_inputs.specs.Forms.{Rows, plain}
+use Rattle.vcp_inputs.specs.Tables.{rows_name}
 use Rattle.command_meaning.specs.Abouts.{about, Among}
 use Rattle.command_meaning.specs.Answer.{Answer}
 use Rattle.command_meaning.specs.Kinds.{Task, answers}
@@ -20,11 +20,11 @@ use Rattle.command_meaning.specs.Printing.{every_row, last_part}
 use Rattle.command_meaning.specs.Reports.{RunEnd, complete, stopped, refused, end_told, output_names}
 use Rattle.vcp_core.specs.EndLines.{last_text}
 use Rattle.vcp_outside.specs.Seen.{FilesSeen, SinkSeen}
-use Rattle.machine_run.specs.Moments.{moment}
+use Rattle.coded_machine.specs.Moments.{moment}
 use Rattle.vcp_core.specs.declared.ending.Ending.{Ending}
 use Rattle.vcp_core.specs.declared.ending.Ending.TheVariants as end
-use Rattle.machine_run.specs.declared.fault.RunFault.{RunFault}
-use Rattle.machine_run.specs.declared.fault.RunFault.TheVariants as fault
+use Rattle.coded_machine.specs.declared.rows.fault.RunFault.{RunFault}
+use Rattle.coded_machine.specs.declared.rows.fault.RunFault.TheVariants as fault
 use Rattle.vcp_core.specs.Tasks.{plain_answer}
 use Rattle.vcp_core.specs.PlainRun.{Prints, plain_text}
 use Rattle.vcp_core.specs.Reach.{end_status, run_code, run_line}

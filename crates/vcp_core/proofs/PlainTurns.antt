@@ -10,10 +10,10 @@ use Rattle.vcp_typed.specs.SourceRun.{Program, after_cycle, cycle, run_from, sou
 use Rattle.input_rows.specs.declared.fault.RowFault.{RowFault}
 use Rattle.input_rows.specs.RowsOf.{RowsLeft}
 use Rattle.run_report.specs.Lines.{header_text, row_text, end_text}
-use Rattle.machine_run.specs.RowRuns.{texts_from}
+use Rattle.coded_machine.specs.RowRuns.{texts_from}
 use Rattle.command_meaning.specs.Reports.{output_names}
-use Rattle.machine_run.specs.declared.fault.RunFault.{RunFault}
-use Rattle.machine_run.specs.declared.fault.RunFault.TheVariants as fault
+use Rattle.coded_machine.specs.declared.rows.fault.RunFault.{RunFault}
+use Rattle.coded_machine.specs.declared.rows.fault.RunFault.TheVariants as fault
 use Rattle.vcp_core.specs.declared.ending.Ending.{Ending}
 use Rattle.vcp_core.specs.declared.ending.Ending.TheVariants as end
 use Rattle.vcp_core.specs.PlainRun.{plain_last_line, plain_text, PrintsText, Prints, cycle_line, lines_from, rest_text, PrintsFrom}

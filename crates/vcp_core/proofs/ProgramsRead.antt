@@ -8,9 +8,9 @@ use Rattle.vcp_typed.specs.Fitting.{input_columns}
 use Rattle.vcp_typed.specs.SourceRun.{Program}
 use Rattle.input_rows.specs.RowsOf.{RowsLeft}
 use Rattle.il_front.specs.Outcomes.{IsTypedIl}
-use Rattle.machine_run.specs.Moments.{Moment}
-use Rattle.vcp_words.specs.Forms.{Code, Form, Rows, il, plain, run}
-use Rattle.vcp_words.specs.Tables.{rows_name}
+use Rattle.coded_machine.specs.Moments.{Moment}
+use Rattle.vcp_inputs.specs.Forms.{Code, Form, Rows, il, plain, run}
+use Rattle.vcp_inputs.specs.Tables.{rows_name}
 use Rattle.vcp_inputs.specs.declared.refusal.Refusal.{Refusal}
 use Rattle.vcp_inputs.specs.declared.refusal.Refusal.TheVariants as refusal
 use Rattle.vcp_inputs.specs.declared.refusal.NoInput.{NoInput}

@@ -6,9 +6,9 @@ use Rattle.vcp_base.specs.Types.{fits}
 use Rattle.vcp_base.specs.declared.ty.Ty.TheVariants as ty
 use Rattle.op_graph.specs.Lists.{Lists}
 use Rattle.op_graph.specs.declared.op.Op.{Op}
-use Rattle.script_text.specs.Integers.{is_addend}
-use Rattle.script_text.specs.Lines.{Line, read_lines}
-use Rattle.script_text.specs.Words.{words}
+use Rattle.vcp_base.specs.Integers.{is_addend}
+use Rattle.vcp_base.specs.Lines.{Line, read_lines}
+use Rattle.vcp_base.specs.Words.{words}
 use Rattle.fault_script.specs.declared.act.Fault.{Fault}
 use Rattle.fault_script.specs.declared.forms.Change.{Change}
 use Rattle.fault_script.specs.declared.forms.Mark.{Mark}

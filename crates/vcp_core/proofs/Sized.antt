@@ -8,7 +8,7 @@ use Rattle.vcp_inputs.specs.Programs.{TypedOf}
 use Rattle.command_meaning.specs.FileTasks.{taken}
 use Rattle.command_meaning.specs.Kinds.{prints}
 use Rattle.vcp_core.specs.Tasks.{ok_text, TaskOf}
-use Rattle.vcp_words.specs.Forms.{check}
+use Rattle.vcp_inputs.specs.Forms.{check}
 
 pub sized : (p : List ℕ) (held : Held) (t : Program) (n : ℕ) → ((text : List ℕ) × (held p ≡ Some text) × (length text ≤ most_source_bytes) × TypedOf text t)
     → n ≡ size t → TaskOf (check p) held (prints (ok_text n))

@@ -11,7 +11,7 @@ use Rattle.fault_script.specs.declared.act.Act.TheVariants as act
 use Rattle.fault_script.specs.declared.act.Fault.{Fault}
 use Rattle.fault_script.specs.Changes.{Acts, acts_of}
 use Rattle.fault_script.specs.Differences.{difference_at}
-use Rattle.fault_runs.specs.Accepted.{RefusedAt, first_unaccepted, residue_under}
+use Rattle.fault_injector.specs.Accepted.{RefusedAt, first_unaccepted, residue_under}
 use Rattle.weight_audit.specs.ClosedForm.{StaleForm}
 use Rattle.vcp_core.specs.StaleSeen.{StaleAt, shows_by}
 

@@ -10,16 +10,16 @@ use Rattle.input_rows.specs.declared.fault.RowFault.TheVariants as row
 use Rattle.input_rows.specs.RowsOf.{IsOfRecord, RowsLeft}
 use Rattle.op_graph.specs.Lists.{Lists}
 use Rattle.signature_table.specs.Signatures.{Numbers}
-use Rattle.machine_run.specs.Moments.{Moment}
-use Rattle.machine_run.specs.declared.fault.RunFault.{RunFault}
-use Rattle.machine_run.specs.declared.fault.RunFault.TheVariants as run
+use Rattle.coded_machine.specs.Moments.{Moment}
+use Rattle.coded_machine.specs.declared.rows.fault.RunFault.{RunFault}
+use Rattle.coded_machine.specs.declared.rows.fault.RunFault.TheVariants as run
 use Rattle.pair_channel.specs.declared.pair_end.PairEnd.{PairEnd}
 use Rattle.pair_channel.specs.declared.pair_end.PairEnd.TheVariants as pair
 use Rattle.pair_channel.specs.PairRuns.{Disagrees}
 use Rattle.pair_channel.specs.BesideDone.{BesideDone, BesideRunsTo}
-use Rattle.vcp_words.specs.Forms.{Rows}
-use Rattle.vcp_words.specs.Forms as form
-use Rattle.vcp_words.specs.Tables.{rows_name}
+use Rattle.vcp_inputs.specs.Forms.{Rows}
+use Rattle.vcp_inputs.specs.Forms as form
+use Rattle.vcp_inputs.specs.Tables.{rows_name}
 use Rattle.vcp_inputs.specs.declared.images.Image.{Image}
 use Rattle.vcp_inputs.specs.declared.refusal.Refusal.TheVariants as refusal
 use Rattle.vcp_inputs.specs.declared.rows.RowsSource.{RowsSource}

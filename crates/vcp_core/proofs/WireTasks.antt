@@ -17,8 +17,8 @@ use Rattle.telegram.specs.declared.runs.wire_end.WireRunFault.{WireRunFault}
 use Rattle.telegram.specs.declared.runs.wire_end.WireRunFault.TheVariants as fault
 use Rattle.telegram.specs.Runs.{AreWords, PartTold, RoseBy, RunsWire}
 use Rattle.telegram.specs.Sends.{Cut, calls_of}
-use Rattle.machine_run.specs.Moments.{Moment, moment}
-use Rattle.vcp_words.specs.Forms.{wire}
+use Rattle.coded_machine.specs.Moments.{Moment, moment}
+use Rattle.vcp_inputs.specs.Forms.{wire}
 use Rattle.vcp_inputs.specs.declared.refusal.Refusal.{Refusal}
 use Rattle.vcp_inputs.specs.declared.refusal.Refusal.TheVariants as refusal
 use Rattle.vcp_inputs.specs.Wires.{WireOf, NotWire, no_wire}

@@ -2,9 +2,9 @@
 use Rattle.std.specs.Prelude.{ℕ, ◌≡◌, ◌⊎◌, List, [], Result, Ok, Err}
 use Rattle.std.specs.Io.KnownBytes.{Appends}
 use Rattle.vcp_outside.specs.Written.{AppendsFront, AppendsPart}
-use Rattle.machine_run.specs.Moments.{Moment}
-use Rattle.machine_run.specs.declared.fault.RunFault.{RunFault}
-use Rattle.machine_run.specs.declared.fault.RunFault.TheVariants as run
+use Rattle.coded_machine.specs.Moments.{Moment}
+use Rattle.coded_machine.specs.declared.rows.fault.RunFault.{RunFault}
+use Rattle.coded_machine.specs.declared.rows.fault.RunFault.TheVariants as run
 use Rattle.vcp_inputs.specs.Lines.{input_status, input_text}
 use Rattle.vcp_inputs.specs.Refusals.{no_rows}
 use Rattle.command_meaning.specs.Answer.{Answer}

@@ -12,7 +12,7 @@ use Rattle.coded_machine.specs.State.{State}
 use Rattle.run_report.specs.SummaryLine.{summary_text}
 use Rattle.program_maker.specs.MadeRows.{made_rows}
 use Rattle.program_maker.specs.MadeSource.{made_source}
-use Rattle.vcp_words.specs.Forms.{default_code}
+use Rattle.vcp_inputs.specs.Forms.{default_code}
 use Rattle.vcp_inputs.specs.declared.rows.RowsSource.TheVariants as origin
 use Rattle.vcp_inputs.specs.RowsOutcome.{source_outcome}
 use Rattle.command_meaning.specs.Abouts.{made_name}

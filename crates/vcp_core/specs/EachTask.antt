@@ -1,7 +1,7 @@
 -- EachTask: each command has a task.
 use Rattle.std.specs.Prelude.{ℕ, ◌≡◌, ◌<◌, List, All, Some}
 use Rattle.vcp_outside.specs.Held.{Held}
-use Rattle.vcp_words.specs.Forms.{Form}
+use Rattle.vcp_inputs.specs.Forms.{Form}
 use Rattle.command_meaning.specs.Kinds.{Task}
 use Rattle.vcp_core.specs.Tasks.{TaskOf}
 

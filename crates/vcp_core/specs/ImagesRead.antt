@@ -3,8 +3,8 @@ use Rattle.std.specs.Prelude.{ℕ, ◌≡◌, ◌≤◌, List, length, Option, S
 use Rattle.vcp_base.specs.Limits.{most_image_bytes, most_names}
 use Rattle.vcp_outside.specs.Seen.{FilesSeen}
 use Rattle.signature_table.specs.Signatures.{table_of}
-use Rattle.machine_run.specs.Moments.{Moment}
-use Rattle.vcp_words.specs.Forms.{Form, Rows, exec, trace, inject, pair, pairs}
+use Rattle.coded_machine.specs.Moments.{Moment}
+use Rattle.vcp_inputs.specs.Forms.{Form, Rows, exec, trace, inject, pair, pairs}
 use Rattle.vcp_inputs.specs.Images.{ImageOf, NotImage}
 use Rattle.vcp_inputs.specs.RowsOutcome.{HasFewCycles}
 use Rattle.vcp_inputs.specs.RowsRead.{graph_columns}

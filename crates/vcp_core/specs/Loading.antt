@@ -3,8 +3,8 @@ use Rattle.std.specs.Prelude.{ℕ, ◌≡◌, ◌≤◌, List, Ok, IfSome}
 use Rattle.std.specs.Io.KnownBytes.{IsAtEnd}
 use Rattle.vcp_base.specs.declared.columns.Column.{Column}
 use Rattle.vcp_outside.specs.Seen.{FilesSeen}
-use Rattle.machine_run.specs.Moments.{Moment}
-use Rattle.vcp_words.specs.Forms.{Form, Rows}
+use Rattle.coded_machine.specs.Moments.{Moment}
+use Rattle.vcp_inputs.specs.Forms.{Form, Rows}
 use Rattle.vcp_inputs.specs.declared.refusal.Refusal.{Refusal}
 use Rattle.vcp_inputs.specs.declared.rows.RowsSource.{RowsSource}
 use Rattle.vcp_inputs.specs.Files.{Loads}

@@ -11,12 +11,12 @@ use Rattle.op_graph.specs.Lists.{Lists, output_column}
 use Rattle.signature_table.specs.Signatures.{Numbers, table_of}
 use Rattle.flat_expr.specs.Told.{told_graph, told_source}
 use Rattle.vcp_typed.specs.SourceRun.{Program}
-use Rattle.vcp_words.specs.Forms.{Code}
+use Rattle.vcp_inputs.specs.Forms.{Code}
 use Rattle.run_report.specs.Lines.{stop_text}
 use Rattle.coded_machine.specs.declared.cycle_end.CycleEnd.{CycleEnd}
 use Rattle.coded_machine.specs.declared.cycle_end.CycleEnd.TheVariants as cycle
-use Rattle.machine_run.specs.declared.fault.RunFault.{RunFault}
-use Rattle.machine_run.specs.declared.fault.RunFault.TheVariants as run
+use Rattle.coded_machine.specs.declared.rows.fault.RunFault.{RunFault}
+use Rattle.coded_machine.specs.declared.rows.fault.RunFault.TheVariants as run
 use Rattle.vcp_inputs.specs.Lines.{input_status, input_text}
 use Rattle.vcp_inputs.specs.Refusals.{no_rows}
 use Rattle.command_meaning.specs.Answer.{Answer, Subject}
@@ -24,8 +24,8 @@ use Rattle.command_meaning.specs.GraphsOf.{MayRun, StandsFor}
 use Rattle.command_meaning.specs.Seen.{Still}
 use Rattle.command_meaning.specs.Reports.{end_read, output_names, subject_outputs, run_status, told_of}
 use Rattle.command_meaning.specs.RunKind.{Job, RunDone, RunLeft}
-use Rattle.machine_run.specs.Moments.{Moment}
-use Rattle.machine_run.specs.Stops.{TellsSomeStop}
+use Rattle.coded_machine.specs.Moments.{Moment}
+use Rattle.coded_machine.specs.Stops.{TellsSomeStop}
 use Rattle.vcp_core.specs.declared.ending.Ending.{Ending}
 use Rattle.vcp_core.specs.declared.ending.Ending.TheVariants as end
 use Rattle.vcp_core.specs.Reach.{end_status}

@@ -1,6 +1,6 @@
 -- Performed: what the program does for the words of a command: it performs the command, and tells the line of its fault, if it ends by one.
 use Rattle.std.specs.Prelude.{ℕ, List}
-use Rattle.vcp_words.specs.Forms.{Form}
+use Rattle.vcp_inputs.specs.Forms.{Form}
 use Rattle.command_meaning.specs.Abouts.{about}
 use Rattle.command_meaning.specs.Endings.{TellsLine}
 use Rattle.command_meaning.specs.Performing.{Performs}

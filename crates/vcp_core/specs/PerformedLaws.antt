@@ -1,7 +1,7 @@
 -- PerformedLaws: what follows where a command was performed, for each command.
 use Rattle.std.specs.Prelude.{ℕ, ◌≡◌, ◌≢◌, ◌≤◌, List}
 use Rattle.vcp_outside.specs.Held.{Held}
-use Rattle.vcp_words.specs.Forms.{Form, Rows, Code, run, plain}
+use Rattle.vcp_inputs.specs.Forms.{Form, Rows, Code, run, plain}
 use Rattle.coded_unit.specs.Seen.{StaysHonest}
 use Rattle.command_meaning.specs.Abouts.{about}
 use Rattle.command_meaning.specs.Answer.{Answer}

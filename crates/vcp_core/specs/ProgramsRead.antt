@@ -6,7 +6,7 @@ use Rattle.vcp_typed.specs.Fitting.{input_columns}
 use Rattle.vcp_typed.specs.SourceRun.{Program}
 use Rattle.il_front.specs.Answers.{most_il_bytes}
 use Rattle.il_front.specs.Outcomes.{IsTypedIl}
-use Rattle.vcp_words.specs.Forms.{Code, Form, Rows, il, plain, run}
+use Rattle.vcp_inputs.specs.Forms.{Code, Form, Rows, il, plain, run}
 use Rattle.vcp_inputs.specs.declared.refusal.Refusal.{Refusal}
 use Rattle.vcp_inputs.specs.Listings.{NotListing}
 use Rattle.vcp_inputs.specs.Programs.{NotTyped, TypedOf}

@@ -1,7 +1,7 @@
 -- Reach: the status of a command that came to its end, and the line and the status of one that ended by a fault.
 use Rattle.std.specs.Prelude.{ℕ, List, [], Result, Ok, Err}
-use Rattle.machine_run.specs.declared.fault.RunFault.{RunFault}
-use Rattle.machine_run.specs.declared.fault.RunFault.TheVariants as run
+use Rattle.coded_machine.specs.declared.rows.fault.RunFault.{RunFault}
+use Rattle.coded_machine.specs.declared.rows.fault.RunFault.TheVariants as run
 use Rattle.vcp_inputs.specs.Lines.{memory_text, write_fault_text, input_text, input_status}
 use Rattle.vcp_inputs.specs.Refusals.{no_rows}
 use Rattle.telegram.specs.declared.runs.wire_end.WireEnd.{WireEnd}

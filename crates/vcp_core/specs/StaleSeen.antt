@@ -10,7 +10,7 @@ use Rattle.signature_table.specs.Signatures.{Numbers, IsTableOf}
 use Rattle.fault_script.specs.declared.act.Act.TheVariants as act
 use Rattle.fault_script.specs.declared.act.Fault.{Fault}
 use Rattle.fault_script.specs.Changes.{acts_of}
-use Rattle.fault_runs.specs.Accepted.{Accepted, RefusedAt, first_unaccepted}
+use Rattle.fault_injector.specs.Accepted.{Accepted, RefusedAt, first_unaccepted}
 use Rattle.weight_audit.specs.Weights.{weight}
 
 -- by how much a stale operand j of an operation shows at an output, so many cycle borders later, modulo the constant of the graph's code

@@ -6,8 +6,8 @@ use Rattle.op_graph.specs.GraphRun.{graph_run}
 use Rattle.op_graph.specs.Lists.{Lists}
 use Rattle.signature_table.specs.Signatures.{table_of}
 use Rattle.image_file.specs.Graphs.{HasImage}
-use Rattle.vcp_words.specs.Forms.{Code, Rows, exec, list}
-use Rattle.vcp_words.specs.Tables.{rows_name}
+use Rattle.vcp_inputs.specs.Forms.{Code, Rows, exec, list}
+use Rattle.vcp_inputs.specs.Tables.{rows_name}
 use Rattle.vcp_inputs.specs.RowsRead.{graph_columns}
 use Rattle.command_meaning.specs.Answer.{image}
 use Rattle.command_meaning.specs.FileTasks.{TakenRows}

@@ -1,11 +1,11 @@
 //! The command `compile`, up to the line of its fault.
 
 ghost use Rattle.std.specs.Prelude.{List, Option, ℕ};
-ghost use Rattle.vcp_words.specs.Forms.{compile, as_code, IsCode};
+ghost use Rattle.vcp_inputs.specs.Forms.{compile, as_code, IsCode};
 ghost use Rattle.command_meaning.specs.Abouts.{about};
 ghost use Rattle.command_meaning.specs.Performing.{Performs};
 ghost use Rattle.coded_unit.specs.Seen.{UnitSeen};
-ghost use Rattle.machine_run.specs.Moments.{moment};
+ghost use Rattle.coded_machine.specs.Moments.{moment};
 ghost use Rattle.vcp_core.specs.Tasks.{TaskOf};
 ghost use Rattle.vcp_core.specs.Reach.{told_line, told_status};
 
@@ -14,9 +14,8 @@ use crate::fault::Fault;
 use command_meaning::image_for;
 use std::alloc::Global;
 use vcp_base::{Memory, Text};
-use vcp_inputs::{HowOften, load_typed};
+use vcp_inputs::{Code, HowOften, load_typed};
 use vcp_outside::{Files, Sink, write_all};
-use vcp_words::Code;
 
 /// Does what the words `compile P CODE` say, and writes to `out` alone: P is read whole and
 /// checked, and then the image of its operations is written, with the numbers of the

@@ -1,7 +1,7 @@
 //! The command `demo`, up to the line of its fault.
 
 ghost use Rattle.std.specs.Prelude.{◌≡◌, ℕ, None, Ok, [], List, map};
-ghost use Rattle.vcp_words.specs.Forms.{demo};
+ghost use Rattle.vcp_inputs.specs.Forms.{demo};
 ghost use Rattle.vcp_base.specs.Limits.{most_source_bytes};
 ghost use Rattle.program_maker.specs.MadeRows.{made_rows};
 ghost use Rattle.vcp_inputs.specs.Files.{Loads};
@@ -9,7 +9,7 @@ ghost use Rattle.vcp_inputs.specs.Programs.{TypedOf, NotTyped};
 ghost use Rattle.command_meaning.specs.Abouts.{about, made_name};
 ghost use Rattle.command_meaning.specs.Performing.{Performs};
 ghost use Rattle.vcp_outside.specs.Seen.{FilesSeen};
-ghost use Rattle.machine_run.specs.Moments.{moment};
+ghost use Rattle.coded_machine.specs.Moments.{moment};
 ghost use Rattle.vcp_core.specs.Demo.{DemoTask, KeepsSums, first_value as first_value_of, made_held, summed_text};
 ghost use Rattle.vcp_core.specs.Reach.{told_line, told_status};
 
@@ -17,17 +17,15 @@ use crate::ending::{Ending, run_ended};
 use crate::fault::Fault;
 use crate::loading::input_columns;
 use crate::printed::{Printed, print_end, run_program};
-use coded_machine::{CycleEnd, Machine};
+use coded_machine::{CycleEnd, Machine, ReleasedRows};
 use coded_unit::Unit;
-use machine_run::ReleasedRows;
 use program_maker::make;
 use run_report::summary_line;
 use std::alloc::Global;
 use vcp_base::{Columns, Row, Text};
-use vcp_inputs::{HowOften, RowsSource, typed_of};
+use vcp_inputs::{DEFAULT_CODE, HowOften, RowsSource, typed_of};
 use vcp_outside::{Failed, Sink};
 use vcp_typed::Typed;
-use vcp_words::DEFAULT_CODE;
 
 /// The name by which lines tell the made source and its rows.
 const MADE: &[u8] = b"demo";

@@ -5,8 +5,8 @@ ghost use Rattle.vcp_core.specs.Faults.{campaign_end, text_end};
 ghost use Rattle.vcp_core.specs.Reach.{end_status, run_code, run_line, told_line, told_status};
 
 use crate::fault::Fault;
+use coded_machine::RunFault;
 use fault_campaign::CampaignFault;
-use machine_run::RunFault;
 use vcp_inputs::NoInput;
 use vcp_outside::Failed;
 

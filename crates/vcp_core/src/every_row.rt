@@ -7,8 +7,7 @@ ghost use Rattle.vcp_core.specs.EndLines.{last_text};
 
 use crate::ending::Ending;
 use crate::printed::{Printed, print_end};
-use coded_machine::{CycleEnd, Machine};
-use machine_run::ReleasedRows;
+use coded_machine::{CycleEnd, Machine, ReleasedRows};
 use run_report::{header_line, row_line};
 use vcp_base::{Columns, Row};
 use vcp_outside::{Failed, Sink};

@@ -1,11 +1,11 @@
 //! The command `format`, up to the line of its fault.
 
 ghost use Rattle.std.specs.Prelude.{List, Option, ℕ};
-ghost use Rattle.vcp_words.specs.Forms.{format};
+ghost use Rattle.vcp_inputs.specs.Forms.{format};
 ghost use Rattle.command_meaning.specs.Abouts.{about};
 ghost use Rattle.command_meaning.specs.Performing.{Performs};
 ghost use Rattle.coded_unit.specs.Seen.{UnitSeen};
-ghost use Rattle.machine_run.specs.Moments.{moment};
+ghost use Rattle.coded_machine.specs.Moments.{moment};
 ghost use Rattle.vcp_core.specs.Tasks.{TaskOf};
 ghost use Rattle.vcp_core.specs.Reach.{told_line, told_status};
 

@@ -1,9 +1,9 @@
 //! The command `il`, up to the line of its fault.
 
-ghost use Rattle.vcp_words.specs.Forms.{il, rows_of, as_code, AreFew, IsCode};
+ghost use Rattle.vcp_inputs.specs.Forms.{il, rows_of, as_code, AreFew, IsCode};
 ghost use Rattle.command_meaning.specs.Abouts.{about};
 ghost use Rattle.command_meaning.specs.Performing.{Performs};
-ghost use Rattle.machine_run.specs.Moments.{moment};
+ghost use Rattle.coded_machine.specs.Moments.{moment};
 ghost use Rattle.vcp_core.specs.Tasks.{TaskOf};
 ghost use Rattle.vcp_core.specs.Reach.{told_line, told_status};
 
@@ -14,9 +14,8 @@ use coded_unit::Unit;
 use command_meaning::lists_are_told;
 use std::alloc::Global;
 use vcp_base::Text;
-use vcp_inputs::load_il;
+use vcp_inputs::{Code, RowsWord, load_il};
 use vcp_outside::{Files, Sink};
-use vcp_words::{Code, RowsWord};
 
 /// Does what the words `il P ROWS CODE` say, and writes to `out` alone: P is read whole and
 /// checked, then ROWS, and then the program's operations are run on the rows, on the unit.

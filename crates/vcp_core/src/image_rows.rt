@@ -1,7 +1,7 @@
 //! An image and ROWS for it, read one after the other.
 
 ghost use Rattle.std.specs.Prelude.{◌≡◌, ◌≢◌, true, false, Some, IfErr, IfOk, IfSome};
-ghost use Rattle.vcp_words.specs.Forms.{rows_of, AreFew};
+ghost use Rattle.vcp_inputs.specs.Forms.{rows_of, AreFew};
 ghost use Rattle.vcp_core.specs.ImagesRead.{AreImageRows, ImageRowsRead, ReadsImageRows};
 ghost use Rattle.vcp_core.specs.Loading.{EndsUnread};
 
@@ -10,9 +10,10 @@ use crate::loading::rows_name;
 use signature_table::Table;
 use std::alloc::Global;
 use vcp_base::{Columns, Text};
-use vcp_inputs::{Image, NoInput, Refusal, RowsSource, graph_columns, load_image, load_rows};
+use vcp_inputs::{
+    Image, NoInput, Refusal, RowsSource, RowsWord, graph_columns, load_image, load_rows,
+};
 use vcp_outside::Files;
-use vcp_words::RowsWord;
 
 /// An image, and the rows that it is run on.
 pub struct ImageRows {

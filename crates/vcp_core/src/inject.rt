@@ -2,12 +2,12 @@
 
 ghost use Rattle.std.specs.Prelude.{◌≡◌, ◌≤◌, All, IfErr, IfOk, length};
 ghost use Rattle.vcp_base.specs.Limits.{most_cycles, most_names};
-ghost use Rattle.vcp_words.specs.Forms.{inject, rows_of, AreFew, Rows};
+ghost use Rattle.vcp_inputs.specs.Forms.{inject, rows_of, AreFew, Rows};
 ghost use Rattle.vcp_inputs.specs.Refusals.{IsCaused};
 ghost use Rattle.vcp_inputs.specs.RowsOutcome.{HasFewCycles, source_outcome};
 ghost use Rattle.command_meaning.specs.Abouts.{about};
 ghost use Rattle.command_meaning.specs.Performing.{Performs};
-ghost use Rattle.machine_run.specs.Moments.{moment};
+ghost use Rattle.coded_machine.specs.Moments.{moment};
 ghost use Rattle.vcp_core.specs.ImagesRead.{AreImageRows, PerformsOn};
 ghost use Rattle.vcp_core.specs.Tasks.{TaskOf};
 ghost use Rattle.vcp_core.specs.Inject.{AllRows, NoRows};
@@ -23,9 +23,8 @@ use input_rows::RowList;
 use op_graph::Graph;
 use std::alloc::Global;
 use vcp_base::{Columns, Text};
-use vcp_inputs::{NoInput, Refusal, RowsSource, load_script, whole_rows};
+use vcp_inputs::{NoInput, Refusal, RowsSource, RowsWord, load_script, whole_rows};
 use vcp_outside::{Files, Sink};
-use vcp_words::RowsWord;
 
 /// The most cycles times operations of a run under faults.
 const MOST_TRACE: u64 = 16777216;

@@ -11,7 +11,7 @@ ghost use Rattle.image_file.specs.Graphs.{HasImage};
 ghost use Rattle.image_file.specs.Image.{image_of};
 ghost use Rattle.weight_audit.specs.Audit.{most_weights, weights_up_to};
 ghost use Rattle.weight_audit.specs.AuditText.{AuditOf};
-ghost use Rattle.vcp_words.specs.Forms.{Form, audit};
+ghost use Rattle.vcp_inputs.specs.Forms.{Form, audit};
 ghost use Rattle.command_meaning.specs.Abouts.{about, AllHeld};
 ghost use Rattle.command_meaning.specs.FileTasks.{ImageFile};
 ghost use Rattle.command_meaning.specs.Endings.{HasOwnStatus};

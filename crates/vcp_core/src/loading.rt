@@ -3,13 +3,13 @@
 ghost use Rattle.std.specs.Prelude.{◌≡◌, ◌≤◌, IfOk, length};
 ghost use Rattle.vcp_base.specs.Limits.{most_names};
 ghost use Rattle.vcp_typed.specs.Fitting.{input_columns as input_columns_of};
-ghost use Rattle.vcp_words.specs.Forms.{rows_of};
-ghost use Rattle.vcp_words.specs.Tables.{rows_name as rows_name_of};
+ghost use Rattle.vcp_inputs.specs.Forms.{rows_of};
+ghost use Rattle.vcp_inputs.specs.Tables.{rows_name as rows_name_of};
 
 use std::alloc::Global;
 use vcp_base::{Columns, Memory};
+use vcp_inputs::RowsWord;
 use vcp_typed::Typed;
-use vcp_words::RowsWord;
 
 /// The columns of a program's inputs, of which there are no more than names.
 pub fn input_columns(alloc: Global, program: &Typed) -> Result<Columns, Memory>

@@ -8,12 +8,12 @@ ghost use Rattle.fault_script.specs.Groups.{GroupFits};
 ghost use Rattle.fault_script.specs.ScriptOf.{most_faults};
 ghost use Rattle.fault_campaign.specs.PairCampaigns.{PairsTold};
 ghost use Rattle.fault_campaign.specs.declared.fault.CampaignFault.TheVariants as fault;
-ghost use Rattle.vcp_words.specs.Forms.{pairs, rows_of, AreFew, Rows};
+ghost use Rattle.vcp_inputs.specs.Forms.{pairs, rows_of, AreFew, Rows};
 ghost use Rattle.vcp_inputs.specs.RowsOutcome.{source_outcome};
 ghost use Rattle.vcp_inputs.specs.RowsRead.{AllRead};
 ghost use Rattle.command_meaning.specs.Abouts.{about};
 ghost use Rattle.command_meaning.specs.Performing.{Performs};
-ghost use Rattle.machine_run.specs.Moments.{moment};
+ghost use Rattle.coded_machine.specs.Moments.{moment};
 ghost use Rattle.vcp_core.specs.ImagesRead.{AreImageRows, PerformsOn};
 ghost use Rattle.vcp_core.specs.Tasks.{TaskOf};
 ghost use Rattle.vcp_core.specs.Reach.{told_line, told_status};
@@ -29,9 +29,8 @@ use input_rows::RowList;
 use signature_table::Table;
 use std::alloc::Global;
 use vcp_base::{Memory, Text};
-use vcp_inputs::{Image, load_script, whole_rows};
+use vcp_inputs::{Image, RowsWord, load_script, whole_rows};
 use vcp_outside::{Files, Sink};
-use vcp_words::RowsWord;
 
 /// Does what the words `pairs M ROWS SEED F` say, and writes to `out` alone: M is read whole and
 /// checked, and is refused where SEED is its own; then ROWS with all rows, and then F; and

@@ -2,11 +2,11 @@
 
 ghost use Rattle.std.specs.Prelude.{ℕ, Option, List};
 ghost use Rattle.vcp_outside.specs.Seen.{FilesSeen};
-ghost use Rattle.vcp_words.specs.Forms.{plain, rows_of, AreFew};
+ghost use Rattle.vcp_inputs.specs.Forms.{plain, rows_of, AreFew};
 ghost use Rattle.command_meaning.specs.Abouts.{about};
 ghost use Rattle.command_meaning.specs.Performing.{Performs};
 ghost use Rattle.coded_unit.specs.Seen.{UnitSeen};
-ghost use Rattle.machine_run.specs.Moments.{moment};
+ghost use Rattle.coded_machine.specs.Moments.{moment};
 ghost use Rattle.vcp_core.specs.ProgramsRead.{structured_text, AreProgramRows, ProgramRead, ProgramRowsRead};
 ghost use Rattle.vcp_core.specs.Tasks.{TaskOf};
 ghost use Rattle.vcp_core.specs.Reach.{told_line, told_status};
@@ -18,10 +18,9 @@ use crate::plain_run::print_run;
 use crate::program_rows::{ProgramRows, load_program_rows};
 use std::alloc::Global;
 use vcp_base::Text;
-use vcp_inputs::{HowOften, load_typed};
+use vcp_inputs::{HowOften, RowsWord, load_typed};
 use vcp_outside::{Files, Sink};
 use vcp_typed::Typed;
-use vcp_words::RowsWord;
 
 /// Does what the words `plain P ROWS` say, and writes to `out` alone: P is read whole and taken through
 /// its refusals, then ROWS, and then the program's own run on the rows is written.

@@ -12,11 +12,11 @@ ghost use Rattle.vcp_typed.specs.SourceRun.{cycle as cycle_of};
 ghost use Rattle.st_plain.specs.Evaluator.{started};
 ghost use Rattle.flat_expr.specs.Told.{names_of};
 ghost use Rattle.vcp_core.specs.PlainRun.{Prints, PrintsFrom, cycle_line};
-ghost use Rattle.machine_run.specs.declared.fault.RunFault.TheVariants as fault;
+ghost use Rattle.coded_machine.specs.declared.rows.fault.RunFault.TheVariants as fault;
 
 use crate::ending::Ending;
+use coded_machine::RunFault;
 use input_rows::Rows;
-use machine_run::RunFault;
 use run_report::{end_line, header_line, row_line, stop_line};
 use st_plain::Plain;
 use std::alloc::Global;

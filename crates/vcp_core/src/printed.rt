@@ -12,29 +12,31 @@ ghost use Rattle.signature_table.specs.Signatures.{IsTable, IsTableOf};
 ghost use Rattle.coded_machine.specs.Calls.{Whole};
 ghost use Rattle.coded_machine.specs.State.{State, fresh};
 ghost use Rattle.coded_machine.specs.declared.cycle_end.CycleEnd.{CycleEnd as CycleEndOf};
-ghost use Rattle.vcp_words.specs.Forms.{Code as CodeOf, as_code, IsCode};
+ghost use Rattle.vcp_inputs.specs.Forms.{Code as CodeOf, as_code, IsCode};
 ghost use Rattle.command_meaning.specs.Answer.{Subject};
 ghost use Rattle.command_meaning.specs.Printing.{Printing, ShownWords};
 ghost use Rattle.command_meaning.specs.Reports.{end_read};
-ghost use Rattle.machine_run.specs.Moments.{moment};
+ghost use Rattle.coded_machine.specs.Moments.{moment};
 ghost use Rattle.vcp_core.specs.EndLines.{last_text};
 ghost use Rattle.vcp_core.specs.MachineRun.{CarriesOut, HasCauses, IsThere, PrintsLast, RunsTo, StandsAs};
 ghost use Rattle.vcp_core.specs.Shown.{Shows, job_of};
 
 use crate::ending::Ending;
-use coded_machine::{CycleEnd, Machine};
+use coded_machine::{
+    CycleEnd, Machine, ReleasedRows, RunFault, rows_before_a_wrong_answer_follow_the_graph,
+    run_rows,
+};
 use coded_unit::Unit;
 use command_meaning::graph_of;
 use input_rows::Rows;
-use machine_run::{ReleasedRows, RunFault, rows_before_a_wrong_answer_follow_the_graph, run_rows};
 use op_graph::Graph;
 use run_report::{end_line, graph_stop_line, refused_line};
 use signature_table::Table;
 use std::alloc::Global;
 use vcp_base::{Columns, Memory};
+use vcp_inputs::Code;
 use vcp_outside::{Failed, Sink};
 use vcp_typed::Typed;
-use vcp_words::Code;
 
 /// What is printed of a run first and last. `R` is what is done with its released rows: it prints the
 /// line of each, if it has one, and keeps what the last line tells of them.

@@ -1,7 +1,7 @@
 //! ROWS for a program that was read.
 
 ghost use Rattle.std.specs.Prelude.{◌≡◌, IfErr, IfOk};
-ghost use Rattle.vcp_words.specs.Forms.{rows_of, AreFew};
+ghost use Rattle.vcp_inputs.specs.Forms.{rows_of, AreFew};
 ghost use Rattle.vcp_core.specs.ProgramsRead.{AreProgramRows, EndsOn, ReadsOn};
 
 use crate::fault::Fault;
@@ -9,10 +9,9 @@ use crate::loading::{input_columns, rows_name};
 use command_meaning::lists_are_told;
 use std::alloc::Global;
 use vcp_base::Columns;
-use vcp_inputs::{RowsSource, load_rows};
+use vcp_inputs::{RowsSource, RowsWord, load_rows};
 use vcp_outside::Files;
 use vcp_typed::Typed;
-use vcp_words::RowsWord;
 
 /// A program, and the rows that it is run on.
 pub struct ProgramRows {

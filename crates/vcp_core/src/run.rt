@@ -2,10 +2,10 @@
 
 ghost use Rattle.std.specs.Prelude.{ℕ, List};
 ghost use Rattle.vcp_outside.specs.Seen.{FilesSeen};
-ghost use Rattle.vcp_words.specs.Forms.{run, rows_of, as_code, AreFew, IsCode};
+ghost use Rattle.vcp_inputs.specs.Forms.{run, rows_of, as_code, AreFew, IsCode};
 ghost use Rattle.command_meaning.specs.Abouts.{about};
 ghost use Rattle.command_meaning.specs.Performing.{Performs};
-ghost use Rattle.machine_run.specs.Moments.{moment};
+ghost use Rattle.coded_machine.specs.Moments.{moment};
 ghost use Rattle.vcp_core.specs.ProgramsRead.{run_of, AreProgramRows, Language, ProgramRead, ProgramRowsRead};
 ghost use Rattle.vcp_core.specs.Tasks.{TaskOf};
 ghost use Rattle.vcp_core.specs.Reach.{told_line, told_status};
@@ -20,10 +20,9 @@ use coded_unit::Unit;
 use command_meaning::lists_are_told;
 use std::alloc::Global;
 use vcp_base::Text;
-use vcp_inputs::{HowOften, load_typed};
+use vcp_inputs::{Code, HowOften, RowsWord, load_typed};
 use vcp_outside::{Files, Sink};
 use vcp_typed::Typed;
-use vcp_words::{Code, RowsWord};
 
 /// Does what the words `run P ROWS CODE` say, and writes to `out` alone: P is read whole and
 /// checked, then ROWS, and then the program's operations are run on the rows, on the unit.

@@ -2,13 +2,12 @@
 
 ghost use Rattle.std.specs.Prelude.{◌≡◌};
 ghost use Rattle.vcp_outside.specs.Written.{WritesTo};
-ghost use Rattle.vcp_words.specs.Forms.{usage_text};
+ghost use Rattle.vcp_inputs.specs.Forms.{usage_text};
 ghost use Rattle.vcp_core.specs.Reach.{fault_text, fault_status as status_of_fault};
 
 use crate::fault::Fault;
-use vcp_inputs::{input_status, tell_input};
+use vcp_inputs::{input_status, tell_input, usage};
 use vcp_outside::{Failed, Sink, write_all};
-use vcp_words::usage;
 
 /// The line where memory was wanted.
 const NO_MEMORY: &[u8] = b"no memory\n";

@@ -2,11 +2,11 @@
 
 ghost use Rattle.std.specs.Prelude.{◌≡◌, IfSome, None, true};
 ghost use Rattle.vcp_outside.specs.Counts.{Rose};
-ghost use Rattle.vcp_words.specs.Forms.{form, form_of, IsSound};
+ghost use Rattle.vcp_inputs.specs.Forms.{form, form_of, IsSound};
 ghost use Rattle.command_meaning.specs.Abouts.{about};
 ghost use Rattle.command_meaning.specs.Clauses.{GetsUsage};
 ghost use Rattle.command_meaning.specs.Performing.{Performs};
-ghost use Rattle.machine_run.specs.Moments.{moment};
+ghost use Rattle.coded_machine.specs.Moments.{moment};
 ghost use Rattle.command_meaning.specs.Seen.{outside};
 ghost use Rattle.vcp_core.specs.Performed.{Performed};
 ghost use Rattle.vcp_core.specs.Tasks.{TaskOf};
@@ -34,8 +34,8 @@ use crate::wire::wire_command;
 use coded_unit::Unit;
 use std::alloc::Global;
 use vcp_base::Words;
+use vcp_inputs::{Command, command_of};
 use vcp_outside::{Failed, Files, Sink};
-use vcp_words::{Command, command_of};
 
 /// The status where a sink failed.
 const WRITE_FAULT: u8 = 6;

@@ -3,10 +3,10 @@
 ghost use Rattle.std.specs.Prelude.{◌<◌};
 ghost use Rattle.vcp_base.specs.Limits.{most_cycles};
 ghost use Rattle.vcp_outside.specs.Seen.{FilesSeen};
-ghost use Rattle.vcp_words.specs.Forms.{trace, rows_of, AreFew};
+ghost use Rattle.vcp_inputs.specs.Forms.{trace, rows_of, AreFew};
 ghost use Rattle.command_meaning.specs.Abouts.{about};
 ghost use Rattle.command_meaning.specs.Performing.{Performs};
-ghost use Rattle.machine_run.specs.Moments.{moment};
+ghost use Rattle.coded_machine.specs.Moments.{moment};
 ghost use Rattle.vcp_core.specs.ImagesRead.{AreImageRows, PerformsOn};
 ghost use Rattle.vcp_core.specs.Tasks.{TaskOf};
 ghost use Rattle.vcp_core.specs.Reach.{told_line, told_status};
@@ -19,8 +19,8 @@ use crate::tracing::run_words;
 use coded_unit::Unit;
 use std::alloc::Global;
 use vcp_base::Text;
+use vcp_inputs::RowsWord;
 use vcp_outside::{Files, Sink};
-use vcp_words::RowsWord;
 
 /// Does what the words `trace M ROWS CYCLE` say, and writes to `out` alone: M is read whole and
 /// checked, then ROWS, and then the operations of its graph are run on the rows through

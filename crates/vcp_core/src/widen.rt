@@ -2,12 +2,12 @@
 
 ghost use Rattle.std.specs.Prelude.{◌≡◌, IfOk, List, Option, ℕ};
 ghost use Rattle.image_file.specs.Image.{image_of};
-ghost use Rattle.vcp_words.specs.Forms.{widen};
+ghost use Rattle.vcp_inputs.specs.Forms.{widen};
 ghost use Rattle.vcp_core.specs.Tasks.{widened, TaskOf};
 ghost use Rattle.command_meaning.specs.Abouts.{about};
 ghost use Rattle.command_meaning.specs.Performing.{Performs};
 ghost use Rattle.coded_unit.specs.Seen.{UnitSeen};
-ghost use Rattle.machine_run.specs.Moments.{moment};
+ghost use Rattle.coded_machine.specs.Moments.{moment};
 ghost use Rattle.vcp_core.specs.Reach.{told_line, told_status};
 
 use crate::ending::{Ending, text_ended};

@@ -8,3 +8,7 @@ pub mod TakenImages
 pub mod TakenListings
 pub mod TakenScripts
 pub mod TakenWires
+pub mod CodeWords
+pub mod FormRows
+pub mod Sound
+pub mod WordsSteps

@@ -3,7 +3,7 @@ use Rattle.std.proofs.Common.{◌≡◌, refl, false, List, [], ◌∷◌, None,
 use Rattle.vcp_base.specs.declared.columns.Column.{Column}
 use Rattle.vcp_base.specs.declared.ty.Ty.TheVariants as ty
 use Rattle.vcp_outside.specs.Held.{Held}
-use Rattle.vcp_words.specs.Forms.{file, cycles}
+use Rattle.vcp_inputs.specs.Forms.{file, cycles}
 use Rattle.input_rows.specs.declared.fault.RowFault.TheVariants as row
 use Rattle.vcp_inputs.specs.declared.refusal.Refusal.TheVariants as refusal
 use Rattle.vcp_inputs.specs.RowsOutcome.{rows_outcome, lacking, refused, opened}

@@ -10,7 +10,7 @@ use Rattle.vcp_outside.specs.Held.{Held}
 use Rattle.vcp_base.specs.Limits.{most_depth, most_rows_bytes, most_source_bytes}
 use Rattle.vcp_base.specs.declared.columns.Column.{Column}
 use Rattle.input_rows.specs.RowsOf.{rows_of}
-use Rattle.vcp_words.specs.Forms.{file}
+use Rattle.vcp_inputs.specs.Forms.{file}
 use Rattle.st_lexer.specs.declared.token.Token.{Token}
 use Rattle.st_lexer.specs.declared.fault.LexFault.{LexFault}
 use Rattle.st_lexer.specs.declared.fault.LexFault.TheVariants as lexer
@@ -19,7 +19,7 @@ use Rattle.st_lexer.specs.Spots.{spot_at}
 use Rattle.st_parser.specs.declared.fault.SyntaxFault.{SyntaxFault}
 use Rattle.st_parser.specs.declared.fault.SyntaxFault.TheVariants as syntax
 use Rattle.st_parser.specs.Answers.{Refuses as RefusesTokens}
-use Rattle.st_spelling.specs.Spelling.{Spells, SpellsWithin}
+use Rattle.st_tree.specs.Spelling.{Spells, SpellsWithin}
 use Rattle.st_tree.specs.Declarable.{HasNames}
 use Rattle.st_tree.specs.ProgramTree.{ProgramTree}
 use Rattle.st_types.specs.declared.fault.TypeFault.{TypeFault}

@@ -8,3 +8,5 @@ pub mod RowsOutcome
 pub mod RowsRead
 pub mod Scripts
 pub mod Wires
+pub mod Forms
+pub mod Tables

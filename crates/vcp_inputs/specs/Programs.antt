@@ -9,7 +9,7 @@ use Rattle.st_lexer.specs.Spots.{spot_at}
 use Rattle.st_parser.specs.declared.fault.SyntaxFault.{SyntaxFault}
 use Rattle.st_parser.specs.declared.fault.SyntaxFault.TheVariants as syntax
 use Rattle.st_parser.specs.Answers.{Refuses as RefusesTokens}
-use Rattle.st_spelling.specs.Spelling.{Spells, SpellsWithin}
+use Rattle.st_tree.specs.Spelling.{Spells, SpellsWithin}
 use Rattle.st_tree.specs.declared.program.Program.{Program as TreeOf}
 use Rattle.st_tree.specs.ProgramTree.{ProgramTree}
 use Rattle.st_tree.specs.ProgramViews.{program_tree}

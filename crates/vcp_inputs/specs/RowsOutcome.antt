@@ -4,7 +4,7 @@ use Rattle.vcp_base.specs.Limits.{most_rows_bytes, most_cycles}
 use Rattle.vcp_base.specs.declared.columns.Column.{Column}
 use Rattle.vcp_outside.specs.Counts.{Rose}
 use Rattle.vcp_outside.specs.Held.{Held}
-use Rattle.vcp_words.specs.Forms.{Rows, file, cycles}
+use Rattle.vcp_inputs.specs.Forms.{Rows, file, cycles}
 use Rattle.input_rows.specs.declared.fault.RowFault.{RowFault}
 use Rattle.input_rows.specs.declared.fault.RowFault.TheVariants as row
 use Rattle.input_rows.specs.RowsOf.{RowsLeft, rows_of, rows_of_cycles}

@@ -12,6 +12,7 @@ mod sources;
 mod telling;
 mod whole;
 mod wires;
+mod words;
 
 pub use alike::are_alike;
 pub use images::{Image, load_image};
@@ -24,3 +25,4 @@ pub use sources::{HowOften, load_program, load_typed, program_of, typed_of};
 pub use telling::{input_status, tell_input, tell_of, tell_place, tell_refusal};
 pub use whole::{graph_columns, whole_rows};
 pub use wires::load_wire;
+pub use words::{Code, Command, CommandWords, DEFAULT_CODE, RowsWord, command_of, usage};

@@ -7,20 +7,20 @@ ghost use Rattle.vcp_base.specs.Types.{AreIn};
 ghost use Rattle.vcp_outside.specs.Counts.{Rose};
 ghost use Rattle.vcp_outside.specs.Held.{Held};
 ghost use Rattle.input_rows.specs.RowsOf.{IsOfRecord, types_of};
-ghost use Rattle.vcp_words.specs.Forms.{rows_of, file, AreFew};
+ghost use Rattle.vcp_inputs.specs.Forms.{rows_of, file, AreFew};
 ghost use Rattle.vcp_inputs.specs.RowsOutcome.{rows_outcome, source_outcome, Opens, LoadsRows, begins, HasLongFile, HasFewCycles};
 ghost use Rattle.vcp_inputs.specs.Refusals.{IsCaused};
 ghost use Rattle.vcp_inputs.specs.declared.refusal.NoInput.TheVariants as input;
 ghost use Rattle.vcp_inputs.specs.declared.refusal.Refusal.{Refusal as RefusalOf};
 ghost use Rattle.vcp_inputs.specs.declared.refusal.Refusal.TheVariants as refusal;
 
+use crate::RowsWord;
 use crate::reading::read_file;
 use crate::refusal::{NoInput, Refusal};
 use input_rows::{RowFault, Rows};
 use std::alloc::Global;
 use vcp_base::{Columns, MOST_ROWS_BYTES, Text};
 use vcp_outside::Files;
-use vcp_words::RowsWord;
 
 /// The rows of a run before they are read.
 #[derive(Drop)]

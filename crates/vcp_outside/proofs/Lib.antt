@@ -3,3 +3,4 @@ pub mod Numbers
 pub mod Steps
 pub mod Taken
 pub mod Gathering
+mod WellFormedText

@@ -9,3 +9,7 @@ pub mod ReadAll
 pub mod Seen
 pub mod Written
 pub mod Gathering
+pub mod Characters
+pub mod Drawing
+pub mod Elements
+pub mod WellFormed

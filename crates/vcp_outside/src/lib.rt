@@ -20,6 +20,7 @@ mod mem_files;
 mod mem_sink;
 mod reading;
 mod sink;
+mod svg;
 mod writing;
 
 pub use arguments::{given_words, status_without_words, words_of};
@@ -32,4 +33,8 @@ pub use mem_files::{Entry, MemFiles};
 pub use mem_sink::MemSink;
 pub use reading::{ReadAll, read_all, read_all_counting};
 pub use sink::Sink;
+pub use svg::{
+    Escaping, Name, Piece, Tag, begin_picture, end_picture, pictures_are_well_formed, then_element,
+    then_pieces,
+};
 pub use writing::write_all;

@@ -4,7 +4,7 @@ use Rattle.std.specs.Option.{option_and_then, option_map}
 use Rattle.std.proofs.lemmas.Bool.{ne_eqb}
 use Rattle.std.proofs.lemmas.List.{drop_more}
 use Rattle.std.proofs.lemmas.Option.{get_or_from_slice_get, slice_get_within}
-use Rattle.vcp_words.specs.Forms.{Rows, file as from_file, cycles as from_cycles, is_end, is_file_name, name_and_rest, rows_and_rest, rows_of}
+use Rattle.vcp_inputs.specs.Forms.{Rows, file as from_file, cycles as from_cycles, is_end, is_file_name, name_and_rest, rows_and_rest, rows_of}
 use Rattle.verdict_tables.specs.Parts.{most_parts}
 use Rattle.vcp_study_core.specs.Forms.{no_more, a_part, the_rows, part_by, next_by, next_of, Behind, one_more, behind_by, behind_of, names_in, sum_with, sum_behind, sum_form}
 use Rattle.vcp_study_core.specs.declared.words.NextWord.{NextWord}

@@ -3,7 +3,7 @@ use Rattle.std.specs.Prelude.{ℕ, zero, suc, ◌≤◌, ◌==◌, Bool, true, f
 use Rattle.std.specs.Option.{option_and_then, option_map}
 use Rattle.vcp_base.specs.Limits.{most_cycles, most_horizon}
 use Rattle.vcp_base.specs.Numerals.{numeral_of}
-use Rattle.vcp_words.specs.Forms.{Rows, file as from_file, cycles as from_cycles, rows_of, AreFew, Code, IsCode, as_code, code_of, name_and_rest, number_and_rest, number_within, rows_and_rest, is_end}
+use Rattle.vcp_inputs.specs.Forms.{Rows, file as from_file, cycles as from_cycles, rows_of, AreFew, Code, IsCode, as_code, code_of, name_and_rest, number_and_rest, number_within, rows_and_rest, is_end}
 use Rattle.verdict_tables.specs.Parts.{most_parts}
 use Rattle.fault_cover.specs.declared.class.CoverClasses.{CoverClasses}
 use Rattle.fault_cover.specs.CoverText.{classes_in}

@@ -8,7 +8,7 @@ use Rattle.vcp_inputs.specs.declared.refusal.NoInput.TheVariants as input
 use Rattle.vcp_inputs.specs.declared.refusal.Refusal.{Refusal}
 use Rattle.command_meaning.specs.Answer.{Answer}
 use Rattle.command_meaning.specs.ListRuns.{IsImageOfList}
-use Rattle.vcp_words.specs.Forms.{Code}
+use Rattle.vcp_inputs.specs.Forms.{Code}
 use Rattle.vcp_study_core.specs.FromFiles.{input_answer, own_answer}
 use Rattle.vcp_study_core.specs.ListTexts.{IsTextOfList}
 use Rattle.vcp_study_core.specs.Texts.{Draws, WritesOne}

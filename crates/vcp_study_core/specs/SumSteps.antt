@@ -1,7 +1,7 @@
 -- SumSteps: the words of `sum`, as code takes them one part after another.
 use Rattle.std.specs.Prelude.{ℕ, List, Option, Some, None, IfSome}
 use Rattle.std.specs.Option.{option_map}
-use Rattle.vcp_words.specs.Forms.{AreFew, rows_of}
+use Rattle.vcp_inputs.specs.Forms.{AreFew, rows_of}
 use Rattle.vcp_study_core.specs.Forms.{Behind, SumWord, no_more, a_part, the_rows}
 use Rattle.vcp_study_core.specs.declared.words.BehindWords.{BehindWords}
 use Rattle.vcp_study_core.specs.declared.words.NextWord.{NextWord}

@@ -5,7 +5,7 @@ use fault_cover::CoverClasses;
 use fault_sites::{Chosen, Classes, RunClass};
 use run_picture::Period;
 use vcp_base::Text;
-use vcp_words::{Code, RowsWord};
+use vcp_inputs::{Code, RowsWord};
 
 /// A command, with its own words. A name of a file isn't empty and doesn't begin with `-`.
 #[derive(Clone, Copy)]

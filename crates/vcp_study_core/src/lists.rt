@@ -3,7 +3,7 @@
 ghost use Rattle.std.specs.Prelude.{ℕ, List, ◌≤◌, IfOk, IfErr, length};
 ghost use Rattle.il_front.specs.Answers.{most_il_bytes};
 ghost use Rattle.il_front.specs.Outcomes.{IsTypedIl};
-ghost use Rattle.vcp_words.specs.Forms.{as_code, IsCode};
+ghost use Rattle.vcp_inputs.specs.Forms.{as_code, IsCode};
 ghost use Rattle.vcp_study_core.specs.CarriedOut.{Studies, WritesSo, told_line, told_status};
 ghost use Rattle.vcp_study_core.specs.Forms.{list_image, list_text};
 ghost use Rattle.vcp_study_core.specs.Lists.{IsNoList, ListImage, ListText};
@@ -16,10 +16,9 @@ use command_meaning::{image_for, lists_are_told};
 use il_front::MOST_IL_BYTES;
 use std::alloc::Global;
 use vcp_base::{Memory, Text};
-use vcp_inputs::listed_program;
+use vcp_inputs::{Code, listed_program};
 use vcp_outside::{Files, Sink, write_all};
 use vcp_typed::Typed;
-use vcp_words::Code;
 
 /// The typed program of the text of the file under a name.
 fn program_in<'a>(alloc: Global, name: &'a Text, text: &[u8]) -> Result<Typed, Fault<'a>>

@@ -5,8 +5,8 @@ ghost use Rattle.std.specs.Io.KnownBytes.{IsAtEnd};
 ghost use Rattle.vcp_base.specs.Limits.{most_cycles, most_names};
 ghost use Rattle.vcp_outside.specs.Counts.{Rose};
 ghost use Rattle.signature_table.specs.Signatures.{table_of};
-ghost use Rattle.vcp_words.specs.Forms.{rows_of, AreFew};
-ghost use Rattle.vcp_words.specs.Tables.{rows_name as rows_name_of};
+ghost use Rattle.vcp_inputs.specs.Forms.{rows_of, AreFew};
+ghost use Rattle.vcp_inputs.specs.Tables.{rows_name as rows_name_of};
 ghost use Rattle.vcp_inputs.specs.RowsOutcome.{rows_outcome};
 ghost use Rattle.vcp_inputs.specs.declared.refusal.NoInput.TheVariants as input;
 ghost use Rattle.vcp_study_core.specs.CarriedOut.{Fetches};
@@ -18,9 +18,10 @@ use crate::fault::Fault;
 use input_rows::RowList;
 use std::alloc::Global;
 use vcp_base::{Columns, Text};
-use vcp_inputs::{Image, NoInput, graph_columns, load_image, load_rows, read_file, whole_rows};
+use vcp_inputs::{
+    Image, NoInput, RowsWord, graph_columns, load_image, load_rows, read_file, whole_rows,
+};
 use vcp_outside::Files;
-use vcp_words::RowsWord;
 
 /// The bytes of the file under a name, which has at most so many.
 pub(crate) fn bytes_under<'a, F: Files>(

@@ -15,7 +15,7 @@ ghost use Rattle.fault_sites.specs.Script.{WritesChosen};
 ghost use Rattle.fault_sites.specs.declared.scripts.chosen.Chosen.{Chosen as ChosenOf};
 ghost use Rattle.fault_sites.specs.declared.scripts.unwritten.Unwritten.TheVariants as unwritten;
 ghost use Rattle.fault_sites.specs.declared.site.Site.{Site};
-ghost use Rattle.vcp_words.specs.Forms.{rows_of, AreFew};
+ghost use Rattle.vcp_inputs.specs.Forms.{rows_of, AreFew};
 ghost use Rattle.vcp_inputs.specs.declared.images.Image.{Image as ImageOf};
 ghost use Rattle.vcp_study_core.specs.CarriedOut.{Studies, WritesSo, told_line, told_status};
 ghost use Rattle.vcp_study_core.specs.Forms.{rest_sites, run_sites, sites};
@@ -31,9 +31,8 @@ use fault_sites::{
 use input_rows::RowList;
 use std::alloc::Global;
 use vcp_base::Text;
-use vcp_inputs::Image;
+use vcp_inputs::{Image, RowsWord};
 use vcp_outside::{Files, Sink};
-use vcp_words::RowsWord;
 
 /// What a command comes to that wrote sites of an image, which has this name. It looks for nothing: `false`.
 fn chosen_of<'a>(name: &'a Text, wrote: Result<(), Unwritten>) -> Result<bool, Fault<'a>>

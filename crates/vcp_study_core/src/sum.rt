@@ -7,7 +7,7 @@ ghost use Rattle.signature_table.specs.Signatures.{table_of};
 ghost use Rattle.verdict_tables.specs.Parts.{most_parts, IsWhole, PartFits};
 ghost use Rattle.verdict_tables.specs.SameEndings.{endings_over, sum_apart_text};
 ghost use Rattle.verdict_tables.specs.SumText.{sum_text};
-ghost use Rattle.vcp_words.specs.Forms.{rows_of, AreFew};
+ghost use Rattle.vcp_inputs.specs.Forms.{rows_of, AreFew};
 ghost use Rattle.vcp_study_core.specs.CarriedOut.{Studies, WritesSo, told_line, told_status};
 ghost use Rattle.vcp_study_core.specs.Forms.{names_of, sum, sum_apart};
 ghost use Rattle.vcp_study_core.specs.FromFiles.{Onward};
@@ -23,9 +23,8 @@ use input_rows::RowList;
 use op_graph::Graph;
 use std::alloc::Global;
 use vcp_base::Memory;
-use vcp_inputs::Image;
+use vcp_inputs::{Image, RowsWord};
 use vcp_outside::{Files, Sink};
-use vcp_words::RowsWord;
 use verdict_tables::{
     Parts, endings_of_parts, shows_unseen, totals_of_parts, write_sum, write_sum_apart,
 };

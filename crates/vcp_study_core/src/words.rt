@@ -8,7 +8,7 @@ ghost use Rattle.vcp_study_core.specs.Forms.{form, form_of, named_form, waves_fo
 ghost use Rattle.vcp_study_core.specs.Forms.{last_class as last_class_of, faults_form, sites_form, behind_form, class_form, cycles_in as cycles_in_of, rest_form, run_sites, names_of, next_by, next_of, behind_of, sum_with, sum_form, script_form, chosen_of, number_word, part_of};
 ghost use Rattle.vcp_study_core.specs.SumSteps.{as_next, as_behind, ended_of, IsFew, FewBehind};
 ghost use Rattle.verdict_tables.specs.Parts.{most_parts};
-ghost use Rattle.vcp_words.specs.Forms.{rows_of, AreFew, code_of, is_end};
+ghost use Rattle.vcp_inputs.specs.Forms.{rows_of, AreFew, code_of, is_end};
 
 use crate::command::{ImageStudy, StudyCommand};
 use crate::part_words::{Named, PartWords};
@@ -16,7 +16,7 @@ use fault_cover::{CoverClasses, classes_named as cover_classes_named};
 use fault_sites::{Chosen, Part, RunClass, classes_named, run_class_named};
 use run_picture::{Period, period_named};
 use vcp_base::{MOST_CYCLES, MOST_HORIZON, Text, Words, numeral};
-use vcp_words::{CommandWords, RowsWord};
+use vcp_inputs::{CommandWords, RowsWord};
 use verdict_tables::MOST_PARTS;
 
 /// Whether a word is this one.

@@ -8,7 +8,7 @@ use Rattle.signature_table.specs.Signatures.{Numbers}
 use Rattle.coded_machine.specs.Calls.{Setting, is_word}
 use Rattle.coded_machine.specs.Runs.{setting_at}
 use Rattle.fault_script.specs.declared.act.Act.{Act}
-use Rattle.fault_runs.specs.RunLaw.{Words}
+use Rattle.fault_injector.specs.RunLaw.{Words}
 use Rattle.verdict_tables.specs.AnswersOver.{all_words, answer_then, answers_from, answers_in, on_word, next_answer}
 use Rattle.verdict_tables.proofs.Lists.{drop_there, drop_behind}
 

@@ -9,7 +9,7 @@ use Rattle.coded_machine.specs.CycleEnds.{stored_words}
 use Rattle.coded_machine.specs.Runs.{setting_at}
 use Rattle.fault_script.specs.declared.act.Act.{Act}
 use Rattle.fault_script.specs.Changes.{Acts}
-use Rattle.fault_runs.specs.RunLaw.{RightRun, RightsUnder, Words}
+use Rattle.fault_injector.specs.RunLaw.{RightRun, RightsUnder, Words}
 use Rattle.verdict_tables.specs.AnswersOver.{all_words, answers_from, answers_in, answers_over, on_word, later_if, next_answer}
 
 none_right : (s : Setting) (acts : ℕ → Option Act) (past : Words) (before : List Answer) (ops : List Op) → RightsUnder s acts past before ops []

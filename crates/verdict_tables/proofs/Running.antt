@@ -8,7 +8,7 @@ use Rattle.coded_machine.specs.CycleEnds.{stored_words}
 use Rattle.coded_machine.specs.Runs.{setting_at}
 use Rattle.fault_script.specs.declared.act.Fault.{Fault}
 use Rattle.fault_script.specs.Changes.{acts_of}
-use Rattle.fault_runs.specs.RunLaw.{Words}
+use Rattle.fault_injector.specs.RunLaw.{Words}
 use Rattle.verdict_tables.specs.AnswersOver.{all_words, and_later, answers_in, run_answers, answers_over, held_at_end, held_behind, later_if}
 use Rattle.verdict_tables.specs.Endings.{comes_to, is_reached}
 use Rattle.verdict_tables.specs.declared.endless.run.Work.{Work}

@@ -9,8 +9,8 @@ use Rattle.coded_machine.specs.CycleEnds.{initial_words, stored_words}
 use Rattle.coded_machine.specs.Runs.{setting_at}
 use Rattle.fault_script.specs.declared.act.Act.{Act}
 use Rattle.fault_script.specs.Changes.{Acts}
-use Rattle.fault_runs.specs.RunLaw.{Words, no_words, taken}
-use Rattle.fault_runs.specs.Scripts.{right_by}
+use Rattle.fault_injector.specs.RunLaw.{Words, no_words, taken}
+use Rattle.fault_injector.specs.Scripts.{right_by}
 
 -- ---- one cycle
 

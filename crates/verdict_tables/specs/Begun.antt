@@ -4,7 +4,7 @@ use Rattle.coded_machine.specs.Calls.{Setting}
 use Rattle.coded_machine.specs.Runs.{setting_at}
 use Rattle.fault_script.specs.declared.act.Act.{Act}
 use Rattle.fault_script.specs.Changes.{acts_of}
-use Rattle.fault_runs.specs.RunLaw.{Words}
+use Rattle.fault_injector.specs.RunLaw.{Words}
 use Rattle.verdict_tables.specs.declared.endless.answering.Begun.{Begun}
 
 abbrev pub setting : Begun → Setting

@@ -4,7 +4,7 @@ use Rattle.op_graph.specs.Lists.{Lists}
 use Rattle.signature_table.specs.Signatures.{Numbers}
 use Rattle.coded_machine.specs.CycleEnds.{initial_words}
 use Rattle.fault_script.specs.Changes.{Acts}
-use Rattle.fault_runs.specs.RunLaw.{RightRun, no_words}
+use Rattle.fault_injector.specs.RunLaw.{RightRun, no_words}
 use Rattle.verdict_tables.specs.AnswersOver.{run_answers}
 
 -- its answers are the right ones to the calls with the changes, of which the run law says the values and the residues

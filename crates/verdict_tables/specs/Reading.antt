@@ -2,7 +2,7 @@
 use Rattle.std.specs.Prelude.{ℕ, ◌+◌, Bool, cond, List, [], ◌∷◌, ◌++◌, bytes_eq, codes, decimal, Option, Some, None, Result, Ok, Err}
 use Rattle.std.specs.Str.Lines.{lines}
 use Rattle.op_graph.specs.Lists.{Lists}
-use Rattle.script_text.specs.Words.{words}
+use Rattle.vcp_base.specs.Words.{words}
 use Rattle.fault_script.specs.declared.act.Fault.{Fault}
 use Rattle.fault_script.specs.Groups.{line_of}
 use Rattle.fault_injector.specs.declared.verdict.Verdict.{Verdict}

@@ -1,7 +1,7 @@
 -- Remark: which image a script is for, by the remark in its first line.
 use Rattle.std.specs.Prelude.{ℕ, Bool, true, ◌&&◌, cond, List, [], ◌∷◌, bytes_eq, codes, Option, Some, None}
 use Rattle.std.specs.Str.Lines.{lines}
-use Rattle.script_text.specs.Words.{words}
+use Rattle.vcp_base.specs.Words.{words}
 
 -- the digits of a digest in the words of a remark: `# sites CLASS of DIGEST`
 abbrev pub digest_in : List (List ℕ) → Option (List ℕ)

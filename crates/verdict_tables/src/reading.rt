@@ -18,9 +18,8 @@ use fault_injector::{Totals, Verdict, totals_line, verdict_line};
 use fault_script::Script;
 use itoa::Buffer;
 use op_graph::Graph;
-use script_text::{WordsLeft, first_line};
 use std::alloc::Global;
-use vcp_base::Memory;
+use vcp_base::{Memory, WordsLeft, first_line};
 use vcp_outside::Failed;
 
 /// Whether a line with its LF is this text.

@@ -2,11 +2,11 @@
 
 ghost use Rattle.std.specs.Prelude.{◌≡◌, option_map};
 ghost use Rattle.std.specs.List.{list_any};
-ghost use Rattle.script_text.specs.Words.{words as words_of};
+ghost use Rattle.vcp_base.specs.Words.{words as words_of};
 ghost use Rattle.verdict_tables.specs.Remark.{digest_in, digest_of, is_for as is_for_of};
 
 use crate::words::is;
-use script_text::{WordsLeft, first_line};
+use vcp_base::{WordsLeft, first_line};
 
 /// The digits of the digest in a remark of sites.
 fn digest(line: &[u8]) -> Option<&[u8]>

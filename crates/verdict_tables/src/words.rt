@@ -9,8 +9,7 @@ use fault_injector::Verdict;
 use fault_script::cycle_number;
 use op_graph::Graph;
 use run_report::output_name;
-use script_text::WordsLeft;
-use vcp_base::{StopKind, Ty, number_in, numeral, stop_name};
+use vcp_base::{StopKind, Ty, WordsLeft, number_in, numeral, stop_name};
 
 /// Two numbers.
 #[derive(Clone, Copy)]

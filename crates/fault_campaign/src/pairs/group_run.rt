@@ -7,14 +7,14 @@ ghost use Rattle.coded_machine.specs.State.{setting};
 ghost use Rattle.fault_script.specs.Changes.{none_kept};
 ghost use Rattle.fault_script.specs.Fits.{Fits};
 ghost use Rattle.fault_script.specs.Groups.{GroupFits};
-ghost use Rattle.fault_runs.specs.Carried.{faults_of, keeps_of};
+ghost use Rattle.fault_injector.specs.Carried.{faults_of, keeps_of};
 ghost use Rattle.pair_channel.specs.PairTurns.{PairTurn};
 ghost use Rattle.fault_campaign.specs.GroupRuns.{GroupRan, CycleAsked, outer_seen, processor_seen};
 
 use crate::pairs::verdict::{PairVerdict, verdict_at};
 use coded_machine::cycles_by_hand_are_whole;
 use coded_unit::{CpuUnit, Unit};
-use fault_runs::{
+use fault_injector::{
     Scripted, carried_of, ends_under_acts_are_read_off_the_answers,
     runs_under_acts_keep_the_run_law, scripted_runs_are_right_runs,
 };

@@ -9,9 +9,8 @@ use crate::dot::words::has_name;
 use crate::{Colour, own_piece};
 use op_graph::{Graph, Op};
 use run_report::variable_name;
-use svg_text::{Escaping, Piece, then_pieces};
 use vcp_base::{Kind, Spot, kind_name};
-use vcp_outside::{Line, Sink};
+use vcp_outside::{Escaping, Line, Piece, Sink, then_pieces};
 
 /// Goes on with the number and the kind of operation `n`.
 fn then_head<O: Sink>(line: &mut Line, out: &mut O, n: u32, kind: Kind)

@@ -2,7 +2,7 @@
 
 ghost use Rattle.std.specs.Prelude.{ℕ, List};
 ghost use Rattle.op_graph.specs.Lists.{Lists};
-ghost use Rattle.svg_text.specs.WellFormed.{IsDocument};
+ghost use Rattle.vcp_outside.specs.WellFormed.{IsDocument};
 ghost use Rattle.fault_script.specs.declared.act.Fault.{Fault as FaultOf};
 ghost use Rattle.fault_injector.specs.declared.verdict.Verdict.{Verdict as VerdictOf};
 ghost use Rattle.graph_picture.specs.declared.layout.BoxPlace.{BoxPlace as PlaceOf};

@@ -1,7 +1,7 @@
 //! The first line of a script.
 
 ghost use Rattle.std.specs.Prelude.{◌≡◌, ◌≢◌, Some, Ok, Err, IfOk, IfErr, IfSome};
-ghost use Rattle.script_text.specs.Words.{words as words_of};
+ghost use Rattle.vcp_base.specs.Words.{words as words_of};
 ghost use Rattle.telegram.specs.WireRun.{IsWire};
 ghost use Rattle.telegram.specs.Forms.{wire_with as wire_with_of, wire_if as wire_if_of, wire_of, head_of, names_wire as names_wire_of};
 ghost use Rattle.telegram.specs.declared.script.wire_fault.WireFault.TheVariants as refusal;
@@ -9,9 +9,8 @@ ghost use Rattle.telegram.specs.declared.script.wire_fault.WireFault.TheVariants
 use crate::Wire;
 use crate::script::numbers::{number_below, number_between, numbers};
 use crate::script::wire_fault::WireFault;
-use script_text::WordsLeft;
 use std::alloc::Global;
-use vcp_base::{MOST_CYCLES, MOST_STEP, Row, SEEDS};
+use vcp_base::{MOST_CYCLES, MOST_STEP, Row, SEEDS, WordsLeft};
 
 /// How many senders a wire has at most.
 const MOST_SENDERS: u32 = 16;

@@ -5,7 +5,7 @@ ghost use Rattle.std.specs.List.{list_all};
 ghost use Rattle.vcp_base.specs.Limits.{most_cycles};
 ghost use Rattle.vcp_base.specs.Types.{fits as fits_of};
 ghost use Rattle.vcp_base.specs.declared.ty.Ty.TheVariants as ty;
-ghost use Rattle.script_text.specs.Words.{words as words_of};
+ghost use Rattle.vcp_base.specs.Words.{words as words_of};
 ghost use Rattle.telegram.specs.WireRun.{IsWire};
 ghost use Rattle.telegram.specs.Forms.{cycle_of, delivery_if as delivery_if_of, delivery_of, event_of};
 ghost use Rattle.telegram.specs.Reads.{EventFits};
@@ -14,9 +14,8 @@ ghost use Rattle.telegram.specs.declared.script.wire_fault.WireFault.TheVariants
 use crate::script::numbers::{is_below, numbers};
 use crate::script::wire_fault::WireFault;
 use crate::{Event, Wire};
-use script_text::{WordsLeft, is_addend};
 use std::alloc::Global;
-use vcp_base::{Row, Ty, fits};
+use vcp_base::{Row, Ty, WordsLeft, fits, is_addend};
 
 // Whether a value is a DINT.
 fn is_dint(v: i64) -> bool

@@ -5,9 +5,8 @@ ghost use Rattle.telegram.specs.Forms.{integers_of, is_between as is_between_of,
 ghost use Rattle.telegram.specs.declared.script.wire_fault.WireFault.TheVariants as refusal;
 
 use crate::script::wire_fault::WireFault;
-use script_text::{WordsLeft, integer};
 use std::alloc::Global;
-use vcp_base::Row;
+use vcp_base::{Row, WordsLeft, integer};
 
 /// The numbers that the words that are left of a line write; the line is refused where one writes none.
 #[tactic(auto, using(crate::proofs::NumbersRead::nothing_before, crate::proofs::NumbersRead::one_more, crate::proofs::NumbersRead::no_number, crate::proofs::NumbersRead::no_words))]

@@ -4,7 +4,7 @@ ghost use Rattle.std.specs.Prelude.{◌≡◌, ◌≢◌, ◌≤◌, ◌+◌, �
 ghost use Rattle.std.specs.List.{list_any};
 ghost use Rattle.std.specs.Str.Lines.{lines};
 ghost use Rattle.vcp_base.specs.Limits.{most_source_bytes};
-ghost use Rattle.script_text.specs.Lines.{read_lines};
+ghost use Rattle.vcp_base.specs.Lines.{read_lines};
 ghost use Rattle.telegram.specs.WireRun.{AreEvents, IsWire};
 ghost use Rattle.telegram.specs.ScriptOf.{AreSent, ScriptFits, begun_after, events_of, is_head, script_of};
 ghost use Rattle.telegram.specs.declared.script.wire_fault.WireFault.TheVariants as refusal;
@@ -15,8 +15,8 @@ use crate::script::lines::event;
 use crate::script::script::WireScript;
 use crate::script::wire_fault::WireFault;
 use crate::{Event, Wire};
-use script_text::first_read;
 use std::alloc::Global;
+use vcp_base::first_read;
 
 // Whether a line of a text has `wire` as its first word.
 #[tactic(auto, using(crate::proofs::Heads::head_here, crate::proofs::Heads::no_head_here, crate::proofs::Heads::no_head_left))]

@@ -7,14 +7,14 @@ ghost use Rattle.op_graph.specs.Reads.{named as named_of};
 ghost use Rattle.signature_table.specs.Signatures.{IsTableOf};
 ghost use Rattle.coded_machine.specs.Calls.{call_of, read_word};
 ghost use Rattle.fault_script.specs.Changes.{acts_of};
-ghost use Rattle.fault_runs.specs.RunLaw.{taken as taken_of};
-ghost use Rattle.fault_runs.specs.Scripts.{right_by};
+ghost use Rattle.fault_injector.specs.RunLaw.{taken as taken_of};
+ghost use Rattle.fault_injector.specs.Scripts.{right_by};
 ghost use Rattle.verdict_tables.specs.AnswersOver.{next_answer as next_answer_of};
 ghost use Rattle.verdict_tables.specs.Begun.{setting, acts, past};
 
 use coded_machine::{Setting, call_after, cell_at, word_at};
 use coded_unit::{Answer, Call, Word, table};
-use fault_runs::{answered, changed};
+use fault_injector::{answered, changed};
 use fault_script::{Act, Fault, Group};
 use op_graph::{Graph, Op};
 use signature_table::Table;

@@ -3,7 +3,7 @@ use Rattle.std.proofs.lemmas.Result.{err_from_is_err_and}
 use Rattle.op_graph.specs.Lists.{Lists}
 use Rattle.std.specs.Io.KnownBytes.{Appends}
 use Rattle.vcp_outside.specs.Written.{AppendsPart}
-use Rattle.fault_reruns.specs.References.{KeptRun}
+use Rattle.fault_campaign.specs.References.{KeptRun}
 use Rattle.coded_unit.specs.Seen.{UnitSeen}
 use Rattle.fault_script.specs.declared.act.Fault.{Fault}
 use Rattle.fault_injector.specs.declared.verdict.Verdict.{Verdict}

@@ -1,8 +1,8 @@
 use Rattle.std.proofs.Common.{◌≡◌, ◌≤◌, []}
 use Rattle.coded_unit.specs.Seen.{StaysHonest, UnitSeen}
-use Rattle.fault_reruns.specs.Groups.{GroupsJudged}
-use Rattle.fault_reruns.specs.References.{KeptRun}
-use Rattle.fault_reruns.specs.Reruns.{IsReference}
+use Rattle.fault_campaign.specs.Groups.{GroupsJudged}
+use Rattle.fault_campaign.specs.References.{KeptRun}
+use Rattle.fault_campaign.specs.Reruns.{IsReference}
 use Rattle.fault_injector.specs.FaultLines.{faults}
 use Rattle.fault_campaign.proofs.SoFar.{SoFar}
 use Rattle.fault_campaign.proofs.run.judge_groups.Given as goal

@@ -2,9 +2,9 @@ use Rattle.std.proofs.Common.{[], List, refl, ap, ℤ}
 use Rattle.std.proofs.lemmas.Result.{err_from_is_err_and}
 use Rattle.op_graph.specs.Lists.{Lists}
 use Rattle.signature_table.specs.Signatures.{Numbers}
-use Rattle.fault_reruns.specs.References.{KeptRun}
-use Rattle.fault_reruns.specs.Reruns.{IsReference}
-use Rattle.fault_reruns.specs.Groups.{GroupsJudged}
+use Rattle.fault_campaign.specs.References.{KeptRun}
+use Rattle.fault_campaign.specs.Reruns.{IsReference}
+use Rattle.fault_campaign.specs.Groups.{GroupsJudged}
 use Rattle.coded_unit.specs.Seen.{UnitSeen}
 use Rattle.fault_campaign.specs.Campaign.{Told}
 use Rattle.fault_campaign.proofs.SoFar.{none_told, of_kept, to_kept}

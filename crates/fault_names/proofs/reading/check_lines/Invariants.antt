@@ -1,7 +1,7 @@
 use Rattle.std.proofs.Common.{◌≡◌, ◌+◌, ◌≤◌, length}
 use Rattle.std.specs.Str.Lines.{lines}
 use Rattle.vcp_base.specs.Limits.{most_source_bytes}
-use Rattle.script_text.specs.Lines.{read_lines}
+use Rattle.vcp_base.specs.Lines.{read_lines}
 use Rattle.fault_script.specs.ScriptOf.{most_faults}
 use Rattle.fault_names.specs.Entries.{lines_checked}
 use Rattle.fault_names.proofs.reading.check_lines.Given as goal

@@ -1,7 +1,7 @@
 use Rattle.std.proofs.Common.{◌+◌, arith, ap}
 use Rattle.std.specs.Str.Lines.{lines}
-use Rattle.script_text.specs.Lines.{Line, read_lines}
-use Rattle.script_text.specs.Words.{words}
+use Rattle.vcp_base.specs.Lines.{Line, read_lines}
+use Rattle.vcp_base.specs.Words.{words}
 use Rattle.fault_names.specs.Lines.{meant_of}
 use Rattle.fault_names.specs.Script.{entry_of, entries}
 use Rattle.fault_names.proofs.Going.{none_told, told_more, all_told}

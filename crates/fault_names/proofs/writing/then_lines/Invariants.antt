@@ -1,7 +1,7 @@
 use Rattle.std.proofs.Common.{◌+◌, ◌≤◌, length}
 use Rattle.std.specs.Str.Lines.{lines}
 use Rattle.vcp_base.specs.Limits.{most_source_bytes}
-use Rattle.script_text.specs.Lines.{read_lines}
+use Rattle.vcp_base.specs.Lines.{read_lines}
 use Rattle.fault_names.specs.Script.{entries}
 use Rattle.fault_names.proofs.Going.{Part}
 use Rattle.fault_names.proofs.writing.then_lines.Given as goal

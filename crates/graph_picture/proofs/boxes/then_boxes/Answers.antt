@@ -1,6 +1,6 @@
 use Rattle.std.proofs.Common.{◌≡◌, ◌∙◌, ap, length, arith, flat_map}
 use Rattle.std.proofs.lemmas.List.{append-nil}
-use Rattle.svg_text.specs.Elements.{element_text}
+use Rattle.vcp_outside.specs.Elements.{element_text}
 use Rattle.graph_picture.specs.Arrangement.{place_at}
 use Rattle.graph_picture.specs.Drawn.{box_of, box_drawn, box_at}
 use Rattle.graph_picture.specs.Elements.{box_elements}

@@ -1,6 +1,6 @@
 use Rattle.std.proofs.Common.{flat_map}
 use Rattle.vcp_outside.specs.Gathering.{GathersTo}
-use Rattle.svg_text.specs.Elements.{element_text}
+use Rattle.vcp_outside.specs.Elements.{element_text}
 use Rattle.graph_picture.specs.Drawn.{boxes_below}
 use Rattle.graph_picture.specs.Elements.{box_elements}
 use Rattle.graph_picture.proofs.boxes.then_boxes.Given as goal

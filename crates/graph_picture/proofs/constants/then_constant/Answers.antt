@@ -1,7 +1,7 @@
 use Rattle.std.proofs.Common.{rules, w64, ap, ◌++◌}
 use mir.Val.{SFits}
 use Rattle.std.proofs.Math.Facts.{to_z-of_z}
-use Rattle.svg_text.specs.Elements.{element_text}
+use Rattle.vcp_outside.specs.Elements.{element_text}
 use Rattle.graph_picture.specs.Drawn.{own_of}
 use Rattle.graph_picture.specs.Elements.{patch, patch_value}
 use Rattle.graph_picture.proofs.Going.{and_then, same, one_drawn}

@@ -2,7 +2,7 @@ use Rattle.std.proofs.Common.{◌≡◌, ◌≤◌, ◌∙◌, ap, sym, true, fa
 use Rattle.std.proofs.lemmas.Option.{slice_get_past}
 use Rattle.op_graph.specs.declared.op.Op.{Op}
 use Rattle.op_graph.specs.Lists.{Lists}
-use Rattle.svg_text.specs.Elements.{element_text}
+use Rattle.vcp_outside.specs.Elements.{element_text}
 use Rattle.graph_picture.specs.declared.layout.BoxPlace.{BoxPlace}
 use Rattle.graph_picture.specs.declared.looks.Look.{Look}
 use Rattle.graph_picture.specs.Constants.{is_constant}

@@ -1,5 +1,5 @@
 use Rattle.std.proofs.Common.{ap, ◌++◌}
-use Rattle.svg_text.specs.Elements.{element_text}
+use Rattle.vcp_outside.specs.Elements.{element_text}
 use Rattle.graph_picture.specs.Elements.{swatch, caption}
 use Rattle.graph_picture.proofs.Going.{and_then, same, one_drawn}
 use Rattle.graph_picture.proofs.legend.then_sample.Goals as goal

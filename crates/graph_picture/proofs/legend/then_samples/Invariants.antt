@@ -1,6 +1,6 @@
 use Rattle.std.proofs.Common.{take, flat_map}
 use Rattle.vcp_outside.specs.Gathering.{GathersTo}
-use Rattle.svg_text.specs.Elements.{element_text}
+use Rattle.vcp_outside.specs.Elements.{element_text}
 use Rattle.graph_picture.specs.Elements.{sample_of}
 use Rattle.graph_picture.proofs.legend.then_samples.Given as goal
 

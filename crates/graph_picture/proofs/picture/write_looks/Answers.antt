@@ -1,5 +1,5 @@
 use Rattle.std.proofs.Common.{flat_map}
-use Rattle.svg_text.specs.Elements.{beginning, ending}
+use Rattle.vcp_outside.specs.Elements.{beginning, ending}
 use Rattle.graph_picture.specs.Drawn.{drawing}
 use Rattle.graph_picture.specs.Elements.{legend_of, wire_elements, box_elements}
 use Rattle.graph_picture.proofs.Going.{parts}

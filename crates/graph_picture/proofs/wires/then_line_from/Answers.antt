@@ -1,7 +1,7 @@
 use Rattle.std.proofs.Common.{◌≡◌, ◌≤◌, ◌∙◌, ap, sym, true, false, cond, length, Some, arith, [], ◌∷◌, flat_map}
 use Rattle.std.proofs.lemmas.Option.{slice_get_past}
 use Rattle.op_graph.specs.declared.op.Op.{Op}
-use Rattle.svg_text.specs.Elements.{element_text}
+use Rattle.vcp_outside.specs.Elements.{element_text}
 use Rattle.graph_picture.specs.Constants.{is_constant}
 use Rattle.graph_picture.specs.Drawn.{Wire}
 use Rattle.graph_picture.specs.Elements.{wire_element, line_from}

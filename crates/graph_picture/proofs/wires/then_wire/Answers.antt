@@ -5,7 +5,7 @@ use Rattle.op_graph.specs.Rules.{reads_as}
 use Rattle.graph_picture.specs.Arrangement.{place_at}
 use Rattle.graph_picture.specs.Elements.{wire_elements}
 use Rattle.graph_picture.proofs.Going.{same}
-use Rattle.svg_text.specs.Elements.{element_text}
+use Rattle.vcp_outside.specs.Elements.{element_text}
 use Rattle.graph_picture.proofs.wires.then_wire.Goals as goal
 
 pub returns-then-reads_operation : goal.returns-then-reads_operation

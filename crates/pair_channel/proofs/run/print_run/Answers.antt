@@ -4,8 +4,8 @@ use Rattle.vcp_base.specs.declared.columns.Column.{Column}
 use Rattle.std.specs.Io.KnownBytes.{Appends}
 use Rattle.vcp_outside.specs.Written.{AppendsPart}
 use Rattle.run_report.specs.Lines.{header_text, row_text}
-use Rattle.machine_run.specs.Moments.{moment}
-use Rattle.machine_run.specs.RowRuns.{texts_from}
+use Rattle.coded_machine.specs.Moments.{moment}
+use Rattle.coded_machine.specs.RowRuns.{texts_from}
 use Rattle.pair_channel.specs.declared.pair_end.PairEnd.TheVariants as pair
 use Rattle.pair_channel.specs.PairLines.{pair_header, pair_last}
 use Rattle.pair_channel.specs.PairMoments.{pair_moment}

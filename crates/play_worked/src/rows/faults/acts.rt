@@ -7,7 +7,7 @@ use crate::rows::graphs::images::image_graph;
 use crate::rows::row_call::RowCall;
 use crate::rows::values::units::{KEPT, tell_answers, tell_wrong};
 use coded_unit::{BadUnit, Word};
-use fault_runs::{KeptWords, Scripted, carried_of};
+use fault_injector::{KeptWords, Scripted, carried_of};
 use fault_script::{Fault, Group};
 use op_graph::Graph;
 use std::alloc::Global;

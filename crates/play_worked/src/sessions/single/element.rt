@@ -1,7 +1,6 @@
 //! An element of a picture.
 
-use svg_text::{Name, Piece, Tag, begin_picture, end_picture, then_element};
-use vcp_outside::{Failed, MemSink};
+use vcp_outside::{Failed, MemSink, Name, Piece, Tag, begin_picture, end_picture, then_element};
 
 /// Writes a picture of one element, with characters that have a meaning.
 pub fn write_element(out: &mut MemSink) -> Result<(), Failed> {

@@ -1,6 +1,6 @@
 use Rattle.std.proofs.Common.{length}
 use Rattle.std.proofs.lemmas.Grind.{flat_map-append}
-use Rattle.svg_text.specs.Elements.{element_text}
+use Rattle.vcp_outside.specs.Elements.{element_text}
 use Rattle.run_picture.specs.Elements.{mark_elements, page_elements}
 use Rattle.run_picture.proofs.Going.{and_then, same}
 use Rattle.run_picture.proofs.cycles.then_cycle.Goals as goal

@@ -1,6 +1,6 @@
 use Rattle.std.proofs.Common.{flat_map}
 use Rattle.vcp_outside.specs.Gathering.{GathersTo}
-use Rattle.svg_text.specs.Elements.{element_text}
+use Rattle.vcp_outside.specs.Elements.{element_text}
 use Rattle.run_picture.specs.Elements.{cycles_elements}
 use Rattle.run_picture.proofs.cycles.then_cycles.Given as goal
 

@@ -1,6 +1,6 @@
 use Rattle.vcp_outside.specs.Gathering.{GathersTo}
 use Rattle.run_picture.specs.Drawn.{lane}
-use Rattle.svg_text.specs.Drawing.{each_below}
+use Rattle.vcp_outside.specs.Drawing.{each_below}
 use Rattle.run_picture.specs.Elements.{stretch_elements}
 use Rattle.run_picture.proofs.Going.{drawn_text}
 use Rattle.run_picture.proofs.lanes.then_lanes.Given as goal

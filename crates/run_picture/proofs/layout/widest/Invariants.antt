@@ -1,6 +1,6 @@
 use Rattle.std.proofs.Common.{ℕ, ◌≤◌}
 use Rattle.std.specs.List.{AllByRecursion}
-use Rattle.svg_text.specs.Drawing.{each_below}
+use Rattle.vcp_outside.specs.Drawing.{each_below}
 use Rattle.run_picture.specs.Drawn.{lane}
 use Rattle.run_picture.specs.Elements.{HasRoom}
 use Rattle.run_picture.proofs.layout.widest.Given as goal

@@ -1,5 +1,5 @@
 use Rattle.std.proofs.Common.{length, flat_map, codes}
-use Rattle.svg_text.specs.Elements.{beginning, ending}
+use Rattle.vcp_outside.specs.Elements.{beginning, ending}
 use Rattle.run_picture.specs.Drawn.{lanes}
 use Rattle.run_picture.specs.Elements.{style, cycles_elements, names_elements, bases_elements, stretch_elements, ending_elements, width_of, height_of}
 use Rattle.run_picture.proofs.Going.{parts}

@@ -1,6 +1,6 @@
 use Rattle.std.proofs.Common.{map, refl, subst, sym}
 use Rattle.st_tree.specs.ProgramViews.{declared_tree}
-use Rattle.st_spelling.specs.Spelling.{bytes_in}
+use Rattle.st_tree.specs.Spelling.{bytes_in}
 use Rattle.st_parser.specs.ExprMachine as expr_machine
 use Rattle.st_parser.specs.FormViews.{forms, mode}
 use Rattle.st_parser.specs.StateViews.{Gives}

@@ -2,7 +2,7 @@ use Rattle.std.proofs.Common.{sym, ◌∙◌}
 use Rattle.st_parser.proofs.OneAnswer.{one-fault, no-fault, within-by-none}
 use Rattle.st_parser.proofs.OneProgram.{only-one}
 use Rattle.st_parser.proofs.Verdicts.{within-shallow, some}
-use Rattle.st_spelling.specs.Spelling.{bytes_in}
+use Rattle.st_tree.specs.Spelling.{bytes_in}
 use Rattle.st_parser.proofs.laws.one_answer.Goals as goal
 
 pub returns : goal.returns

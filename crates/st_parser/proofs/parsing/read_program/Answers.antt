@@ -1,5 +1,5 @@
 use Rattle.std.proofs.Common.{sym, ◌∙◌, Ok, Err}
-use Rattle.st_spelling.specs.Spelling.{bytes_in}
+use Rattle.st_tree.specs.Spelling.{bytes_in}
 use Rattle.st_parser.specs.ExprMachine.{Context}
 use Rattle.st_parser.specs.ProgramViews.{program}
 use Rattle.st_parser.proofs.Running.{run-from, fault-kept}

@@ -1,5 +1,5 @@
 use Rattle.std.proofs.Common.{◌≡◌, drop}
-use Rattle.st_spelling.specs.Spelling.{bytes_in}
+use Rattle.st_tree.specs.Spelling.{bytes_in}
 use Rattle.st_parser.specs.ProgramMachine.{run, read_program}
 use Rattle.st_parser.specs.ProgramViews.{program}
 use Rattle.st_parser.proofs.parsing.read_program.Given as goal

@@ -1,4 +1,4 @@
-use Rattle.st_spelling.specs.Spelling.{bytes_in}
+use Rattle.st_tree.specs.Spelling.{bytes_in}
 use Rattle.st_parser.specs.ExprMachine.{Context}
 use Rattle.st_parser.proofs.statements.body_ends.Goals as goal
 

@@ -1,6 +1,6 @@
 use Rattle.std.proofs.Common.{◌≡◌, length, refl, ap, ◌∙◌, subst, sym}
 use Rattle.st_tree.specs.StmtViews.{stmt_trees}
-use Rattle.st_spelling.specs.Spelling.{bytes_in}
+use Rattle.st_tree.specs.Spelling.{bytes_in}
 use Rattle.st_parser.specs.ExprMachine as expr_machine
 use Rattle.st_parser.specs.FormViews.{forms, mode}
 use Rattle.st_parser.specs.StateViews.{Gives, levels, purpose, state}

@@ -7,7 +7,7 @@ use Rattle.st_lexer.specs.declared.token.Token.{Token}
 use Rattle.st_tree.specs.Bare.{bare}
 use Rattle.st_tree.specs.ProgramTree.{ProgramTree}
 use Rattle.st_tree.specs.ProgramViews.{program_tree}
-use Rattle.st_spelling.specs.Spelling.{SpellsWithin}
+use Rattle.st_tree.specs.Spelling.{SpellsWithin}
 use Rattle.st_writer.specs.CanonicalProgram.{canonical}
 use Rattle.st_writer.specs.ReadsAs.{ReadsAs}
 use Rattle.st_writer.proofs.ReadsBack.{reads_back}

@@ -1,5 +1,5 @@
 use Rattle.std.proofs.Common.{inl, inr, refl, ap, Err}
-use Rattle.vcp_words.specs.Forms.{audit}
+use Rattle.vcp_inputs.specs.Forms.{audit}
 use Rattle.vcp_inputs.specs.Images.{ImageOf, NotImage}
 use Rattle.command_meaning.specs.Abouts.{about, image_word}
 use Rattle.vcp_core.specs.Tasks.{Audited}

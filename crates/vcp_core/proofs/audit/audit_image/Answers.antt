@@ -1,6 +1,6 @@
 use Rattle.std.proofs.Common.{inl, inr, refl}
-use Rattle.vcp_words.specs.Forms.{audit}
-use Rattle.machine_run.specs.Moments.{moment}
+use Rattle.vcp_inputs.specs.Forms.{audit}
+use Rattle.coded_machine.specs.Moments.{moment}
 use Rattle.command_meaning.specs.Abouts.{about, image_word}
 use Rattle.command_meaning.specs.Answer.{printed as printed_answer}
 use Rattle.command_meaning.specs.Kinds.{prints}

@@ -3,7 +3,7 @@ use Rattle.signature_table.specs.Signatures.{Numbers}
 use Rattle.vcp_core.specs.declared.ending.Ending.TheVariants as ending
 use Rattle.vcp_core.specs.Tasks.{pair_job}
 use Rattle.vcp_core.proofs.TwoChannels.{came_to_end, gave_up, wrote}
-use Rattle.machine_run.specs.declared.fault.RunFault.TheVariants as given_up
+use Rattle.coded_machine.specs.declared.rows.fault.RunFault.TheVariants as given_up
 use Rattle.vcp_core.proofs.ImageLoaded.{table-is-of}
 use Rattle.vcp_core.proofs.JobFacts.{failed-causes}
 use Rattle.vcp_core.proofs.Performing.{still}

@@ -1,8 +1,8 @@
 use Rattle.std.proofs.Common.{◌≡◌, inl, inr, refl, ap, Err}
 use Rattle.vcp_typed.specs.Size.{size}
-use Rattle.vcp_words.specs.Forms.{check}
+use Rattle.vcp_inputs.specs.Forms.{check}
 use Rattle.vcp_inputs.specs.Programs.{TypedOf, NotTyped}
-use Rattle.machine_run.specs.Moments.{moment}
+use Rattle.coded_machine.specs.Moments.{moment}
 use Rattle.command_meaning.specs.Abouts.{about, source_word}
 use Rattle.command_meaning.specs.Answer.{printed as printed_answer}
 use Rattle.command_meaning.specs.Kinds.{prints}

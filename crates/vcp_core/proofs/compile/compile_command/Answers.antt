@@ -1,10 +1,10 @@
 use Rattle.std.proofs.Common.{◌≡◌, inl, inr, refl, ap, Err}
 use Rattle.vcp_base.specs.Limits.{most_source_bytes}
-use Rattle.vcp_words.specs.Forms.{compile, as_code}
+use Rattle.vcp_inputs.specs.Forms.{compile, as_code}
 use Rattle.vcp_inputs.specs.Programs.{TypedOf, NotTyped}
 use Rattle.vcp_core.proofs.Facts.{if_some_weaker}
 use Rattle.image_file.specs.Image.{image_of}
-use Rattle.machine_run.specs.Moments.{moment}
+use Rattle.coded_machine.specs.Moments.{moment}
 use Rattle.command_meaning.specs.Abouts.{about, source_word}
 use Rattle.command_meaning.specs.GraphsOf.{image_answer}
 use Rattle.command_meaning.specs.Kinds.{compiles as compiles_to}

@@ -3,9 +3,9 @@ use Rattle.std.proofs.lemmas.Result.{err_from_is_err_and}
 use Rattle.input_rows.specs.RowsOf.{types_of}
 use Rattle.program_maker.specs.MadeRows.{made_rows}
 use Rattle.vcp_typed.specs.Fitting.{input_columns}
-use Rattle.vcp_words.specs.Forms.{demo}
+use Rattle.vcp_inputs.specs.Forms.{demo}
 use Rattle.command_meaning.specs.Abouts.{about, made_name}
-use Rattle.machine_run.specs.Moments.{moment}
+use Rattle.coded_machine.specs.Moments.{moment}
 use Rattle.command_meaning.specs.Answer.{source}
 use Rattle.command_meaning.specs.Printing.{no_words}
 use Rattle.vcp_core.specs.declared.demo.Sums.{Sums}

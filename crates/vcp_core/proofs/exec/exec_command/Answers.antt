@@ -1,4 +1,4 @@
-use Rattle.vcp_words.specs.Forms.{exec, rows_of}
+use Rattle.vcp_inputs.specs.Forms.{exec, rows_of}
 use Rattle.vcp_core.specs.ImagesRead.{executing}
 use Rattle.vcp_core.proofs.exec.exec_command.Goals as goal
 

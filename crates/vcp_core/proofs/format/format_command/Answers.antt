@@ -1,9 +1,9 @@
 use Rattle.std.proofs.Common.{◌≡◌, inl, inr, refl, ap, Err}
 use Rattle.vcp_base.specs.Limits.{most_source_bytes}
-use Rattle.vcp_words.specs.Forms.{format}
+use Rattle.vcp_inputs.specs.Forms.{format}
 use Rattle.vcp_inputs.specs.Programs.{IsProgram, NoProgram}
 use Rattle.vcp_core.proofs.Facts.{if_some_weaker}
-use Rattle.machine_run.specs.Moments.{moment}
+use Rattle.coded_machine.specs.Moments.{moment}
 use Rattle.command_meaning.specs.Abouts.{about, source_word}
 use Rattle.command_meaning.specs.Answer.{printed as printed_answer}
 use Rattle.command_meaning.specs.Kinds.{prints}

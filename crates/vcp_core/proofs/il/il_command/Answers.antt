@@ -1,5 +1,5 @@
 use Rattle.std.proofs.Common.{inl, inr, ap, refl, Err}
-use Rattle.vcp_words.specs.Forms.{il, rows_of, as_code}
+use Rattle.vcp_inputs.specs.Forms.{il, rows_of, as_code}
 use Rattle.vcp_typed.specs.Fitting.{input_columns}
 use Rattle.il_front.specs.Outcomes.{IsTypedIl}
 use Rattle.vcp_inputs.specs.Listings.{NotListing}

@@ -1,4 +1,4 @@
-use Rattle.vcp_words.specs.Forms.{inject, rows_of}
+use Rattle.vcp_inputs.specs.Forms.{inject, rows_of}
 use Rattle.vcp_core.specs.ImagesRead.{injecting}
 use Rattle.vcp_core.proofs.inject.inject_command.Goals as goal
 

@@ -4,7 +4,7 @@ use Rattle.command_meaning.specs.Answer.{image}
 use Rattle.command_meaning.specs.FileTasks.{TakenRows}
 use Rattle.command_meaning.specs.Kinds.{prints, runs}
 use Rattle.vcp_inputs.specs.RowsRead.{graph_columns}
-use Rattle.vcp_words.specs.Tables.{rows_name}
+use Rattle.vcp_inputs.specs.Tables.{rows_name}
 use Rattle.vcp_core.specs.Tasks.{Audited, listing, rows_job, table_code}
 use Rattle.vcp_core.proofs.Meanings.{audited_is, image_comes}
 use Rattle.vcp_core.proofs.OneText.{ImageLaws}

@@ -1,4 +1,4 @@
-use Rattle.vcp_words.specs.Forms.{pair, rows_of}
+use Rattle.vcp_inputs.specs.Forms.{pair, rows_of}
 use Rattle.vcp_core.specs.ImagesRead.{comparing}
 use Rattle.vcp_core.proofs.pair.pair_command.Goals as goal
 

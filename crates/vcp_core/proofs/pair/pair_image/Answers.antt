@@ -1,7 +1,7 @@
 use Rattle.std.proofs.Common.{inl, inr, ap, refl, Err}
-use Rattle.vcp_words.specs.Forms.{pair, rows_of}
-use Rattle.vcp_words.specs.Tables.{rows_name}
-use Rattle.machine_run.specs.Moments.{moment}
+use Rattle.vcp_inputs.specs.Forms.{pair, rows_of}
+use Rattle.vcp_inputs.specs.Tables.{rows_name}
+use Rattle.coded_machine.specs.Moments.{moment}
 use Rattle.vcp_inputs.specs.Images.{NotImage}
 use Rattle.vcp_inputs.specs.RowsRead.{graph_columns}
 use Rattle.command_meaning.specs.Abouts.{about, image_word}

@@ -1,7 +1,7 @@
 use Rattle.std.proofs.Common.{◌≡◌, ◌∙◌, ap, refl, inl, inr, Err, arith}
 use Rattle.vcp_base.specs.Limits.{most_source_bytes}
-use Rattle.vcp_words.specs.Forms.{pairs}
-use Rattle.machine_run.specs.Moments.{moment}
+use Rattle.vcp_inputs.specs.Forms.{pairs}
+use Rattle.coded_machine.specs.Moments.{moment}
 use Rattle.vcp_inputs.specs.declared.refusal.NoInput.TheVariants as input
 use Rattle.vcp_inputs.specs.declared.refusal.Refusal.TheVariants as refusal
 use Rattle.vcp_inputs.specs.Files.{LeavesLong}

@@ -1,4 +1,4 @@
-use Rattle.vcp_words.specs.Forms.{pairs, rows_of}
+use Rattle.vcp_inputs.specs.Forms.{pairs, rows_of}
 use Rattle.vcp_core.specs.ImagesRead.{pairing}
 use Rattle.vcp_core.proofs.pairs.pairs_command.Goals as goal
 

@@ -1,6 +1,6 @@
 use Rattle.std.proofs.Common.{inl, inr, refl}
-use Rattle.vcp_words.specs.Forms.{pairs, rows_of}
-use Rattle.vcp_words.specs.Tables.{rows_name}
+use Rattle.vcp_inputs.specs.Forms.{pairs, rows_of}
+use Rattle.vcp_inputs.specs.Tables.{rows_name}
 use Rattle.vcp_inputs.specs.RowsOutcome.{source_outcome}
 use Rattle.command_meaning.specs.Abouts.{about}
 use Rattle.vcp_core.specs.Tasks.{TaskOf}

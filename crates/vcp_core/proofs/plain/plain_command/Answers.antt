@@ -1,6 +1,6 @@
 use Rattle.std.proofs.Common.{◌≡◌, inl, inr, ap, refl, Err}
-use Rattle.vcp_words.specs.Forms.{plain, rows_of}
-use Rattle.vcp_words.specs.Tables.{rows_name}
+use Rattle.vcp_inputs.specs.Forms.{plain, rows_of}
+use Rattle.vcp_inputs.specs.Tables.{rows_name}
 use Rattle.vcp_typed.specs.Fitting.{input_columns}
 use Rattle.vcp_inputs.specs.Programs.{TypedOf, NotTyped}
 use Rattle.command_meaning.specs.Abouts.{about, source_word}

@@ -1,8 +1,8 @@
 use Rattle.std.proofs.Common.{◌∙◌, inl, inr, ap, refl, Err}
 use Rattle.input_rows.specs.RowsOf.{types_of}
-use Rattle.vcp_words.specs.Forms.{plain, rows_of}
-use Rattle.vcp_words.specs.Tables.{rows_name}
-use Rattle.machine_run.specs.Moments.{moment}
+use Rattle.vcp_inputs.specs.Forms.{plain, rows_of}
+use Rattle.vcp_inputs.specs.Tables.{rows_name}
+use Rattle.coded_machine.specs.Moments.{moment}
 use Rattle.vcp_typed.specs.Fitting.{input_columns}
 use Rattle.vcp_inputs.specs.Programs.{TypedOf, NotTyped}
 use Rattle.command_meaning.specs.Abouts.{about, source_word}

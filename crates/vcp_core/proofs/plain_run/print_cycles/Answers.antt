@@ -5,7 +5,7 @@ use Rattle.vcp_typed.specs.Fitting.{input_types}
 use Rattle.vcp_outside.specs.Counts.{Rose}
 use Rattle.input_rows.specs.RowsOf.{RowsLeft}
 use Rattle.vcp_core.specs.declared.ending.Ending.TheVariants as end
-use Rattle.machine_run.specs.declared.fault.RunFault.TheVariants as fault
+use Rattle.coded_machine.specs.declared.rows.fault.RunFault.TheVariants as fault
 use Rattle.vcp_core.proofs.PlainTurns.{going-ends, going-on, fails-here, stops-here, end-fails}
 use Rattle.vcp_core.proofs.plain_run.print_cycles.Goals as goal
 

@@ -5,8 +5,8 @@ use Rattle.std.specs.Io.KnownBytes.{Appends}
 use Rattle.vcp_outside.specs.Written.{AppendsPart}
 use Rattle.signature_table.specs.Signatures.{Numbers}
 use Rattle.op_graph.specs.Lists.{Lists}
-use Rattle.machine_run.specs.Moments.{moment}
-use Rattle.machine_run.specs.declared.fault.RunFault.TheVariants as given_up
+use Rattle.coded_machine.specs.Moments.{moment}
+use Rattle.coded_machine.specs.declared.rows.fault.RunFault.TheVariants as given_up
 use Rattle.command_meaning.specs.Reports.{end_read, run_status}
 use Rattle.vcp_core.specs.declared.ending.Ending.TheVariants as ending
 use Rattle.vcp_core.specs.MachineRun.{IsThere}

@@ -1,5 +1,5 @@
 use Rattle.std.proofs.Common.{inl, refl}
-use Rattle.machine_run.specs.declared.fault.RunFault.TheVariants as given_up
+use Rattle.coded_machine.specs.declared.rows.fault.RunFault.TheVariants as given_up
 use Rattle.vcp_core.proofs.JobFacts.{failed-causes}
 use Rattle.vcp_core.proofs.Performing.{still}
 use Rattle.vcp_core.proofs.printed.run_printed.Goals as goal

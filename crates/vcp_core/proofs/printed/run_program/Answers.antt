@@ -1,6 +1,6 @@
 use Rattle.std.proofs.Common.{refl}
-use Rattle.machine_run.specs.declared.fault.RunFault.TheVariants as given_up
-use Rattle.vcp_words.specs.Forms.{as_code}
+use Rattle.coded_machine.specs.declared.rows.fault.RunFault.TheVariants as given_up
+use Rattle.vcp_inputs.specs.Forms.{as_code}
 use Rattle.vcp_core.proofs.JobFacts.{carried-as, failed-causes, width-is}
 use Rattle.vcp_core.proofs.printed.run_program.Goals as goal
 

@@ -1,6 +1,6 @@
 use Rattle.std.proofs.Common.{◌∙◌, ap, arith, Err}
 use Rattle.std.proofs.lemmas.Result.{err_from_is_err_and}
-use Rattle.vcp_words.specs.Forms.{rows_of}
+use Rattle.vcp_inputs.specs.Forms.{rows_of}
 use Rattle.command_meaning.specs.Abouts.{about}
 use Rattle.vcp_core.specs.Tasks.{TaskOf}
 use Rattle.vcp_core.proofs.Facts.{if_some_same}

@@ -1,4 +1,4 @@
-use Rattle.vcp_words.specs.Forms.{rows_of, as_code}
+use Rattle.vcp_inputs.specs.Forms.{rows_of, as_code}
 use Rattle.vcp_core.proofs.ProgramsRead.{reads_run}
 use Rattle.vcp_core.proofs.run.run_read.Goals as goal
 

@@ -1,8 +1,8 @@
 use Rattle.std.proofs.Common.{◌∙◌, ◌≡◌, inl, inr, ap, refl, subst, sym, Err}
 use Rattle.input_rows.specs.RowsOf.{types_of}
-use Rattle.vcp_words.specs.Forms.{il, run, rows_of, as_code}
-use Rattle.vcp_words.specs.Tables.{rows_name}
-use Rattle.machine_run.specs.Moments.{moment}
+use Rattle.vcp_inputs.specs.Forms.{il, run, rows_of, as_code}
+use Rattle.vcp_inputs.specs.Tables.{rows_name}
+use Rattle.coded_machine.specs.Moments.{moment}
 use Rattle.vcp_typed.specs.Fitting.{input_columns}
 use Rattle.il_front.specs.Outcomes.{IsTypedIl}
 use Rattle.vcp_inputs.specs.Listings.{NotListing}

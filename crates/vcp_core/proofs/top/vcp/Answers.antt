@@ -1,4 +1,4 @@
-use Rattle.vcp_words.specs.Forms.{form, form_of}
+use Rattle.vcp_inputs.specs.Forms.{form, form_of}
 use Rattle.vcp_core.proofs.Facts.{if_some_is}
 use Rattle.vcp_core.proofs.top.vcp.Goals as goal
 

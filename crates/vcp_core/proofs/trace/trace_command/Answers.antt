@@ -1,4 +1,4 @@
-use Rattle.vcp_words.specs.Forms.{trace, rows_of}
+use Rattle.vcp_inputs.specs.Forms.{trace, rows_of}
 use Rattle.vcp_core.specs.ImagesRead.{tracing}
 use Rattle.vcp_core.proofs.trace.trace_command.Goals as goal
 

@@ -1,8 +1,8 @@
 use Rattle.std.proofs.Common.{◌∙◌, ◌≡◌, ◌≤◌, ◌+◌, ap, refl, sym, subst, inl, inr, length, None, Err}
 use Rattle.input_rows.specs.RowsOf.{RowsLeft, through}
-use Rattle.vcp_words.specs.Forms.{trace, rows_of}
-use Rattle.vcp_words.specs.Tables.{rows_name}
-use Rattle.machine_run.specs.Moments.{moment}
+use Rattle.vcp_inputs.specs.Forms.{trace, rows_of}
+use Rattle.vcp_inputs.specs.Tables.{rows_name}
+use Rattle.coded_machine.specs.Moments.{moment}
 use Rattle.vcp_inputs.specs.Images.{ImageOf, NotImage}
 use Rattle.vcp_inputs.specs.RowsRead.{graph_columns}
 use Rattle.command_meaning.specs.Abouts.{about, image_word}

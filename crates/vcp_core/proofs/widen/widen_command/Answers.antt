@@ -1,7 +1,7 @@
 use Rattle.std.proofs.Common.{◌≡◌, inl, inr, refl, ap, Err}
-use Rattle.vcp_words.specs.Forms.{widen}
+use Rattle.vcp_inputs.specs.Forms.{widen}
 use Rattle.vcp_core.proofs.Facts.{if_some_weaker}
-use Rattle.machine_run.specs.Moments.{moment}
+use Rattle.coded_machine.specs.Moments.{moment}
 use Rattle.command_meaning.specs.Abouts.{about, image_word}
 use Rattle.command_meaning.specs.Answer.{printed as printed_answer}
 use Rattle.command_meaning.specs.Kinds.{prints}

@@ -1,6 +1,6 @@
 use Rattle.std.proofs.Common.{◌≡◌, ap, refl, inl, inr, Err}
 use Rattle.vcp_base.specs.Limits.{most_source_bytes}
-use Rattle.vcp_words.specs.Forms.{wire}
+use Rattle.vcp_inputs.specs.Forms.{wire}
 use Rattle.vcp_inputs.specs.Wires.{WireOf, NotWire}
 use Rattle.command_meaning.specs.Abouts.{about, script_word}
 use Rattle.command_meaning.specs.Kinds.{wires}

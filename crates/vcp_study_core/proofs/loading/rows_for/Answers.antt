@@ -1,6 +1,6 @@
 use Rattle.std.proofs.Common.{Err, ap, refl, arith}
-use Rattle.vcp_words.specs.Forms.{rows_of}
-use Rattle.vcp_words.specs.Tables.{rows_name}
+use Rattle.vcp_inputs.specs.Forms.{rows_of}
+use Rattle.vcp_inputs.specs.Tables.{rows_name}
 use Rattle.vcp_inputs.specs.RowsOutcome.{rows_outcome}
 use Rattle.vcp_inputs.specs.RowsRead.{graph_columns}
 use Rattle.vcp_inputs.specs.declared.refusal.NoInput.TheVariants as input

@@ -1,5 +1,5 @@
 use Rattle.std.proofs.Common.{ap, sym, ◌∙◌}
-use Rattle.vcp_words.specs.Forms.{rows_of}
+use Rattle.vcp_inputs.specs.Forms.{rows_of}
 use Rattle.vcp_study_core.proofs.SumWords.{last_rows, script_next, cycles_next}
 use Rattle.vcp_study_core.proofs.words.next_after.Goals as goal
 

@@ -1,5 +1,5 @@
 use Rattle.std.proofs.Common.{Some, None, sym, ◌∙◌}
-use Rattle.vcp_words.specs.Forms.{rows_of}
+use Rattle.vcp_inputs.specs.Forms.{rows_of}
 use Rattle.vcp_study_core.proofs.SumWords.{next_at_end, next_from}
 use Rattle.vcp_study_core.proofs.words.next_behind.Goals as goal
 

@@ -1,7 +1,7 @@
 use Rattle.std.proofs.Common.{◌∙◌, refl, ap, sym, arith}
 use Rattle.coded_machine.specs.Calls.{CallsOf}
 use Rattle.coded_machine.specs.State.{State, given, with_answer, setting}
-use Rattle.fault_runs.specs.Carried.{faults_of, keeps_of}
+use Rattle.fault_injector.specs.Carried.{faults_of, keeps_of}
 use Rattle.pair_channel.specs.PairStates.{PairState}
 use Rattle.fault_campaign.specs.GroupRuns.{outer_seen, processor_seen}
 use Rattle.fault_campaign.proofs.CallsAsked.{cycle_asked, first_finished, nothing_asked, one_asked}

@@ -1,6 +1,6 @@
 use Rattle.std.proofs.Common.{◌≡◌, ◌-◌, length}
 use Rattle.coded_machine.specs.State.{given}
-use Rattle.fault_runs.specs.Carried.{faults_of, keeps_of}
+use Rattle.fault_injector.specs.Carried.{faults_of, keeps_of}
 use Rattle.pair_channel.specs.PairStates.{PairState}
 use Rattle.fault_campaign.proofs.CallsAsked.{CycleSoFar}
 use Rattle.fault_campaign.proofs.pairs.group_run.carry.Given as goal

@@ -3,7 +3,7 @@ use Rattle.std.proofs.lemmas.List.{length-replicate}
 use Rattle.op_graph.specs.Lists.{Lists}
 use Rattle.coded_machine.specs.State.{setting}
 use Rattle.fault_script.specs.declared.act.Fault.{Fault}
-use Rattle.fault_runs.specs.Carried.{faults_of, keeps_of}
+use Rattle.fault_injector.specs.Carried.{faults_of, keeps_of}
 use Rattle.fault_campaign.proofs.CarriedByHand.{drop_at}
 use Rattle.fault_campaign.proofs.Lists.{drop_all, width_at}
 use Rattle.pair_channel.specs.PairStates.{PairState}

@@ -1,6 +1,6 @@
 use Rattle.std.proofs.Common.{◌≡◌, ◌++◌, ◌∙◌, ap, [], length, flat_map, arith}
 use Rattle.std.proofs.lemmas.List.{append-nil}
-use Rattle.svg_text.specs.Drawing.{each_below}
+use Rattle.vcp_outside.specs.Drawing.{each_below}
 use Rattle.graph_picture.specs.Arrangement.{place_at}
 use Rattle.graph_picture.specs.Colours.{colours}
 use Rattle.graph_picture.specs.Drawn.{box_at, box_drawn}

@@ -1,6 +1,6 @@
 use Rattle.std.proofs.Common.{subst, ◌∙◌, ap, List}
 use Rattle.vcp_outside.specs.Written.{WritesTo}
-use Rattle.svg_text.specs.Elements.{Element}
+use Rattle.vcp_outside.specs.Elements.{Element}
 use Rattle.graph_picture.specs.Elements.{picture_of}
 use Rattle.graph_picture.specs.FaultsText.{faults_legend}
 use Rattle.graph_picture.specs.VerdictLooks.{verdict_looks}

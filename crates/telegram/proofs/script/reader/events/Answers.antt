@@ -1,6 +1,6 @@
 use Rattle.std.proofs.Common.{◌≡◌, ◌<◌, ◌+◌, List, length, sym, subst, ◌∙◌, arith}
 use Rattle.std.specs.Str.Lines.{lines}
-use Rattle.script_text.specs.Lines.{Line, read_lines}
+use Rattle.vcp_base.specs.Lines.{Line, read_lines}
 use Rattle.telegram.specs.declared.event.Event.{Event}
 use Rattle.telegram.specs.Reads.{behind}
 use Rattle.telegram.specs.ScriptOf.{events_of}

@@ -1,7 +1,7 @@
 use Rattle.std.proofs.Common.{◌≡◌, ◌≤◌, ◌<◌, ◌+◌, ◌*◌, length}
 use Rattle.std.specs.Str.Lines.{lines}
 use Rattle.vcp_base.specs.Limits.{most_source_bytes}
-use Rattle.script_text.specs.Lines.{read_lines}
+use Rattle.vcp_base.specs.Lines.{read_lines}
 use Rattle.telegram.specs.Reads.{behind}
 use Rattle.telegram.specs.ScriptOf.{events_of}
 use Rattle.telegram.proofs.Reading.{AreRead}

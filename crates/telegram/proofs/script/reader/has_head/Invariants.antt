@@ -2,7 +2,7 @@ use Rattle.std.proofs.Common.{◌≡◌, ◌≤◌, ◌+◌, length}
 use Rattle.std.specs.List.{list_any}
 use Rattle.std.specs.Str.Lines.{lines}
 use Rattle.vcp_base.specs.Limits.{most_source_bytes}
-use Rattle.script_text.specs.Lines.{read_lines}
+use Rattle.vcp_base.specs.Lines.{read_lines}
 use Rattle.telegram.specs.ScriptOf.{is_head}
 use Rattle.telegram.proofs.script.reader.has_head.Given as goal
 

@@ -1,0 +1,19 @@
+-- Failing: what is written where the outputs of a released cycle couldn't all be written.
+use Rattle.std.proofs.Common.{ℕ, ◌≡◌, ◌∙◌, sym, subst, List, [], ◌∷◌, ℤ, append-nil, Option, Result, Ok, Err}
+use Rattle.std.specs.Result.{IsErr}
+use Rattle.vcp_outside.specs.declared.failed.Failed.{Failed}
+use Rattle.vcp_outside.specs.Written.{Writes}
+use Rattle.coded_machine.specs.declared.cycle_end.CycleEnd.{CycleEnd}
+use Rattle.coded_machine.specs.Runs.{row_if}
+use Rattle.coded_machine.specs.Cycles.{cycle_end}
+use Rattle.coded_machine.specs.RowRuns.{texts_from}
+
+pub failed_row : (text : ℕ → List ℤ
+    → List ℕ) (n : ℕ) (row : List ℤ) (old new : Option (List ℕ)) (before now : ℕ) (bytes : List ℕ) (e : Failed) (q : Result CycleEnd Failed) →
+    IsErr q → bytes ≡ text n row → Writes {T = Unit {0}} old new before now bytes (Err e) → Writes old new before now
+    (texts_from text n (row_if (cycle_end q) row)) q
+failed_row text n row old new before now bytes e (Ok x) failed is h = absurd cc
+failed_row text n row old new before now bytes e (Err f) failed is h =
+    let k : Writes {T = Unit {0}} {E = Failed} old new before now (texts_from text n (row ∷ [])) (Err e) =
+    subst (λ b. Writes {T = Unit {0}} {E = Failed} old new before now b (Err e)) (is ∙ sym (append-nil (text n row))) h in
+    record { whole = tt; part = k.part; cause = record { later = k.cause.later; capped = k.cause.capped; stayed = tt; failed = k.cause.failed } }

@@ -1,0 +1,110 @@
+use Rattle.std.proofs.Common.{◌≡◌, ℕ, ◌≤◌, ◌+◌, ◌*◌, List, ℤ, None, sym, ap, subst, ◌∙◌, arith, take, length}
+use Rattle.std.proofs.lemmas.List.{length-append}
+use Rattle.op_graph.specs.Lists.{Lists}
+use Rattle.coded_machine.specs.declared.cycle_end.CycleEnd.{CycleEnd}
+use Rattle.coded_machine.specs.declared.cycle_end.CycleEnd.TheVariants as end
+use Rattle.coded_machine.specs.Runs.{RunSoFar, Turn}
+use Rattle.coded_machine.specs.State.{State}
+use Rattle.fault_campaign.specs.Kept.{front_words}
+use Rattle.fault_campaign.specs.References.{RanOver, kept_cycles}
+use Rattle.fault_campaign.proofs.KeptAnswers.{whole_few, words_counted}
+use Rattle.fault_campaign.proofs.KeptRuns.{run_on, run_ended, run_whole, width_there}
+use Rattle.fault_campaign.proofs.reruns.kept.keep_run.Goals as goal
+
+pub cycles-preserved : goal.cycles-preserved
+cycles-preserved g c =
+    let i = c.cycles.invariant in
+    let unit = g.U.Unit in
+    let m : State = c.cycles.machine in
+    let f : State = c.args.machine.now in
+    let n : State = c.cycle-end.new.self in
+    let rows = c.args.rows.now in
+    let words = c.cycles.words.items in
+    let first = unit.seen c.args.unit.now in
+    let before = unit.seen c.cycles.unit in
+    let after = unit.seen c.cycle-end.new.unit in
+    let turn =
+    subst (λ (e : CycleEnd). Turn m n c.get.new.out e before.log after.log before.wrong after.wrong) c.in-Released.is
+    (c.cycle-end.ensures.turn i.run.going) in
+    let accepted = (c.cycle-end.ensures.accepted.0 c.in-Released.is).1 in
+    let all = accepted.all ∙ ap (λ (h : Lists). length h.operations) i.run.graph in
+    let run =
+    run_on c.runs_follow_their_answers.ensures f.graph f.table rows c.cycles.i c.get.new.out words m n first.log before.log after.log first.wrong
+    before.wrong after.wrong i.run i.flat c.get.ensures turn accepted.words all in
+    let kept = c.keep_words-all.ensures.words in
+    let more = words_counted n.answers accepted.words in
+    let product : (c.cycles.i + 1) * length f.graph.operations ≡ c.cycles.i * length f.graph.operations + length f.graph.operations = grind arith in
+    record {
+      run =
+          subst (λ (ws : List ℤ). RunSoFar f.graph f.table (take (c.cycles.i + 1) rows) (kept_cycles (length f.graph.operations) (c.cycles.i + 1) ws None) n
+          first.log after.log first.wrong after.wrong) (sym kept) run;
+      between = c.cycle-end.ensures.between;
+      flat = ap length kept ∙ (length-append words (front_words n.answers) ∙ omega (arith, i.flat, more, all, product));
+      room = omega (arith, i.room, c.keep_words-all.ensures.capacity);
+      inputs = width_there rows (length f.graph.inputs) c.cycles.i c.get.new.out c.requires.width c.get.ensures;
+      outputs = c.cycle-end.ensures.width ∙ i.outputs;
+      count = i.count;
+    }
+
+pub returns-in_default : goal.returns-in_default
+returns-in_default g c =
+    let i = c.cycles.invariant in
+    let unit = g.U.Unit in
+    let m : State = c.cycles.machine in
+    let f : State = c.args.machine.now in
+    let n : State = c.cycle-end.new.self in
+    let rows = c.args.rows.now in
+    let words = c.cycles.words.items in
+    let e = c.cycle-end.result in
+    let size = length f.graph.operations in
+    let first = unit.seen c.args.unit.now in
+    let before = unit.seen c.cycles.unit in
+    let after = unit.seen c.cycle-end.new.unit in
+    let turn = c.cycle-end.ensures.turn i.run.going in
+    let graph = ap (λ (h : Lists). length h.operations) (c.cycle-end.ensures.graph ∙ i.run.graph) in
+    let all = c.keep_words-all.ensures in
+    let result = c.ended.result in
+    let over =
+    run_ended c.runs_follow_their_answers.ensures f.graph f.table rows c.cycles.i c.get.new.out words m n e first.log before.log after.log first.wrong
+    before.wrong after.wrong c.keep_words-all.result result.whole result.stop i.run i.flat c.get.ensures turn c.in_default.not-Released
+    (λ yes. all.all yes ∙ graph)
+    (λ no. omega (arith, all.stopped no, graph)) c.ended.ensures.whole c.ended.ensures.released c.ended.ensures.part c.ended.ensures.stopped in
+    let kept = c.ended.ensures.words ∙ all.words in
+    record {
+      there = subst (λ (ws : List ℤ). result.whole * size ≤ length ws) (sym kept) over.1;
+      ran =
+          subst (λ (x : CycleEnd). RanOver f.graph f.table rows (kept_cycles size result.whole result.words.items result.stop) x
+          first.log after.log first.wrong after.wrong) (sym c.ended.ensures.end)
+          (subst (λ (ws : List ℤ). RanOver f.graph f.table rows (kept_cycles size result.whole ws result.stop) e
+          first.log after.log first.wrong after.wrong) (sym kept) over.0);
+    }
+
+pub keep_words-all-requires-clause-few : goal.keep_words-all-requires-clause-few
+keep_words-all-requires-clause-few g c =
+    let i = c.cycles.invariant in
+    let m : State = c.cycles.machine in
+    let n : State = c.cycle-end.new.self in
+    let same = ap (λ (h : Lists). length h.operations) c.cycle-end.ensures.graph in
+    omega (arith, whole_few m.graph.operations n.answers (c.cycle-end.ensures.whole i.run.going), same)
+
+pub returns-clause-there : goal.returns-clause-there
+returns-clause-there g c =
+    let i = c.cycles.invariant in
+    let f : State = c.args.machine.now in
+    let all : c.cycles.i ≡ c.len-count.result = omega (arith, c.cycles-test.false, c.cycles.auto.i-end) in
+    subst (λ (k : ℕ). k * length f.graph.operations ≤ length c.cycles.words.items) all (omega (arith, i.flat))
+
+pub returns-clause-ran : goal.returns-clause-ran
+returns-clause-ran g c =
+    let i = c.cycles.invariant in
+    let unit = g.U.Unit in
+    let m : State = c.cycles.machine in
+    let f : State = c.args.machine.now in
+    let first = unit.seen c.args.unit.now in
+    let now = unit.seen c.cycles.unit in
+    let all : c.cycles.i ≡ c.len-count.result = omega (arith, c.cycles-test.false, c.cycles.auto.i-end) in
+    let whole : c.cycles.i ≡ length c.args.rows.now = omega (arith, all, i.count) in
+    subst (λ (k : ℕ). RanOver f.graph f.table c.args.rows.now (kept_cycles (length f.graph.operations) k c.cycles.words.items None) end.Released
+    first.log now.log first.wrong now.wrong) all
+    (run_whole c.runs_follow_their_answers.ensures f.graph f.table c.args.rows.now c.cycles.i
+    (kept_cycles (length f.graph.operations) c.cycles.i c.cycles.words.items None) m first.log now.log first.wrong now.wrong i.run whole)

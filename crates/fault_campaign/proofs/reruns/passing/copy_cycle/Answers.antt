@@ -1,0 +1,21 @@
+use Rattle.std.proofs.Common.{[], sym, ◌∙◌, arith}
+use Rattle.std.proofs.lemmas.Option.{get_or_from_slice_get}
+use Rattle.fault_campaign.specs.Begun.{answers_in}
+use Rattle.fault_campaign.specs.References.{KeptRun}
+use Rattle.fault_campaign.proofs.KeptAnswers.{whole_few}
+use Rattle.fault_campaign.proofs.PassedOver.{whole_there}
+use Rattle.fault_campaign.proofs.reruns.passing.copy_cycle.Goals as goal
+
+pub copy_answers-requires : goal.copy_answers-requires
+copy_answers-requires c =
+    let r : KeptRun = c.args.reference.now in
+    let other = answers_in c.cycle-answers.result in
+    let few =
+    whole_few r.graph.operations other
+    (whole_there r.graph r.table 0 r.rows r.answers c.args.n other c.cycles-sound.ensures.sound.5 c.cycle-answers.ensures) in
+    omega (arith, few, c.requires.room)
+
+pub returns-clause-items : goal.returns-clause-items
+returns-clause-items c =
+    let r : KeptRun = c.args.reference.now in
+    c.copy_answers.ensures.items ∙ sym (get_or_from_slice_get r.answers c.args.n (answers_in c.cycle-answers.result) [] c.cycle-answers.ensures)

@@ -1,0 +1,9 @@
+use Rattle.std.proofs.Common.{◌≡◌, take}
+use Rattle.fault_injector.specs.Carried.{faults_of, keeps_of}
+use Rattle.fault_injector.proofs.runs.scripted.carried_with.Given as goal
+
+abbrev pub invariant-faults : goal.invariant-faults
+invariant-faults l = record {
+  faults : faults_of l.carried.items ≡ take l.i l.group;
+  kept : keeps_of l.carried.items ≡ take l.i l.kept;
+}

@@ -1,5 +1,0 @@
-use Rattle.fault_runs.proofs.Scripting.{scripted_runs_are_right}
-use Rattle.fault_runs.proofs.run_laws.scripted_runs_are_right_runs.Goals as goal
-
-pub returns : goal.returns
-returns c = scripted_runs_are_right c.operands_are_there.ensures

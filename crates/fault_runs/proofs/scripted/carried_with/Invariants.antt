@@ -1,9 +1,0 @@
-use Rattle.std.proofs.Common.{◌≡◌, take}
-use Rattle.fault_runs.specs.Carried.{faults_of, keeps_of}
-use Rattle.fault_runs.proofs.scripted.carried_with.Given as goal
-
-abbrev pub invariant-faults : goal.invariant-faults
-invariant-faults l = record {
-  faults : faults_of l.carried.items ≡ take l.i l.group;
-  kept : keeps_of l.carried.items ≡ take l.i l.kept;
-}

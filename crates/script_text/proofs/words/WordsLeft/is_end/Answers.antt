@@ -1,9 +1,0 @@
-use Rattle.std.proofs.Common.{List, ℕ, ◌==◌, length, ap, ◌∙◌}
-use Rattle.script_text.specs.Words.{is_end}
-use Rattle.script_text.proofs.Firsts.{is_end_is}
-use Rattle.script_text.proofs.words.WordsLeft.is_end.Goals as goal
-
-pub returns : goal.returns
-returns c =
-    c.is_empty.ensures
-    ∙ (ap (λ (text : List ℕ). length text == 0) c.without_first_blanks.ensures ∙ (is_end_is c.self.inside.rest.now ∙ ap is_end c.self.view_is))

@@ -1,3 +1,0 @@
-pub mod Declared
-pub mod Renamed
-mod Worked

@@ -1,4 +1,0 @@
-pub mod Characters
-pub mod Drawing
-pub mod Elements
-pub mod WellFormed

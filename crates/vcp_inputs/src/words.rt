@@ -1,0 +1,9 @@
+//! The command words: which words are a command, and what each command is about.
+
+mod command;
+mod words;
+mod words_left;
+
+pub use command::{Code, Command, DEFAULT_CODE, RowsWord};
+pub use words::{command_of, usage};
+pub use words_left::CommandWords;

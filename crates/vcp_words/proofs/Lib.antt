@@ -1,4 +1,0 @@
-pub mod CodeWords
-pub mod Rows
-pub mod Sound
-pub mod WordsSteps

@@ -1,7 +1,0 @@
-use Rattle.std.proofs.Common.{◌∷◌}
-use Rattle.vcp_words.specs.Forms.{form}
-use Rattle.vcp_words.proofs.Sound.{of_form}
-use Rattle.vcp_words.proofs.words.command_of.Goals as goal
-
-pub returns-clause-sound : goal.returns-clause-sound
-returns-clause-sound c = of_form form c.named_command.result (c.bytes-command.result.now ∷ c.next.new.self) c.named_command.ensures

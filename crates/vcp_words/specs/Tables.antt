@@ -1,8 +1,0 @@
--- Tables: ROWS, as lines name it.
-use Rattle.std.specs.Prelude.{ℕ, List, codes}
-use Rattle.vcp_words.specs.Forms.{Rows, file, cycles}
-
--- ROWS, as lines name it
-abbrev pub rows_name : Rows → List ℕ
-rows_name (file r) = r
-rows_name (cycles n) = codes "--cycles"
