@@ -4,7 +4,7 @@
     checks/commands.py            prints what differs
     checks/commands.py --write    puts them right first
 
-The two tables of docs/FORMATS.md have each form of `vcp` and `vcp_study` and what it writes; the usage lines (`specs/Forms.antt` of `vcp_words` and
+The two tables of docs/FORMATS.md have each form of `vcp` and `vcp_study` and what it writes; the usage lines (`specs/Forms.antt` of `vcp_inputs` and
 `vcp_study_core`) say which commands there are, and in which order. From these come the table of README, the section COMMANDS of docs/vcp.1 and
 docs/vcp_study.1, and the lists of commands in docs/completion.bash. It ends with status 1 where something differs.
 """
@@ -13,7 +13,7 @@ import sys
 from pathlib import Path
 
 TOP = Path(__file__).resolve().parent.parent
-PROGRAMS = {"vcp": "vcp_words", "vcp_study": "vcp_study_core"}
+PROGRAMS = {"vcp": "vcp_inputs", "vcp_study": "vcp_study_core"}
 
 
 def commands(program):

@@ -26,17 +26,17 @@ EXPECTED = {
     ("verdict_tables", "vcp_outside::Gathering"),
     ("weight_audit", "vcp_outside::Gathering"),
     # the part of a word behind a byte
-    ("fault_names", "script_text::Firsts"),
+    ("fault_names", "vcp_base::Firsts"),
     # graphs, scripts and verdicts of worked rows
     ("fault_campaign", "fault_injector::WorkedVerdicts"),
     ("fault_injector", "run_report::OperationRows"),
-    ("fault_reruns", "fault_injector::WorkedVerdicts"),
+    ("fault_campaign", "fault_injector::WorkedVerdicts"),
     ("verdict_tables", "run_report::OperationRows"),
     # how counts of calls grow, and how the loop over rows goes on
     ("fault_campaign", "coded_machine::Growth"),
-    ("pair_channel", "machine_run::Stopping"),
-    ("pair_channel", "machine_run::UpTo"),
-    ("pair_channel", "machine_run::Writing"),
+    ("pair_channel", "coded_machine::Stopping"),
+    ("pair_channel", "coded_machine::UpTo"),
+    ("pair_channel", "coded_machine::Writing"),
     # why a row that is refused is so
     ("vcp_core", "vcp_inputs::Causes"),
 }

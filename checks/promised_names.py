@@ -264,11 +264,29 @@ def faults_of_units():
 
 
 def lines_below_the_top_call(crates):
-    """How many lines the top call rests on, crate by crate."""
-    found = {}
-    for crate, _, _, lines in lines_read(crates, "vcp_core::vcp"):
-        found[crate] = found.get(crate, 0) + lines
-    return found
+    """How many lines the top call rests on, by crate and module."""
+    return {(crate, module): lines for crate, module, _, lines in lines_read(crates, "vcp_core::vcp")}
+
+
+def lines_of_crate(lines_of, crate):
+    return sum(lines for (name, _), lines in lines_of.items() if name == crate)
+
+
+def lines_of_step(lines_of, found, steps):
+    """The lines that the top call rests on in a step's crates: all of a crate that stands in this step alone, and of another those of the modules named here."""
+    total = 0
+    for crate, modules in modules_of_step(found):
+        if sum(crate in dict(modules_of_step(step)) for step in steps) == 1 and crate not in BESIDE_STEPS:
+            total += lines_of_crate(lines_of, crate)
+        else:
+            total += sum(lines_of.get((crate, module), 0) for module in quoted(modules))
+    return total
+
+
+def lines_beside(lines_of, crate, steps):
+    """The lines that the top call rests on in a crate that is named beside the steps, without the modules that a step names."""
+    named = {(crate, module) for step in steps for name, modules in modules_of_step(step) if name == crate for module in quoted(modules)}
+    return lines_of_crate(lines_of, crate) - sum(lines_of.get(it, 0) for it in named)
 
 
 def cited_modules(*words):
@@ -280,29 +298,37 @@ STEP = re.compile(r"^(\d+)(\. .*) (\d+) lines:\n((?:   .*\n)+)", re.M)
 BESIDE = re.compile(r"`(\w+)` \((\d+) lines\)")
 
 
-def crates_of_step(found):
-    return re.findall(r"^ +- `(\w+)`:", found[4], re.M)
+# Crates of which some modules stand in a step, and the others are named beside the steps.
+BESIDE_STEPS = ("st_tree",)
+
+
+def modules_of_step(found):
+    return re.findall(r"^ +- `(\w+)`: (.*(?:\n +[^\s-].*)*)", found[4], re.M)
+
+
+def steps_of(text):
+    return list(STEP.finditer(text.partition("\n## The order of reading\n")[2].partition("\n## ")[0]))
 
 
 def faults_of_order(crates):
     lines_of = lines_below_the_top_call(crates)
     text = PROMISES.read_text().partition("\n## The order of reading\n")[2].partition("\n## ")[0]
+    steps = list(STEP.finditer(text))
     told = set()
-    for found in STEP.finditer(text):
-        crates = crates_of_step(found)
-        told |= set(crates)
-        wanted = sum(lines_of.get(crate, 0) for crate in crates)
+    for found in steps:
+        wanted = lines_of_step(lines_of, found, steps)
         if wanted != int(found[3]):
             yield f"step {found[1]} has {wanted} lines, and not {found[3]}"
-        for crate, modules in re.findall(r"^ +- `(\w+)`: (.*(?:\n +[^\s-].*)*)", found[4], re.M):
+        for crate, modules in modules_of_step(found):
+            told.add(crate)
             for module in quoted(modules):
                 if not (CRATES / crate / "specs" / f"{module}.antt").is_file():
                     yield f"step {found[1]}: the module `{crate}::{module}` isn't there"
     for crate, lines in BESIDE.findall(text):
         told.add(crate)
-        if lines_of.get(crate) != int(lines):
-            yield f"`{crate}` has {lines_of.get(crate)} lines, and not {lines}"
-    for crate in sorted(set(lines_of) - told):
+        if lines_beside(lines_of, crate, steps) != int(lines):
+            yield f"`{crate}` has {lines_beside(lines_of, crate, steps)} lines, and not {lines}"
+    for crate in sorted({crate for crate, _ in lines_of} - told):
         yield f"the top call rests on `{crate}`, which has no step"
 
 
@@ -338,9 +364,10 @@ def faults_of_counts():
 
 def write_lines_of_order(crates):
     lines_of = lines_below_the_top_call(crates)
+    steps = steps_of(PROMISES.read_text())
 
     def of_step(found):
-        return f"{found[1]}{found[2]} {sum(lines_of.get(crate, 0) for crate in crates_of_step(found))} lines:\n{found[4]}"
+        return f"{found[1]}{found[2]} {lines_of_step(lines_of, found, steps)} lines:\n{found[4]}"
 
     def of_command(found):
         return found[1] + cited_modules(found[2]).split("\n")[-2] + "\n"
@@ -349,7 +376,7 @@ def write_lines_of_order(crates):
     tried, by_hand = count_edits()
     text = EDITS.sub(lambda found: found[0].replace(found[1], str(tried), 1).replace(found[3] + " others", f"{by_hand} others"), text)
     text = FAMILY.sub(lambda found: found[1] + str(lines_of_family(crates, found[4])) + found[3], text)
-    text = BESIDE.sub(lambda found: f"`{found[1]}` ({lines_of.get(found[1], found[2])} lines)", text)
+    text = BESIDE.sub(lambda found: f"`{found[1]}` ({lines_beside(lines_of, found[1], steps)} lines)", text)
     PROMISES.write_text(re.sub(r"(    \$ checks/cited_modules\.py (\S+) \| tail -n 1\n    ).*\n", of_command, text))
 
 

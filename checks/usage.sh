@@ -3,7 +3,7 @@
 #
 #     checks/usage.sh
 #
-# The usage lines are those of `crates/vcp_words/specs/Forms.antt` and `crates/vcp_study_core/specs/Forms.antt`, which `vcp` and `vcp_study` print. The first
+# The usage lines are those of `crates/vcp_inputs/specs/Forms.antt` and `crates/vcp_study_core/specs/Forms.antt`, which `vcp` and `vcp_study` print. The first
 # list that differs is shown as a diff, and the status is then 1. Without bash the options aren't looked at.
 top=$(CDPATH='' cd -- "$(dirname -- "$0")/.." && pwd) || exit 1
 work=$(mktemp -d) || exit 1
@@ -64,4 +64,4 @@ compare() {
     echo "usage: $1: $(wc -l <"$work/commands") commands"
 }
 
-compare vcp vcp_words && compare vcp_study vcp_study_core
+compare vcp vcp_inputs && compare vcp_study vcp_study_core
