@@ -33,6 +33,7 @@ pub fn prune(alloc: Global, graph: Graph) -> Result<Graph, Memory>
     // What an operation reads, and each cell's LOAD and STORE, are in the tables.
     entries_are_found_by_one_walk();
     entries_keep_their_rules();
+    let _operations = graph.len();
     let kept = needed(alloc, &graph)?;
     let numbers = numbers_below(alloc, &kept)?;
     let cells = kept_cells(alloc, graph.loads(), &kept)?;

@@ -44,6 +44,7 @@ pub fn share(alloc: Global, graph: Graph) -> Result<Graph, Memory>
     // What an operation reads, and each cell's LOAD and STORE, are in the tables.
     entries_are_found_by_one_walk();
     entries_keep_their_rules();
+    let _operations = graph.len();
     let (kept, numbers) = joined(alloc, &graph)?;
     let cells = all_marked(alloc, graph.cells())?;
     let cell_numbers = numbers_below(alloc, &cells)?;

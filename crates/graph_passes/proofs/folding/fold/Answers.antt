@@ -9,7 +9,7 @@ use Rattle.graph_passes.proofs.folding.fold.Goals as goal
 pub with_operations-requires : goal.with_operations-requires
 with_operations-requires c =
     let g = c.args.graph in
-    let graph : IsGraph g = subst IsGraph c.graph.view_is c.graph.invariant in
+    let graph = c.operations.ensures.rules in
     let ops = c.in_ok-operations.ensures ∙ ap (folded_after []) c.operations.ensures.list in
     subst (λ ops. IsGraph (record g { operations = ops })) (sym ops) (folded_is_graph g graph)
 

@@ -1,4 +1,4 @@
-use Rattle.std.proofs.Common.{length, map, ap, subst, ◌∙◌, arith}
+use Rattle.std.proofs.Common.{length, map, ap, ◌∙◌, arith}
 use Rattle.std.proofs.lemmas.List.{length-map}
 use Rattle.op_graph.specs.declared.op.Loaded.{Loaded}
 use Rattle.op_graph.specs.Rules.{IsGraph}
@@ -15,7 +15,7 @@ use Rattle.graph_passes.proofs.pruning.prune.Goals as goal
 pub numbers_below-requires : goal.numbers_below-requires
 numbers_below-requires c =
     let g = c.args.graph in
-    let graph : IsGraph g = subst IsGraph c.graph.view_is c.graph.invariant in
+    let graph = c.len-operations.ensures.rules in
     let same = ap length c.deref.ensures.value in
     let many = c.in_ok-kept.ensures.many in
     let few = graph.part.few_operations in
@@ -24,7 +24,7 @@ numbers_below-requires c =
 pub numbers_below-requires-2 : goal.numbers_below-requires-2
 numbers_below-requires-2 c =
     let g = c.args.graph in
-    let graph : IsGraph g = subst IsGraph c.graph.view_is c.graph.invariant in
+    let graph = c.len-operations.ensures.rules in
     let same = ap length c.deref-3.ensures.value in
     let many = ap length c.in_ok-cells.ensures ∙ length-map c.loads.result.now (λ (l : Loaded). marked c.deref-2.result.now l.load) in
     let loads = ap length c.loads.ensures in
@@ -34,7 +34,7 @@ numbers_below-requires-2 c =
 pub part-requires : goal.part-requires
 part-requires c =
     let g = c.args.graph in
-    let graph : IsGraph g = subst IsGraph c.graph.view_is c.graph.invariant in
+    let graph = c.len-operations.ensures.rules in
     let kept = c.in_ok-kept.kept.items in
     let numbers = c.in_ok-numbers.numbers.items in
     let cells = c.in_ok-cells.cells.items in
@@ -49,7 +49,7 @@ part-requires c =
 pub returns : goal.returns
 returns c =
     let g = c.args.graph in
-    let graph : IsGraph g = subst IsGraph c.graph.view_is c.graph.invariant in
+    let graph = c.len-operations.ensures.rules in
     let kept = c.in_ok-kept.kept.items in
     let numbers = c.in_ok-numbers.numbers.items in
     let cells = c.in_ok-cells.cells.items in

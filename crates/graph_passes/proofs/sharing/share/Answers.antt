@@ -14,7 +14,7 @@ use Rattle.graph_passes.proofs.sharing.share.Goals as goal
 pub numbers_below-requires : goal.numbers_below-requires
 numbers_below-requires c =
     let g = c.args.graph in
-    let graph : IsGraph g = subst IsGraph c.graph.view_is c.graph.invariant in
+    let graph = c.len-operations.ensures.rules in
     let same = ap length c.deref.ensures.value in
     let many = ap length c.in_ok-cells.ensures ∙ length-replicate c.cells.result true in
     let count = c.cells.ensures.loads in
@@ -24,7 +24,7 @@ numbers_below-requires c =
 pub part-requires : goal.part-requires
 part-requires c =
     let g = c.args.graph in
-    let graph : IsGraph g = subst IsGraph c.graph.view_is c.graph.invariant in
+    let graph = c.len-operations.ensures.rules in
     let cells = c.in_ok-cells.ensures ∙ ap (λ n. replicate n true) c.cells.ensures.loads in
     let cell_numbers = subst (λ m. (k : ℕ) → k < length m → number_at c.in_ok-cell_numbers.cell_numbers.items k ≡ below (marked m) k)
     c.deref.ensures.value c.in_ok-cell_numbers.ensures in
@@ -37,7 +37,7 @@ part-requires c =
 pub returns : goal.returns
 returns c =
     let g = c.args.graph in
-    let graph : IsGraph g = subst IsGraph c.graph.view_is c.graph.invariant in
+    let graph = c.len-operations.ensures.rules in
     let cells = c.in_ok-cells.ensures ∙ ap (λ n. replicate n true) c.cells.ensures.loads in
     let cell_numbers = subst (λ m. (k : ℕ) → k < length m → number_at c.in_ok-cell_numbers.cell_numbers.items k ≡ below (marked m) k)
     c.deref.ensures.value c.in_ok-cell_numbers.ensures in
