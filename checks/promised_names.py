@@ -13,8 +13,8 @@ modules is the one that checks/cited_modules.py prints.
 Of docs/GLOSSARY.md: the names in the last column are there (of names that two crates have, checks/double_names.py tells).
 Of docs/UNITS.md: each line of code that it shows is a line of coded_unit, or of own_unit of play_worked.
 Of docs/PROMISES.md, 'The order of reading' and 'What the gate shows': each family of commands has as many lines of definitions as it says; each step of the
-order names modules that are there, and has as many lines as the top call rests on in its crates; each crate that the top call rests on has a step, or is named
-after them; and there are as many edits as it says.
+order names modules that are there, and has as many lines as the top call rests on in its crates, or, of a crate that stands in several steps, in the modules
+that it names; each crate that the top call rests on has a step, or is named after them; and there are as many edits as it says.
 
 Of README.md and docs/START.md: the times that they say, in minutes and hours, are in docs/MEASURES.md.
 Of CHANGELOG.md: its first release is that of the tools, and releases and their days go down.
