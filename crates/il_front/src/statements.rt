@@ -132,21 +132,25 @@ fn statement(
     let at = instruction.at;
     match instruction.action {
         Action::Load { negated, operand } => {
-            let value = turned(alloc, negated, spot, operand_expr(at, operand))?;
-            Ok(TStmt::assign(places.place(operand_type(operand)), value, spot))
+            match turned(alloc, negated, spot, operand_expr(at, operand)) {
+                Ok(value) => Ok(TStmt::assign(places.place(operand_type(operand)), value, spot)),
+                Err(Memory) => Err(Memory),
+            }
         }
         Action::Store {
             negated,
             slot,
             ty: to,
-        } => {
-            let value = stored(alloc, places, negated, spot, ty, to)?;
-            Ok(TStmt::assign(slot, value, at))
-        }
+        } => match stored(alloc, places, negated, spot, ty, to) {
+            Ok(value) => Ok(TStmt::assign(slot, value, at)),
+            Err(Memory) => Err(Memory),
+        },
         Action::Put { to, slot, .. } => putting(alloc, places, spot, at, ty, to, slot),
         Action::Complement => {
-            let value = TExpr::unary(alloc, UnOp::Not, Ty::Bool, kept(places, ty), spot)?;
-            Ok(TStmt::assign(places.place(ty), value, spot))
+            match TExpr::unary(alloc, UnOp::Not, Ty::Bool, kept(places, ty), spot) {
+                Ok(value) => Ok(TStmt::assign(places.place(ty), value, spot)),
+                Err(Memory) => Err(Memory),
+            }
         }
         Action::Combine {
             op,
