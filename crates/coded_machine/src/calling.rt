@@ -5,7 +5,6 @@ ghost use Rattle.vcp_base.specs.Limits.{most_operations, most_cycles};
 ghost use Rattle.vcp_base.specs.Kinds.{operands as operands_of};
 ghost use Rattle.vcp_base.specs.Values.{at};
 ghost use Rattle.coded_unit.specs.Asked.{Asked};
-ghost use Rattle.op_graph.specs.declared.op.Op.{Op as Operation};
 ghost use Rattle.signature_table.specs.Signatures.{IsTableOf};
 ghost use Rattle.coded_machine.specs.Calls.{is_word as is_word_of, word_of as word_of_answer, word_at as word_at_of, operand_word, own_number as own_number_of};
 ghost use Rattle.coded_machine.specs.Calls.{operation_call as call_of_operation, call_of, AllWords, HasOwnNumber};
@@ -207,21 +206,6 @@ pub(crate) fn has_code(graph: &Graph, profile: Profile) -> bool
     ensures { result ≡ true }
 {
     profile == graph.profile()
-}
-
-/// The call of operation `i` of a graph in a cycle, counted from 0 and below 1,000,000, with what the
-/// operation reads.
-#[inline(always)]
-pub fn operation_call(graph: &Graph, table: &Table, i: u32, cycle: u32, operands: &Operands) -> Call
-    requires operation { i < length graph.now.operations }
-    requires table { IsTableOf table.now graph.now }
-    requires cycle { cycle < most_cycles }
-    ensures call { (op : Operation) → slice_get graph.now.operations i ≡ Some op → result ≡ call_of_operation graph.now table.now cycle i op operands.now }
-    ensures asked { Asked result }
-{
-    let op = graph.operation(i);
-    let begun = begun_cycle(graph, table, cycle);
-    call_from(graph, table, &begun, &op, i, operands)
 }
 
 /// What the calls of a cycle have in common.

@@ -12,7 +12,7 @@ mod machine;
 mod releasing;
 mod rows;
 
-pub use calling::{Operands, Setting, call_after, cell_at, is_word, operation_call, word_at};
+pub use calling::{Operands, Setting, call_after, cell_at, is_word, word_at};
 pub use cycle_end::{CycleEnd, end_of_answers};
 pub use laws::{
     cycles_by_hand_are_whole, honest_runs_follow_the_graph, right_answers_stand_for_values,

@@ -49,13 +49,6 @@ impl Columns {
         Columns { columns }
     }
 
-    /// The vector of the columns. It takes no memory.
-    pub fn into_vec(self) -> Vec<Column>
-        ensures { result.items ≡ self }
-    {
-        self.columns
-    }
-
     /// Appends a column. After `Memory` the list is unchanged.
     pub fn push(&mut self, column: Column) -> Result<(), Memory>
         ensures ok { OnOk result (self.new ≡ self.old ++ column ∷ []) }

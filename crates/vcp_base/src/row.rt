@@ -46,13 +46,6 @@ impl Row {
         Row { values }
     }
 
-    /// The vector of the values. It takes no memory.
-    pub fn into_vec(self) -> Vec<i64>
-        ensures { result.items ≡ self }
-    {
-        self.values
-    }
-
     /// Appends a value. After `Memory` the row is unchanged.
     pub fn push(&mut self, v: i64) -> Result<(), Memory>
         ensures ok { OnOk result (self.new ≡ self.old ++ v ∷ []) }

@@ -38,13 +38,6 @@ impl Text {
         Text { content }
     }
 
-    /// The vector of the bytes. It takes no memory.
-    pub fn into_vec(self) -> Vec<u8>
-        ensures { result.items ≡ self }
-    {
-        self.content
-    }
-
     /// The bytes of the text.
     pub fn bytes(&self) -> &[u8]
         ensures { result.now ≡ self.now }

@@ -47,13 +47,6 @@ impl Turns {
         Turns { turns }
     }
 
-    /// The vector of the turns. It takes no memory.
-    pub fn into_vec(self) -> Vec<Turn>
-        ensures { result.items ≡ self }
-    {
-        self.turns
-    }
-
     /// Appends a turn, as the innermost one. After `Memory` the list is unchanged.
     pub fn push(&mut self, turn: Turn) -> Result<(), Memory>
         ensures ok { OnOk result (self.new ≡ self.old ++ turn ∷ []) }
