@@ -28,4 +28,4 @@ program (state_is.AtNextName o ds) = machine.at_next_name (opening o) (map decla
 program (state_is.AtType o ds) = machine.at_type (opening o) (map declared_tree ds.items.items)
 program (state_is.AtInit o ds ty) = machine.at_init (opening o) (map declared_tree ds.items.items) ty
 program (state_is.InInit o ds ty fs m) = machine.in_init (opening o) (map declared_tree ds.items.items) ty (forms fs.items) (mode m)
-program (state_is.InBody f a) = machine.in_body (front f) (levels a.outer.items) (stmt_trees a.stmts.items.items) (phase a.phase)
+program (state_is.InBody f b p) = machine.in_body (front f) (levels b.outer.items) (stmt_trees b.stmts.items.items) (phase p)

@@ -3,6 +3,7 @@
 use Rattle.std.specs.Prelude.{◌≡◌, List, [], ◌∷◌, Option, Some, None, Result, Ok, Err}
 use Rattle.vcp_base.specs.declared.spot.Spot.{Spot}
 use Rattle.st_tree.specs.ExprTree.{ExprTree}
+use Rattle.st_tree.specs.StmtTree.{StmtTrees}
 use Rattle.st_tree.specs.ExprViews.{expr_tree, expr_tree_or_none}
 use Rattle.st_tree.specs.StmtViews.{label_trees, stmt_trees, arm_trees, branch_trees}
 use Rattle.st_tree.specs.Items.{arm_items, branch_items}
@@ -21,7 +22,7 @@ use Rattle.st_parser.specs.declared.state.LabelPhase.{LabelPhase}
 use Rattle.st_parser.specs.declared.state.LabelPhase.TheVariants as label_is
 use Rattle.st_parser.specs.declared.state.Phase.{Phase}
 use Rattle.st_parser.specs.declared.state.Phase.TheVariants as phase_is
-use Rattle.st_parser.specs.declared.state.At.{At}
+use Rattle.st_parser.specs.declared.state.Bodies.{Bodies}
 use Rattle.st_parser.specs.FormViews.{forms, mode}
 use Rattle.st_parser.specs.StmtMachine as machine
 
@@ -80,8 +81,11 @@ phase (phase_is.LoopNamed l) = machine.loop_named (loop l)
 phase (phase_is.Labelling k ls p) = machine.labelling (selection k) (label_trees ls.items.items) (label_phase p)
 phase phase_is.Finished = machine.finished
 
-abbrev pub state : At → machine.At
-state a = record { outer = levels a.outer.items; stmts = stmt_trees a.stmts.items.items; phase = phase a.phase }
+abbrev pub within : List machine.Level → StmtTrees → Phase → machine.At
+within outer ss p = record { outer = outer; stmts = ss; phase = phase p }
+
+abbrev pub state : Bodies → Phase → machine.At
+state b = within (levels b.outer.items) (stmt_trees b.stmts.items.items)
 
 -- the result is that of the machine, unless memory ran out
 abbrev pub Gives : {A B : Type 0} → (A → B) → Result A SyntaxFault → Result B SyntaxFault → Type 0

@@ -1,30 +1,30 @@
 //! Declarations, read token by token.
 
-ghost use Rattle.std.specs.Prelude.{◌≡◌, [], ◌∷◌, ◌++◌, Result, Ok, Some, IfOk, cond, map};
+ghost use Rattle.std.specs.Prelude.{◌≡◌, [], ◌∷◌, ◌++◌, Ok, Some, IfOk, cond, map};
 ghost use Rattle.st_lexer.specs.Reading.{IsInside};
 ghost use Rattle.st_tree.specs.StmtTree.{no_stmts};
 ghost use Rattle.st_tree.specs.ExprViews.{expr_tree, expr_tree_or_none};
+ghost use Rattle.st_tree.specs.StmtViews.{stmt_trees};
 ghost use Rattle.st_tree.specs.ProgramViews.{declared_tree};
 ghost use Rattle.st_tree.specs.Spelling.{bytes_in};
-ghost use Rattle.st_parser.specs.declared.fault.SyntaxFault.{SyntaxFault as FaultOf};
 ghost use Rattle.st_parser.specs.Marks.{mark_of as mark, is as is_mark};
 ghost use Rattle.st_parser.specs.ExprMachine.{Context, want};
 ghost use Rattle.st_parser.specs.FormViews as form_view;
-ghost use Rattle.st_parser.specs.StateViews.{Gives, state};
+ghost use Rattle.st_parser.specs.StateViews.{Gives, levels, phase as phase_of};
 ghost use Rattle.st_parser.specs.ProgramViews as view;
-ghost use Rattle.st_parser.specs.StmtMachine.{At as AtOf, start, refused as refused_of, stmt_step as stmt_step_of};
+ghost use Rattle.st_parser.specs.StmtMachine.{start, refused as refused_of, stmt_step as stmt_step_of};
 ghost use Rattle.st_parser.specs.ProgramMachine as machine;
 
 use crate::expressions::{Progress, read};
 use crate::fault::SyntaxFault;
 use crate::forms::{Form, Mode};
 use crate::levels::nothing_read;
-use crate::marks::{Mark, is, mark_of};
+use crate::marks::{Mark, has, is, mark_of};
 use crate::names::{Source, name_of};
 use crate::refusals::{
     discard, discard_forms, give_up_block, give_up_names, refuse_names, refuse_program,
 };
-use crate::state::{At, Front, Opening, State};
+use crate::state::{Bodies, Front, Opening, Phase, State};
 use crate::statements::stmt_step;
 use st_lexer::Token;
 use st_tree::{Block, Blocks, Decl, Declared, DeclaredNames, Decls, Expr, Section};
@@ -121,13 +121,26 @@ fn decl_at(source: Source, opening: Opening, mark: Mark, t: Token) -> Result<Sta
     give_up_block(opening, SyntaxFault::Syntax { spot: t.spot })
 }
 
-// What reading a token of the body comes to.
-fn body_step(front: Front, at: Result<At, SyntaxFault>) -> Result<State, SyntaxFault>
-    ensures { (r : Result AtOf FaultOf) → Gives state at r →
-        Gives view.program result (machine.body_step (view.front front) r) }
+// A token of the body.
+fn body_step(
+    source: Source,
+    front: Front,
+    bodies: Bodies,
+    phase: Phase,
+    t: Token,
+) -> Result<State, SyntaxFault>
+    requires inside { IsInside source.text.now t }
+    ensures { Gives view.program result (machine.body_step (view.front front)
+        (stmt_step_of (record { bytes = bytes_in source.entry.text.now; most = source.entry.most }) (levels bodies.outer.items)
+        (stmt_trees bodies.stmts.items.items) (phase_of phase) t)) }
 {
-    match at {
-        Ok(at) => Ok(State::InBody { front, at }),
+    let mut bodies = bodies;
+    match stmt_step(source, &mut bodies, phase, t) {
+        Ok(phase) => Ok(State::InBody {
+            front,
+            bodies,
+            phase,
+        }),
         Err(fault) => Err(fault),
     }
 }
@@ -139,15 +152,14 @@ fn body_begins(source: Source, front: Front, t: Token) -> Result<State, SyntaxFa
         (machine.body_step (view.front front) (stmt_step_of (record { bytes = bytes_in source.entry.text.now; most = source.entry.most })
         [] no_stmts start t)) }
 {
-    let at = nothing_read(source.alloc);
-    body_step(front, stmt_step(source, at, t))
+    body_step(source, front, nothing_read(source.alloc), Phase::Start, t)
 }
 
 // The first token of a program.
 fn program_at(t: Token) -> Result<State, SyntaxFault>
     ensures { (c : Context) → Gives view.program result (machine.program_step c machine.at_program t) }
 {
-    if is(mark_of(t.tok), Mark::Program) {
+    if has(t, Mark::Program) {
         return Ok(State::AtName);
     }
     refuse_program(t)
@@ -159,7 +171,7 @@ fn name_at(source: Source, t: Token) -> Result<State, SyntaxFault>
     ensures { Gives view.program result
         (machine.program_step (record { bytes = bytes_in source.entry.text.now; most = source.entry.most }) machine.at_name t) }
 {
-    if is(mark_of(t.tok), Mark::Name) {
+    if has(t, Mark::Name) {
         let blocks = Blocks::new(source.alloc);
         return match name_of(source.alloc, source.text, t) {
             Ok(name) => {
@@ -239,7 +251,7 @@ fn next_name_at(
         (machine.program_step (record { bytes = bytes_in source.entry.text.now; most = source.entry.most })
         (machine.at_next_name (view.opening opening) (map declared_tree names.items.items)) t) }
 {
-    if is(mark_of(t.tok), Mark::Name) {
+    if has(t, Mark::Name) {
         return match with_name(source, names, t) {
             Ok(names) => Ok(State::AtComma { opening, names }),
             Err(Memory) => give_up_block(opening, SyntaxFault::Memory),
@@ -320,7 +332,7 @@ fn init_ends(
         (Ok (machine.at_decl (machine.with_decl (view.opening opening) (map declared_tree names.items.items) ty (Some (expr_tree init)))))
         (refused_of t)) }
 {
-    if is(mark_of(t.tok), Mark::Semi) {
+    if has(t, Mark::Semi) {
         return with_decl(opening, names, ty, Some(init));
     }
     discard(init);
@@ -385,6 +397,10 @@ pub fn program_step(source: Source, state: State, t: Token) -> Result<State, Syn
             forms,
             mode,
         } => init_at(source, opening, names, ty, forms, mode, t),
-        State::InBody { front, at } => body_step(front, stmt_step(source, at, t)),
+        State::InBody {
+            front,
+            bodies,
+            phase,
+        } => body_step(source, front, bodies, phase, t),
     }
 }

@@ -9,9 +9,9 @@ ghost use Rattle.st_parser.specs.StateViews as view;
 ghost use Rattle.st_parser.specs.StmtMachine as machine;
 
 use crate::fault::SyntaxFault;
-use crate::levels::{opened, reading, whole};
-use crate::refusals::{discard, give_up, refuse_end};
-use crate::state::{At, Body, Level, Purpose, Selection};
+use crate::levels::{expects, opened, whole};
+use crate::refusals::{discard, refuse_end};
+use crate::state::{Bodies, Body, Phase, Purpose, Selection};
 use st_lexer::Token;
 use st_tree::{Arm, Arms, Branch, Expr, Labels, Stmt, Stmts};
 use std::alloc::Global;
@@ -42,112 +42,99 @@ fn with_arm(arms: Arms, cond: Expr, body: Stmts, spot: Spot) -> Result<Arms, Mem
     Ok(arms)
 }
 
-/// ELSIF behind these statements of a body.
+/// ELSIF behind these statements of a body that ends.
 pub fn elsif_at(
     alloc: Global,
     body: Body,
-    outer: Vec<Level>,
-    before: Stmts,
+    bodies: &mut Bodies,
     stmts: Stmts,
     t: Token,
-) -> Result<At, SyntaxFault>
-    ensures { view.Gives view.state result (machine.elsif_at (view.body body) (view.levels outer.items) (stmt_trees before.items.items)
+) -> Result<Phase, SyntaxFault>
+    ensures { view.Gives (view.state bodies.new) result
+        (machine.elsif_at (view.body body) (view.levels bodies.old.outer.items) (stmt_trees bodies.old.stmts.items.items)
         (stmt_trees stmts.items.items) t) }
 {
     match body {
-        Body::OfArm { arms, cond, spot } => {
-            match with_arm(arms, cond, stmts, spot) {
-                Ok(arms) => {
-                    let purpose = Purpose::ToTest { arms, spot: t.spot };
-                    Ok(reading(alloc, outer, before, purpose))
-                }
-                Err(Memory) => give_up(outer, before, SyntaxFault::Memory),
-            }
-        }
+        Body::OfArm { arms, cond, spot } => match with_arm(arms, cond, stmts, spot) {
+            Ok(arms) => Ok(expects(alloc, Purpose::ToTest { arms, spot: t.spot })),
+            Err(Memory) => Err(SyntaxFault::Memory),
+        },
         Body::OfIfElse { .. }
         | Body::OfBranch { .. }
         | Body::OfCaseElse { .. }
-        | Body::OfLoop { .. } => { refuse_end(body, outer, before, stmts, t) }
+        | Body::OfLoop { .. } => { refuse_end(body, stmts, t) }
     }
 }
 
-/// ELSE behind these statements of a body.
+/// ELSE behind these statements of a body that ends.
 pub fn else_at(
     alloc: Global,
     body: Body,
-    outer: Vec<Level>,
-    before: Stmts,
+    bodies: &mut Bodies,
     stmts: Stmts,
     t: Token,
-) -> Result<At, SyntaxFault>
-    ensures { view.Gives view.state result (machine.else_at (view.body body) (view.levels outer.items) (stmt_trees before.items.items)
+) -> Result<Phase, SyntaxFault>
+    ensures { view.Gives (view.state bodies.new) result
+        (machine.else_at (view.body body) (view.levels bodies.old.outer.items) (stmt_trees bodies.old.stmts.items.items)
         (stmt_trees stmts.items.items) t) }
 {
     match body {
-        Body::OfArm { arms, cond, spot } => {
-            match with_arm(arms, cond, stmts, spot) {
-                Ok(arms) => opened(alloc, Body::OfIfElse { arms }, outer, before),
-                Err(Memory) => give_up(outer, before, SyntaxFault::Memory),
-            }
-        }
-        Body::OfBranch { selection, labels } => {
-            match with_branch(selection, labels, stmts) {
-                Ok(selection) => opened(alloc, Body::OfCaseElse { selection }, outer, before),
-                Err(Memory) => give_up(outer, before, SyntaxFault::Memory),
-            }
-        }
+        Body::OfArm { arms, cond, spot } => match with_arm(arms, cond, stmts, spot) {
+            Ok(arms) => opened(alloc, Body::OfIfElse { arms }, bodies),
+            Err(Memory) => Err(SyntaxFault::Memory),
+        },
+        Body::OfBranch { selection, labels } => match with_branch(selection, labels, stmts) {
+            Ok(selection) => opened(alloc, Body::OfCaseElse { selection }, bodies),
+            Err(Memory) => Err(SyntaxFault::Memory),
+        },
         Body::OfIfElse { .. } | Body::OfCaseElse { .. } | Body::OfLoop { .. } => {
-            refuse_end(body, outer, before, stmts, t)
+            refuse_end(body, stmts, t)
         }
     }
 }
 
-/// END_IF behind these statements of a body.
+/// END_IF behind these statements of a body that ends.
 pub fn end_if_at(
     body: Body,
-    outer: Vec<Level>,
-    before: Stmts,
+    bodies: &mut Bodies,
     stmts: Stmts,
     t: Token,
-) -> Result<At, SyntaxFault>
-    ensures { view.Gives view.state result (machine.end_if_at (view.body body) (view.levels outer.items) (stmt_trees before.items.items)
+) -> Result<Phase, SyntaxFault>
+    ensures { view.Gives (view.state bodies.new) result
+        (machine.end_if_at (view.body body) (view.levels bodies.old.outer.items) (stmt_trees bodies.old.stmts.items.items)
         (stmt_trees stmts.items.items) t) }
 {
     match body {
-        Body::OfArm { arms, cond, spot } => {
-            match with_arm(arms, cond, stmts, spot) {
-                Ok(arms) => whole(outer, before, Stmt::if_(arms, None)),
-                Err(Memory) => give_up(outer, before, SyntaxFault::Memory),
-            }
-        }
-        Body::OfIfElse { arms } => whole(outer, before, Stmt::if_(arms, Some(stmts))),
+        Body::OfArm { arms, cond, spot } => match with_arm(arms, cond, stmts, spot) {
+            Ok(arms) => whole(bodies, Stmt::if_(arms, None)),
+            Err(Memory) => Err(SyntaxFault::Memory),
+        },
+        Body::OfIfElse { arms } => whole(bodies, Stmt::if_(arms, Some(stmts))),
         Body::OfBranch { .. } | Body::OfCaseElse { .. } | Body::OfLoop { .. } => {
-            refuse_end(body, outer, before, stmts, t)
+            refuse_end(body, stmts, t)
         }
     }
 }
 
-/// END_CASE behind these statements of a body.
+/// END_CASE behind these statements of a body that ends.
 pub fn end_case_at(
     body: Body,
-    outer: Vec<Level>,
-    before: Stmts,
+    bodies: &mut Bodies,
     stmts: Stmts,
     t: Token,
-) -> Result<At, SyntaxFault>
-    ensures { view.Gives view.state result (machine.end_case_at (view.body body) (view.levels outer.items) (stmt_trees before.items.items)
+) -> Result<Phase, SyntaxFault>
+    ensures { view.Gives (view.state bodies.new) result
+        (machine.end_case_at (view.body body) (view.levels bodies.old.outer.items) (stmt_trees bodies.old.stmts.items.items)
         (stmt_trees stmts.items.items) t) }
 {
     match body {
-        Body::OfBranch { selection, labels } => {
-            match with_branch(selection, labels, stmts) {
-                Ok(all) => {
-                    let stmt = Stmt::case(all.on, all.branches, None, all.spot);
-                    whole(outer, before, stmt)
-                }
-                Err(Memory) => give_up(outer, before, SyntaxFault::Memory),
+        Body::OfBranch { selection, labels } => match with_branch(selection, labels, stmts) {
+            Ok(all) => {
+                let stmt = Stmt::case(all.on, all.branches, None, all.spot);
+                whole(bodies, stmt)
             }
-        }
+            Err(Memory) => Err(SyntaxFault::Memory),
+        },
         Body::OfCaseElse { selection } => {
             let stmt = Stmt::case(
                 selection.on,
@@ -155,23 +142,23 @@ pub fn end_case_at(
                 Some(stmts),
                 selection.spot,
             );
-            whole(outer, before, stmt)
+            whole(bodies, stmt)
         }
         Body::OfArm { .. } | Body::OfIfElse { .. } | Body::OfLoop { .. } => {
-            refuse_end(body, outer, before, stmts, t)
+            refuse_end(body, stmts, t)
         }
     }
 }
 
-/// END_FOR behind these statements of a body.
+/// END_FOR behind these statements of a body that ends.
 pub fn end_for_at(
     body: Body,
-    outer: Vec<Level>,
-    before: Stmts,
+    bodies: &mut Bodies,
     stmts: Stmts,
     t: Token,
-) -> Result<At, SyntaxFault>
-    ensures { view.Gives view.state result (machine.end_for_at (view.body body) (view.levels outer.items) (stmt_trees before.items.items)
+) -> Result<Phase, SyntaxFault>
+    ensures { view.Gives (view.state bodies.new) result
+        (machine.end_for_at (view.body body) (view.levels bodies.old.outer.items) (stmt_trees bodies.old.stmts.items.items)
         (stmt_trees stmts.items.items) t) }
 {
     match body {
@@ -182,11 +169,11 @@ pub fn end_for_at(
             by,
         } => {
             let stmt = Stmt::for_(head.name, head.name_spot, first, last, by, stmts, head.spot);
-            whole(outer, before, stmt)
+            whole(bodies, stmt)
         }
         Body::OfArm { .. }
         | Body::OfIfElse { .. }
         | Body::OfBranch { .. }
-        | Body::OfCaseElse { .. } => { refuse_end(body, outer, before, stmts, t) }
+        | Body::OfCaseElse { .. } => { refuse_end(body, stmts, t) }
     }
 }

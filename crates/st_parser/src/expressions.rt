@@ -130,22 +130,22 @@ fn go_on(
         (spec.go_on (goes t.tok) (view.forms forms.old.items) (expr_tree have) t) }
 {
     match goes_by(t.tok) {
-        Goes::Joins(op) => {
-            let left = close(alloc, forms, level_of(op), have)?;
-            opens(forms, Form::Left(op, left, t.spot))
-        }
-        Goes::Closes => {
-            let e = close(alloc, forms, ANY_LEVEL, have)?;
-            close_at(forms, e, t)
-        }
-        Goes::Parts => {
-            let e = close(alloc, forms, ANY_LEVEL, have)?;
-            part_at(forms, e, t)
-        }
-        Goes::Ends => {
-            let e = close(alloc, forms, ANY_LEVEL, have)?;
-            end_at(forms, e, t)
-        }
+        Goes::Joins(op) => match close(alloc, forms, level_of(op), have) {
+            Ok(left) => opens(forms, Form::Left(op, left, t.spot)),
+            Err(Memory) => Err(SyntaxFault::Memory),
+        },
+        Goes::Closes => match close(alloc, forms, ANY_LEVEL, have) {
+            Ok(e) => close_at(forms, e, t),
+            Err(Memory) => Err(SyntaxFault::Memory),
+        },
+        Goes::Parts => match close(alloc, forms, ANY_LEVEL, have) {
+            Ok(e) => part_at(forms, e, t),
+            Err(Memory) => Err(SyntaxFault::Memory),
+        },
+        Goes::Ends => match close(alloc, forms, ANY_LEVEL, have) {
+            Ok(e) => end_at(forms, e, t),
+            Err(Memory) => Err(SyntaxFault::Memory),
+        },
     }
 }
 
@@ -157,10 +157,10 @@ fn close_at(forms: &mut Vec<Form>, e: Expr, t: Token) -> Result<Progress, Syntax
     let taken = take(forms);
     match taken {
         Some(Form::Bracket) => Ok(Progress::On(Mode::Have(e))),
-        Some(Form::Arguments(name, spot, args)) => {
-            let args = extend(args, e)?;
-            Ok(Progress::On(Mode::Have(Expr::call(name, args, spot))))
-        }
+        Some(Form::Arguments(name, spot, args)) => match extend(args, e) {
+            Ok(args) => Ok(Progress::On(Mode::Have(Expr::call(name, args, spot)))),
+            Err(Memory) => Err(SyntaxFault::Memory),
+        },
         Some(Form::Sign(_, _)) | Some(Form::Left(_, _, _)) | None => { refuse_form(taken, e, t) }
     }
 }
@@ -172,10 +172,10 @@ fn part_at(forms: &mut Vec<Form>, e: Expr, t: Token) -> Result<Progress, SyntaxF
 {
     let taken = take(forms);
     match taken {
-        Some(Form::Arguments(name, spot, args)) => {
-            let args = extend(args, e)?;
-            opens(forms, Form::Arguments(name, spot, args))
-        }
+        Some(Form::Arguments(name, spot, args)) => match extend(args, e) {
+            Ok(args) => opens(forms, Form::Arguments(name, spot, args)),
+            Err(Memory) => Err(SyntaxFault::Memory),
+        },
         Some(Form::Bracket) | Some(Form::Sign(_, _)) | Some(Form::Left(_, _, _)) | None => {
             refuse_form(taken, e, t)
         }

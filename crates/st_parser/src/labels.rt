@@ -1,9 +1,10 @@
 //! Labels of the branches of a CASE.
 
-ghost use Rattle.std.specs.Prelude.{◌≡◌, ◌∷◌, [], ◌++◌, Result, None, Some, suc, cond};
+ghost use Rattle.std.specs.Prelude.{◌≡◌, ◌∷◌, [], ◌++◌, List, Result, None, Some, suc, cond};
 ghost use Rattle.vcp_base.specs.declared.spot.Spot.{Spot as SpotOf};
 ghost use Rattle.st_lexer.specs.Reading.{IsInside};
 ghost use Rattle.st_tree.specs.ExprTree.{ExprTree};
+ghost use Rattle.st_tree.specs.StmtTree.{StmtTrees};
 ghost use Rattle.st_tree.specs.ExprViews.{expr_tree};
 ghost use Rattle.st_tree.specs.StmtViews.{label_tree, label_trees, stmt_trees};
 ghost use Rattle.st_tree.specs.Spelling.{bytes_in};
@@ -15,12 +16,12 @@ ghost use Rattle.st_parser.specs.StmtMachine as machine;
 
 use crate::fault::SyntaxFault;
 use crate::levels::{depth_of_labels, opened};
-use crate::marks::{Begins, Mark, begins_by, is, mark_of};
+use crate::marks::{Begins, Mark, begins_by, has, is, mark_of};
 use crate::names::{Source, name_of};
 use crate::refusals::{discard, give_up_case, refuse_constant, refuse_number};
-use crate::state::{At, Body, LabelPhase, Level, Phase, Selection};
+use crate::state::{Bodies, Body, LabelPhase, Phase, Selection};
 use st_lexer::{Tok, Token};
-use st_tree::{Expr, Label, Labels, Stmts, UnOp};
+use st_tree::{Expr, Label, Labels, UnOp};
 use std::alloc::Global;
 use vcp_base::{Memory, Spot};
 
@@ -42,10 +43,10 @@ fn const_at(source: Source, t: Token) -> Result<Constant, SyntaxFault>
 {
     match begins_by(t.tok) {
         Begins::Literal { ty, value } => Ok(Constant::Whole(Expr::literal(ty, value, t.spot))),
-        Begins::Named => {
-            let name = name_of(source.alloc, source.text, t)?;
-            Ok(Constant::Whole(Expr::name(name, t.spot)))
-        }
+        Begins::Named => match name_of(source.alloc, source.text, t) {
+            Ok(name) => Ok(Constant::Whole(Expr::name(name, t.spot))),
+            Err(Memory) => Err(SyntaxFault::Memory),
+        },
         Begins::Sign(UnOp::Neg) => Ok(Constant::Negated(t.spot)),
         Begins::Sign(UnOp::Not) | Begins::Opens | Begins::Nothing => refuse_constant(t),
     }
@@ -59,7 +60,10 @@ fn number_at(alloc: Global, sign: Spot, t: Token) -> Result<Expr, SyntaxFault>
     match t.tok {
         Tok::Number { ty, value } => {
             let number = Expr::literal(ty, value, t.spot);
-            Ok(Expr::unary(alloc, UnOp::Neg, number, sign)?)
+            match Expr::unary(alloc, UnOp::Neg, number, sign) {
+                Ok(e) => Ok(e),
+                Err(Memory) => Err(SyntaxFault::Memory),
+            }
         }
         Tok::Name | Tok::Key(_) | Tok::Sym(_) => refuse_number(t),
     }
@@ -163,146 +167,124 @@ fn last_behind(
 
 // A CASE whose label has come so far, or the fault of its token.
 fn with_phase(
-    outer: Vec<Level>,
-    stmts: Stmts,
     selection: Selection,
     labels: Labels,
     phase: Result<LabelPhase, SyntaxFault>,
-) -> Result<At, SyntaxFault>
-    ensures { (r : Result machine.LabelPhase FaultOf) → view.Gives view.label_phase phase r →
-        view.Gives view.state result (machine.with_phase (view.levels outer.items) (stmt_trees stmts.items.items) (view.selection selection)
-        (label_trees labels.items.items) r) }
+) -> Result<Phase, SyntaxFault>
+    ensures { (outer : List machine.Level) → (ss : StmtTrees) → (r : Result machine.LabelPhase FaultOf) →
+        view.Gives view.label_phase phase r → view.Gives (view.within outer ss) result
+        (machine.with_phase outer ss (view.selection selection) (label_trees labels.items.items) r) }
 {
     match phase {
-        Ok(phase) => Ok(At {
-            outer,
-            stmts,
-            phase: Phase::Labelling {
-                selection,
-                labels,
-                phase,
-            },
+        Ok(phase) => Ok(Phase::Labelling {
+            selection,
+            labels,
+            phase,
         }),
-        Err(fault) => give_up_case(selection, labels, outer, stmts, fault),
+        Err(fault) => give_up_case(selection, labels, fault),
     }
 }
 
 // The token behind the first constant of a label.
 fn first_ends(
     alloc: Global,
-    outer: Vec<Level>,
-    stmts: Stmts,
+    bodies: &mut Bodies,
     selection: Selection,
     labels: Labels,
     first: Expr,
     t: Token,
-) -> Result<At, SyntaxFault>
-    ensures { view.Gives view.state result
+) -> Result<Phase, SyntaxFault>
+    ensures { view.Gives (view.state bodies.new) result
         (cond (is_mark (mark t.tok) Mark.DotDot)
-        (machine.to (view.levels outer.items) (stmt_trees stmts.items.items)
+        (machine.to (view.levels bodies.old.outer.items) (stmt_trees bodies.old.stmts.items.items)
         (machine.labelling (view.selection selection) (label_trees labels.items.items) (machine.last_wanted (expr_tree first))))
-        (machine.label_ends (view.levels outer.items) (stmt_trees stmts.items.items) (view.selection selection)
+        (machine.label_ends (view.levels bodies.old.outer.items) (stmt_trees bodies.old.stmts.items.items) (view.selection selection)
         (label_trees labels.items.items ++ record { first = expr_tree first; last = None } ∷ []) (mark t.tok) t)) }
 {
-    if is(mark_of(t.tok), Mark::DotDot) {
-        return Ok(At {
-            outer,
-            stmts,
-            phase: Phase::Labelling {
-                selection,
-                labels,
-                phase: LabelPhase::LastWanted { first },
-            },
+    if has(t, Mark::DotDot) {
+        return Ok(Phase::Labelling {
+            selection,
+            labels,
+            phase: LabelPhase::LastWanted { first },
         });
     }
     let label = Label { first, last: None };
-    label_ends(alloc, outer, stmts, selection, labels, label, t)
+    label_ends(alloc, bodies, selection, labels, label, t)
 }
 
 // The token behind a whole label.
 fn label_ends(
     alloc: Global,
-    outer: Vec<Level>,
-    stmts: Stmts,
+    bodies: &mut Bodies,
     selection: Selection,
     labels: Labels,
     label: Label,
     t: Token,
-) -> Result<At, SyntaxFault>
-    ensures { view.Gives view.state result
-        (machine.label_ends (view.levels outer.items) (stmt_trees stmts.items.items) (view.selection selection)
+) -> Result<Phase, SyntaxFault>
+    ensures { view.Gives (view.state bodies.new) result
+        (machine.label_ends (view.levels bodies.old.outer.items) (stmt_trees bodies.old.stmts.items.items) (view.selection selection)
         (label_trees labels.items.items ++ label_tree label ∷ []) (mark t.tok) t) }
 {
     let mut labels = labels;
     if let Err(Memory) = labels.push(label) {
-        return give_up_case(selection, labels, outer, stmts, SyntaxFault::Memory);
+        return give_up_case(selection, labels, SyntaxFault::Memory);
     }
     let mark = mark_of(t.tok);
     if is(mark, Mark::Comma) {
-        return Ok(At {
-            outer,
-            stmts,
-            phase: Phase::Labelling {
-                selection,
-                labels,
-                phase: LabelPhase::FirstWanted,
-            },
+        return Ok(Phase::Labelling {
+            selection,
+            labels,
+            phase: LabelPhase::FirstWanted,
         });
     }
     if is(mark, Mark::Colon) {
-        return opened(alloc, Body::OfBranch { selection, labels }, outer, stmts);
+        return opened(alloc, Body::OfBranch { selection, labels }, bodies);
     }
-    give_up_case(
-        selection,
-        labels,
-        outer,
-        stmts,
-        SyntaxFault::Syntax { spot: t.spot },
-    )
+    give_up_case(selection, labels, SyntaxFault::Syntax { spot: t.spot })
 }
 
 /// A token of a label.
 pub fn label_step(
     source: Source,
-    outer: Vec<Level>,
-    stmts: Stmts,
+    bodies: &mut Bodies,
     selection: Selection,
     labels: Labels,
     phase: LabelPhase,
     t: Token,
-) -> Result<At, SyntaxFault>
+) -> Result<Phase, SyntaxFault>
     requires inside { IsInside source.text.now t }
-    ensures { view.Gives view.state result
-        (machine.label_step (record { bytes = bytes_in source.entry.text.now; most = source.entry.most }) (view.levels outer.items)
-        (stmt_trees stmts.items.items) (view.selection selection) (label_trees labels.items.items) (view.label_phase phase) t) }
+    ensures { view.Gives (view.state bodies.new) result
+        (machine.label_step (record { bytes = bytes_in source.entry.text.now; most = source.entry.most })
+        (view.levels bodies.old.outer.items) (stmt_trees bodies.old.stmts.items.items) (view.selection selection)
+        (label_trees labels.items.items) (view.label_phase phase) t) }
 {
-    let depth = depth_of_labels(&outer);
+    let depth = depth_of_labels(bodies);
     match phase {
         LabelPhase::FirstWanted => {
             let phase = first_at(source, depth, t);
-            with_phase(outer, stmts, selection, labels, phase)
+            with_phase(selection, labels, phase)
         }
         LabelPhase::FirstNegated { sign } => {
             let phase = first_behind(source, depth, sign, t);
-            with_phase(outer, stmts, selection, labels, phase)
+            with_phase(selection, labels, phase)
         }
         LabelPhase::FirstRead { first } => {
-            first_ends(source.alloc, outer, stmts, selection, labels, first, t)
+            first_ends(source.alloc, bodies, selection, labels, first, t)
         }
         LabelPhase::LastWanted { first } => {
             let phase = last_at(source, depth, first, t);
-            with_phase(outer, stmts, selection, labels, phase)
+            with_phase(selection, labels, phase)
         }
         LabelPhase::LastNegated { first, sign } => {
             let phase = last_behind(source, depth, first, sign, t);
-            with_phase(outer, stmts, selection, labels, phase)
+            with_phase(selection, labels, phase)
         }
         LabelPhase::LastRead { first, last } => {
             let label = Label {
                 first,
                 last: Some(last),
             };
-            label_ends(source.alloc, outer, stmts, selection, labels, label, t)
+            label_ends(source.alloc, bodies, selection, labels, label, t)
         }
     }
 }

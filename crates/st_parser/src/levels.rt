@@ -9,10 +9,10 @@ ghost use Rattle.st_parser.specs.StmtMachine as machine;
 
 use crate::fault::SyntaxFault;
 use crate::forms::Mode;
-use crate::refusals::give_up;
-use crate::state::{At, Body, Level, Phase, Purpose};
+use crate::state::{Bodies, Body, Level, Phase, Purpose};
 use st_tree::{Stmt, Stmts};
 use std::alloc::Global;
+use std::mem;
 use vcp_base::Memory;
 
 /// Takes the innermost level off.
@@ -31,52 +31,39 @@ pub fn enter(outer: &mut Vec<Level>, level: Level) -> Result<(), Memory>
 }
 
 /// How many bodies are open.
-pub fn depth(outer: &[Level]) -> usize
-    ensures { result ≡ length (view.levels outer.now) }
+pub fn depth(bodies: &Bodies) -> usize
+    ensures { result ≡ length (view.levels bodies.now.outer.items) }
 {
-    outer.len()
+    bodies.outer.len()
 }
 
 /// The depth of the labels of the CASE that is read last.
-pub fn depth_of_labels(outer: &[Level]) -> usize
-    ensures { result ≡ suc (length (view.levels outer.now)) }
+pub fn depth_of_labels(bodies: &Bodies) -> usize
+    ensures { result ≡ suc (length (view.levels bodies.now.outer.items)) }
 {
-    outer.len() + 1
+    bodies.outer.len() + 1
 }
 
-/// A body is opened behind these statements.
-pub fn opened(
-    alloc: Global,
-    body: Body,
-    outer: Vec<Level>,
-    before: Stmts,
-) -> Result<At, SyntaxFault>
-    ensures { view.Gives view.state result (machine.opened (view.body body) (view.levels outer.items) (stmt_trees before.items.items)) }
+/// A body is opened behind the statements of the innermost one.
+pub fn opened(alloc: Global, body: Body, bodies: &mut Bodies) -> Result<Phase, SyntaxFault>
+    ensures { view.Gives (view.state bodies.new) result
+        (machine.opened (view.body body) (view.levels bodies.old.outer.items) (stmt_trees bodies.old.stmts.items.items)) }
 {
-    let mut outer = outer;
-    let stmts = Stmts::new(alloc);
-    match enter(&mut outer, Level { body, before }) {
-        Ok(()) => Ok(At {
-            outer,
-            stmts,
-            phase: Phase::Start,
-        }),
-        Err(Memory) => give_up(outer, stmts, SyntaxFault::Memory),
+    let before = mem::replace(&mut bodies.stmts, Stmts::new(alloc));
+    match enter(&mut bodies.outer, Level { body, before }) {
+        Ok(()) => Ok(Phase::Start),
+        Err(Memory) => Err(SyntaxFault::Memory),
     }
 }
 
 /// A statement is whole up to its semicolon.
-pub fn whole(outer: Vec<Level>, before: Stmts, stmt: Stmt) -> Result<At, SyntaxFault>
-    ensures { view.Gives view.state result (machine.whole (view.levels outer.items) (stmt_trees before.items.items) (stmt_tree stmt)) }
+pub fn whole(bodies: &mut Bodies, stmt: Stmt) -> Result<Phase, SyntaxFault>
+    ensures { view.Gives (view.state bodies.new) result
+        (machine.whole (view.levels bodies.old.outer.items) (stmt_trees bodies.old.stmts.items.items) (stmt_tree stmt)) }
 {
-    let mut stmts = before;
-    match stmts.push(stmt) {
-        Ok(()) => Ok(At {
-            outer,
-            stmts,
-            phase: Phase::Closed,
-        }),
-        Err(Memory) => give_up(outer, stmts, SyntaxFault::Memory),
+    match bodies.stmts.push(stmt) {
+        Ok(()) => Ok(Phase::Closed),
+        Err(Memory) => Err(SyntaxFault::Memory),
     }
 }
 
@@ -91,30 +78,13 @@ pub fn expects(alloc: Global, purpose: Purpose) -> Phase
     }
 }
 
-/// An expression begins.
-pub fn reading(alloc: Global, outer: Vec<Level>, stmts: Stmts, purpose: Purpose) -> At
-    ensures { view.state result ≡ record {
-      outer = view.levels outer.items;
-      stmts = stmt_trees stmts.items.items;
-      phase = machine.reading (view.purpose purpose) [] want;
-    } }
-{
-    At {
-        outer,
-        stmts,
-        phase: expects(alloc, purpose),
-    }
-}
-
 /// The place before the first statement of a program.
-pub fn nothing_read(alloc: Global) -> At
+pub fn nothing_read(alloc: Global) -> Bodies
     ensures outer { view.levels result.outer.items ≡ [] }
     ensures stmts { stmt_trees result.stmts.items.items ≡ no_stmts }
-    ensures phase { view.phase result.phase ≡ machine.start }
 {
-    At {
+    Bodies {
         outer: Vec::new(alloc),
         stmts: Stmts::new(alloc),
-        phase: Phase::Start,
     }
 }

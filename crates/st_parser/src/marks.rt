@@ -3,7 +3,7 @@
 ghost use Rattle.std.specs.Prelude.{◌≡◌};
 ghost use Rattle.st_parser.specs.Marks as spec;
 
-use st_lexer::{Key, Sym, Tok};
+use st_lexer::{Key, Sym, Tok, Token};
 use st_tree::{BinOp, UnOp};
 use vcp_base::Ty;
 
@@ -203,4 +203,11 @@ pub fn is(a: Mark, b: Mark) -> bool
     ensures { result ≡ spec.is a b }
 {
     mark_number(a) == mark_number(b)
+}
+
+/// Whether a token is this mark.
+pub fn has(t: Token, mark: Mark) -> bool
+    ensures { result ≡ spec.is (spec.mark_of t.tok) mark }
+{
+    is(mark_of(t.tok), mark)
 }

@@ -18,23 +18,18 @@ use crate::fault::SyntaxFault;
 use crate::levels::leave;
 use crate::names::Source;
 use crate::refusals::discard_phase;
-use crate::state::{At, Front, Level, Phase, State};
+use crate::state::{Bodies, Front, Phase, State};
 use st_lexer::Tokens;
-use st_tree::{Program, Stmts, spelling_begins};
+use st_tree::{Program, spelling_begins};
 use std::alloc::Global;
 use vcp_base::{MOST_DEPTH, Spot};
 
 // The program whose END_PROGRAM was read, where no body is open.
-fn root_finish(
-    end: Spot,
-    front: Front,
-    outer: Vec<Level>,
-    stmts: Stmts,
-) -> Result<Program, SyntaxFault>
+fn root_finish(end: Spot, front: Front, bodies: Bodies) -> Result<Program, SyntaxFault>
     ensures { Gives program_tree result
-        (machine.finish end (machine.in_body (view.front front) (levels outer.items) (stmt_trees stmts.items.items) finished)) }
+        (machine.finish end (machine.in_body (view.front front) (levels bodies.outer.items) (stmt_trees bodies.stmts.items.items) finished)) }
 {
-    let mut outer = outer;
+    let Bodies { mut outer, stmts } = bodies;
     match leave(&mut outer) {
         None => Ok(Program {
             name: front.name,
@@ -49,17 +44,17 @@ fn root_finish(
 }
 
 // What is whole where the tokens end behind this place of a body.
-fn body_finish(end: Spot, front: Front, at: At) -> Result<Program, SyntaxFault>
+fn body_finish(
+    end: Spot,
+    front: Front,
+    bodies: Bodies,
+    phase: Phase,
+) -> Result<Program, SyntaxFault>
     ensures { Gives program_tree result
-        (machine.finish end (machine.in_body (view.front front) (levels at.outer.items) (stmt_trees at.stmts.items.items) (phase_of at.phase))) }
+        (machine.finish end (machine.in_body (view.front front) (levels bodies.outer.items) (stmt_trees bodies.stmts.items.items) (phase_of phase))) }
 {
-    let At {
-        outer,
-        stmts,
-        phase,
-    } = at;
     match phase {
-        Phase::Finished => root_finish(end, front, outer, stmts),
+        Phase::Finished => root_finish(end, front, bodies),
         Phase::Start
         | Phase::Named { .. }
         | Phase::Reading { .. }
@@ -78,7 +73,11 @@ fn finish(end: Spot, state: State) -> Result<Program, SyntaxFault>
     ensures { Gives program_tree result (machine.finish end (view.program state)) }
 {
     match state {
-        State::InBody { front, at } => body_finish(end, front, at),
+        State::InBody {
+            front,
+            bodies,
+            phase,
+        } => body_finish(end, front, bodies, phase),
         State::AtProgram
         | State::AtName
         | State::AtBlock { .. }

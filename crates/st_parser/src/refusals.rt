@@ -10,7 +10,7 @@ use crate::expressions::Progress;
 use crate::fault::SyntaxFault;
 use crate::forms::Form;
 use crate::labels::Constant;
-use crate::state::{At, Body, LabelPhase, Level, Opening, Phase, Purpose, Selection, State};
+use crate::state::{Body, LabelPhase, Opening, Phase, Purpose, Selection, State};
 use st_lexer::Token;
 use st_tree::{DeclaredNames, Expr, Labels, Stmts};
 
@@ -39,50 +39,33 @@ pub fn discard_forms(forms: Vec<Form>) {
     drop(forms);
 }
 
-/// What is read of the bodies is given up.
-pub fn give_up(outer: Vec<Level>, stmts: Stmts, fault: SyntaxFault) -> Result<At, SyntaxFault>
-    ensures { result ≡ Err fault }
-{
-    drop(outer);
-    drop(stmts);
-    Err(fault)
-}
-
 /// A token that goes on with nothing that is read of the bodies.
-pub fn refuse(outer: Vec<Level>, stmts: Stmts, t: Token) -> Result<At, SyntaxFault>
+pub fn refuse(t: Token) -> Result<Phase, SyntaxFault>
     ensures { result ≡ Err (Syntax t.spot) }
 {
-    give_up(outer, stmts, SyntaxFault::Syntax { spot: t.spot })
+    Err(SyntaxFault::Syntax { spot: t.spot })
 }
 
-/// A token that does not end the body.
-pub fn refuse_end(
-    body: Body,
-    outer: Vec<Level>,
-    before: Stmts,
-    stmts: Stmts,
-    t: Token,
-) -> Result<At, SyntaxFault>
+/// A token that does not end the body, which is given up.
+pub fn refuse_end(body: Body, stmts: Stmts, t: Token) -> Result<Phase, SyntaxFault>
     ensures { result ≡ Err (Syntax t.spot) }
 {
     drop(body);
-    drop(before);
-    refuse(outer, stmts, t)
+    drop(stmts);
+    refuse(t)
 }
 
-/// A CASE is given up, with what is read of the bodies round it.
+/// A CASE is given up.
 pub fn give_up_case(
     selection: Selection,
     labels: Labels,
-    outer: Vec<Level>,
-    stmts: Stmts,
     fault: SyntaxFault,
-) -> Result<At, SyntaxFault>
+) -> Result<Phase, SyntaxFault>
     ensures { result ≡ Err fault }
 {
     drop(selection);
     drop(labels);
-    give_up(outer, stmts, fault)
+    Err(fault)
 }
 
 /// A token that goes on with no form of an expression.

@@ -120,13 +120,12 @@ pub enum Phase {
     Finished,
 }
 
-/// The levels that are open, the statements so far of the innermost body, and what was read last.
+/// The levels that are open, and the statements so far of the innermost body.
 #[derive(Drop)]
-pub struct At {
+pub struct Bodies {
     /// The last one is the innermost.
     pub outer: Vec<Level>,
     pub stmts: Stmts,
-    pub phase: Phase,
 }
 
 /// The program's name, and the blocks that are whole.
@@ -195,6 +194,7 @@ pub enum State {
     /// A part of the body.
     InBody {
         front: Front,
-        at: At,
+        bodies: Bodies,
+        phase: Phase,
     },
 }

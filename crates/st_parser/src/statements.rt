@@ -1,8 +1,9 @@
 //! Statements, read token by token.
 
-ghost use Rattle.std.specs.Prelude.{◌≡◌, [], ◌∷◌, Option, length};
+ghost use Rattle.std.specs.Prelude.{◌≡◌, [], ◌∷◌, List, Option, length};
 ghost use Rattle.st_lexer.specs.Reading.{IsInside};
 ghost use Rattle.st_tree.specs.ExprTree.{ExprTree};
+ghost use Rattle.st_tree.specs.StmtTree.{StmtTrees};
 ghost use Rattle.st_tree.specs.ExprViews.{expr_tree};
 ghost use Rattle.st_tree.specs.StmtViews.{arm_trees, stmt_trees};
 ghost use Rattle.st_tree.specs.Items.{arm_items};
@@ -18,43 +19,42 @@ use crate::expressions::{Progress, read};
 use crate::fault::SyntaxFault;
 use crate::forms::{Form, Mode};
 use crate::labels::label_step;
-use crate::levels::{depth, expects, leave, opened, reading};
-use crate::marks::{Mark, is, mark_of};
+use crate::levels::{depth, expects, leave, opened};
+use crate::marks::{Mark, has, is, mark_of};
 use crate::names::{Source, name_of};
 use crate::refusals::{
-    discard, discard_forms, discard_label, discard_phase, discard_purpose, give_up, refuse,
-    refuse_end,
+    discard, discard_forms, discard_label, discard_phase, discard_purpose, refuse, refuse_end,
 };
-use crate::state::{At, Body, LabelPhase, Level, Loop, Phase, Purpose, Selection};
+use crate::state::{Bodies, Body, LabelPhase, Level, Loop, Phase, Purpose, Selection};
 use st_lexer::Token;
 use st_tree::{Arms, Branches, Expr, Labels, Stmt, Stmts};
 use std::alloc::Global;
+use std::mem;
 use vcp_base::{Memory, Spot, Text};
 
-// A label of the next branch has come so far, behind the statements of a body.
+// A label of the next branch has come so far, behind the statements of a body that ends.
 fn next_label_in(
     source: Source,
     body: Body,
-    outer: Vec<Level>,
-    before: Stmts,
+    bodies: &mut Bodies,
     stmts: Stmts,
     phase: LabelPhase,
     t: Token,
-) -> Result<At, SyntaxFault>
+) -> Result<Phase, SyntaxFault>
     requires inside { IsInside source.text.now t }
-    ensures { view.Gives view.state result
+    ensures { view.Gives (view.state bodies.new) result
         (machine.next_label_in (record { bytes = bytes_in source.entry.text.now; most = source.entry.most }) (view.body body)
-        (view.levels outer.items) (stmt_trees before.items.items) (stmt_trees stmts.items.items) (view.label_phase phase) t) }
+        (view.levels bodies.old.outer.items) (stmt_trees bodies.old.stmts.items.items) (stmt_trees stmts.items.items) (view.label_phase phase) t) }
 {
     match body {
         Body::OfBranch { selection, labels } => match with_branch(selection, labels, stmts) {
             Ok(selection) => {
                 let labels = Labels::new(source.alloc);
-                label_step(source, outer, before, selection, labels, phase, t)
+                label_step(source, bodies, selection, labels, phase, t)
             }
             Err(Memory) => {
                 discard_label(phase);
-                give_up(outer, before, SyntaxFault::Memory)
+                Err(SyntaxFault::Memory)
             }
         },
         Body::OfArm { .. }
@@ -62,7 +62,7 @@ fn next_label_in(
         | Body::OfCaseElse { .. }
         | Body::OfLoop { .. } => {
             discard_label(phase);
-            refuse_end(body, outer, before, stmts, t)
+            refuse_end(body, stmts, t)
         }
     }
 }
@@ -70,296 +70,245 @@ fn next_label_in(
 // A label of the next branch has come so far, behind these statements.
 fn next_label(
     source: Source,
-    outer: Vec<Level>,
-    stmts: Stmts,
+    bodies: &mut Bodies,
     phase: LabelPhase,
     t: Token,
-) -> Result<At, SyntaxFault>
+) -> Result<Phase, SyntaxFault>
     requires inside { IsInside source.text.now t }
-    ensures { view.Gives view.state result
-        (machine.next_label (record { bytes = bytes_in source.entry.text.now; most = source.entry.most }) (view.levels outer.items)
-        (stmt_trees stmts.items.items) (view.label_phase phase) t) }
+    ensures { view.Gives (view.state bodies.new) result
+        (machine.next_label (record { bytes = bytes_in source.entry.text.now; most = source.entry.most })
+        (view.levels bodies.old.outer.items) (stmt_trees bodies.old.stmts.items.items) (view.label_phase phase) t) }
 {
-    let mut outer = outer;
-    match leave(&mut outer) {
+    match leave(&mut bodies.outer) {
         None => {
             discard_label(phase);
-            refuse(outer, stmts, t)
+            refuse(t)
         }
-        Some(level) => next_label_in(source, level.body, outer, level.before, stmts, phase, t),
+        Some(level) => {
+            let stmts = mem::replace(&mut bodies.stmts, level.before);
+            next_label_in(source, level.body, bodies, stmts, phase, t)
+        }
     }
 }
 
-// A token that ends the body of a level, or begins the next branch.
+// A token that ends a body behind these statements, or begins the next branch.
 fn level_ends(
     source: Source,
-    level: Level,
-    outer: Vec<Level>,
+    body: Body,
+    bodies: &mut Bodies,
     stmts: Stmts,
     mark: Mark,
     t: Token,
-) -> Result<At, SyntaxFault>
+) -> Result<Phase, SyntaxFault>
     requires inside { IsInside source.text.now t }
-    ensures { view.Gives view.state result
-        (machine.body_ends (record { bytes = bytes_in source.entry.text.now; most = source.entry.most }) (view.level level ∷ view.levels outer.items)
+    ensures { view.Gives (view.state bodies.new) result
+        (machine.body_ends (record { bytes = bytes_in source.entry.text.now; most = source.entry.most })
+        (record { body = view.body body; before = stmt_trees bodies.old.stmts.items.items } ∷ view.levels bodies.old.outer.items)
         (stmt_trees stmts.items.items) mark t) }
 {
-    let alloc = source.alloc;
-    let Level { body, before } = level;
     if is(mark, Mark::Elsif) {
-        return elsif_at(alloc, body, outer, before, stmts, t);
+        return elsif_at(source.alloc, body, bodies, stmts, t);
     }
     if is(mark, Mark::Else) {
-        return else_at(alloc, body, outer, before, stmts, t);
+        return else_at(source.alloc, body, bodies, stmts, t);
     }
     if is(mark, Mark::EndIf) {
-        return end_if_at(body, outer, before, stmts, t);
+        return end_if_at(body, bodies, stmts, t);
     }
     if is(mark, Mark::EndCase) {
-        return end_case_at(body, outer, before, stmts, t);
+        return end_case_at(body, bodies, stmts, t);
     }
     if is(mark, Mark::EndFor) {
-        return end_for_at(body, outer, before, stmts, t);
+        return end_for_at(body, bodies, stmts, t);
     }
-    let phase = LabelPhase::FirstWanted;
-    next_label_in(source, body, outer, before, stmts, phase, t)
+    next_label_in(source, body, bodies, stmts, LabelPhase::FirstWanted, t)
 }
 
 // A token that ends the program's body, where no other is open.
-fn root_ends(outer: Vec<Level>, stmts: Stmts, mark: Mark, t: Token) -> Result<At, SyntaxFault>
-    requires { view.levels outer.items ≡ [] }
-    ensures { (c : Context) → view.Gives view.state result (machine.body_ends c [] (stmt_trees stmts.items.items) mark t) }
+fn root_ends(mark: Mark, t: Token) -> Result<Phase, SyntaxFault>
+    ensures { (c : Context) → (ss : StmtTrees) → view.Gives (view.within [] ss) result (machine.body_ends c [] ss mark t) }
 {
     if is(mark, Mark::EndProgram) {
-        return Ok(At {
-            outer,
-            stmts,
-            phase: Phase::Finished,
-        });
+        return Ok(Phase::Finished);
     }
-    refuse(outer, stmts, t)
+    refuse(t)
 }
 
 // A token that ends the innermost body, or begins the next branch.
 fn body_ends(
     source: Source,
-    outer: Vec<Level>,
-    stmts: Stmts,
+    bodies: &mut Bodies,
     mark: Mark,
     t: Token,
-) -> Result<At, SyntaxFault>
+) -> Result<Phase, SyntaxFault>
     requires inside { IsInside source.text.now t }
-    ensures { view.Gives view.state result
-        (machine.body_ends (record { bytes = bytes_in source.entry.text.now; most = source.entry.most }) (view.levels outer.items)
-        (stmt_trees stmts.items.items) mark t) }
+    ensures { view.Gives (view.state bodies.new) result
+        (machine.body_ends (record { bytes = bytes_in source.entry.text.now; most = source.entry.most })
+        (view.levels bodies.old.outer.items) (stmt_trees bodies.old.stmts.items.items) mark t) }
 {
-    let mut outer = outer;
-    match leave(&mut outer) {
-        None => root_ends(outer, stmts, mark, t),
-        Some(level) => level_ends(source, level, outer, stmts, mark, t),
+    match leave(&mut bodies.outer) {
+        None => root_ends(mark, t),
+        Some(level) => {
+            let stmts = mem::replace(&mut bodies.stmts, level.before);
+            level_ends(source, level.body, bodies, stmts, mark, t)
+        }
     }
 }
 
 // The first token of a statement, after which the phase is this one, where the token is not too deep.
-fn begun(
-    most: usize,
-    outer: Vec<Level>,
-    stmts: Stmts,
-    phase: Phase,
-    t: Token,
-) -> Result<At, SyntaxFault>
-    ensures { view.Gives view.state result
-        (no_deeper most (length (view.levels outer.items)) t (machine.to (view.levels outer.items) (stmt_trees stmts.items.items) (view.phase phase))) }
+fn begun(most: usize, bodies: &Bodies, phase: Phase, t: Token) -> Result<Phase, SyntaxFault>
+    ensures { view.Gives (view.state bodies.now) result (no_deeper most (length (view.levels bodies.now.outer.items)) t
+        (machine.to (view.levels bodies.now.outer.items) (stmt_trees bodies.now.stmts.items.items) (view.phase phase))) }
 {
-    if depth(&outer) > most {
+    if depth(bodies) > most {
         discard_phase(phase);
-        return give_up(outer, stmts, SyntaxFault::Depth { spot: t.spot });
+        return Err(SyntaxFault::Depth { spot: t.spot });
     }
-    Ok(At {
-        outer,
-        stmts,
-        phase,
-    })
+    Ok(phase)
 }
 
 // A token where a statement may begin.
-fn start_at(
-    source: Source,
-    outer: Vec<Level>,
-    stmts: Stmts,
-    mark: Mark,
-    t: Token,
-) -> Result<At, SyntaxFault>
+fn start_at(source: Source, bodies: &mut Bodies, mark: Mark, t: Token) -> Result<Phase, SyntaxFault>
     requires inside { IsInside source.text.now t }
-    ensures { view.Gives view.state result
-        (machine.start_at (record { bytes = bytes_in source.entry.text.now; most = source.entry.most }) (view.levels outer.items)
-        (stmt_trees stmts.items.items) mark t) }
+    ensures { view.Gives (view.state bodies.new) result
+        (machine.start_at (record { bytes = bytes_in source.entry.text.now; most = source.entry.most })
+        (view.levels bodies.old.outer.items) (stmt_trees bodies.old.stmts.items.items) mark t) }
 {
     if is(mark, Mark::Semi) {
-        return begun(source.most, outer, stmts, Phase::Start, t);
+        return begun(source.most, bodies, Phase::Start, t);
     }
     if is(mark, Mark::Name) {
         return match name_of(source.alloc, source.text, t) {
             Ok(name) => {
                 let phase = Phase::Named { name, spot: t.spot };
-                begun(source.most, outer, stmts, phase, t)
+                begun(source.most, bodies, phase, t)
             }
-            Err(Memory) => give_up(outer, stmts, SyntaxFault::Memory),
+            Err(Memory) => Err(SyntaxFault::Memory),
         };
     }
     if is(mark, Mark::If) {
         let arms = Arms::new(source.alloc);
         let purpose = Purpose::ToTest { arms, spot: t.spot };
-        return begun(source.most, outer, stmts, expects(source.alloc, purpose), t);
+        return begun(source.most, bodies, expects(source.alloc, purpose), t);
     }
     if is(mark, Mark::Case) {
         let purpose = Purpose::ToSelect { spot: t.spot };
-        return begun(source.most, outer, stmts, expects(source.alloc, purpose), t);
+        return begun(source.most, bodies, expects(source.alloc, purpose), t);
     }
     if is(mark, Mark::For) {
-        let phase = Phase::LoopBegun { spot: t.spot };
-        return begun(source.most, outer, stmts, phase, t);
+        return begun(source.most, bodies, Phase::LoopBegun { spot: t.spot }, t);
     }
-    body_ends(source, outer, stmts, mark, t)
+    body_ends(source, bodies, mark, t)
 }
 
 // A token behind a name that begins a statement, or a label of the next branch.
 fn named_at(
     source: Source,
-    outer: Vec<Level>,
-    stmts: Stmts,
+    bodies: &mut Bodies,
     name: Text,
     spot: Spot,
     t: Token,
-) -> Result<At, SyntaxFault>
+) -> Result<Phase, SyntaxFault>
     requires inside { IsInside source.text.now t }
-    ensures { view.Gives view.state result
-        (machine.named_at (record { bytes = bytes_in source.entry.text.now; most = source.entry.most }) (view.levels outer.items)
-        (stmt_trees stmts.items.items) name spot (mark t.tok) t) }
+    ensures { view.Gives (view.state bodies.new) result
+        (machine.named_at (record { bytes = bytes_in source.entry.text.now; most = source.entry.most })
+        (view.levels bodies.old.outer.items) (stmt_trees bodies.old.stmts.items.items) name spot (mark t.tok) t) }
 {
-    if is(mark_of(t.tok), Mark::Assign) {
-        let purpose = Purpose::ToAssign { name, spot };
-        return Ok(reading(source.alloc, outer, stmts, purpose));
+    if has(t, Mark::Assign) {
+        return Ok(expects(source.alloc, Purpose::ToAssign { name, spot }));
     }
     let first = Expr::name(name, spot);
-    next_label(source, outer, stmts, LabelPhase::FirstRead { first }, t)
+    next_label(source, bodies, LabelPhase::FirstRead { first }, t)
 }
 
 // The token behind the value of an assignment.
 fn assigned(
-    outer: Vec<Level>,
-    stmts: Stmts,
+    bodies: &mut Bodies,
     name: Text,
     spot: Spot,
     e: Expr,
     t: Token,
-) -> Result<At, SyntaxFault>
-    ensures { view.Gives view.state result
-        (machine.take (view.levels outer.items) (stmt_trees stmts.items.items) (machine.to_assign name spot) (expr_tree e) (mark t.tok) t) }
+) -> Result<Phase, SyntaxFault>
+    ensures { view.Gives (view.state bodies.new) result
+        (machine.take (view.levels bodies.old.outer.items) (stmt_trees bodies.old.stmts.items.items) (machine.to_assign name spot)
+        (expr_tree e) (mark t.tok) t) }
 {
-    if is(mark_of(t.tok), Mark::Semi) {
-        let mut stmts = stmts;
-        return match stmts.push(Stmt::assign(name, e, spot)) {
-            Ok(()) => Ok(At {
-                outer,
-                stmts,
-                phase: Phase::Start,
-            }),
-            Err(Memory) => give_up(outer, stmts, SyntaxFault::Memory),
+    if has(t, Mark::Semi) {
+        return match bodies.stmts.push(Stmt::assign(name, e, spot)) {
+            Ok(()) => Ok(Phase::Start),
+            Err(Memory) => Err(SyntaxFault::Memory),
         };
     }
     discard(e);
-    refuse(outer, stmts, t)
+    refuse(t)
 }
 
 // The token behind the condition of an IF or ELSIF.
 fn tested(
     alloc: Global,
-    outer: Vec<Level>,
-    stmts: Stmts,
+    bodies: &mut Bodies,
     arms: Arms,
     spot: Spot,
     cond: Expr,
     t: Token,
-) -> Result<At, SyntaxFault>
-    ensures { view.Gives view.state result
-        (machine.take (view.levels outer.items) (stmt_trees stmts.items.items) (machine.to_test (arm_trees (arm_items arms)) spot) (expr_tree cond)
-        (mark t.tok) t) }
+) -> Result<Phase, SyntaxFault>
+    ensures { view.Gives (view.state bodies.new) result
+        (machine.take (view.levels bodies.old.outer.items) (stmt_trees bodies.old.stmts.items.items)
+        (machine.to_test (arm_trees (arm_items arms)) spot) (expr_tree cond) (mark t.tok) t) }
 {
-    if is(mark_of(t.tok), Mark::Then) {
-        return opened(alloc, Body::OfArm { arms, cond, spot }, outer, stmts);
+    if has(t, Mark::Then) {
+        return opened(alloc, Body::OfArm { arms, cond, spot }, bodies);
     }
     discard(cond);
     discard_purpose(Purpose::ToTest { arms, spot });
-    refuse(outer, stmts, t)
+    refuse(t)
 }
 
 // The token behind the value of a CASE.
-fn selected(
-    alloc: Global,
-    outer: Vec<Level>,
-    stmts: Stmts,
-    spot: Spot,
-    on: Expr,
-    t: Token,
-) -> Result<At, SyntaxFault>
-    ensures { view.Gives view.state result
-        (machine.take (view.levels outer.items) (stmt_trees stmts.items.items) (machine.to_select spot) (expr_tree on) (mark t.tok) t) }
+fn selected(alloc: Global, spot: Spot, on: Expr, t: Token) -> Result<Phase, SyntaxFault>
+    ensures { (outer : List machine.Level) → (ss : StmtTrees) → view.Gives (view.within outer ss) result
+        (machine.take outer ss (machine.to_select spot) (expr_tree on) (mark t.tok) t) }
 {
-    if is(mark_of(t.tok), Mark::Of) {
+    if has(t, Mark::Of) {
         let branches = Branches::new(alloc);
-        return Ok(At {
-            outer,
-            stmts,
-            phase: Phase::Labelling {
-                selection: Selection { on, spot, branches },
-                labels: Labels::new(alloc),
-                phase: LabelPhase::FirstWanted,
-            },
+        return Ok(Phase::Labelling {
+            selection: Selection { on, spot, branches },
+            labels: Labels::new(alloc),
+            phase: LabelPhase::FirstWanted,
         });
     }
     discard(on);
-    refuse(outer, stmts, t)
+    refuse(t)
 }
 
 // The token behind the first value of a FOR.
-fn loop_begins(
-    alloc: Global,
-    outer: Vec<Level>,
-    stmts: Stmts,
-    head: Loop,
-    first: Expr,
-    t: Token,
-) -> Result<At, SyntaxFault>
-    ensures { view.Gives view.state result
-        (machine.take (view.levels outer.items) (stmt_trees stmts.items.items) (machine.to_begin (view.loop head)) (expr_tree first) (mark t.tok) t) }
+fn loop_begins(alloc: Global, head: Loop, first: Expr, t: Token) -> Result<Phase, SyntaxFault>
+    ensures { (outer : List machine.Level) → (ss : StmtTrees) → view.Gives (view.within outer ss) result
+        (machine.take outer ss (machine.to_begin (view.loop head)) (expr_tree first) (mark t.tok) t) }
 {
-    if is(mark_of(t.tok), Mark::To) {
-        let purpose = Purpose::ToEnd { head, first };
-        return Ok(reading(alloc, outer, stmts, purpose));
+    if has(t, Mark::To) {
+        return Ok(expects(alloc, Purpose::ToEnd { head, first }));
     }
     discard(first);
-    refuse(outer, stmts, t)
+    refuse(t)
 }
 
 // The token behind the last value of a FOR.
 fn loop_ends(
     alloc: Global,
-    outer: Vec<Level>,
-    stmts: Stmts,
+    bodies: &mut Bodies,
     head: Loop,
     first: Expr,
     last: Expr,
     t: Token,
-) -> Result<At, SyntaxFault>
-    ensures { view.Gives view.state result
-        (machine.take (view.levels outer.items) (stmt_trees stmts.items.items) (machine.to_end (view.loop head) (expr_tree first)) (expr_tree last)
-        (mark t.tok) t) }
+) -> Result<Phase, SyntaxFault>
+    ensures { view.Gives (view.state bodies.new) result
+        (machine.take (view.levels bodies.old.outer.items) (stmt_trees bodies.old.stmts.items.items)
+        (machine.to_end (view.loop head) (expr_tree first)) (expr_tree last) (mark t.tok) t) }
 {
     let mark = mark_of(t.tok);
     if is(mark, Mark::By) {
-        let purpose = Purpose::ToStep { head, first, last };
-        return Ok(reading(alloc, outer, stmts, purpose));
+        return Ok(expects(alloc, Purpose::ToStep { head, first, last }));
     }
     if is(mark, Mark::Do) {
         let body = Body::OfLoop {
@@ -368,63 +317,62 @@ fn loop_ends(
             last,
             by: None,
         };
-        return opened(alloc, body, outer, stmts);
+        return opened(alloc, body, bodies);
     }
     discard(first);
     discard(last);
-    refuse(outer, stmts, t)
+    refuse(t)
 }
 
 // The token behind the step of a FOR.
 fn loop_steps(
     alloc: Global,
-    outer: Vec<Level>,
-    stmts: Stmts,
+    bodies: &mut Bodies,
     head: Loop,
     first: Expr,
     last: Expr,
     by: Expr,
     t: Token,
-) -> Result<At, SyntaxFault>
-    ensures { view.Gives view.state result
-        (machine.take (view.levels outer.items) (stmt_trees stmts.items.items) (machine.to_step (view.loop head) (expr_tree first) (expr_tree last))
-        (expr_tree by) (mark t.tok) t) }
+) -> Result<Phase, SyntaxFault>
+    ensures { view.Gives (view.state bodies.new) result
+        (machine.take (view.levels bodies.old.outer.items) (stmt_trees bodies.old.stmts.items.items)
+        (machine.to_step (view.loop head) (expr_tree first) (expr_tree last)) (expr_tree by) (mark t.tok) t) }
 {
-    if is(mark_of(t.tok), Mark::Do) {
+    if has(t, Mark::Do) {
         let body = Body::OfLoop {
             head,
             first,
             last,
             by: Some(by),
         };
-        return opened(alloc, body, outer, stmts);
+        return opened(alloc, body, bodies);
     }
     discard(first);
     discard(last);
     discard(by);
-    refuse(outer, stmts, t)
+    refuse(t)
 }
 
 // The token behind a whole expression.
 fn take(
     alloc: Global,
-    outer: Vec<Level>,
-    stmts: Stmts,
+    bodies: &mut Bodies,
     purpose: Purpose,
     e: Expr,
     t: Token,
-) -> Result<At, SyntaxFault>
-    ensures { view.Gives view.state result
-        (machine.take (view.levels outer.items) (stmt_trees stmts.items.items) (view.purpose purpose) (expr_tree e) (mark t.tok) t) }
+) -> Result<Phase, SyntaxFault>
+    ensures { view.Gives (view.state bodies.new) result
+        (machine.take (view.levels bodies.old.outer.items) (stmt_trees bodies.old.stmts.items.items) (view.purpose purpose)
+        (expr_tree e) (mark t.tok) t) }
 {
     match purpose {
-        Purpose::ToAssign { name, spot } => assigned(outer, stmts, name, spot, e, t),
-        Purpose::ToTest { arms, spot } => tested(alloc, outer, stmts, arms, spot, e, t),
-        Purpose::ToSelect { spot } => selected(alloc, outer, stmts, spot, e, t),
-        Purpose::ToBegin { head } => loop_begins(alloc, outer, stmts, head, e, t),
-        Purpose::ToEnd { head, first } => loop_ends(alloc, outer, stmts, head, first, e, t),
+        Purpose::ToAssign { name, spot } => assigned(bodies, name, spot, e, t),
+        Purpose::ToTest { arms, spot } => tested(alloc, bodies, arms, spot, e, t),
+        Purpose::ToSelect { spot } => selected(alloc, spot, e, t),
+        Purpose::ToBegin { head } => loop_begins(alloc, head, e, t),
+        Purpose::ToEnd { head, first } => loop_ends(alloc, bodies, head, first, e, t),
         Purpose::ToStep { head, first, last } => {
-            loop_steps(alloc, outer, stmts, head, first, last, e, t)
+            loop_steps(alloc, bodies, head, first, last, e, t)
         }
     }
 }
@@ -432,70 +380,56 @@ fn take(
 // A token of an expression, or the one behind it.
 fn read_at(
     source: Source,
-    outer: Vec<Level>,
-    stmts: Stmts,
+    bodies: &mut Bodies,
     purpose: Purpose,
     forms: Vec<Form>,
     mode: Mode,
     t: Token,
-) -> Result<At, SyntaxFault>
+) -> Result<Phase, SyntaxFault>
     requires inside { IsInside source.text.now t }
-    ensures { view.Gives view.state result
-        (machine.stmt_step (record { bytes = bytes_in source.entry.text.now; most = source.entry.most }) (view.levels outer.items)
-        (stmt_trees stmts.items.items) (machine.reading (view.purpose purpose) (form_view.forms forms.items) (form_view.mode mode)) t) }
+    ensures { view.Gives (view.state bodies.new) result
+        (machine.stmt_step (record { bytes = bytes_in source.entry.text.now; most = source.entry.most })
+        (view.levels bodies.old.outer.items) (stmt_trees bodies.old.stmts.items.items)
+        (machine.reading (view.purpose purpose) (form_view.forms forms.items) (form_view.mode mode)) t) }
 {
     let mut forms = forms;
-    match read(source, depth(&outer), &mut forms, mode, t) {
-        Ok(Progress::On(mode)) => Ok(At {
-            outer,
-            stmts,
-            phase: Phase::Reading {
-                purpose,
-                forms,
-                mode,
-            },
+    match read(source, depth(bodies), &mut forms, mode, t) {
+        Ok(Progress::On(mode)) => Ok(Phase::Reading {
+            purpose,
+            forms,
+            mode,
         }),
         Ok(Progress::Ended(e)) => {
             discard_forms(forms);
-            take(source.alloc, outer, stmts, purpose, e, t)
+            take(source.alloc, bodies, purpose, e, t)
         }
         Err(fault) => {
             discard_forms(forms);
             discard_purpose(purpose);
-            give_up(outer, stmts, fault)
+            Err(fault)
         }
     }
 }
 
 // The token behind a statement but for its semicolon.
-fn closed_at(outer: Vec<Level>, stmts: Stmts, t: Token) -> Result<At, SyntaxFault>
-    ensures { (c : Context) → view.Gives view.state result
-        (machine.stmt_step c (view.levels outer.items) (stmt_trees stmts.items.items) machine.closed t) }
+fn closed_at(t: Token) -> Result<Phase, SyntaxFault>
+    ensures { (c : Context) → (outer : List machine.Level) → (ss : StmtTrees) →
+        view.Gives (view.within outer ss) result (machine.stmt_step c outer ss machine.closed t) }
 {
-    if is(mark_of(t.tok), Mark::Semi) {
-        return Ok(At {
-            outer,
-            stmts,
-            phase: Phase::Start,
-        });
+    if has(t, Mark::Semi) {
+        return Ok(Phase::Start);
     }
-    refuse(outer, stmts, t)
+    refuse(t)
 }
 
 // The token behind FOR.
-fn loop_begun_at(
-    source: Source,
-    outer: Vec<Level>,
-    stmts: Stmts,
-    spot: Spot,
-    t: Token,
-) -> Result<At, SyntaxFault>
+fn loop_begun_at(source: Source, spot: Spot, t: Token) -> Result<Phase, SyntaxFault>
     requires inside { IsInside source.text.now t }
-    ensures { view.Gives view.state result
-        (machine.stmt_step (record { bytes = bytes_in source.entry.text.now; most = source.entry.most }) (view.levels outer.items)
-        (stmt_trees stmts.items.items) (machine.loop_begun spot) t) }
+    ensures { (outer : List machine.Level) → (ss : StmtTrees) → view.Gives (view.within outer ss) result
+        (machine.stmt_step (record { bytes = bytes_in source.entry.text.now; most = source.entry.most }) outer ss
+        (machine.loop_begun spot) t) }
 {
-    if is(mark_of(t.tok), Mark::Name) {
+    if has(t, Mark::Name) {
         return match name_of(source.alloc, source.text, t) {
             Ok(name) => {
                 let head = Loop {
@@ -503,64 +437,53 @@ fn loop_begun_at(
                     name_spot: t.spot,
                     spot,
                 };
-                Ok(At {
-                    outer,
-                    stmts,
-                    phase: Phase::LoopNamed { head },
-                })
+                Ok(Phase::LoopNamed { head })
             }
-            Err(Memory) => give_up(outer, stmts, SyntaxFault::Memory),
+            Err(Memory) => Err(SyntaxFault::Memory),
         };
     }
-    refuse(outer, stmts, t)
+    refuse(t)
 }
 
 // The token behind the name of a FOR's control variable.
-fn loop_named_at(
-    alloc: Global,
-    outer: Vec<Level>,
-    stmts: Stmts,
-    head: Loop,
-    t: Token,
-) -> Result<At, SyntaxFault>
-    ensures { (c : Context) → view.Gives view.state result
-        (machine.stmt_step c (view.levels outer.items) (stmt_trees stmts.items.items) (machine.loop_named (view.loop head)) t) }
+fn loop_named_at(alloc: Global, head: Loop, t: Token) -> Result<Phase, SyntaxFault>
+    ensures { (c : Context) → (outer : List machine.Level) → (ss : StmtTrees) → view.Gives (view.within outer ss) result
+        (machine.stmt_step c outer ss (machine.loop_named (view.loop head)) t) }
 {
-    if is(mark_of(t.tok), Mark::Assign) {
-        let purpose = Purpose::ToBegin { head };
-        return Ok(reading(alloc, outer, stmts, purpose));
+    if has(t, Mark::Assign) {
+        return Ok(expects(alloc, Purpose::ToBegin { head }));
     }
-    refuse(outer, stmts, t)
+    refuse(t)
 }
 
 /// A token of the body of a program, through END_PROGRAM.
-pub fn stmt_step(source: Source, at: At, t: Token) -> Result<At, SyntaxFault>
+pub fn stmt_step(
+    source: Source,
+    bodies: &mut Bodies,
+    phase: Phase,
+    t: Token,
+) -> Result<Phase, SyntaxFault>
     requires inside { IsInside source.text.now t }
-    ensures { view.Gives view.state result
-        (machine.stmt_step (record { bytes = bytes_in source.entry.text.now; most = source.entry.most }) (view.levels at.outer.items)
-        (stmt_trees at.stmts.items.items) (view.phase at.phase) t) }
+    ensures { view.Gives (view.state bodies.new) result
+        (machine.stmt_step (record { bytes = bytes_in source.entry.text.now; most = source.entry.most })
+        (view.levels bodies.old.outer.items) (stmt_trees bodies.old.stmts.items.items) (view.phase phase) t) }
 {
-    let At {
-        outer,
-        stmts,
-        phase,
-    } = at;
     match phase {
-        Phase::Start => start_at(source, outer, stmts, mark_of(t.tok), t),
-        Phase::Named { name, spot } => named_at(source, outer, stmts, name, spot, t),
+        Phase::Start => start_at(source, bodies, mark_of(t.tok), t),
+        Phase::Named { name, spot } => named_at(source, bodies, name, spot, t),
         Phase::Reading {
             purpose,
             forms,
             mode,
-        } => read_at(source, outer, stmts, purpose, forms, mode, t),
-        Phase::Closed => closed_at(outer, stmts, t),
-        Phase::LoopBegun { spot } => loop_begun_at(source, outer, stmts, spot, t),
-        Phase::LoopNamed { head } => loop_named_at(source.alloc, outer, stmts, head, t),
+        } => read_at(source, bodies, purpose, forms, mode, t),
+        Phase::Closed => closed_at(t),
+        Phase::LoopBegun { spot } => loop_begun_at(source, spot, t),
+        Phase::LoopNamed { head } => loop_named_at(source.alloc, head, t),
         Phase::Labelling {
             selection,
             labels,
             phase,
-        } => label_step(source, outer, stmts, selection, labels, phase, t),
-        Phase::Finished => refuse(outer, stmts, t),
+        } => label_step(source, bodies, selection, labels, phase, t),
+        Phase::Finished => refuse(t),
     }
 }

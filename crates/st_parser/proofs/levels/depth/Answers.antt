@@ -1,6 +1,6 @@
-use Rattle.std.proofs.Common.{sym}
+use Rattle.std.proofs.Common.{arith}
 use Rattle.st_parser.proofs.LevelViews.{length-levels}
 use Rattle.st_parser.proofs.levels.depth.Goals as goal
 
 pub returns : goal.returns
-returns c = sym (length-levels _)
+returns c = omega (arith, c.len.ensures, length-levels c.args.bodies.now.outer.items)

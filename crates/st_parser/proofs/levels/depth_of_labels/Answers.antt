@@ -1,6 +1,6 @@
-use Rattle.std.proofs.Common.{refl, add-one}
+use Rattle.std.proofs.Common.{arith}
 use Rattle.st_parser.proofs.LevelViews.{length-levels}
 use Rattle.st_parser.proofs.levels.depth_of_labels.Goals as goal
 
 pub returns : goal.returns
-returns c = rw (length-levels, add-one) refl
+returns c = omega (arith, c.len.ensures, length-levels c.args.bodies.now.outer.items)

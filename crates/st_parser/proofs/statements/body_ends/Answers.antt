@@ -5,4 +5,4 @@ use Rattle.st_parser.proofs.statements.body_ends.Goals as goal
 pub returns-in-None : goal.returns-in-None
 returns-in-None c =
     let k : Context = record { bytes = bytes_in c.args.source.text.now; most = c.args.source.most } in
-    rw c.in-None.ensures.0 (c.root_ends.ensures k)
+    rw (c.in-None.ensures.0, c.in-None.ensures.1) (c.root_ends.ensures k _)
