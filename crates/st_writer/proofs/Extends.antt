@@ -1,7 +1,7 @@
 -- Lexemes written behind a text.
 use Rattle.std.proofs.Common.{◌≡◌, ℕ, List, [], ◌∷◌, ◌++◌, refl, sym, ap, ◌∙◌}
 use Rattle.std.proofs.lemmas.List.{append_assoc, append-nil}
-use Rattle.st_writer.specs.Lexemes.{Lexeme, text_of, indent}
+use Rattle.st_writer.specs.Lexemes.{Lexeme, text_of}
 use Rattle.st_writer.specs.Extended.{extended}
 
 -- first some, then the others
@@ -14,8 +14,8 @@ pub extended-is : (text : List ℕ) (xs : List Lexeme) → extended text xs ≡ 
 extended-is text [] = sym (append-nil text)
 extended-is text (x ∷ xs) = extended-is (text ++ x.bytes) xs ∙ simp append_assoc
 
--- the bytes of an indent are the indent
-pub indent-written : (n : ℕ) (bytes old new : List ℕ) → bytes ≡ text_of (indent n) → new ≡ old ++ bytes → new ≡ extended old (indent n)
-indent-written n bytes old new e m = m ∙ ap (λ (t : List ℕ). old ++ t) e ∙ sym (extended-is old (indent n))
+-- the bytes of lexemes, behind a text
+pub pieces-written : (xs : List Lexeme) (bytes old new : List ℕ) → bytes ≡ text_of xs → new ≡ old ++ bytes → new ≡ extended old xs
+pieces-written xs bytes old new e m = m ∙ ap (λ (t : List ℕ). old ++ t) e ∙ sym (extended-is old xs)
 
 pub ruleset writing = (extended-append)

@@ -8,7 +8,7 @@ ghost use Rattle.st_writer.specs.Extended.{extended, where_needed};
 ghost use Rattle.st_writer.specs.Lexemes as lexeme;
 
 use crate::writer::Writer;
-use st_lexer::{Key, Sym};
+use st_lexer::Sym;
 use st_tree::{BinOp, Expr, UnOp, level_of, trees_of_nodes};
 use vcp_base::{Memory, Text};
 
@@ -18,37 +18,44 @@ pub const ANY: u8 = 1;
 /// The level of the operand of a sign.
 const UNARY: u8 = 8;
 
-impl Writer {
-    // Writes an operator between its operands.
-    fn operator(&mut self, op: BinOp) -> Result<(), Memory>
-        ensures text { OnOk result (self.new ≡ extended self.old (canonical.operator op ∷ [])) }
-    {
-        match op {
-            BinOp::Mul => self.symbol(Sym::Star),
-            BinOp::Div => self.symbol(Sym::Slash),
-            BinOp::Mod => self.word(Key::Mod),
-            BinOp::Add => self.symbol(Sym::Plus),
-            BinOp::Sub => self.symbol(Sym::Minus),
-            BinOp::Lt => self.symbol(Sym::Lt),
-            BinOp::Gt => self.symbol(Sym::Gt),
-            BinOp::Le => self.symbol(Sym::Le),
-            BinOp::Ge => self.symbol(Sym::Ge),
-            BinOp::Eq => self.symbol(Sym::Eq),
-            BinOp::Ne => self.symbol(Sym::Ne),
-            BinOp::And => self.word(Key::And),
-            BinOp::Xor => self.word(Key::Xor),
-            BinOp::Or => self.word(Key::Or),
-        }
+// The spelling of an operator between its operands, with a space on both sides.
+fn operator_text(op: BinOp) -> &'static [u8]
+    ensures { result.now ≡ lexeme.text_of (lexeme.blank ∷ canonical.operator op ∷ lexeme.blank ∷ []) }
+{
+    match op {
+        BinOp::Mul => b" * ",
+        BinOp::Div => b" / ",
+        BinOp::Mod => b" MOD ",
+        BinOp::Add => b" + ",
+        BinOp::Sub => b" - ",
+        BinOp::Lt => b" < ",
+        BinOp::Gt => b" > ",
+        BinOp::Le => b" <= ",
+        BinOp::Ge => b" >= ",
+        BinOp::Eq => b" = ",
+        BinOp::Ne => b" <> ",
+        BinOp::And => b" AND ",
+        BinOp::Xor => b" XOR ",
+        BinOp::Or => b" OR ",
     }
+}
 
+// The spelling of an operator before its operand.
+fn sign_text(op: UnOp) -> &'static [u8]
+    ensures { result.now ≡ lexeme.text_of (canonical.sign op) }
+{
+    match op {
+        UnOp::Neg => b"-",
+        UnOp::Not => b"NOT ",
+    }
+}
+
+impl Writer {
     // Writes an operator between its operands, with a space on both sides.
-    #[tactic(auto, using(crate::proofs::Extends::writing))]
-    fn spaced_operator(&mut self, op: BinOp) -> Result<(), Memory>
+    fn operator(&mut self, op: BinOp) -> Result<(), Memory>
         ensures text { OnOk result (self.new ≡ extended self.old (lexeme.blank ∷ canonical.operator op ∷ lexeme.blank ∷ [])) }
     {
-        self.blank()?;
-        self.operator(op)?;
-        self.blank()
+        self.put(operator_text(op))
     }
 
     // Writes a bracket where brackets are needed.
@@ -62,13 +69,7 @@ impl Writer {
     fn sign(&mut self, op: UnOp) -> Result<(), Memory>
         ensures text { OnOk result (self.new ≡ extended self.old (canonical.sign op)) }
     {
-        match op {
-            UnOp::Neg => self.symbol(Sym::Minus),
-            UnOp::Not => {
-                self.word(Key::Not)?;
-                self.blank()
-            }
-        }
+        self.put(sign_text(op))
     }
 
     /// Writes an expression where an operator of the level `wanted` or more is wanted.
@@ -94,7 +95,7 @@ impl Writer {
                 let weak = strength < wanted;
                 self.bracket(weak, Sym::LParen)?;
                 self.expr(strength, left)?;
-                self.spaced_operator(*op)?;
+                self.operator(*op)?;
                 self.expr(strength + 1, right)?;
                 self.bracket(weak, Sym::RParen)
             }

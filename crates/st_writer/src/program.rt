@@ -18,20 +18,34 @@ ghost use Rattle.st_writer.specs.Lexemes as lexeme;
 
 use crate::expr::ANY;
 use crate::writer::Writer;
-use st_lexer::{Key, Sym};
+use st_lexer::Key;
 use st_tree::{Block, Decl, Declared, Expr, Program, Section};
 use std::alloc::Global;
 use vcp_base::{Memory, Text, Ty};
 
-// The word of a type.
-fn type_key(ty: Ty) -> Key
-    ensures { result ≡ programs.type_key ty }
+// A colon with a space on both sides, and the word of a type.
+fn type_text(ty: Ty) -> &'static [u8]
+    ensures { result.now
+        ≡ lexeme.text_of (lexeme.blank ∷ lexeme.symbol sym.Colon ∷ lexeme.blank ∷ lexeme.word (programs.type_key ty) ∷ []) }
 {
     match ty {
-        Ty::Bool => Key::Bool,
-        Ty::Int => Key::Int,
-        Ty::Dint => Key::Dint,
-        Ty::Lint => Key::Lint,
+        Ty::Bool => b" : BOOL",
+        Ty::Int => b" : INT",
+        Ty::Dint => b" : DINT",
+        Ty::Lint => b" : LINT",
+    }
+}
+
+// The line with which a block begins.
+fn head_text(section: Section) -> &'static [u8]
+    ensures { result.now ≡ lexeme.text_of (lexeme.line 0 (spec.head section)) }
+{
+    match section {
+        Section::Input => b"VAR_INPUT\n",
+        Section::Output => b"VAR_OUTPUT\n",
+        Section::Local => b"VAR\n",
+        Section::Constant => b"VAR CONSTANT\n",
+        Section::Retain => b"VAR RETAIN\n",
     }
 }
 
@@ -56,24 +70,18 @@ impl Writer {
         match init {
             None => Ok(()),
             Some(e) => {
-                self.blank()?;
-                self.symbol(Sym::Assign)?;
-                self.blank()?;
+                self.assign_sign()?;
                 self.expr(ANY, e)
             }
         }
     }
 
     // Writes `:` with a space on both sides, and the word of a type.
-    #[tactic(auto, using(crate::proofs::Extends::writing))]
     fn of_type(&mut self, ty: Ty) -> Result<(), Memory>
         ensures text { OnOk result (self.new ≡ extended self.old
             (lexeme.blank ∷ lexeme.symbol sym.Colon ∷ lexeme.blank ∷ lexeme.word (programs.type_key ty) ∷ [])) }
     {
-        self.blank()?;
-        self.symbol(Sym::Colon)?;
-        self.blank()?;
-        self.word(type_key(ty))
+        self.put(type_text(ty))
     }
 
     // Writes the line of a declaration.
@@ -86,8 +94,7 @@ impl Writer {
         self.names(&decl.names.items)?;
         self.of_type(decl.ty)?;
         self.init(&decl.init)?;
-        self.symbol(Sym::Semi)?;
-        self.line_end()
+        self.semicolon_end()
     }
 
     fn decls(&mut self, decls: &[Decl]) -> Result<(), Memory>
@@ -99,28 +106,11 @@ impl Writer {
         Ok(())
     }
 
-    // Writes the words with which a block begins.
-    #[tactic(auto, using(crate::proofs::Extends::writing))]
+    // Writes the line with which a block begins.
     fn section(&mut self, section: Section) -> Result<(), Memory>
-        ensures text { OnOk result (self.new ≡ extended self.old (spec.head section)) }
+        ensures text { OnOk result (self.new ≡ extended self.old (lexeme.line 0 (spec.head section))) }
     {
-        match section {
-            Section::Input => self.word(Key::VarInput),
-            Section::Output => self.word(Key::VarOutput),
-            Section::Local => self.word(Key::Var),
-            Section::Constant => self.var_and(Key::Constant),
-            Section::Retain => self.var_and(Key::Retain),
-        }
-    }
-
-    // Writes VAR and the word behind it.
-    #[tactic(auto, using(crate::proofs::Extends::writing))]
-    fn var_and(&mut self, key: Key) -> Result<(), Memory>
-        ensures text { OnOk result (self.new ≡ extended self.old (lexeme.word keys.Var ∷ lexeme.blank ∷ lexeme.word key ∷ [])) }
-    {
-        self.word(Key::Var)?;
-        self.blank()?;
-        self.word(key)
+        self.put(head_text(section))
     }
 
     #[tactic(auto, using(crate::proofs::Extends::writing))]
@@ -128,7 +118,6 @@ impl Writer {
         ensures text { OnOk result (self.new ≡ extended self.old (spec.block (block_tree block.now))) }
     {
         self.section(block.section)?;
-        self.line_end()?;
         self.decls(&block.decls.items)?;
         self.keyword_line(Key::EndVar)
     }

@@ -105,8 +105,7 @@ impl Writer {
         self.indent(indent)?;
         self.target(name)?;
         self.expr(ANY, value)?;
-        self.symbol(Sym::Semi)?;
-        self.line_end()
+        self.semicolon_end()
     }
 
     // Writes the name that is set, and `:=`.
@@ -115,9 +114,7 @@ impl Writer {
         ensures text { OnOk result (self.new ≡ extended self.old (lexeme.name name.now ∷ lexeme.blank ∷ lexeme.symbol sym.Assign ∷ lexeme.blank ∷ [])) }
     {
         self.name(name)?;
-        self.blank()?;
-        self.symbol(Sym::Assign)?;
-        self.blank()
+        self.assign_sign()
     }
 
     // Writes the line of a keyword, an expression and a keyword, as `IF x THEN`.
@@ -142,8 +139,7 @@ impl Writer {
     {
         self.indent(indent)?;
         self.word(key)?;
-        self.symbol(Sym::Semi)?;
-        self.line_end()
+        self.semicolon_end()
     }
 
     /// Writes a keyword and ends the line.
@@ -165,16 +161,6 @@ impl Writer {
         self.labels(labels)?;
         self.symbol(Sym::Colon)?;
         self.line_end()
-    }
-
-    // Writes a keyword inside a line, with a space on both sides.
-    #[tactic(auto, using(crate::proofs::Extends::writing))]
-    fn spaced_word(&mut self, key: Key) -> Result<(), Memory>
-        ensures text { OnOk result (self.new ≡ extended self.old (lexeme.blank ∷ lexeme.word key ∷ lexeme.blank ∷ [])) }
-    {
-        self.blank()?;
-        self.word(key)?;
-        self.blank()
     }
 
     // Writes the step of a FOR, where one is given.
@@ -201,7 +187,7 @@ impl Writer {
             ∷ (expr any_level (expr_tree last.now) ++ lexeme.blank ∷ (canonical.step (expr_tree_or_none by.now) ++ lexeme.word keys.Do ∷ [])))) }
     {
         self.expr(ANY, first)?;
-        self.spaced_word(Key::To)?;
+        self.to_word()?;
         self.expr(ANY, last)?;
         self.blank()?;
         self.step(by)?;

@@ -2,6 +2,8 @@
 
 ghost use Rattle.std.specs.Prelude.{◌≡◌, ◌++◌, ◌∷◌, [], suc, IfOk, OnOk};
 ghost use Rattle.st_lexer.specs.Literals.{prefix};
+ghost use Rattle.st_lexer.specs.declared.token.Key.TheVariants as keys;
+ghost use Rattle.st_lexer.specs.declared.token.Sym.TheVariants as sym;
 ghost use Rattle.st_writer.specs.Extended.{extended, separator};
 ghost use Rattle.st_writer.specs.Lexemes as lexeme;
 
@@ -46,7 +48,8 @@ impl Writer {
         Text::from_vec(self.text)
     }
 
-    fn put(&mut self, bytes: &[u8]) -> Result<(), Memory>
+    /// Writes bytes.
+    pub fn put(&mut self, bytes: &[u8]) -> Result<(), Memory>
         ensures text { OnOk result (self.new ≡ self.old ++ bytes.now) }
     {
         self.text.extend_from_slice(bytes)?;
@@ -138,11 +141,28 @@ impl Writer {
     pub fn separator(&mut self, i: usize) -> Result<(), Memory>
         ensures text { OnOk result (self.new ≡ extended self.old (separator i)) }
     {
-        if i == 0 {
-            return Ok(());
-        }
-        self.symbol(Sym::Comma)?;
-        self.blank()
+        if i == 0 { Ok(()) } else { self.put(b", ") }
+    }
+
+    /// Writes `:=` with a space on both sides.
+    pub fn assign_sign(&mut self) -> Result<(), Memory>
+        ensures text { OnOk result (self.new ≡ extended self.old (lexeme.blank ∷ lexeme.symbol sym.Assign ∷ lexeme.blank ∷ [])) }
+    {
+        self.put(b" := ")
+    }
+
+    /// Writes `TO` with a space on both sides.
+    pub fn to_word(&mut self) -> Result<(), Memory>
+        ensures text { OnOk result (self.new ≡ extended self.old (lexeme.blank ∷ lexeme.word keys.To ∷ lexeme.blank ∷ [])) }
+    {
+        self.put(b" TO ")
+    }
+
+    /// Writes `;` and ends the line.
+    pub fn semicolon_end(&mut self) -> Result<(), Memory>
+        ensures text { OnOk result (self.new ≡ extended self.old (lexeme.symbol sym.Semi ∷ lexeme.line_end ∷ [])) }
+    {
+        self.put(b";\n")
     }
 
     /// Writes the indent of a line.
