@@ -49,12 +49,15 @@ pub fn read(
 {
     match mode {
         Mode::Want => want(source, depth, forms, t),
-        Mode::AfterName(name, spot) => {
-            if begins_by(t.tok) == Begins::Opens {
-                return opens(forms, Form::Arguments(name, spot, Exprs::new(source.alloc)));
+        Mode::AfterName(name, spot) => match begins_by(t.tok) {
+            Begins::Opens => {
+                let args = Exprs::new(source.alloc);
+                opens(forms, Form::Arguments(name, spot, args))
             }
-            go_on(source.alloc, forms, Expr::name(name, spot), t)
-        }
+            Begins::Literal { .. } | Begins::Named | Begins::Sign(_) | Begins::Nothing => {
+                go_on(source.alloc, forms, Expr::name(name, spot), t)
+            }
+        },
         Mode::Have(e) => go_on(source.alloc, forms, e, t),
     }
 }
@@ -83,16 +86,18 @@ fn want(
         depth (view.forms forms.old.items) spec.want t) }
 {
     let begins = begins_by(t.tok);
-    if begins == Begins::Nothing {
-        return Err(SyntaxFault::Syntax { spot: t.spot });
+    if is_within(depth, forms, source.most) {
+        return operand(source, forms, begins, t);
     }
-    if !is_within(depth, forms, source.most) {
-        return Err(SyntaxFault::Depth { spot: t.spot });
+    match begins {
+        Begins::Nothing => Err(SyntaxFault::Syntax { spot: t.spot }),
+        Begins::Literal { .. } | Begins::Named | Begins::Sign(_) | Begins::Opens => {
+            Err(SyntaxFault::Depth { spot: t.spot })
+        }
     }
-    operand(source, forms, begins, t)
 }
 
-// The first token of an operand that is not too deep.
+// The first token of an operand, however deep.
 fn operand(
     source: Source,
     forms: &mut Vec<Form>,

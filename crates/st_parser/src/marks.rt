@@ -8,7 +8,7 @@ use st_tree::{BinOp, UnOp};
 use vcp_base::Ty;
 
 /// What a token begins where an operand is wanted.
-#[derive(Clone, Copy, PartialEq, Eq, Drop)]
+#[derive(Clone, Copy, Drop)]
 pub enum Begins {
     /// A literal.
     Literal { ty: Option<Ty>, value: i64 },
