@@ -99,16 +99,10 @@ fn arms_are_wide(arms: &[TArm]) -> bool
 {
     let mut found = false;
     'each: for arm in arms {
-        found = either(found, arm_is_wide(arm));
+        let of_arm = either(expr_is_wide(&arm.cond), stmts_are_wide(&arm.body.items));
+        found = either(found, of_arm);
     }
     found
-}
-
-#[cycle(wides)]
-fn arm_is_wide(arm: &TArm) -> bool
-    ensures { result ≡ (expr_is_wide (texpr_tree arm.now.cond) || stmts_are_wide (tstmt_trees arm.now.body.items.items)) }
-{
-    either(expr_is_wide(&arm.cond), stmts_are_wide(&arm.body.items))
 }
 
 #[cycle(wides)]
@@ -117,16 +111,9 @@ fn branches_are_wide(branches: &[TBranch]) -> bool
 {
     let mut found = false;
     'each: for branch in branches {
-        found = either(found, branch_is_wide(branch));
+        found = either(found, stmts_are_wide(&branch.body.items));
     }
     found
-}
-
-#[cycle(wides)]
-fn branch_is_wide(branch: &TBranch) -> bool
-    ensures { result ≡ stmts_are_wide (tstmt_trees branch.now.body.items.items) }
-{
-    stmts_are_wide(&branch.body.items)
 }
 
 #[cycle(wides)]
