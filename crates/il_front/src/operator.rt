@@ -1,6 +1,7 @@
 //! Operators.
 
 ghost use Rattle.std.specs.Prelude.{◌≡◌, Some};
+ghost use Rattle.std.specs.Str.{str_eq_ignore_ascii_case};
 ghost use Rattle.st_lexer.specs.Reading.{IsInside};
 ghost use Rattle.st_tree.specs.Spelling.{bytes_in};
 ghost use Rattle.il_front.specs.declared.operator.Operator.TheVariants as operator_;
@@ -31,47 +32,54 @@ fn combine(op: BinOp, negated: bool) -> Option<Operator>
     Some(Operator::Combine { op, negated })
 }
 
+// Whether a name is this word, without regard to case.
+fn is(name: &[u8], word: &[u8]) -> bool
+    ensures { result ≡ str_eq_ignore_ascii_case name.now word.now }
+{
+    name.eq_ignore_ascii_case(word)
+}
+
 // The operator of a name, without regard to case.
 fn operator_named(name: &[u8]) -> Option<Operator>
     ensures { result ≡ named_of name.now }
 {
-    if name.eq_ignore_ascii_case(b"LD") {
+    if is(name, b"LD") {
         Some(Operator::Load { negated: false })
-    } else if name.eq_ignore_ascii_case(b"LDN") {
+    } else if is(name, b"LDN") {
         Some(Operator::Load { negated: true })
-    } else if name.eq_ignore_ascii_case(b"ST") {
+    } else if is(name, b"ST") {
         Some(Operator::Store { negated: false })
-    } else if name.eq_ignore_ascii_case(b"STN") {
+    } else if is(name, b"STN") {
         Some(Operator::Store { negated: true })
-    } else if name.eq_ignore_ascii_case(b"S") {
+    } else if is(name, b"S") {
         Some(Operator::Put { to: true })
-    } else if name.eq_ignore_ascii_case(b"R") {
+    } else if is(name, b"R") {
         Some(Operator::Put { to: false })
-    } else if name.eq_ignore_ascii_case(b"ANDN") {
+    } else if is(name, b"ANDN") {
         combine(BinOp::And, true)
-    } else if name.eq_ignore_ascii_case(b"ORN") {
+    } else if is(name, b"ORN") {
         combine(BinOp::Or, true)
-    } else if name.eq_ignore_ascii_case(b"XORN") {
+    } else if is(name, b"XORN") {
         combine(BinOp::Xor, true)
-    } else if name.eq_ignore_ascii_case(b"ADD") {
+    } else if is(name, b"ADD") {
         combine(BinOp::Add, false)
-    } else if name.eq_ignore_ascii_case(b"SUB") {
+    } else if is(name, b"SUB") {
         combine(BinOp::Sub, false)
-    } else if name.eq_ignore_ascii_case(b"MUL") {
+    } else if is(name, b"MUL") {
         combine(BinOp::Mul, false)
-    } else if name.eq_ignore_ascii_case(b"DIV") {
+    } else if is(name, b"DIV") {
         combine(BinOp::Div, false)
-    } else if name.eq_ignore_ascii_case(b"GT") {
+    } else if is(name, b"GT") {
         combine(BinOp::Gt, false)
-    } else if name.eq_ignore_ascii_case(b"GE") {
+    } else if is(name, b"GE") {
         combine(BinOp::Ge, false)
-    } else if name.eq_ignore_ascii_case(b"EQ") {
+    } else if is(name, b"EQ") {
         combine(BinOp::Eq, false)
-    } else if name.eq_ignore_ascii_case(b"NE") {
+    } else if is(name, b"NE") {
         combine(BinOp::Ne, false)
-    } else if name.eq_ignore_ascii_case(b"LE") {
+    } else if is(name, b"LE") {
         combine(BinOp::Le, false)
-    } else if name.eq_ignore_ascii_case(b"LT") {
+    } else if is(name, b"LT") {
         combine(BinOp::Lt, false)
     } else {
         None
