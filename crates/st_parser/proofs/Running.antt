@@ -11,7 +11,6 @@ use Rattle.st_parser.specs.declared.fault.SyntaxFault.{SyntaxFault}
 use Rattle.st_parser.specs.declared.fault.SyntaxFault.TheVariants as fault
 use Rattle.st_parser.specs.ExprMachine.{Context}
 use Rattle.st_parser.specs.StateViews.{Gives}
-use Rattle.st_parser.specs.ProgramViews.{program}
 use Rattle.st_parser.specs.ProgramMachine.{State, program_step, onward, run}
 
 -- the tokens from place i on begin with the token there
@@ -28,8 +27,8 @@ run-from c end ts i t s r is e =
     ∙ ap (λ (x : Result State SyntaxFault). onward x (run c end (drop (i + 1) ts))) e
 
 -- a fault of the machine's step is that of the run
-pub fault-kept : (f : SyntaxFault) (r : Result State SyntaxFault) (q : Result ProgramTree SyntaxFault) →
-    Gives program (Err f) r → ((g : SyntaxFault) → r ≡ Err g → q ≡ Err g) → Gives program_tree (Err f) q
-fault-kept fault.Memory r q h next = tt
-fault-kept (fault.Syntax s) r q h next = next (fault.Syntax s) h
-fault-kept (fault.Depth s) r q h next = next (fault.Depth s) h
+pub fault-kept : {A : Type 0} (v : A → State) (f : SyntaxFault) (r : Result State SyntaxFault) (q : Result ProgramTree SyntaxFault) →
+    Gives v (Err f) r → ((g : SyntaxFault) → r ≡ Err g → q ≡ Err g) → Gives program_tree (Err f) q
+fault-kept v fault.Memory r q h next = tt
+fault-kept v (fault.Syntax s) r q h next = next (fault.Syntax s) h
+fault-kept v (fault.Depth s) r q h next = next (fault.Depth s) h

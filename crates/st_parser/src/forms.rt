@@ -1,6 +1,6 @@
 //! The forms of an expression that are open.
 
-ghost use Rattle.std.specs.Prelude.{◌≡◌, ◌+◌, ◌≤◌, ◌∷◌, IfOk, OnOk, ◌↔◌, IsTrue};
+ghost use Rattle.std.specs.Prelude.{◌≡◌, ◌+◌, ◌≤◌, ◌∷◌, [], IfOk, OnOk, ◌↔◌, IsTrue};
 ghost use Rattle.st_tree.specs.Appended.{exprs_and};
 ghost use Rattle.st_tree.specs.ExprViews.{expr_tree, expr_trees};
 ghost use Rattle.st_tree.specs.Operators.{chain};
@@ -34,6 +34,13 @@ pub enum Mode {
     AfterName(Text, Spot),
     /// A whole operand.
     Have(Expr),
+}
+
+/// No form is open.
+pub fn no_forms(alloc: Global) -> Vec<Form>
+    ensures { view.forms result.items ≡ [] }
+{
+    Vec::new(alloc)
 }
 
 /// Opens one more form, the innermost.

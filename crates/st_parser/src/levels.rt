@@ -8,7 +8,7 @@ ghost use Rattle.st_parser.specs.StateViews as view;
 ghost use Rattle.st_parser.specs.StmtMachine as machine;
 
 use crate::fault::SyntaxFault;
-use crate::forms::Mode;
+use crate::forms::{Mode, no_forms};
 use crate::state::{Bodies, Body, Level, Phase, Purpose};
 use st_tree::{Stmt, Stmts};
 use std::alloc::Global;
@@ -73,7 +73,7 @@ pub fn expects(alloc: Global, purpose: Purpose) -> Phase
 {
     Phase::Reading {
         purpose,
-        forms: Vec::new(alloc),
+        forms: no_forms(alloc),
         mode: Mode::Want,
     }
 }

@@ -18,22 +18,22 @@ use crate::fault::SyntaxFault;
 use crate::levels::leave;
 use crate::names::Source;
 use crate::refusals::discard_phase;
-use crate::state::{Bodies, Front, Phase, State};
+use crate::state::{Bodies, Heading, Phase, Place};
 use st_lexer::Tokens;
 use st_tree::{Program, spelling_begins};
 use std::alloc::Global;
 use vcp_base::{MOST_DEPTH, Spot};
 
 // The program whose END_PROGRAM was read, where no body is open.
-fn root_finish(end: Spot, front: Front, bodies: Bodies) -> Result<Program, SyntaxFault>
+fn root_finish(end: Spot, heading: Heading, bodies: Bodies) -> Result<Program, SyntaxFault>
     ensures { Gives program_tree result
-        (machine.finish end (machine.in_body (view.front front) (levels bodies.outer.items) (stmt_trees bodies.stmts.items.items) finished)) }
+        (machine.finish end (machine.in_body (view.front heading) (levels bodies.outer.items) (stmt_trees bodies.stmts.items.items) finished)) }
 {
     let Bodies { mut outer, stmts } = bodies;
     match leave(&mut outer) {
         None => Ok(Program {
-            name: front.name,
-            blocks: front.blocks,
+            name: heading.name,
+            blocks: heading.blocks,
             body: stmts,
         }),
         Some(level) => {
@@ -46,15 +46,15 @@ fn root_finish(end: Spot, front: Front, bodies: Bodies) -> Result<Program, Synta
 // What is whole where the tokens end behind this place of a body.
 fn body_finish(
     end: Spot,
-    front: Front,
+    heading: Heading,
     bodies: Bodies,
     phase: Phase,
 ) -> Result<Program, SyntaxFault>
     ensures { Gives program_tree result
-        (machine.finish end (machine.in_body (view.front front) (levels bodies.outer.items) (stmt_trees bodies.stmts.items.items) (phase_of phase))) }
+        (machine.finish end (machine.in_body (view.front heading) (levels bodies.outer.items) (stmt_trees bodies.stmts.items.items) (phase_of phase))) }
 {
     match phase {
-        Phase::Finished => root_finish(end, front, bodies),
+        Phase::Finished => root_finish(end, heading, bodies),
         Phase::Start
         | Phase::Named { .. }
         | Phase::Reading { .. }
@@ -69,26 +69,22 @@ fn body_finish(
 }
 
 // What is whole where the tokens end.
-fn finish(end: Spot, state: State) -> Result<Program, SyntaxFault>
-    ensures { Gives program_tree result (machine.finish end (view.program state)) }
+fn finish(end: Spot, heading: Heading, place: Place) -> Result<Program, SyntaxFault>
+    ensures { Gives program_tree result (machine.finish end (view.program heading place)) }
 {
-    match state {
-        State::InBody {
-            front,
-            bodies,
-            phase,
-        } => body_finish(end, front, bodies, phase),
-        State::AtProgram
-        | State::AtName
-        | State::AtBlock { .. }
-        | State::AtVar { .. }
-        | State::AtDecl { .. }
-        | State::AtComma { .. }
-        | State::AtNextName { .. }
-        | State::AtType { .. }
-        | State::AtInit { .. }
-        | State::InInit { .. } => {
-            drop(state);
+    match place {
+        Place::InBody { bodies, phase } => body_finish(end, heading, bodies, phase),
+        Place::AtProgram
+        | Place::AtName
+        | Place::AtBlock
+        | Place::AtVar
+        | Place::AtDecl
+        | Place::AtComma
+        | Place::AtNextName
+        | Place::AtType
+        | Place::AtInit { .. }
+        | Place::InInit { .. } => {
+            drop(place);
             Err(SyntaxFault::Syntax { spot: end })
         }
     }
@@ -106,14 +102,15 @@ fn read_program(
         (machine.read_program (record { bytes = bytes_in text.now; most = most }) tokens.now.end tokens.now.tokens) }
 {
     let source = Source { alloc, text, most };
-    let mut state = State::AtProgram;
+    let mut heading = Heading::new(alloc);
+    let mut place = Place::AtProgram;
     for i in 0..tokens.len() {
-        match program_step(source, state, tokens.at(i)) {
-            Ok(next) => state = next,
+        match program_step(source, &mut heading, place, tokens.at(i)) {
+            Ok(next) => place = next,
             Err(fault) => return Err(fault),
         }
     }
-    finish(tokens.end(), state)
+    finish(tokens.end(), heading, place)
 }
 
 /// The one program that the tokens of a text spell, no token deeper than 64; or the place of the

@@ -10,9 +10,9 @@ use crate::expressions::Progress;
 use crate::fault::SyntaxFault;
 use crate::forms::Form;
 use crate::labels::Constant;
-use crate::state::{Body, LabelPhase, Opening, Phase, Purpose, Selection, State};
+use crate::state::{Body, LabelPhase, Phase, Place, Purpose, Selection};
 use st_lexer::Token;
-use st_tree::{DeclaredNames, Expr, Labels, Stmts};
+use st_tree::{Expr, Labels, Stmts};
 
 /// An expression is given up.
 pub fn discard(e: Expr) {
@@ -77,8 +77,8 @@ pub fn refuse_form(taken: Option<Form>, e: Expr, t: Token) -> Result<Progress, S
     Err(SyntaxFault::Syntax { spot: t.spot })
 }
 
-/// A token that begins no program.
-pub fn refuse_program(t: Token) -> Result<State, SyntaxFault>
+/// A token that goes on with nothing that is read of a program.
+pub fn refuse_program(t: Token) -> Result<Place, SyntaxFault>
     ensures { result ≡ Err (Syntax t.spot) }
 {
     Err(SyntaxFault::Syntax { spot: t.spot })
@@ -96,31 +96,4 @@ pub fn refuse_number(t: Token) -> Result<Expr, SyntaxFault>
     ensures { result ≡ Err (Syntax t.spot) }
 {
     Err(SyntaxFault::Syntax { spot: t.spot })
-}
-
-/// A declaration is given up, with what is read before it.
-pub fn give_up_names(
-    opening: Opening,
-    names: DeclaredNames,
-    fault: SyntaxFault,
-) -> Result<State, SyntaxFault>
-    ensures { result ≡ Err fault }
-{
-    drop(names);
-    give_up_block(opening, fault)
-}
-
-/// A token that goes on with no declaration.
-pub fn refuse_names(opening: Opening, names: DeclaredNames, t: Token) -> Result<State, SyntaxFault>
-    ensures { result ≡ Err (Syntax t.spot) }
-{
-    give_up_names(opening, names, SyntaxFault::Syntax { spot: t.spot })
-}
-
-/// A block is given up, with what is read before it.
-pub fn give_up_block(opening: Opening, fault: SyntaxFault) -> Result<State, SyntaxFault>
-    ensures { result ≡ Err fault }
-{
-    drop(opening);
-    Err(fault)
 }

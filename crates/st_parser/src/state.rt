@@ -2,6 +2,7 @@
 
 use crate::forms::{Form, Mode};
 use st_tree::{Arms, Blocks, Branches, DeclaredNames, Decls, Expr, Labels, Section, Stmts};
+use std::alloc::Global;
 use vcp_base::{Spot, Text, Ty};
 
 /// A CASE and the branches that are whole.
@@ -128,72 +129,65 @@ pub struct Bodies {
     pub stmts: Stmts,
 }
 
-/// The program's name, and the blocks that are whole.
+/// What is read so far of the declarations of a program.
 #[derive(Drop)]
-pub struct Front {
+pub struct Heading {
+    /// The program's name.
     pub name: Text,
+    /// The blocks that are whole.
     pub blocks: Blocks,
+    /// The section of the block that is read.
+    pub section: Section,
+    /// Its declarations that are whole.
+    pub decls: Decls,
+    /// The names of the declaration that is read.
+    pub names: DeclaredNames,
 }
 
-/// A block that is open, and the declarations that are whole.
-#[derive(Drop)]
-pub struct Opening {
-    pub front: Front,
-    pub section: Section,
-    pub decls: Decls,
+impl Heading {
+    /// Nothing is read. It takes no memory.
+    pub fn new(alloc: Global) -> Heading {
+        Heading {
+            name: Text::from_vec(Vec::new(alloc)),
+            blocks: Blocks::new(alloc),
+            section: Section::Local,
+            decls: Decls::new(alloc),
+            names: DeclaredNames::new(alloc),
+        }
+    }
 }
 
 /// What was read last of a program.
 #[derive(Drop)]
-pub enum State {
+pub enum Place {
     /// Nothing: PROGRAM is wanted.
     AtProgram,
     /// PROGRAM.
     AtName,
     /// The program's name, or END_VAR.
-    AtBlock {
-        front: Front,
-    },
+    AtBlock,
     /// VAR.
-    AtVar {
-        front: Front,
-    },
+    AtVar,
     /// The head of a block, or a declaration.
-    AtDecl {
-        opening: Opening,
-    },
+    AtDecl,
     /// A declared name.
-    AtComma {
-        opening: Opening,
-        names: DeclaredNames,
-    },
+    AtComma,
     /// The comma behind a declared name.
-    AtNextName {
-        opening: Opening,
-        names: DeclaredNames,
-    },
+    AtNextName,
     /// The colon behind the declared names.
-    AtType {
-        opening: Opening,
-        names: DeclaredNames,
-    },
+    AtType,
     /// The type of the declared names.
     AtInit {
-        opening: Opening,
-        names: DeclaredNames,
         ty: Ty,
     },
     /// A part of an initial value.
     InInit {
-        opening: Opening,
-        names: DeclaredNames,
         ty: Ty,
         forms: Vec<Form>,
         mode: Mode,
     },
     /// A part of the body.
     InBody {
-        front: Front,
         bodies: Bodies,
         phase: Phase,
     },

@@ -6,5 +6,5 @@ use Rattle.st_parser.proofs.HandedOn.{gives-on}
 use Rattle.st_parser.proofs.declarations.body_step.Goals as goal
 
 pub returns-in-Err : goal.returns-in-Err
-returns-in-Err c =
-    gives-on (state c.stmt_step.new.bodies) program (machine.body_step (front c.args.front)) c.in-Err.fault _ (λ g. refl) c.in-Err.ensures
+returns-in-Err c h =
+    gives-on (state c.stmt_step.new.bodies) (program h) (machine.body_step (front h)) c.in-Err.fault _ (λ g. refl) c.in-Err.ensures

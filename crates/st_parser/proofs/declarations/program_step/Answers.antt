@@ -5,14 +5,20 @@ use Rattle.st_parser.proofs.declarations.program_step.Goals as goal
 pub returns-in-AtProgram : goal.returns-in-AtProgram
 returns-in-AtProgram c =
     let k : Context = record { bytes = bytes_in c.args.source.text.now; most = c.args.source.most } in
-    rw c.in-AtProgram.is (c.program_at.ensures k)
+    rw c.in-AtProgram.is (c.program_at.ensures k c.args.heading.now)
 
 pub returns-in-AtComma : goal.returns-in-AtComma
 returns-in-AtComma c =
     let k : Context = record { bytes = bytes_in c.args.source.text.now; most = c.args.source.most } in
-    rw c.in-AtComma.is (c.comma_at.ensures k)
+    rw c.in-AtComma.is (c.comma_at.ensures k c.args.heading.now)
+
+pub returns-in-AtType : goal.returns-in-AtType
+returns-in-AtType c = rw c.in-AtType.is (c.type_at.ensures c.args.heading.now)
 
 pub returns-in-AtInit : goal.returns-in-AtInit
 returns-in-AtInit c =
     let k : Context = record { bytes = bytes_in c.args.source.text.now; most = c.args.source.most } in
     rw c.in-AtInit.is (c.init_begins.ensures k)
+
+pub returns-in-InBody : goal.returns-in-InBody
+returns-in-InBody c = rw c.in-InBody.is (c.body_step.ensures c.args.heading.now)
