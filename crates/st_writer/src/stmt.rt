@@ -33,10 +33,9 @@ impl Writer {
     {
         match e {
             Expr::Lit { ty, value, .. } => self.number(*ty, *value),
-            Expr::Name { .. } => self.expr(ANY, e),
-            Expr::Unary { .. } => self.expr(ANY, e),
-            Expr::Binary { .. } => self.expr(ANY, e),
-            Expr::Call { .. } => self.expr(ANY, e),
+            Expr::Name { .. } | Expr::Unary { .. } | Expr::Binary { .. } | Expr::Call { .. } => {
+                self.expr(ANY, e)
+            }
         }
     }
 
@@ -53,11 +52,11 @@ impl Writer {
                 self.symbol(Sym::Minus)?;
                 self.negated(arg)
             }
-            Expr::Unary { op: UnOp::Not, .. } => self.expr(ANY, e),
-            Expr::Lit { .. } => self.expr(ANY, e),
-            Expr::Name { .. } => self.expr(ANY, e),
-            Expr::Binary { .. } => self.expr(ANY, e),
-            Expr::Call { .. } => self.expr(ANY, e),
+            Expr::Unary { op: UnOp::Not, .. }
+            | Expr::Lit { .. }
+            | Expr::Name { .. }
+            | Expr::Binary { .. }
+            | Expr::Call { .. } => self.expr(ANY, e),
         }
     }
 

@@ -129,10 +129,7 @@ impl Writer {
     {
         match ty {
             Some(Ty::Bool) => self.truth(value),
-            Some(Ty::Int) => self.number(ty, value),
-            Some(Ty::Dint) => self.number(ty, value),
-            Some(Ty::Lint) => self.number(ty, value),
-            None => self.number(ty, value),
+            Some(Ty::Int | Ty::Dint | Ty::Lint) | None => self.number(ty, value),
         }
     }
 
