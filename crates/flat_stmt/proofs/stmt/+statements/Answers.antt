@@ -1,8 +1,9 @@
+use Rattle.std.proofs.lemmas.Grind.{common_steps}
 use Rattle.std.proofs.Common.{◌≡◌, ◌<◌, ◌≤◌, ◌+◌, ◌-◌, ◌*◌, ◌+ℤ◌, ◌++◌, ◌∷◌, [], pos, suc, Some, length, slice_get, refl, sym, ap, ap₂, ◌∙◌, subst, rules, w64}
 use Rattle.std.proofs.Common.{SFits, to_z, of_z, arith}
 use Rattle.std.specs.Prelude.{IfOk, IfErr, sum_by}
 use Rattle.std.proofs.lemmas.Bool.{lt-ltb}
-use Rattle.std.proofs.lemmas.Int.{to_z-of_z}
+use Rattle.std.proofs.lemmas.Int.{ints, to_z-of_z}
 use Rattle.std.proofs.lemmas.Result.{IfOk-weaker, err_from_is_err_and}
 use borrow.Author.Tests.{ltb-true}
 use Rattle.vcp_base.specs.Limits.{most_turn_nodes}
@@ -466,3 +467,114 @@ add_stmts-returns-in_err-add_stmt-clause-fills t c =
     let h = fills_later c.args.flat.now c.each.flat d.size (stmt_size (tstmt_tree c.s-item.result)) (stmts_size (tstmt_trees c.args.ss.now)) c.add_stmt.result d.does.moves.count
     (omega (arith, ap stmts_size tree, d.fits)) c.add_stmt.ensures.fills in
     rw (q.1, q.2) (subst (λ r. IfErr r (λ e. Fills c.args.flat.now (stmts_size (tstmt_trees c.args.ss.now)) e)) c.in_err-add_stmt.was h)
+
+pub add_arm-returns-in_err-r-clause-made : goal.add_arm-returns-in_err-r-clause-made
+add_arm-returns-in_err-r-clause-made t c = rw (err_from_is_err_and c.from_residual.result c.from_residual.ensures.1).1 tt
+
+pub add_branch-returns-in_err-path-clause-made : goal.add_branch-returns-in_err-path-clause-made
+add_branch-returns-in_err-path-clause-made t c = rw (err_from_is_err_and c.from_residual.result c.from_residual.ensures.1).1 tt
+
+pub add_branch-returns-in_err-add_stmts-clause-made : goal.add_branch-returns-in_err-add_stmts-clause-made
+add_branch-returns-in_err-add_stmts-clause-made t c = rw (err_from_is_err_and c.from_residual-in_err-add_stmts.result c.from_residual-in_err-add_stmts.ensures.1).1 tt
+
+pub add_branch-returns-else-more-clause-fills : goal.add_branch-returns-else-more-clause-fills
+add_branch-returns-else-more-clause-fills t c = tt
+
+pub add_branches-offset_bounds-branches-i : goal.add_branches-offset_bounds-branches-i
+add_branches-offset_bounds-branches-i t c = omega arith
+
+pub add_branches-bounds-branches-i : goal.add_branches-bounds-branches-i
+add_branches-bounds-branches-i t c = omega arith
+
+pub add_branches-has_next-requires : goal.add_branches-has_next-requires
+add_branches-has_next-requires t c = omega arith
+
+pub add_branches-returns-in_err-add_case_branch-clause-made : goal.add_branches-returns-in_err-add_case_branch-clause-made
+add_branches-returns-in_err-add_case_branch-clause-made t c = rw (err_from_is_err_and c.from_residual.result c.from_residual.ensures.1).1 tt
+
+pub add_branches-returns-in_err-add_case_branch-clause-path : goal.add_branches-returns-in_err-add_case_branch-clause-path
+add_branches-returns-in_err-add_case_branch-clause-path t c = rw (err_from_is_err_and c.from_residual.result c.from_residual.ensures.1).1 tt
+
+pub add_branches-returns-in_err-add_other-clause-made : goal.add_branches-returns-in_err-add_other-clause-made
+add_branches-returns-in_err-add_other-clause-made t c = rw (err_from_is_err_and c.from_residual-in_err-add_other.result c.from_residual-in_err-add_other.ensures.1).1 tt
+
+pub add_branches-returns-in_err-add_other-clause-path : goal.add_branches-returns-in_err-add_other-clause-path
+add_branches-returns-in_err-add_other-clause-path t c = rw (err_from_is_err_and c.from_residual-in_err-add_other.result c.from_residual-in_err-add_other.ensures.1).1 tt
+
+pub add_branches-returns-clause-fills : goal.add_branches-returns-clause-fills
+add_branches-returns-clause-fills t c = tt
+
+pub add_case-expr-requires-clause-checked : goal.add_case-expr-requires-clause-checked
+add_case-expr-requires-clause-checked t c = c.requires.on
+
+pub add_case-expr-requires-clause-code : goal.add_case-expr-requires-clause-code
+add_case-expr-requires-clause-code t c = c.requires.code
+
+pub add_case-returns-in_err-k-clause-made : goal.add_case-returns-in_err-k-clause-made
+add_case-returns-in_err-k-clause-made t c = rw (err_from_is_err_and c.from_residual.result c.from_residual.ensures.1).1 tt
+
+pub add_case_branch-returns-then-is_empty-clause-fills : goal.add_case_branch-returns-then-is_empty-clause-fills
+add_case_branch-returns-then-is_empty-clause-fills t c = tt
+
+pub add_case_branch-returns-in_err-r-clause-made : goal.add_case_branch-returns-in_err-r-clause-made
+add_case_branch-returns-in_err-r-clause-made t c = rw (err_from_is_err_and c.from_residual.result c.from_residual.ensures.1).1 tt
+
+pub add_for-returns-in_err-add_turn-clause-made : goal.add_for-returns-in_err-add_turn-clause-made
+add_for-returns-in_err-add_turn-clause-made t c = rw (err_from_is_err_and c.from_residual.result c.from_residual.ensures.1).1 tt
+
+pub add_for-returns-clause-fills : goal.add_for-returns-clause-fills
+add_for-returns-clause-fills t c = tt
+
+pub add_if-offset_bounds-arms-i : goal.add_if-offset_bounds-arms-i
+add_if-offset_bounds-arms-i t c = omega arith
+
+pub add_if-bounds-arms-i : goal.add_if-bounds-arms-i
+add_if-bounds-arms-i t c = omega arith
+
+pub add_if-has_next-requires : goal.add_if-has_next-requires
+add_if-has_next-requires t c = omega arith
+
+pub add_if-returns-in_err-add_arm-clause-made : goal.add_if-returns-in_err-add_arm-clause-made
+add_if-returns-in_err-add_arm-clause-made t c = rw (err_from_is_err_and c.from_residual.result c.from_residual.ensures.1).1 tt
+
+pub add_if-returns-in_err-add_other-clause-made : goal.add_if-returns-in_err-add_other-clause-made
+add_if-returns-in_err-add_other-clause-made t c = rw (err_from_is_err_and c.from_residual-in_err-add_other.result c.from_residual-in_err-add_other.ensures.1).1 tt
+
+pub add_if-returns-clause-fills : goal.add_if-returns-clause-fills
+add_if-returns-clause-fills t c = tt
+
+pub add_other-returns-in-None-clause-fills : goal.add_other-returns-in-None-clause-fills
+add_other-returns-in-None-clause-fills t c = tt
+
+pub add_stmts-offset_bounds-ss-s-index : goal.add_stmts-offset_bounds-ss-s-index
+add_stmts-offset_bounds-ss-s-index t c = omega arith
+
+pub add_stmts-returns-in_err-add_stmt-clause-made : goal.add_stmts-returns-in_err-add_stmt-clause-made
+add_stmts-returns-in_err-add_stmt-clause-made t c = rw (err_from_is_err_and c.from_residual.result c.from_residual.ensures.1).1 tt
+
+pub add_stmts-returns-clause-fills : goal.add_stmts-returns-clause-fills
+add_stmts-returns-clause-fills t c = tt
+
+pub add_turn-returns-in_err-node-clause-made : goal.add_turn-returns-in_err-node-clause-made
+add_turn-returns-in_err-node-clause-made t c = rw (err_from_is_err_and c.from_residual.result c.from_residual.ensures.1).1 tt
+
+pub add_turn-returns-in_err-add_value-clause-made : goal.add_turn-returns-in_err-add_value-clause-made
+add_turn-returns-in_err-add_value-clause-made t c = rw (err_from_is_err_and c.from_residual-in_err-add_value.result c.from_residual-in_err-add_value.ensures.1).1 tt
+
+pub add_turn-returns-in_err-add_stmts-clause-made : goal.add_turn-returns-in_err-add_stmts-clause-made
+add_turn-returns-in_err-add_stmts-clause-made t c = rw (err_from_is_err_and c.from_residual-in_err-add_stmts.result c.from_residual-in_err-add_stmts.ensures.1).1 tt
+
+pub add_turn-returns-clause-fills : goal.add_turn-returns-clause-fills
+add_turn-returns-clause-fills t c = tt
+
+pub add_turn-set_turn-requires : goal.add_turn-set_turn-requires
+add_turn-set_turn-requires t c = grind (ints, arith, common_steps)
+
+pub add_turn-turn-requires-clause-fits : goal.add_turn-turn-requires-clause-fits
+add_turn-turn-requires-clause-fits t c = grind (ints, arith, common_steps)
+
+pub add_case_branch-returns-then-is_empty-clause-made : goal.add_case_branch-returns-then-is_empty-clause-made
+add_case_branch-returns-then-is_empty-clause-made t c = grind (arith, common_steps)
+
+pub add_turn-add_stmts-requires : goal.add_turn-add_stmts-requires
+add_turn-add_stmts-requires t c = grind (ints, arith, common_steps)
