@@ -1,10 +1,13 @@
 //! What the words of a line say.
 
-ghost use Rattle.std.specs.Prelude.{◌≡◌, ◌<◌, true, IfSome};
+ghost use Rattle.std.specs.Prelude.{◌≡◌, ◌<◌, true, IfSome, bytes_eq, option_map, option_and_then};
 ghost use Rattle.vcp_base.specs.Limits.{most_cycles};
 ghost use Rattle.fault_script.specs.Forms.{operand_change as operand_change_of, operand_act as operand_act_of, result_act as result_act_of};
-ghost use Rattle.fault_script.specs.Forms.{operator_act as operator_act_of, skip_act as skip_act_of, act_of, change_of};
-ghost use Rattle.vcp_base.specs.Words.{words as words_of};
+ghost use Rattle.fault_script.specs.Forms.{operator_act as operator_act_of, skip_act as skip_act_of, act_of, change_in, change_of};
+ghost use Rattle.fault_script.specs.Forms.{addend_of, index_of};
+ghost use Rattle.fault_script.specs.declared.act.Act.TheVariants as act;
+ghost use Rattle.vcp_base.specs.Integers.{is_addend};
+ghost use Rattle.vcp_base.specs.Words.{only, words as words_of};
 ghost use Rattle.fault_script.specs.Forms.{mark_named as mark_named_of, mark_of};
 ghost use Rattle.fault_script.specs.Fits.{is_moderate};
 
@@ -34,23 +37,59 @@ pub enum Mark {
     Fault,
 }
 
+// Whether a word is this one.
+fn is(word: &[u8], name: &[u8]) -> bool
+    ensures { result ≡ bytes_eq word.now name.now }
+{
+    word == name
+}
+
+// What is added, as the last word.
+fn last_addend(more: &mut WordsLeft<'_>) -> Option<i64>
+    ensures value { result ≡ option_and_then addend_of (only more.old) }
+    ensures moderate { IfSome result (λ e. is_addend e ≡ true) }
+{
+    match more.only() {
+        Some(word) => addend(word),
+        None => None,
+    }
+}
+
 // What is done to operand j: `add e`, `from r` or `stale`.
 fn operand_change(j: u32, how: &[u8], more: &mut WordsLeft<'_>) -> Option<Act>
     ensures act { result ≡ operand_change_of j how.now more.old }
     ensures moderate { IfSome result (λ a. is_moderate a ≡ true) }
 {
-    if how == b"add".as_slice() {
-        let e = addend(more.only()?)?;
-        return Some(Act::OperandAdd { j, e });
+    if is(how, b"add") {
+        return added_to(j, more);
     }
-    if how == b"from".as_slice() {
-        let r = index_number(more.only()?)?;
-        return Some(Act::OperandFrom { j, r });
+    if is(how, b"from") {
+        return read_from(j, more);
     }
-    if how == b"stale".as_slice() && more.is_end() {
+    if is(how, b"stale") && more.is_end() {
         return Some(Act::OperandStale { j });
     }
     None
+}
+
+// A number is added to operand j, as the last word.
+fn added_to(j: u32, more: &mut WordsLeft<'_>) -> Option<Act>
+    ensures act { result ≡ option_map (λ e. act.OperandAdd j e) (option_and_then addend_of (only more.old)) }
+    ensures moderate { IfSome result (λ a. is_moderate a ≡ true) }
+{
+    match last_addend(more) {
+        Some(e) => Some(Act::OperandAdd { j, e }),
+        None => None,
+    }
+}
+
+// Operand j is that of a register, as the last word.
+fn read_from(j: u32, more: &mut WordsLeft<'_>) -> Option<Act>
+    ensures act { result ≡ option_map (λ r. act.OperandFrom j r) (option_and_then index_of (only more.old)) }
+    ensures moderate { IfSome result (λ a. is_moderate a ≡ true) }
+{
+    let r = index_number(more.only()?)?;
+    Some(Act::OperandFrom { j, r })
 }
 
 // The act of the words behind `operand n k`.
@@ -58,9 +97,16 @@ fn operand_act(more: &mut WordsLeft<'_>) -> Option<Act>
     ensures act { result ≡ operand_act_of more.old }
     ensures moderate { IfSome result (λ a. is_moderate a ≡ true) }
 {
-    let j = more.next()?;
-    let how = more.next()?;
-    operand_change(index_number(j)?, how, more)
+    let Some(j) = more.next() else {
+        return None;
+    };
+    let Some(how) = more.next() else {
+        return None;
+    };
+    match index_number(j) {
+        Some(j) => operand_change(j, how, more),
+        None => None,
+    }
 }
 
 // The act of the words behind `result n k`.
@@ -68,12 +114,16 @@ fn result_act(more: &mut WordsLeft<'_>) -> Option<Act>
     ensures act { result ≡ result_act_of more.old }
     ensures moderate { IfSome result (λ a. is_moderate a ≡ true) }
 {
-    let how = more.next()?;
-    if how != b"add".as_slice() {
+    let Some(how) = more.next() else {
+        return None;
+    };
+    if !is(how, b"add") {
         return None;
     }
-    let e = addend(more.only()?)?;
-    Some(Act::ResultAdd { e })
+    match last_addend(more) {
+        Some(e) => Some(Act::ResultAdd { e }),
+        None => None,
+    }
 }
 
 // The act of the words behind `operator n k`.
@@ -98,19 +148,37 @@ fn act(verb: &[u8], more: &mut WordsLeft<'_>) -> Option<Act>
     ensures act { result ≡ act_of verb.now more.old }
     ensures moderate { IfSome result (λ a. is_moderate a ≡ true) }
 {
-    if verb == b"operand".as_slice() {
+    if is(verb, b"operand") {
         return operand_act(more);
     }
-    if verb == b"result".as_slice() {
+    if is(verb, b"result") {
         return result_act(more);
     }
-    if verb == b"operator".as_slice() {
+    if is(verb, b"operator") {
         return operator_act(more);
     }
-    if verb == b"skip".as_slice() {
+    if is(verb, b"skip") {
         return skip_act(more);
     }
     None
+}
+
+// What the words of a line say: its first one, n, k, and those behind.
+fn change_by(verb: &[u8], n: &[u8], k: &[u8], more: &mut WordsLeft<'_>) -> Option<Change>
+    ensures change { result ≡ change_in verb.now n.now k.now more.old }
+    ensures cycle { IfSome result (λ c. c.cycle < most_cycles) }
+    ensures moderate { IfSome result (λ c. is_moderate c.act ≡ true) }
+{
+    let Some(cycle) = cycle_number(n) else {
+        return None;
+    };
+    let Some(op) = index_number(k) else {
+        return None;
+    };
+    match act(verb, more) {
+        Some(act) => Some(Change { cycle, op, act }),
+        None => None,
+    }
 }
 
 /// What a line says, if it is well formed.
@@ -120,23 +188,26 @@ pub fn change_of_line(line: &[u8]) -> Option<Change>
     ensures moderate { IfSome result (λ c. is_moderate c.act ≡ true) }
 {
     let mut words = WordsLeft::new(line);
-    let verb = words.next()?;
-    let n = words.next()?;
-    let k = words.next()?;
-    let cycle = cycle_number(n)?;
-    let op = index_number(k)?;
-    let act = act(verb, &mut words)?;
-    Some(Change { cycle, op, act })
+    let Some(verb) = words.next() else {
+        return None;
+    };
+    let Some(n) = words.next() else {
+        return None;
+    };
+    match words.next() {
+        Some(k) => change_by(verb, n, k, &mut words),
+        None => None,
+    }
 }
 
 // What a line is that has this one word.
 fn mark_named(word: &[u8]) -> Mark
     ensures { result ≡ mark_named_of word.now }
 {
-    if word == b"begin".as_slice() {
+    if is(word, b"begin") {
         return Mark::Begin;
     }
-    if word == b"end".as_slice() {
+    if is(word, b"end") {
         return Mark::End;
     }
     Mark::Fault

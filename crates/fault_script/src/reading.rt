@@ -116,9 +116,19 @@ impl Reading {
                 if opened.group.len() == 0 {
                     return Err(ScriptFault::Group { line });
                 }
-                self.script.push(opened.group)?;
-                Ok(())
+                self.push(opened.group)
             }
+        }
+    }
+
+    // A group that is whole.
+    fn push(&mut self, group: Group) -> Result<(), ScriptFault>
+        ensures ok { OnOk result (self.new ≡ record self.old { script = self.old.script ++ group ∷ [] }) }
+        ensures err { IfErr result (λ f. f ≡ refusal.Memory) }
+    {
+        match self.script.push(group) {
+            Ok(()) => Ok(()),
+            Err(Memory) => Err(ScriptFault::Memory),
         }
     }
 
@@ -131,14 +141,17 @@ impl Reading {
     {
         self.count += 1;
         match self.opened.take() {
-            None => {
-                self.script.push(alone(alloc, fault)?)?;
-                Ok(())
-            }
-            Some(opened) => {
-                self.opened = Some(joined(opened, fault)?);
-                Ok(())
-            }
+            None => match alone(alloc, fault) {
+                Ok(group) => self.push(group),
+                Err(Memory) => Err(ScriptFault::Memory),
+            },
+            Some(opened) => match joined(opened, fault) {
+                Ok(opened) => {
+                    self.opened = Some(opened);
+                    Ok(())
+                }
+                Err(why) => Err(why),
+            },
         }
     }
 
