@@ -4,6 +4,7 @@ ghost use Rattle.std.specs.Prelude.{◌≡◌, ◌<◌, IfOk, length};
 ghost use Rattle.vcp_base.specs.Words.{words as words_of};
 ghost use Rattle.fault_names.specs.Lines.{with_rest, of_kind as of_kind_of, place_at as place_at_of, place_of, operand_of, target_of, add_of, as_of, read_of, operator_of, doing_of};
 
+use crate::cutting::is;
 use crate::operations::operation_named;
 use crate::refused::Why;
 use fault_script::{index_number, kind_named};
@@ -89,17 +90,19 @@ fn operand(graph: &Graph, words: &mut WordsLeft<'_>) -> Result<Target, Why>
     let Some(of) = words.next() else {
         return Err(Why::Form);
     };
-    if of != b"of".as_slice() {
+    if !is(of, b"of") {
         return Err(Why::Form);
     }
     let Some(j) = index_number(number) else {
         return Err(Why::Form);
     };
-    let op = place(graph, words)?;
-    Ok(Target {
-        operand: Some(j),
-        op,
-    })
+    match place(graph, words) {
+        Ok(op) => Ok(Target {
+            operand: Some(j),
+            op,
+        }),
+        Err(why) => Err(why),
+    }
 }
 
 /// Takes what names an operation, or an operand of one.
@@ -110,11 +113,13 @@ pub(crate) fn take_target(graph: &Graph, words: &mut WordsLeft<'_>) -> Result<Ta
     let Some(first) = words.next() else {
         return Err(Why::Form);
     };
-    if first == b"operand".as_slice() {
+    if is(first, b"operand") {
         return operand(graph, words);
     }
-    let op = place_at(graph, first, words)?;
-    Ok(Target { operand: None, op })
+    match place_at(graph, first, words) {
+        Ok(op) => Ok(Target { operand: None, op }),
+        Err(why) => Err(why),
+    }
 }
 
 /// Takes the words behind `add`: E, and `to`.
@@ -127,7 +132,7 @@ fn add(words: &mut WordsLeft<'_>) -> Result<Doing, Why>
     let Some(to) = words.next() else {
         return Err(Why::Form);
     };
-    if to != b"to".as_slice() {
+    if !is(to, b"to") {
         return Err(Why::Form);
     }
     match number_in(Ty::Lint, number) {
@@ -143,7 +148,7 @@ fn read_as(r: u32, words: &mut WordsLeft<'_>) -> Result<Doing, Why>
     let Some(word) = words.next() else {
         return Err(Why::Form);
     };
-    if word == b"as".as_slice() {
+    if is(word, b"as") {
         Ok(Doing::Read { r })
     } else {
         Err(Why::Form)
@@ -154,8 +159,10 @@ fn read_as(r: u32, words: &mut WordsLeft<'_>) -> Result<Doing, Why>
 fn read(graph: &Graph, words: &mut WordsLeft<'_>) -> Result<Doing, Why>
     ensures { with_rest words.new result ≡ read_of graph.now words.old }
 {
-    let r = place(graph, words)?;
-    read_as(r, words)
+    match place(graph, words) {
+        Ok(r) => read_as(r, words),
+        Err(why) => Err(why),
+    }
 }
 
 /// Takes the words behind `operator`: KIND, and `at`.
@@ -168,7 +175,7 @@ fn operator(words: &mut WordsLeft<'_>) -> Result<Doing, Why>
     let Some(at) = words.next() else {
         return Err(Why::Form);
     };
-    if at != b"at".as_slice() {
+    if !is(at, b"at") {
         return Err(Why::Form);
     }
     match kind_named(name) {
@@ -184,25 +191,25 @@ pub(crate) fn take_doing(graph: &Graph, words: &mut WordsLeft<'_>) -> Result<Doi
     let Some(verb) = words.next() else {
         return Err(Why::Form);
     };
-    if verb == b"add".as_slice() {
+    if is(verb, b"add") {
         return add(words);
     }
-    if verb == b"stale".as_slice() {
+    if is(verb, b"stale") {
         return Ok(Doing::Stale);
     }
-    if verb == b"read".as_slice() {
+    if is(verb, b"read") {
         return read(graph, words);
     }
-    if verb == b"operator".as_slice() {
+    if is(verb, b"operator") {
         return operator(words);
     }
-    if verb == b"skip".as_slice() {
+    if is(verb, b"skip") {
         return Ok(Doing::Skip);
     }
-    if verb == b"flip".as_slice() {
+    if is(verb, b"flip") {
         return Ok(Doing::Flip);
     }
-    if verb == b"stuck".as_slice() {
+    if is(verb, b"stuck") {
         return Err(Why::Held);
     }
     Err(Why::Form)

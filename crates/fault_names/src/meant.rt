@@ -93,8 +93,10 @@ fn plain_acts(doing: Doing, place: Option<u32>, ending: Ending) -> Option<Acts>
     if let Ending::Bit { b: _ } = ending {
         return None;
     }
-    let act = act(doing, place)?;
-    Some(Acts { act, other: None })
+    match act(doing, place) {
+        Some(act) => Some(Acts { act, other: None }),
+        None => None,
+    }
 }
 
 /// The acts of `flip`.
@@ -165,10 +167,12 @@ fn timed(
     requires { target.op < length graph.now.operations }
     ensures { result ≡ timed_of graph.now doing target words.old }
 {
-    let span = when(words)?;
-    match take_ending(words) {
-        Some(ending) => ended(graph, doing, target, span, ending),
-        None => Err(Why::Form),
+    match when(words) {
+        Ok(span) => match take_ending(words) {
+            Some(ending) => ended(graph, doing, target, span, ending),
+            None => Err(Why::Form),
+        },
+        Err(why) => Err(why),
     }
 }
 
@@ -176,8 +180,10 @@ fn timed(
 fn aimed(graph: &Graph, doing: Doing, words: &mut WordsLeft<'_>) -> Result<Meant, Why>
     ensures { result ≡ aimed_of graph.now doing words.old }
 {
-    let target = take_target(graph, words)?;
-    timed(graph, doing, target, words)
+    match take_target(graph, words) {
+        Ok(target) => timed(graph, doing, target, words),
+        Err(why) => Err(why),
+    }
 }
 
 /// What a line means, or why it is refused.
@@ -185,6 +191,8 @@ pub fn meaning(graph: &Graph, text: &[u8]) -> Result<Meant, Why>
     ensures { result ≡ meant_of graph.now (words_of text.now) }
 {
     let mut words = WordsLeft::new(text);
-    let doing = take_doing(graph, &mut words)?;
-    aimed(graph, doing, &mut words)
+    match take_doing(graph, &mut words) {
+        Ok(doing) => aimed(graph, doing, &mut words),
+        Err(why) => Err(why),
+    }
 }

@@ -9,6 +9,7 @@ ghost use Rattle.fault_names.specs.Entries.{image_named as image_named_of, is_ot
 ghost use Rattle.vcp_base.specs.Lines.{read_lines};
 ghost use Rattle.fault_names.specs.Script.{cycles_of};
 
+use crate::cutting::is;
 use crate::meant::{Meant, meaning};
 use crate::refused::{Refused, Why};
 use crate::when::Span;
@@ -27,7 +28,7 @@ fn image_named(line: &[u8]) -> Option<&[u8]>
     let mark = words.next()?;
     let of = words.next()?;
     let digest = words.only()?;
-    if mark == b"#".as_slice() && of == b"of".as_slice() {
+    if is(mark, b"#") && is(of, b"of") {
         Some(digest)
     } else {
         None
@@ -95,8 +96,10 @@ fn taken(graph: &Graph, before: u64, text: &[u8]) -> Result<u64, Why>
     ensures count { result ≡ taken_of graph.now before text.now }
     ensures few { IfOk result (λ n. n ≤ most_faults) }
 {
-    let meant = meaning(graph, text)?;
-    counted(before, &meant)
+    match meaning(graph, text) {
+        Ok(meant) => counted(before, &meant),
+        Err(why) => Err(why),
+    }
 }
 
 /// The same with the number of the line.

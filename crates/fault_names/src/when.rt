@@ -5,7 +5,7 @@ ghost use Rattle.vcp_base.specs.Limits.{most_cycles};
 ghost use Rattle.fault_names.specs.Words.{last_of, from_to as from_to_of, span_of};
 ghost use Rattle.fault_names.specs.Lines.{ending_of, bit_of, when_of, with_rest, is_together as is_together_of};
 
-use crate::cutting::cut_at;
+use crate::cutting::{cut_at, is};
 use crate::refused::Why;
 use fault_script::{cycle_number, index_number};
 use vcp_base::WordsLeft;
@@ -64,10 +64,10 @@ pub(crate) fn cycles_said(word: &[u8]) -> Option<Span>
     ensures below { IfSome result (λ s. s.last < most_cycles) }
 {
     match cut_at(word, b'.') {
-        None => {
-            let n = cycle_number(word)?;
-            Some(Span { first: n, last: n })
-        }
+        None => match cycle_number(word) {
+            Some(n) => Some(Span { first: n, last: n }),
+            None => None,
+        },
         Some((front, back)) => {
             let first = cycle_number(front)?;
             let last = last(back)?;
@@ -80,8 +80,10 @@ pub(crate) fn cycles_said(word: &[u8]) -> Option<Span>
 fn bit(word: &[u8]) -> Option<Ending>
     ensures value { result ≡ bit_of word.now }
 {
-    let b = index_number(word)?;
-    Some(Ending::Bit { b })
+    match index_number(word) {
+        Some(b) => Some(Ending::Bit { b }),
+        None => None,
+    }
 }
 
 /// What is behind the cycles, to the end of the line.
@@ -91,10 +93,10 @@ pub(crate) fn take_ending(words: &mut WordsLeft<'_>) -> Option<Ending>
     let Some(word) = words.next() else {
         return Some(Ending::Alone);
     };
-    if word == b"bit".as_slice() {
+    if is(word, b"bit") {
         return bit(words.only()?);
     }
-    if word == b"together".as_slice() && words.is_end() {
+    if is(word, b"together") && words.is_end() {
         Some(Ending::Together)
     } else {
         None
@@ -113,7 +115,7 @@ pub(crate) fn when(words: &mut WordsLeft<'_>) -> Result<Span, Why>
     let Some(cycles) = words.next() else {
         return Err(Why::Form);
     };
-    if word != b"cycle".as_slice() {
+    if !is(word, b"cycle") {
         return Err(Why::Form);
     }
     match cycles_said(cycles) {
