@@ -77,15 +77,12 @@ act_of verb more =
     (cond (bytes_eq verb (codes "skip")) (skip_act more)
     None)))
 
--- what the words of a line say, if they say anything: its first one, n, k, and those behind
-abbrev pub change_in : List ℕ → List ℕ → List ℕ → List (List ℕ) → Option Change
-change_in verb n k more =
+-- what the words of a line say, if they say anything
+abbrev pub change_of : List (List ℕ) → Option Change
+change_of (verb ∷ n ∷ k ∷ more) =
     option_and_then
     (λ n. option_and_then (λ k. option_map (λ a. record { cycle = n; op = k; act = a }) (act_of verb more)) (index_of k))
     (cycle_of n)
-
-abbrev pub change_of : List (List ℕ) → Option Change
-change_of (verb ∷ n ∷ k ∷ more) = change_in verb n k more
 change_of _ = None
 
 -- ---- the lines that enclose a group

@@ -1,9 +1,9 @@
 //! What the words of a line say.
 
-ghost use Rattle.std.specs.Prelude.{◌≡◌, ◌<◌, true, IfSome, bytes_eq, option_map, option_and_then};
+ghost use Rattle.std.specs.Prelude.{◌≡◌, ◌<◌, ◌∷◌, true, IfSome, bytes_eq, option_map, option_and_then};
 ghost use Rattle.vcp_base.specs.Limits.{most_cycles};
 ghost use Rattle.fault_script.specs.Forms.{operand_change as operand_change_of, operand_act as operand_act_of, result_act as result_act_of};
-ghost use Rattle.fault_script.specs.Forms.{operator_act as operator_act_of, skip_act as skip_act_of, act_of, change_in, change_of};
+ghost use Rattle.fault_script.specs.Forms.{operator_act as operator_act_of, skip_act as skip_act_of, act_of, change_of};
 ghost use Rattle.fault_script.specs.Forms.{addend_of, index_of};
 ghost use Rattle.fault_script.specs.declared.act.Act.TheVariants as act;
 ghost use Rattle.vcp_base.specs.Integers.{is_addend};
@@ -165,7 +165,7 @@ fn act(verb: &[u8], more: &mut WordsLeft<'_>) -> Option<Act>
 
 // What the words of a line say: its first one, n, k, and those behind.
 fn change_by(verb: &[u8], n: &[u8], k: &[u8], more: &mut WordsLeft<'_>) -> Option<Change>
-    ensures change { result ≡ change_in verb.now n.now k.now more.old }
+    ensures change { result ≡ change_of (verb.now ∷ n.now ∷ k.now ∷ more.old) }
     ensures cycle { IfSome result (λ c. c.cycle < most_cycles) }
     ensures moderate { IfSome result (λ c. is_moderate c.act ≡ true) }
 {
