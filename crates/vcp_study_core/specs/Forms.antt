@@ -17,10 +17,13 @@ use Rattle.run_picture.specs.declared.times.Period.{Period}
 use Rattle.run_picture.specs.Times.{period_of}
 use Rattle.vcp_study_core.specs.declared.command.StudyCommand.{StudyCommand}
 use Rattle.vcp_study_core.specs.declared.command.StudyCommand.TheVariants as command
+use Rattle.vcp_study_core.specs.declared.command.AloneStudy.{AloneStudy}
+use Rattle.vcp_study_core.specs.declared.command.AloneStudy.TheVariants as by_itself
 use Rattle.vcp_study_core.specs.declared.command.ImageStudy.{ImageStudy}
 use Rattle.vcp_study_core.specs.declared.command.ImageStudy.TheVariants as image
 use Rattle.vcp_study_core.specs.declared.part_words.Named.{Named}
 use Rattle.vcp_study_core.specs.declared.part_words.PartWords.{PartWords}
+use Rattle.vcp_study_core.specs.declared.words.RangesWords.{RangesWords}
 
 -- the names of the files of a part of a campaign: its script, and what was printed on it
 pub record PartNames : Type 0 where
@@ -236,14 +239,20 @@ as_names n = record { script = n.script.now; verdicts = n.verdicts.now }
 abbrev pub names_of : PartWords → List PartNames
 names_of p = names_in p.left (drop p.at p.words.now)
 
+abbrev pub alone : AloneStudy → Study
+alone (by_itself.Graph horizon) = graph horizon
+alone (by_itself.Dot horizon) = dot horizon
+alone (by_itself.Cover horizon classes) = cover horizon classes
+alone (by_itself.Sites cycles classes which) = sites cycles classes which
+alone (by_itself.RestSites cycles which) = rest_sites cycles which
+
+abbrev pub as_ranges : RangesWords → Study
+as_ranges r = ranges r.all (option_map (λ f. f.now) r.inputs)
+
 abbrev pub study : ImageStudy → Study
-study (image.Graph horizon) = graph horizon
-study (image.Dot horizon) = dot horizon
+study (image.Alone s) = alone s
 study (image.Ranges all inputs) = ranges all (option_map (λ f. f.now) inputs)
-study (image.Cover horizon classes) = cover horizon classes
-study (image.Sites cycles classes which) = sites cycles classes which
 study (image.RunSites rows class which) = run_sites (rows_of rows) class which
-study (image.RestSites cycles which) = rest_sites cycles which
 study (image.Sum parts) = sum (names_of parts)
 study (image.SumApart parts rows) = sum_apart (names_of parts) (rows_of rows)
 study (image.Faults names) = faults (as_names names)

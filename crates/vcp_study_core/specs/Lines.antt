@@ -10,6 +10,8 @@ use Rattle.verdict_tables.specs.declared.fault.VerdictsFault.{VerdictsFault}
 use Rattle.verdict_tables.specs.declared.fault.VerdictsFault.TheVariants as verdicts
 use Rattle.vcp_study_core.specs.declared.fault.StudyRefusal.{StudyRefusal}
 use Rattle.vcp_study_core.specs.declared.fault.StudyRefusal.TheVariants as why
+use Rattle.vcp_study_core.specs.declared.telling.Said.{Said}
+use Rattle.vcp_study_core.specs.declared.telling.Said.TheVariants as said
 
 -- of a file that is no run, by its first fault; what rows are refused for too has their lines
 abbrev pub run_text : List ℕ → RunTextFault → List ℕ
@@ -56,3 +58,10 @@ own_text name why.Image = name ++ codes ":1 U1 Image\n"
 own_text name (why.Verdicts f) = verdicts_text name f
 own_text name why.Text = name ++ codes " Q7 Text\n"
 own_text name (why.Named r) = refused_line_text name r.line r.why
+
+-- what a line says of the file under a name
+abbrev pub said_text : List ℕ → Said → List ℕ
+said_text name (said.Rows f) = rows_text name f
+said_text name (said.At line words) = place_text name line words.now
+said_text name (said.Of words) = name ++ (words.now ++ codes "\n")
+said_text name said.Memory = memory_text

@@ -38,9 +38,9 @@ pub enum StudyCommand<'a> {
     },
 }
 
-/// What is done with an image, by the words behind its name.
+/// What is done with an image for which no other file is read.
 #[derive(Clone, Copy)]
-pub enum ImageStudy<'a> {
+pub enum AloneStudy {
     /// `graph M HORIZON`: the picture of its graph.
     Graph {
         /// The greatest number of cycle borders, at most 1000.
@@ -50,13 +50,6 @@ pub enum ImageStudy<'a> {
     Dot {
         /// The greatest number of cycle borders, at most 1000.
         horizon: u32,
-    },
-    /// `ranges M`, with `--all` and then `--inputs FILE` behind it or without: which operations of its graph may stop.
-    Ranges {
-        /// Whether the range of each operation is reported too.
-        all: bool,
-        /// The name of the table of the inputs' ranges.
-        inputs: Option<&'a Text>,
     },
     /// `cover M HORIZON CLASS`: what becomes of the faults of a class in every run.
     Cover {
@@ -74,19 +67,33 @@ pub enum ImageStudy<'a> {
         /// What is written.
         chosen: Chosen,
     },
-    /// `sites M ROWS CLASS`, in the same ways: the script of the faults of a class that the words of a run decide.
+    /// `sites M CYCLES rest`, in the same ways, where a part counts groups: the script of the groups in which a word changes between two of its readings.
+    RestSites {
+        /// How many cycles the faults are in, CYCLES, 1 to 1,000,000.
+        cycles: u32,
+        /// What is written.
+        chosen: Chosen,
+    },
+}
+
+/// What is done with an image, by the words behind its name.
+#[derive(Clone, Copy)]
+pub enum ImageStudy<'a> {
+    /// `graph`, `dot`, `cover`, and `sites M CYCLES`: no other file is read.
+    Alone(AloneStudy),
+    /// `ranges M`, with `--all` and then `--inputs FILE` behind it or without: which operations of its graph may stop.
+    Ranges {
+        /// Whether the range of each operation is reported too.
+        all: bool,
+        /// The name of the table of the inputs' ranges.
+        inputs: Option<&'a Text>,
+    },
+    /// `sites M ROWS CLASS`, in the ways of `Sites`: the script of the faults of a class that the words of a run decide.
     RunSites {
         /// The recorded inputs, ROWS.
         rows: RowsWord<'a>,
         /// The class, CLASS.
         class: RunClass,
-        /// What is written.
-        chosen: Chosen,
-    },
-    /// `sites M CYCLES rest`, in the same ways, where a part counts groups: the script of the groups in which a word changes between two of its readings.
-    RestSites {
-        /// How many cycles the faults are in, CYCLES, 1 to 1,000,000.
-        cycles: u32,
         /// What is written.
         chosen: Chosen,
     },

@@ -10,7 +10,7 @@ use vcp_outside::Failed;
 use verdict_tables::VerdictsFault;
 
 /// Why a command ends before all is written.
-#[derive(Drop)]
+#[derive(Clone, Copy)]
 pub enum Fault<'a> {
     /// There is nothing of what lines tell by this name: of a file, or of ROWS.
     Input {
@@ -33,7 +33,7 @@ pub enum Fault<'a> {
 }
 
 /// Why a file is refused, where no other program reads such a file, or asks this of it.
-#[derive(Drop)]
+#[derive(Clone, Copy)]
 pub enum StudyRefusal {
     /// The file is no run.
     Run(RunTextFault),

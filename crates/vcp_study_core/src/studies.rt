@@ -1,13 +1,14 @@
 //! The studies of an image, up to the line of their fault.
 
-ghost use Rattle.std.specs.Prelude.{◌≡◌};
+ghost use Rattle.std.specs.Prelude.{ℕ, ◌≡◌};
 ghost use Rattle.std.specs.Io.KnownBytes.{IsAtEnd};
 ghost use Rattle.signature_table.specs.Signatures.{table_of};
-ghost use Rattle.vcp_study_core.specs.CarriedOut.{Studies, told_line, told_status};
-ghost use Rattle.vcp_study_core.specs.Forms.{IsSoundStudy, on, study as study_form};
+ghost use Rattle.vcp_outside.specs.Held.{Held};
+ghost use Rattle.vcp_study_core.specs.CarriedOut.{Studies, WritesSo, told_line, told_status};
+ghost use Rattle.vcp_study_core.specs.Forms.{IsSoundStudy, alone, on, study as study_form};
 ghost use Rattle.vcp_study_core.specs.Tasks.{StudyOf, TaskOf};
 
-use crate::command::ImageStudy;
+use crate::command::{AloneStudy, ImageStudy};
 use crate::cover::write_cover;
 use crate::fault::Fault;
 use crate::graph::{write_dot, write_graph};
@@ -21,6 +22,36 @@ use std::alloc::Global;
 use vcp_base::Text;
 use vcp_inputs::Image;
 use vcp_outside::{Files, Sink};
+
+/// Does what is to be done with an image for which no other file is read, and writes to `out` alone. Answers whether it found what it looks for.
+fn study_alone<'a, O: Sink>(
+    alloc: Global,
+    name: &'a Text,
+    image: &Image,
+    study: &AloneStudy,
+    out: &mut O,
+) -> Result<bool, Fault<'a>>
+    requires table { image.now.table ≡ table_of image.now.table.seed image.now.table.step image.now.graph }
+    requires sound { IsSoundStudy (alone study.now) }
+    ensures { (h : Held) (b n : ℕ) → WritesSo (StudyOf (alone study.now) name.now image.now h b n) (O.seen out.old) (O.seen out.new)
+        (told_line result) (told_status result) }
+{
+    match study {
+        AloneStudy::Graph { horizon } => write_graph(alloc, name, image, *horizon, out),
+        AloneStudy::Dot { horizon } => write_dot(alloc, name, image, *horizon, out),
+        AloneStudy::Cover { horizon, classes } => write_cover(
+            alloc, name, image, *horizon, *classes, out,
+        ),
+        AloneStudy::Sites {
+            cycles,
+            classes,
+            chosen,
+        } => write_sites(alloc, name, image, *classes, *cycles, chosen, out),
+        AloneStudy::RestSites { cycles, chosen } => write_rests(
+            alloc, name, image, *cycles, chosen, out,
+        ),
+    }
+}
 
 /// Does what is to be done with an image that was read whole from the file under a name, and writes to `out` alone. Answers whether it found what it looks for.
 fn study_image<'a, F: Files, O: Sink>(
@@ -37,27 +68,15 @@ fn study_image<'a, F: Files, O: Sink>(
         (F.seen files.old) (F.seen files.new) (O.seen out.old) (O.seen out.new) (told_line result) (told_status result) }
 {
     match study {
-        ImageStudy::Graph { horizon } => write_graph(alloc, name, image, *horizon, out),
-        ImageStudy::Dot { horizon } => write_dot(alloc, name, image, *horizon, out),
+        ImageStudy::Alone(own) => study_alone(alloc, name, image, own, out),
         ImageStudy::Ranges { all, inputs } => ranges_of_image(
             alloc, image, *all, *inputs, files, out,
         ),
-        ImageStudy::Cover { horizon, classes } => write_cover(
-            alloc, name, image, *horizon, *classes, out,
-        ),
-        ImageStudy::Sites {
-            cycles,
-            classes,
-            chosen,
-        } => write_sites(alloc, name, image, *classes, *cycles, chosen, out),
         ImageStudy::RunSites {
             rows,
             class,
             chosen,
         } => run_sites_of_image(alloc, name, image, *rows, *class, chosen, files, out),
-        ImageStudy::RestSites { cycles, chosen } => write_rests(
-            alloc, name, image, *cycles, chosen, out,
-        ),
         ImageStudy::Sum { parts } => sum_of_image(alloc, image, parts, files, out),
         ImageStudy::SumApart { parts, rows } => apart_of_image(
             alloc, image, *rows, parts, files, out,

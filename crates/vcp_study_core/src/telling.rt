@@ -1,11 +1,10 @@
 //! The lines of faults, and their statuses.
 
-ghost use Rattle.std.specs.Prelude.{◌≡◌};
+ghost use Rattle.std.specs.Prelude.{ℕ, List, ◌≡◌};
 ghost use Rattle.vcp_outside.specs.Written.{WritesTo};
 ghost use Rattle.vcp_study_core.specs.Forms.{usage_text};
-ghost use Rattle.vcp_inputs.specs.Lines.{rows_text};
 ghost use Rattle.vcp_study_core.specs.FromFiles.{fault_answer};
-ghost use Rattle.vcp_study_core.specs.Lines.{own_text, refused_line_text, refused_words as refused_words_of, run_text, verdicts_text};
+ghost use Rattle.vcp_study_core.specs.Lines.{own_text, refused_words as refused_words_of, run_text, said_text, verdicts_text};
 
 use crate::fault::{Fault, StudyRefusal};
 use fault_names::Why;
@@ -47,52 +46,109 @@ pub(crate) fn tell<E: Sink>(err: &mut E, fault: &Fault<'_>) -> Result<(), Failed
 fn tell_own<E: Sink>(err: &mut E, name: &[u8], why: &StudyRefusal) -> Result<(), Failed>
     ensures { WritesTo (E.seen err.old) (E.seen err.new) (own_text name.now why.now) result }
 {
-    match why {
-        StudyRefusal::Run(why) => tell_no_run(err, name, *why),
-        StudyRefusal::Sites => tell_of(err, name, b" L9 Sites"),
-        StudyRefusal::Image => tell_of(err, name, b":1 U1 Image"),
-        StudyRefusal::Text => tell_of(err, name, b" Q7 Text"),
-        StudyRefusal::Verdicts(why) => tell_no_verdicts(err, name, *why),
-        StudyRefusal::Named(refused) => tell_refused_line(err, name, refused.line, refused.why),
+    tell_said(err, name, said_of(why))
+}
+
+/// What a line says of a file.
+#[derive(Clone, Copy)]
+pub(crate) enum Said {
+    /// Why rows are refused.
+    Rows(RowFault),
+    /// Words on one of its lines.
+    At {
+        /// The number of the line.
+        line: u32,
+        /// The words.
+        words: &'static [u8],
+    },
+    /// Words on all of it.
+    Of(&'static [u8]),
+    /// Memory was wanted for it.
+    Memory,
+}
+
+/// Prints the line that says so of the file under a name.
+fn tell_said<E: Sink>(err: &mut E, name: &[u8], said: Said) -> Result<(), Failed>
+    ensures { WritesTo (E.seen err.old) (E.seen err.new) (said_text name.now said) result }
+{
+    match said {
+        Said::Rows(why) => tell_refusal(err, name, &Refusal::Rows(why)),
+        Said::At { line, words } => tell_place(err, name, line, words),
+        Said::Of(words) => tell_of(err, name, words),
+        Said::Memory => write_all(err, b"no memory\n"),
     }
 }
 
-/// Prints the line of a file that is no run.
-fn tell_no_run<E: Sink>(err: &mut E, name: &[u8], why: RunTextFault) -> Result<(), Failed>
-    ensures { WritesTo (E.seen err.old) (E.seen err.new) (run_text name.now why) result }
+/// What is said of a file that only this program refuses.
+fn said_of(why: &StudyRefusal) -> Said
+    ensures { (name : List ℕ) → said_text name result ≡ own_text name why.now }
 {
     match why {
-        RunTextFault::Header => tell_rows(err, name, RowFault::Header),
-        RunTextFault::Names => tell_of(err, name, b":1 L3 Names"),
-        RunTextFault::Line { record } => tell_place(err, name, record, b"V1 Line"),
-        RunTextFault::Width { record } => tell_rows(err, name, RowFault::Width { row: record }),
-        RunTextFault::Cell { record, column } => tell_rows(
-            err,
-            name,
-            RowFault::Cell {
-                row: record,
-                column,
-            },
-        ),
-        RunTextFault::Cycles => tell_rows(err, name, RowFault::Cycles),
-        RunTextFault::End => tell_of(err, name, b" V2 End"),
-        RunTextFault::Rest { record } => tell_place(err, name, record, b"V3 Rest"),
-        RunTextFault::Cut => tell_of(err, name, b" V4 Cut"),
-        RunTextFault::Memory => write_all(err, b"no memory\n"),
+        StudyRefusal::Run(why) => run_said(*why),
+        StudyRefusal::Sites => Said::Of(b" L9 Sites"),
+        StudyRefusal::Image => Said::Of(b":1 U1 Image"),
+        StudyRefusal::Text => Said::Of(b" Q7 Text"),
+        StudyRefusal::Verdicts(why) => verdicts_said(*why),
+        StudyRefusal::Named(refused) => Said::At {
+            line: refused.line,
+            words: refused_words(refused.why),
+        },
     }
 }
 
-/// Prints the line of a text that doesn't have the verdicts of a script.
-fn tell_no_verdicts<E: Sink>(err: &mut E, name: &[u8], why: VerdictsFault) -> Result<(), Failed>
-    ensures { WritesTo (E.seen err.old) (E.seen err.new) (verdicts_text name.now why) result }
+/// What is said of a file that is no run.
+fn run_said(why: RunTextFault) -> Said
+    ensures { (name : List ℕ) → said_text name result ≡ run_text name why }
 {
     match why {
-        VerdictsFault::Group { line } => tell_place(err, name, line, b"U2 Group"),
-        VerdictsFault::Verdict { line } => tell_place(err, name, line, b"U3 Verdict"),
-        VerdictsFault::End { line } => tell_place(err, name, line, b"U4 End"),
-        VerdictsFault::Totals { line } => tell_place(err, name, line, b"U5 Totals"),
-        VerdictsFault::Rest { line } => tell_place(err, name, line, b"U6 Rest"),
-        VerdictsFault::Memory => write_all(err, b"no memory\n"),
+        RunTextFault::Header => Said::Rows(RowFault::Header),
+        RunTextFault::Names => Said::Of(b":1 L3 Names"),
+        RunTextFault::Line { record } => Said::At {
+            line: record,
+            words: b"V1 Line",
+        },
+        RunTextFault::Width { record } => Said::Rows(RowFault::Width { row: record }),
+        RunTextFault::Cell { record, column } => Said::Rows(RowFault::Cell {
+            row: record,
+            column,
+        }),
+        RunTextFault::Cycles => Said::Rows(RowFault::Cycles),
+        RunTextFault::End => Said::Of(b" V2 End"),
+        RunTextFault::Rest { record } => Said::At {
+            line: record,
+            words: b"V3 Rest",
+        },
+        RunTextFault::Cut => Said::Of(b" V4 Cut"),
+        RunTextFault::Memory => Said::Memory,
+    }
+}
+
+/// What is said of a text that doesn't have the verdicts of a script.
+fn verdicts_said(why: VerdictsFault) -> Said
+    ensures { (name : List ℕ) → said_text name result ≡ verdicts_text name why }
+{
+    match why {
+        VerdictsFault::Group { line } => Said::At {
+            line,
+            words: b"U2 Group",
+        },
+        VerdictsFault::Verdict { line } => Said::At {
+            line,
+            words: b"U3 Verdict",
+        },
+        VerdictsFault::End { line } => Said::At {
+            line,
+            words: b"U4 End",
+        },
+        VerdictsFault::Totals { line } => Said::At {
+            line,
+            words: b"U5 Totals",
+        },
+        VerdictsFault::Rest { line } => Said::At {
+            line,
+            words: b"U6 Rest",
+        },
+        VerdictsFault::Memory => Said::Memory,
     }
 }
 
@@ -111,20 +167,6 @@ fn refused_words(why: Why) -> &'static [u8]
         Why::Held => b"N3 Held",
         Why::Image => b"N4 Image",
     }
-}
-
-/// Prints the line where a line that names faults is refused.
-fn tell_refused_line<E: Sink>(err: &mut E, name: &[u8], line: u32, why: Why) -> Result<(), Failed>
-    ensures { WritesTo (E.seen err.old) (E.seen err.new) (refused_line_text name.now line why) result }
-{
-    tell_place(err, name, line, refused_words(why))
-}
-
-/// Prints the line of what rows are refused for too.
-fn tell_rows<E: Sink>(err: &mut E, name: &[u8], why: RowFault) -> Result<(), Failed>
-    ensures { WritesTo (E.seen err.old) (E.seen err.new) (rows_text name.now why) result }
-{
-    tell_refusal(err, name, &Refusal::Rows(why))
 }
 
 /// The status of a fault whose line was printed.

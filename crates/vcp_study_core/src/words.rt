@@ -4,13 +4,13 @@ ghost use Rattle.std.specs.Prelude.{ℕ, List, ◌≡◌, ◌≤◌, IfSome, Som
 ghost use Rattle.std.specs.Option.{option_map};
 ghost use Rattle.vcp_base.specs.Limits.{most_cycles, most_horizon};
 ghost use Rattle.vcp_study_core.specs.Forms.{list_image, list_text};
-ghost use Rattle.vcp_study_core.specs.Forms.{form, form_of, named_form, waves_form, last_name as last_name_of, last_period as last_period_of, study, study_of, fault_study_of, graph, dot, last_horizon as last_horizon_of, ranges_form, all_form, inputs_form, cover_form, IsSound, IsSoundStudy};
+ghost use Rattle.vcp_study_core.specs.Forms.{form, form_of, named_form, waves, waves_form, last_name as last_name_of, last_period as last_period_of, study, study_of, fault_study_of, graph, dot, last_horizon as last_horizon_of, alone, as_ranges, ranges_form, all_form, inputs_form, cover_form, IsSound, IsSoundStudy};
 ghost use Rattle.vcp_study_core.specs.Forms.{last_class as last_class_of, faults_form, sites_form, behind_form, class_form, cycles_in as cycles_in_of, rest_form, run_sites, names_of, next_by, next_of, behind_of, sum_with, sum_form, script_form, chosen_of, number_word, part_of};
 ghost use Rattle.vcp_study_core.specs.SumSteps.{as_next, as_behind, ended_of, IsFew, FewBehind};
 ghost use Rattle.verdict_tables.specs.Parts.{most_parts};
 ghost use Rattle.vcp_inputs.specs.Forms.{rows_of, AreFew, code_of, is_end};
 
-use crate::command::{ImageStudy, StudyCommand};
+use crate::command::{AloneStudy, ImageStudy, StudyCommand};
 use crate::part_words::{Named, PartWords};
 use fault_cover::{CoverClasses, classes_named as cover_classes_named};
 use fault_sites::{Chosen, Part, RunClass, classes_named, run_class_named};
@@ -32,9 +32,13 @@ pub fn command_of(words: &Words) -> Option<StudyCommand<'_>>
     ensures sound { IfSome result (λ command. IsSound (form command)) }
 {
     let mut left = CommandWords::new(words);
-    let command = left.next()?.bytes();
-    let name = left.name()?;
-    named_words(words, command, name, &mut left)
+    match left.next() {
+        Some(command) => match left.name() {
+            Some(name) => named_words(words, command.bytes(), name, &mut left),
+            None => None,
+        },
+        None => None,
+    }
 }
 
 /// The command that a name, a file's name and, of all words, those behind it say.
@@ -64,23 +68,30 @@ fn named_words<'a>(
 }
 
 /// Behind FILE, of `waves`.
-fn waves_words<'a>(file: &'a Text, words: &mut CommandWords<'a>) -> Option<StudyCommand<'a>>
+fn waves_words<'a>(file: &'a Text, words: &mut CommandWords<'_>) -> Option<StudyCommand<'a>>
     ensures form { option_map form result ≡ waves_form file.now words.old }
     ensures sound { IfSome result (λ command. IsSound (form command)) }
+{
+    match period_said(words) {
+        Some(period) => Some(StudyCommand::Waves { file, period }),
+        None => None,
+    }
+}
+
+/// The time that a cycle takes, where it is said behind FILE.
+fn period_said(words: &mut CommandWords<'_>) -> Option<Option<Period>>
+    ensures { (file : List ℕ) → option_map (waves file) result ≡ waves_form file words.old }
 {
     match words.next() {
         Some(word) => if is_word(word.bytes(), b"--cycle-time") {
             match last_period(words) {
-                Some(period) => Some(StudyCommand::Waves {
-                    file,
-                    period: Some(period),
-                }),
+                Some(period) => Some(Some(period)),
                 None => None,
             }
         } else {
             None
         },
-        None => Some(StudyCommand::Waves { file, period: None }),
+        None => Some(None),
     }
 }
 
@@ -88,8 +99,13 @@ fn waves_words<'a>(file: &'a Text, words: &mut CommandWords<'a>) -> Option<Study
 fn last_period(words: &mut CommandWords<'_>) -> Option<Period>
     ensures { result ≡ last_period_of words.old }
 {
-    let period = period_named(words.next()?.bytes())?;
-    if words.is_end() { Some(period) } else { None }
+    let Some(word) = words.next() else {
+        return None;
+    };
+    match period_named(word.bytes()) {
+        Some(period) => if words.is_end() { Some(period) } else { None },
+        None => None,
+    }
 }
 
 /// The words of `image`, behind the name of an instruction list.
@@ -126,16 +142,16 @@ fn study_words<'a>(
     ensures sound { IfSome result (λ s. IsSoundStudy (study s)) }
 {
     if is_word(command, b"graph") {
-        return graph_words(words);
+        return alone_words(graph_words(words));
     }
     if is_word(command, b"dot") {
-        return dot_words(words);
+        return alone_words(dot_words(words));
     }
     if is_word(command, b"ranges") {
         return ranges_words(words);
     }
     if is_word(command, b"cover") {
-        return cover_words(words);
+        return alone_words(cover_words(words));
     }
     fault_study_words(all, command, words)
 }
@@ -169,8 +185,10 @@ fn fault_study_words<'a>(
 fn last_name<'a>(words: &mut CommandWords<'a>) -> Option<&'a Text>
     ensures { option_map (λ name. name.now) result ≡ last_name_of words.old }
 {
-    let name = words.name()?;
-    if words.is_end() { Some(name) } else { None }
+    match words.name() {
+        Some(name) => if words.is_end() { Some(name) } else { None },
+        None => None,
+    }
 }
 
 /// HORIZON, as the last word.
@@ -178,42 +196,64 @@ fn last_horizon(words: &mut CommandWords<'_>) -> Option<u32>
     ensures horizon { result ≡ last_horizon_of words.old }
     ensures most { IfSome result (λ n. n ≤ most_horizon) }
 {
-    let horizon = words.number(0, MOST_HORIZON)?;
-    if words.is_end() { Some(horizon) } else { None }
+    match words.number(0, MOST_HORIZON) {
+        Some(horizon) => if words.is_end() { Some(horizon) } else { None },
+        None => None,
+    }
+}
+
+/// What is done with an image for which no other file is read, where it is said.
+fn alone_words<'a>(said: Option<AloneStudy>) -> Option<ImageStudy<'a>>
+    requires { IfSome said (λ s. IsSoundStudy (alone s)) }
+    ensures form { option_map study result ≡ option_map alone said }
+    ensures sound { IfSome result (λ s. IsSoundStudy (study s)) }
+{
+    match said {
+        Some(own) => Some(ImageStudy::Alone(own)),
+        None => None,
+    }
 }
 
 /// The word of `graph`.
-fn graph_words<'a>(words: &mut CommandWords<'a>) -> Option<ImageStudy<'a>>
-    ensures form { option_map study result ≡ option_map graph (last_horizon_of words.old) }
-    ensures sound { IfSome result (λ s. IsSoundStudy (study s)) }
+fn graph_words(words: &mut CommandWords<'_>) -> Option<AloneStudy>
+    ensures form { option_map alone result ≡ option_map graph (last_horizon_of words.old) }
+    ensures sound { IfSome result (λ s. IsSoundStudy (alone s)) }
 {
     match last_horizon(words) {
-        Some(horizon) => Some(ImageStudy::Graph { horizon }),
+        Some(horizon) => Some(AloneStudy::Graph { horizon }),
         None => None,
     }
 }
 
 /// The word of `dot`.
-fn dot_words<'a>(words: &mut CommandWords<'a>) -> Option<ImageStudy<'a>>
-    ensures form { option_map study result ≡ option_map dot (last_horizon_of words.old) }
-    ensures sound { IfSome result (λ s. IsSoundStudy (study s)) }
+fn dot_words(words: &mut CommandWords<'_>) -> Option<AloneStudy>
+    ensures form { option_map alone result ≡ option_map dot (last_horizon_of words.old) }
+    ensures sound { IfSome result (λ s. IsSoundStudy (alone s)) }
 {
     match last_horizon(words) {
-        Some(horizon) => Some(ImageStudy::Dot { horizon }),
+        Some(horizon) => Some(AloneStudy::Dot { horizon }),
         None => None,
     }
 }
 
+/// What the words of `ranges` say.
+#[derive(Clone, Copy)]
+pub(crate) struct RangesWords<'a> {
+    /// Whether the range of each operation is reported too.
+    pub all: bool,
+    /// FILE, where it is there.
+    pub inputs: Option<&'a Text>,
+}
+
 /// Of `ranges`, behind `--all`, where that is said: `--inputs` and FILE.
-fn inputs_words<'a>(all: bool, word: &Text, words: &mut CommandWords<'a>) -> Option<ImageStudy<'a>>
-    ensures form { option_map study result ≡ inputs_form all word.now words.old }
-    ensures sound { IfSome result (λ s. IsSoundStudy (study s)) }
+fn inputs_words<'a>(all: bool, word: &Text, words: &mut CommandWords<'a>) -> Option<RangesWords<'a>>
+    ensures { option_map as_ranges result ≡ inputs_form all word.now words.old }
 {
     if !is_word(word.bytes(), b"--inputs") {
         return None;
     }
     match last_name(words) {
-        Some(file) => Some(ImageStudy::Ranges {
+        Some(file) => Some(RangesWords {
             all,
             inputs: Some(file),
         }),
@@ -222,14 +262,30 @@ fn inputs_words<'a>(all: bool, word: &Text, words: &mut CommandWords<'a>) -> Opt
 }
 
 /// Behind `--all`.
-fn all_words<'a>(words: &mut CommandWords<'a>) -> Option<ImageStudy<'a>>
-    ensures form { option_map study result ≡ all_form words.old }
-    ensures sound { IfSome result (λ s. IsSoundStudy (study s)) }
+fn all_words<'a>(words: &mut CommandWords<'a>) -> Option<RangesWords<'a>>
+    ensures { option_map as_ranges result ≡ all_form words.old }
 {
     match words.next() {
         Some(word) => inputs_words(true, word, words),
-        None => Some(ImageStudy::Ranges {
+        None => Some(RangesWords {
             all: true,
+            inputs: None,
+        }),
+    }
+}
+
+/// All words of `ranges`.
+fn ranges_said<'a>(words: &mut CommandWords<'a>) -> Option<RangesWords<'a>>
+    ensures { option_map as_ranges result ≡ ranges_form words.old }
+{
+    match words.next() {
+        Some(word) => if is_word(word.bytes(), b"--all") {
+            all_words(words)
+        } else {
+            inputs_words(false, word, words)
+        },
+        None => Some(RangesWords {
+            all: false,
             inputs: None,
         }),
     }
@@ -240,16 +296,12 @@ fn ranges_words<'a>(words: &mut CommandWords<'a>) -> Option<ImageStudy<'a>>
     ensures form { option_map study result ≡ ranges_form words.old }
     ensures sound { IfSome result (λ s. IsSoundStudy (study s)) }
 {
-    match words.next() {
-        Some(word) => if is_word(word.bytes(), b"--all") {
-            all_words(words)
-        } else {
-            inputs_words(false, word, words)
-        },
-        None => Some(ImageStudy::Ranges {
-            all: false,
-            inputs: None,
+    match ranges_said(words) {
+        Some(said) => Some(ImageStudy::Ranges {
+            all: said.all,
+            inputs: said.inputs,
         }),
+        None => None,
     }
 }
 
@@ -257,18 +309,23 @@ fn ranges_words<'a>(words: &mut CommandWords<'a>) -> Option<ImageStudy<'a>>
 fn last_class(words: &mut CommandWords<'_>) -> Option<CoverClasses>
     ensures { result ≡ last_class_of words.old }
 {
-    let classes = cover_classes_named(words.next()?.bytes())?;
-    if words.is_end() { Some(classes) } else { None }
+    let Some(word) = words.next() else {
+        return None;
+    };
+    match cover_classes_named(word.bytes()) {
+        Some(classes) => if words.is_end() { Some(classes) } else { None },
+        None => None,
+    }
 }
 
 /// The words of `cover`: HORIZON and CLASS.
-fn cover_words<'a>(words: &mut CommandWords<'a>) -> Option<ImageStudy<'a>>
-    ensures form { option_map study result ≡ cover_form words.old }
-    ensures sound { IfSome result (λ s. IsSoundStudy (study s)) }
+fn cover_words(words: &mut CommandWords<'_>) -> Option<AloneStudy>
+    ensures form { option_map alone result ≡ cover_form words.old }
+    ensures sound { IfSome result (λ s. IsSoundStudy (alone s)) }
 {
     match words.number(0, MOST_HORIZON) {
         Some(horizon) => match last_class(words) {
-            Some(classes) => Some(ImageStudy::Cover { horizon, classes }),
+            Some(classes) => Some(AloneStudy::Cover { horizon, classes }),
             None => None,
         },
         None => None,
@@ -331,18 +388,14 @@ fn cycles_in(rows: RowsWord<'_>) -> Option<u32>
 }
 
 /// CYCLES, CLASS, and which of the sites.
-fn class_words<'a>(
-    rows: RowsWord<'a>,
-    class: &Text,
-    words: &mut CommandWords<'a>,
-) -> Option<ImageStudy<'a>>
-    ensures form { option_map study result ≡ class_form (rows_of rows.entry) class.now words.old }
-    ensures sound { IfSome result (λ s. IsSoundStudy (study s)) }
+fn class_words(rows: RowsWord<'_>, class: &Text, words: &mut CommandWords<'_>) -> Option<AloneStudy>
+    ensures form { option_map alone result ≡ class_form (rows_of rows.entry) class.now words.old }
+    ensures sound { IfSome result (λ s. IsSoundStudy (alone s)) }
 {
     match cycles_in(rows) {
         Some(cycles) => match classes_named(class.bytes()) {
             Some(classes) => match chosen_words(words) {
-                Some(chosen) => Some(ImageStudy::Sites {
+                Some(chosen) => Some(AloneStudy::Sites {
                     cycles,
                     classes,
                     chosen,
@@ -376,13 +429,13 @@ fn run_words<'a>(
 }
 
 /// CYCLES, and which of the groups of `rest`.
-fn rest_words<'a>(rows: RowsWord<'a>, words: &mut CommandWords<'a>) -> Option<ImageStudy<'a>>
-    ensures form { option_map study result ≡ rest_form (rows_of rows.entry) words.old }
-    ensures sound { IfSome result (λ s. IsSoundStudy (study s)) }
+fn rest_words(rows: RowsWord<'_>, words: &mut CommandWords<'_>) -> Option<AloneStudy>
+    ensures form { option_map alone result ≡ rest_form (rows_of rows.entry) words.old }
+    ensures sound { IfSome result (λ s. IsSoundStudy (alone s)) }
 {
     match cycles_in(rows) {
         Some(cycles) => match chosen_words(words) {
-            Some(chosen) => Some(ImageStudy::RestSites { cycles, chosen }),
+            Some(chosen) => Some(AloneStudy::RestSites { cycles, chosen }),
             None => None,
         },
         None => None,
@@ -397,11 +450,11 @@ fn behind_words<'a>(rows: RowsWord<'a>, words: &mut CommandWords<'a>) -> Option<
 {
     match words.next() {
         Some(word) => if is_word(word.bytes(), b"rest") {
-            rest_words(rows, words)
+            alone_words(rest_words(rows, words))
         } else {
             match run_class_named(word.bytes()) {
                 Some(class) => run_words(rows, class, words),
-                None => class_words(rows, word, words),
+                None => alone_words(class_words(rows, word, words)),
             }
         },
         None => None,

@@ -1,26 +1,14 @@
 use Rattle.vcp_study_core.proofs.Carrying.{only_writes}
 use Rattle.vcp_study_core.proofs.studies.study_image.Goals as goal
 
-pub returns-in-Graph : goal.returns-in-Graph
-returns-in-Graph g c end = rw c.in-Graph.is (only_writes end (λ h b n. c.write_graph.ensures))
-
-pub returns-in-Dot : goal.returns-in-Dot
-returns-in-Dot g c end = rw c.in-Dot.is (only_writes end (λ h b n. c.write_dot.ensures))
+pub returns-in-Alone : goal.returns-in-Alone
+returns-in-Alone g c end = rw c.in-Alone.is (only_writes end c.study_alone.ensures)
 
 pub returns-in-Ranges : goal.returns-in-Ranges
 returns-in-Ranges g c end = rw c.in-Ranges.is (c.ranges_of_image.ensures end c.args.name.now)
 
-pub returns-in-Cover : goal.returns-in-Cover
-returns-in-Cover g c end = rw c.in-Cover.is (only_writes end (λ h b n. c.write_cover.ensures))
-
-pub returns-in-Sites : goal.returns-in-Sites
-returns-in-Sites g c end = rw c.in-Sites.is (only_writes end c.write_sites.ensures)
-
 pub returns-in-RunSites : goal.returns-in-RunSites
 returns-in-RunSites g c end = rw c.in-RunSites.is (c.run_sites_of_image.ensures end)
-
-pub returns-in-RestSites : goal.returns-in-RestSites
-returns-in-RestSites g c end = rw c.in-RestSites.is (only_writes end c.write_rests.ensures)
 
 pub returns-in-Sum : goal.returns-in-Sum
 returns-in-Sum g c end = rw c.in-Sum.is (c.sum_of_image.ensures end c.args.name.now)

@@ -4,5 +4,5 @@ use Rattle.vcp_study_core.proofs.words.command_of.Goals as goal
 
 pub named_words-requires : goal.named_words-requires
 named_words-requires c =
-    sym (behind_name c.args.words.now c.next.new.self c.name.new.self c.in_ok-name.name.now
-    (behind_first c.args.words.now c.next.new.self c.in_ok-next.field-0.now (sym c.new-left.ensures ∙ c.in_ok-next.ensures.some)) c.in_ok-name.ensures)
+    sym (behind_name c.args.words.now c.next.new.self c.name.new.self c.in-Some-name.name.now
+    (behind_first c.args.words.now c.next.new.self c.in-Some.command.now (sym c.new-left.ensures ∙ c.in-Some.ensures.some)) c.in-Some-name.ensures)

@@ -1,13 +1,14 @@
+use Rattle.std.proofs.Common.{◌∙◌}
 use Rattle.vcp_study_core.proofs.WordForms.{this_form, other_form}
 use Rattle.vcp_study_core.proofs.words.study_words.Goals as goal
 
 pub returns-then-is_word-clause-form : goal.returns-then-is_word-clause-form
-returns-then-is_word-clause-form c = this_form _ _ _ _ _ c.is_word.ensures c.if-is_word.true c.graph_words.ensures.form
+returns-then-is_word-clause-form c = this_form _ _ _ _ _ c.is_word.ensures c.if-is_word.true (c.alone_words.ensures.form ∙ c.graph_words.ensures.form)
 
 pub returns-then-is_word-2-clause-form : goal.returns-then-is_word-2-clause-form
 returns-then-is_word-2-clause-form c =
     other_form _ _ _ _ _ c.is_word.ensures c.if-is_word.false
-    (this_form _ _ _ _ _ c.is_word-2.ensures c.if-is_word-2.true c.dot_words.ensures.form)
+    (this_form _ _ _ _ _ c.is_word-2.ensures c.if-is_word-2.true (c.alone_words-then-is_word-2.ensures.form ∙ c.dot_words.ensures.form))
 
 pub returns-then-is_word-3-clause-form : goal.returns-then-is_word-3-clause-form
 returns-then-is_word-3-clause-form c =
@@ -20,7 +21,7 @@ returns-then-is_word-4-clause-form c =
     other_form _ _ _ _ _ c.is_word.ensures c.if-is_word.false
     (other_form _ _ _ _ _ c.is_word-2.ensures c.if-is_word-2.false
     (other_form _ _ _ _ _ c.is_word-3.ensures c.if-is_word-3.false
-    (this_form _ _ _ _ _ c.is_word-4.ensures c.if-is_word-4.true c.cover_words.ensures.form)))
+    (this_form _ _ _ _ _ c.is_word-4.ensures c.if-is_word-4.true (c.alone_words-then-is_word-4.ensures.form ∙ c.cover_words.ensures.form))))
 
 pub returns-clause-form : goal.returns-clause-form
 returns-clause-form c =
