@@ -9,12 +9,10 @@ use Rattle.std.proofs.lemmas.Option.{get_or_from_slice_get, slice_get_within}
 use Rattle.std.proofs.Math.Seq.{take-suc}
 use Rattle.vcp_outside.specs.Gathering.{Gathered, Gathers, GathersTo}
 use Rattle.vcp_outside.specs.Seen.{SinkSeen}
-use Rattle.fault_script.specs.declared.act.Act.{Act}
 use Rattle.fault_sites.specs.Sites.{each_below}
 use Rattle.fault_cover.specs.declared.disturbance.Disturbance.{Disturbance}
-use Rattle.fault_cover.specs.declared.disturbance.Disturbance.TheVariants as disturbance
 use Rattle.fault_cover.specs.declared.effect.Effect.{Effect}
-use Rattle.fault_cover.specs.Classes.{Single, act_at, fault_at}
+use Rattle.fault_cover.specs.Classes.{Single, fault_at}
 use Rattle.fault_cover.specs.CoverText.{AreHeard, Heard, heard_as}
 use Rattle.fault_cover.specs.Passing.{Passes}
 use Rattle.fault_cover.specs.Telling.{Subject, Tells}
@@ -99,11 +97,6 @@ made_more of f i one other =
     passes_same (map of (each_below f i) ++ map of (f i)) (map of (each_below f (i + 1)))
     (passes_both (map of (each_below f i)) (map of (f i)) one other)
     (sym (map-append of (each_below f i) (f i)) ∙ ap (λ n. map of (each_below f n)) (sym (add-one i)))
-
--- acts as faults
-pub acts_sited : (k : ℕ) (acts : List Act) → map (act_at k) acts ≡ map (fault_at k) (map disturbance.Does acts)
-acts_sited k [] = refl
-acts_sited k (a ∷ acts) = ap (λ xs. act_at k a ∷ xs) (acts_sited k acts)
 
 -- one element more
 pub taken_one : {X : Type 0} (xs : List X) (i : ℕ) (x : X) → slice_get xs i ≡ Some x → take i xs ++ x ∷ [] ≡ take (i + 1) xs

@@ -26,6 +26,7 @@ use Rattle.fault_cover.specs.Leftovers.{AreCovered}
 use Rattle.fault_cover.specs.Sources.{readings}
 use Rattle.fault_cover.specs.Telling.{Subject, Tells}
 use Rattle.fault_cover.proofs.Below.{length_below, nothing_below, nothing_to}
+use Rattle.fault_cover.proofs.Enumerating.{few_operands}
 use Rattle.fault_cover.proofs.Exclusive.{tells_one}
 use Rattle.fault_cover.proofs.Going.{heard_both, heard_none}
 use Rattle.fault_cover.proofs.Placing.{readings_most}
@@ -151,9 +152,6 @@ heard_at_are s classes covered k inside are =
     (chosen_heard s k (of_classes classes s.graph) (heard_of covered) (heard_of_are s classes covered are))
 
 -- ---- how many
-
-few_operands : (k : Kind) → operands k ≤ 3
-few_operands k = grind arith
 
 one_if : {X : Type 0} (b : Bool) (x : X) → length (cond b (x ∷ []) []) ≤ 1
 one_if true x = omega arith

@@ -1,6 +1,6 @@
 -- Leaving: the lines of operations whose faults run on or are beyond.
 use Rattle.std.proofs.Common.{◌≡◌, ◌≢◌, ◌⊎◌, ⊎_elim, inl, inr, ℕ, suc, ◌+◌, ◌*◌, ◌/◌, ◌%◌, ◌<◌, ◌≤◌, ◌==◌, ◌&&◌, Bool, true, false, cond, List, [], ◌∷◌}
-use Rattle.std.proofs.Common.{◌++◌, length, flat_map, All}
+use Rattle.std.proofs.Common.{◌++◌, append_assoc, codes, decimal, length, flat_map, All}
 use Rattle.std.proofs.Common.{slice_get, Option, Some, None, refl, sym, ap, ap₂, ◌∙◌, arith, add-zero}
 use Rattle.std.proofs.lemmas.Bool.{cases_lt}
 use Rattle.std.proofs.lemmas.Bool.Decides.{eqb_tells}
@@ -16,15 +16,13 @@ use Rattle.range_walk.specs.Known.{is_any_named}
 use Rattle.fault_sites.specs.Sites.{each_below}
 use Rattle.fault_cover.specs.declared.disturbance.Disturbance.{Disturbance}
 use Rattle.fault_cover.specs.declared.left.LeftLine.{LeftLine}
-use Rattle.fault_cover.specs.declared.left.LeftLine.TheVariants as leftline
-use Rattle.fault_cover.specs.declared.left.Run.{Run}
 use Rattle.fault_cover.specs.declared.nearest.Nearest.{Nearest}
 use Rattle.fault_cover.specs.declared.effect.Effect.{Effect}
 use Rattle.fault_cover.specs.declared.effect.Effect.TheVariants as told
 use Rattle.fault_cover.specs.Classes.{Single}
-use Rattle.fault_cover.specs.CoverText.{AreHeard, Heard, count_told, is_beyond, is_run_on, left_text, run_on_text}
-use Rattle.fault_cover.specs.Leftovers.{IsLeast, IsLeastKey, NoneFrom, beyond_line, count_key, key_if, key_line, keys_in, keys_of, line_text, lines_at}
-use Rattle.fault_cover.specs.Leftovers.{run_if, runs_of}
+use Rattle.fault_cover.specs.CoverText.{AreHeard, Heard, count_told, is_beyond, is_run_on, left_text, number_text, run_on_text}
+use Rattle.fault_cover.specs.Leftovers.{IsLeast, IsLeastKey, NoneFrom, beyond_line, count_key, key_if, key_line, keys_of, line_text, lines_at}
+use Rattle.fault_cover.specs.Leftovers.{beyond, runs_on}
 use Rattle.fault_cover.specs.Surveys.{IsSurvey, Surveyed}
 use Rattle.fault_cover.specs.Sources.{is_any, sources}
 use Rattle.fault_cover.specs.Telling.{Subject, Tells, TellsAt, TellsOf, UnlessSame, does_the_same}
@@ -108,18 +106,18 @@ least_of_none from most key low high = refl
 
 no_line : (k w : ℕ) (keys : List ℕ) (key : ℕ) → count_key keys key ≡ 0 → key_line k w keys key ≡ []
 no_line k w keys key none =
-    ap (λ n. cond (n == 0) [] (leftline.RunsOn k (key / w) (key % w) n ∷ [])) none
+    ap (λ n. cond (n == 0) [] (runs_on k (key / w) (key % w) n ∷ [])) none
 
 some_line : (n : ℕ) (line : LeftLine) → n ≢ 0 → cond (n == 0) [] (line ∷ []) ≡ line ∷ []
 some_line n line some = ap (λ b. cond b [] (line ∷ [])) (other_key n 0 some)
 
 pub lines_next : (k w : ℕ) (keys : List ℕ) (from most key : ℕ) → IsLeastKey keys from most key
-    → each_below (key_line k w keys) (key + 1) ≡ each_below (key_line k w keys) from ++ leftline.RunsOn k (key / w) (key % w) (count_key keys key) ∷ []
+    → each_below (key_line k w keys) (key + 1) ≡ each_below (key_line k w keys) from ++ runs_on k (key / w) (key % w) (count_key keys key) ∷ []
 lines_next k w keys from most key is =
     let more : key + 1 ≡ suc key = omega arith in
     ap (each_below (key_line k w keys)) more
     ∙ ap₂ (λ xs ys. xs ++ ys) (nothing_to (key_line k w keys) from key is.high (λ i low high. no_line k w keys i (is.least i low high)))
-    (some_line (count_key keys key) (leftline.RunsOn k (key / w) (key % w) (count_key keys key)) is.there)
+    (some_line (count_key keys key) (runs_on k (key / w) (key % w) (count_key keys key)) is.there)
 
 pub lines_last : (k w : ℕ) (keys : List ℕ) (from most : ℕ) → from ≤ most → NoneFrom keys from most
     → each_below (key_line k w keys) most ≡ each_below (key_line k w keys) from
@@ -185,12 +183,17 @@ line_if g n line = line_by (n == 0) where
   line_by true = refl
   line_by false = append-nil (line_text g line)
 
+run_on_said : (g : Lists) (k b q n : ℕ)
+    → line_text g (runs_on k b q n) ≡ codes "runs-on " ++ (decimal b ++ (codes " " ++ (decimal q ++ number_text g k n)))
+run_on_said g k b q n = ap (λ xs. codes "runs-on " ++ xs) (append_assoc (decimal b) (codes " " ++ decimal q) (number_text g k n))
+
 key_text : (g : Lists) (k w : ℕ) (heard : List Heard) (b q : ℕ) → q < w → All (λ h. Within w h.told) heard
-    → flat_map (line_text g) (cond (count_key (keys_of w heard) (b * w + q) == 0) [] (leftline.RunsOn k b q (count_key (keys_of w heard) (b * w + q)) ∷ []))
+    → flat_map (line_text g) (cond (count_key (keys_of w heard) (b * w + q) == 0) [] (runs_on k b q (count_key (keys_of w heard) (b * w + q)) ∷ []))
     ≡ run_on_text g heard k b q
 key_text g k w heard b q high all =
-    line_if g (count_key (keys_of w heard) (b * w + q)) (leftline.RunsOn k b q (count_key (keys_of w heard) (b * w + q)))
-    ∙ ap (λ n. cond (n == 0) [] (line_text g (leftline.RunsOn k b q n))) (keys_counted w b q heard high all)
+    line_if g (count_key (keys_of w heard) (b * w + q)) (runs_on k b q (count_key (keys_of w heard) (b * w + q)))
+    ∙ ap (λ n. cond (n == 0) [] (line_text g (runs_on k b q n))) (keys_counted w b q heard high all)
+    ∙ ap (cond (count_told (is_run_on b q) heard == 0) []) (run_on_said g k b q (count_told (is_run_on b q) heard))
 
 -- the number of a row and a place in it
 abbrev number_at : ℕ → ℕ → ℕ → ℕ
@@ -204,18 +207,18 @@ pub left_said : (g : Lists) (horizon : ℕ) (heard : List Heard) (k : ℕ) → A
 left_said g horizon heard k all =
     let w = length g.operations in
     let keys = keys_of w heard in
-    let f : ℕ → ℕ → List ℕ = λ b q. flat_map (line_text g) (cond (count_key keys (b * w + q) == 0) [] (leftline.RunsOn k b q (count_key keys (b * w + q)) ∷
+    let f : ℕ → ℕ → List ℕ = λ b q. flat_map (line_text g) (cond (count_key keys (b * w + q) == 0) [] (runs_on k b q (count_key keys (b * w + q)) ∷
     [])) in
     flat_map-append (line_text g) (each_below (key_line k w keys) ((horizon + 1) * w)) (beyond_line k (count_told is_beyond heard))
     ∙ ap₂ (λ xs ys. xs ++ ys)
     (flat_below (line_text g) (key_line k w keys) ((horizon + 1) * w)
     ∙ same_below (λ i. flat_map (line_text g) (key_line k w keys i)) (λ i. f (i / w) (i % w)) ((horizon + 1) * w)
-    (λ i lt. ap (λ n. flat_map (line_text g) (cond (count_key keys n == 0) [] (leftline.RunsOn k (i / w) (i % w) (count_key keys n) ∷ []))) (sym
+    (λ i lt. ap (λ n. flat_map (line_text g) (cond (count_key keys n == 0) [] (runs_on k (i / w) (i % w) (count_key keys n) ∷ []))) (sym
     (whole_number w i)))
     ∙ rows_below f w (horizon + 1)
     ∙ same_below (λ b. each_below (f b) w) (λ b. each_below (run_on_text g heard k b) w) (horizon + 1)
     (λ b lt. same_below (f b) (run_on_text g heard k b) w (λ q high. key_text g k w heard b q high all)))
-    (line_if g (count_told is_beyond heard) (leftline.Beyond k (count_told is_beyond heard)))
+    (line_if g (count_told is_beyond heard) (beyond k (count_told is_beyond heard)))
 
 -- ---- what is told is within
 
@@ -266,16 +269,3 @@ pub heard_within : (s : Subject) (v : Surveyed) (faults : List Single) (heard : 
 heard_within s v faults heard survey are =
     All-weaker (λ (h : Heard). Tells s h.fault.op h.fault.does h.told) (λ (h : Heard). Within (length s.graph.operations) h.told)
     (λ h is. told_within s v survey h.fault.op h.fault.does h.told is) heard are.told
-
--- ---- what is kept
-
-key_first : (w : ℕ) (x : Effect) (runs : List Run) → keys_in w (run_if x ++ runs) ≡ key_if w x ++ keys_in w runs
-key_first w (told.Refused b) runs = refl
-key_first w told.Nothing runs = refl
-key_first w (told.Shows b o) runs = refl
-key_first w (told.RunsOn b q) runs = refl
-key_first w told.Beyond runs = refl
-
-pub keys_are : (w : ℕ) (heard : List Heard) → keys_in w (runs_of heard) ≡ keys_of w heard
-keys_are w [] = refl
-keys_are w (h ∷ heard) = key_first w h.told (runs_of heard) ∙ ap (λ (ks : List ℕ). key_if w h.told ++ ks) (keys_are w heard)

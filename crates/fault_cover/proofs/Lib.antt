@@ -9,6 +9,7 @@ mod Choosing
 mod Covering
 mod Crossing
 mod Dividing
+mod Enumerating
 mod Exclusive
 mod Gathering
 mod Going

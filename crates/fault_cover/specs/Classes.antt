@@ -4,7 +4,6 @@ use Rattle.vcp_base.specs.Kinds.{operands}
 use Rattle.op_graph.specs.declared.op.Op.{Op}
 use Rattle.op_graph.specs.Lists.{Lists}
 use Rattle.op_graph.specs.Rules.{is_out}
-use Rattle.fault_script.specs.declared.act.Act.{Act}
 use Rattle.fault_sites.specs.declared.class.Class.TheVariants as class
 pub use Rattle.fault_sites.specs.Late.{may_be_late}
 use Rattle.fault_sites.specs.Sites.{each_below, acts_of}
@@ -59,10 +58,6 @@ pub record Single : Type 0 where
 
 abbrev pub fault_at : ℕ → Disturbance → Single
 fault_at k d = record { op = k; does = d }
-
--- an act of a script at operation k
-abbrev pub act_at : ℕ → Act → Single
-act_at k a = fault_at k (disturbance.Does a)
 
 abbrev pub singles_at : CoverClass → Lists → ℕ → Option Op → List Single
 singles_at c g k None = []

@@ -6,8 +6,8 @@ use Rattle.fault_sites.specs.Sites.{each_below}
 use Rattle.fault_cover.specs.declared.class.CoverClass.{CoverClass}
 use Rattle.fault_cover.specs.declared.left.Left.{Left}
 use Rattle.fault_cover.specs.declared.left.LeftLine.{LeftLine}
-use Rattle.fault_cover.specs.declared.left.Run.{Run}
-use Rattle.fault_cover.specs.declared.left.LeftLine.TheVariants as leftline
+use Rattle.fault_cover.specs.declared.left.LeftEffect.{LeftEffect}
+use Rattle.fault_cover.specs.declared.left.LeftEffect.TheVariants as left
 use Rattle.fault_cover.specs.declared.effect.Effect.{Effect}
 use Rattle.fault_cover.specs.declared.effect.Effect.TheVariants as told
 use Rattle.fault_cover.specs.CoverText.{Covered, Heard, IsCovered, count_told, heard_at, heard_of, is_beyond, number_text}
@@ -25,30 +25,13 @@ key_if w told.Beyond = []
 abbrev pub keys_of : ℕ → List Heard → List ℕ
 keys_of w heard = flat_map (λ h. key_if w h.told) heard
 
--- those that run on, and their numbers
-abbrev pub run_if : Effect → List Run
-run_if (told.Refused borders) = []
-run_if told.Nothing = []
-run_if (told.Shows borders output) = []
-run_if (told.RunsOn borders q) = record { borders = borders; op = q } ∷ []
-run_if told.Beyond = []
-
-abbrev pub runs_of : List Heard → List Run
-runs_of heard = flat_map (λ h. run_if h.told) heard
-
-abbrev pub key_at : ℕ → Run → ℕ
-key_at w r = r.borders * w + r.op
-
-abbrev pub keys_in : ℕ → List Run → List ℕ
-keys_in w runs = map (key_at w) runs
-
 -- how often a number is in a list
 abbrev pub count_key : List ℕ → ℕ → ℕ
 count_key keys key = count_by (λ x. x == key) keys
 
 -- what is kept of the faults of an operation, where memory wasn't lacking
-abbrev pub Leaves : Left → List Heard → Type 0
-Leaves l heard = (l.lacked ≡ false → l.runs.items ≡ runs_of heard) × (length heard < 2 ^ 62 → l.beyond ≡ count_told is_beyond heard)
+abbrev pub Leaves : Lists → Left → List Heard → Type 0
+Leaves g l heard = (l.lacked ≡ false → l.keys.items ≡ keys_of (length g.operations) heard) × (length heard < 2 ^ 62 → l.beyond ≡ count_told is_beyond heard)
 
 -- none of a list is as great as `from` and below `most`
 abbrev pub NoneFrom : List ℕ → ℕ → ℕ → Type 0
@@ -67,15 +50,22 @@ IsLeast keys from most (Some key) = IsLeastKey keys from most key
 
 -- ---- lines
 
--- those of operation k that run on where a number stands for, and those that are beyond; none where there are none
+-- of operation k so many run on, or are beyond
+abbrev pub runs_on : ℕ → ℕ → ℕ → ℕ → LeftLine
+runs_on k borders q n = record { at = k; told = left.RunsOn borders q; faults = n }
+
+abbrev pub beyond : ℕ → ℕ → LeftLine
+beyond k n = record { at = k; told = left.Beyond; faults = n }
+
+-- those that run on where a number stands for, and those that are beyond; none where there are none
 abbrev pub run_line : ℕ → ℕ → List ℕ → ℕ → LeftLine
-run_line k w keys key = leftline.RunsOn k (key / w) (key % w) (count_key keys key)
+run_line k w keys key = runs_on k (key / w) (key % w) (count_key keys key)
 
 abbrev pub key_line : ℕ → ℕ → List ℕ → ℕ → List LeftLine
 key_line k w keys key = cond (count_key keys key == 0) [] (run_line k w keys key ∷ [])
 
 abbrev pub beyond_line : ℕ → ℕ → List LeftLine
-beyond_line k n = cond (n == 0) [] (leftline.Beyond k n ∷ [])
+beyond_line k n = cond (n == 0) [] (beyond k n ∷ [])
 
 -- of operation k
 abbrev pub lines_at : Lists → ℕ → List Heard → ℕ → List LeftLine
@@ -99,6 +89,9 @@ abbrev pub AreLinesOf : Subject → List CoverClass → ℕ → List LeftLine �
 AreLinesOf s classes n lines =
     (covered : List Covered) → AreCovered s classes covered → lines ≡ each_below (λ k. lines_at s.graph s.horizon (heard_at covered k) k) n
 
+abbrev pub effect_text : LeftEffect → List ℕ
+effect_text (left.RunsOn borders q) = codes "runs-on " ++ (decimal borders ++ (codes " " ++ decimal q))
+effect_text left.Beyond = codes "beyond"
+
 abbrev pub line_text : Lists → LeftLine → List ℕ
-line_text g (leftline.RunsOn k borders q n) = codes "runs-on " ++ (decimal borders ++ (codes " " ++ (decimal q ++ number_text g k n)))
-line_text g (leftline.Beyond k n) = codes "beyond" ++ number_text g k n
+line_text g l = effect_text l.told ++ number_text g l.at l.faults

@@ -1,5 +1,6 @@
 pub mod Additions
 pub mod Beginnings
+pub mod Candidates
 pub mod Certain
 pub mod Classes
 pub mod Counts

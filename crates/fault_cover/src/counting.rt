@@ -62,7 +62,7 @@ impl Counting {
 impl Listener for Counting {
     ghost text = { λ g h. [] };
 
-    ghost Keeps = { Counts };
+    ghost Keeps = { λ _. Counts };
 
     fn hear<O: Sink>(
         &mut self,
@@ -86,14 +86,13 @@ pub struct ClassCount {
 }
 
 /// What is counted of the faults of a class.
-fn count_class(subject: &Subject<'_>, class: CoverClass, nowhere: &mut MemSink) -> ClassCount
+fn count_class(nowhere: &mut MemSink, subject: &Subject<'_>, class: CoverClass) -> ClassCount
     requires table { IsTableOf subject.now.table.now subject.now.graph.now }
     requires mapped { IsMapped subject.now.graph.now subject.now.survey.now }
     ensures { (stops : List Stops)
         → IsSurvey (subject_of subject.now.graph.now subject.now.table.now subject.now.survey.now.horizon stops) subject.now.survey.now
         → IsClassCount (subject_of subject.now.graph.now subject.now.table.now subject.now.survey.now.horizon stops) class result }
 {
-    // Nothing is written.
     let mut line = Line::new();
     let mut counting = Counting::new();
     then_class_faults(&mut line, nowhere, &mut counting, subject, class);
@@ -108,9 +107,10 @@ fn add_count(counts: &mut Vec<ClassCount>, count: ClassCount) -> Result<(), Memo
     Ok(())
 }
 
-/// What is counted of each of these classes.
+/// What is counted of each of these classes. Nothing is written.
 pub(crate) fn count_classes(
     alloc: Global,
+    nowhere: &mut MemSink,
     subject: &Subject<'_>,
     classes: &[CoverClass],
 ) -> Result<Vec<ClassCount>, Memory>
@@ -120,11 +120,10 @@ pub(crate) fn count_classes(
         → IsSurvey (subject_of subject.now.graph.now subject.now.table.now subject.now.survey.now.horizon stops) subject.now.survey.now
         → AreCountsOf (subject_of subject.now.graph.now subject.now.table.now subject.now.survey.now.horizon stops) classes.now counts.items) }
 {
-    let mut nowhere = MemSink::new(alloc, 0)?;
     let mut counts = Vec::new(alloc);
     'classes: for i in 0..classes.len() {
         let class = class_in(classes, i);
-        let count = count_class(subject, class, &mut nowhere);
+        let count = count_class(nowhere, subject, class);
         add_count(&mut counts, count)?;
     }
     Ok(counts)

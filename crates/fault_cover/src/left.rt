@@ -2,8 +2,9 @@
 
 ghost use Rattle.std.specs.Prelude.{◌≡◌, ◌+◌, ◌*◌, ◌/◌, ◌%◌, ◌<◌, ◌≤◌, ◌^◌, ◌++◌, ◌∷◌, [], false, ℕ, List, Some, IfOk, OnOk, cond, length, slice_get};
 ghost use Rattle.range_walk.specs.declared.range.Stops.{Stops};
+ghost use Rattle.op_graph.specs.Lists.{Lists};
 ghost use Rattle.signature_table.specs.Signatures.{IsTableOf};
-ghost use Rattle.fault_cover.specs.Leftovers.{AreLinesAt, AreLinesOf, IsLeast, Leaves, beyond_line, count_key, key_at, key_line as key_line_of, keys_in};
+ghost use Rattle.fault_cover.specs.Leftovers.{AreLinesAt, AreLinesOf, IsLeast, Leaves, beyond_line, count_key, key_line as key_line_of};
 ghost use Rattle.fault_cover.specs.Leftovers.{run_line};
 ghost use Rattle.fault_cover.specs.Surveys.{IsMapped, IsSurvey};
 ghost use Rattle.fault_cover.specs.Telling.{subject as subject_of};
@@ -19,40 +20,35 @@ use std::alloc::Global;
 use vcp_base::Memory;
 use vcp_outside::{Line, MemSink, Sink};
 
-/// So many faults of an operation that are neither refused nor do nothing, nor show.
+/// What is reported of faults that are neither refused nor do nothing, nor show.
 #[derive(Clone, Copy)]
-pub enum LeftLine {
+pub enum LeftEffect {
     /// They run on.
     RunsOn {
-        /// The operation.
-        at: u32,
         /// Across how many borders.
         borders: u64,
         /// At which operation.
         op: u64,
-        /// How many.
-        faults: u64,
     },
     /// They are beyond the horizon.
-    Beyond {
-        /// The operation.
-        at: u32,
-        /// How many.
-        faults: u64,
-    },
+    Beyond,
 }
 
-/// A fault runs on across so many borders at an operation that may stop.
+/// So many faults of an operation of which one thing is reported.
 #[derive(Clone, Copy)]
-pub(crate) struct Run {
-    borders: u32,
-    op: u32,
+pub struct LeftLine {
+    /// The operation.
+    pub(crate) at: u32,
+    /// What is reported.
+    pub(crate) told: LeftEffect,
+    /// How many faults.
+    pub(crate) faults: u64,
 }
 
-/// The faults of an operation that run on, and how many are beyond.
+/// The faults of an operation that run on, each as the number of its borders and operation, and how many are beyond.
 #[derive(Drop)]
 pub(crate) struct Left {
-    runs: Vec<Run>,
+    keys: Vec<u64>,
     beyond: u64,
     lacked: bool,
 }
@@ -60,21 +56,21 @@ pub(crate) struct Left {
 impl Left {
     /// None.
     fn new(alloc: Global) -> Left
-        ensures { Leaves result [] }
+        ensures { (g : Lists) → Leaves g result [] }
     {
         Left {
-            runs: Vec::new(alloc),
+            keys: Vec::new(alloc),
             beyond: 0,
             lacked: false,
         }
     }
 
     /// One more that runs on.
-    fn push(&mut self, run: Run)
-        ensures pushed { self.new.lacked ≡ false → (self.old.lacked ≡ false) × (self.new.runs.items ≡ self.old.runs.items ++ run ∷ []) }
+    fn push(&mut self, key: u64)
+        ensures pushed { self.new.lacked ≡ false → (self.old.lacked ≡ false) × (self.new.keys.items ≡ self.old.keys.items ++ key ∷ []) }
         ensures beyond { self.new.beyond ≡ self.old.beyond }
     {
-        if self.runs.push(run).is_err() {
+        if self.keys.push(key).is_err() {
             self.lacked = true;
         }
     }
@@ -89,16 +85,13 @@ impl Listener for Left {
         &mut self,
         _line: &mut Line,
         _out: &mut O,
-        _graph: &Graph,
+        graph: &Graph,
         _k: u32,
         _disturbance: &Disturbance,
         told: &Effect,
     ) {
         match told {
-            Effect::RunsOn { borders, op } => self.push(Run {
-                borders: *borders,
-                op: *op,
-            }),
+            Effect::RunsOn { borders, op } => self.push(key_of(graph.len(), *borders, *op)),
             Effect::Beyond => self.beyond = plus(self.beyond, 1),
             Effect::Refused { borders: _ }
             | Effect::Nothing
@@ -111,18 +104,18 @@ impl Listener for Left {
 }
 
 /// One number for the borders and the operation, of which there are `width`.
-fn key_of(width: u32, run: &Run) -> u64
-    ensures { result ≡ key_at width run.now }
+fn key_of(width: u32, borders: u32, op: u32) -> u64
+    ensures { result ≡ borders * width + op }
 {
-    run.borders as u64 * width as u64 + run.op as u64
+    borders as u64 * width as u64 + op as u64
 }
 
-/// The number of one of those that run on.
-fn key_in(width: u32, runs: &[Run], i: usize) -> u64
-    requires { i < length runs.now }
-    ensures { slice_get (keys_in width runs.now) i ≡ Some result }
+/// One of the numbers.
+fn key_in(keys: &[u64], i: usize) -> u64
+    requires { i < length keys.now }
+    ensures { slice_get keys.now i ≡ Some result }
 {
-    key_of(width, &runs[i])
+    keys[i]
 }
 
 /// 1 where a test holds.
@@ -134,12 +127,12 @@ fn one_if(is: bool) -> u64
 }
 
 /// How many have this number.
-fn count_of(width: u32, runs: &[Run], key: u64) -> u64
-    ensures { result ≡ count_key (keys_in width runs.now) key }
+fn count_of(keys: &[u64], key: u64) -> u64
+    ensures { result ≡ count_key keys.now key }
 {
     let mut count = 0;
-    'runs: for i in 0..runs.len() {
-        let found = key_in(width, runs, i);
+    'keys: for i in 0..keys.len() {
+        let found = key_in(keys, i);
         count += one_if(found == key);
     }
     count
@@ -162,12 +155,12 @@ fn lesser(best: Option<u64>, key: u64, from: u64, most: u64) -> Option<u64>
 }
 
 /// The least of the numbers that is at least `from` and below `most`.
-fn least_from(width: u32, runs: &[Run], from: u64, most: u64) -> Option<u64>
-    ensures { IsLeast (keys_in width runs.now) from most result }
+fn least_from(keys: &[u64], from: u64, most: u64) -> Option<u64>
+    ensures { IsLeast keys.now from most result }
 {
     let mut best = None;
-    'runs: for i in 0..runs.len() {
-        let key = key_in(width, runs, i);
+    'keys: for i in 0..keys.len() {
+        let key = key_in(keys, i);
         best = lesser(best, key, from, most);
     }
     best
@@ -182,17 +175,16 @@ fn push_line(lines: &mut Vec<LeftLine>, line: LeftLine) -> Result<(), Memory>
 }
 
 /// The line of those that have a number.
-fn key_line(width: u32, runs: &[Run], k: u32, key: u64) -> LeftLine
+fn key_line(width: u32, keys: &[u64], k: u32, key: u64) -> LeftLine
     requires { 0 < width }
-    ensures { result ≡ run_line k width (keys_in width runs.now) key }
+    ensures { result ≡ run_line k width keys.now key }
 {
     let borders = key / width as u64;
     let op = key % width as u64;
-    let faults = count_of(width, runs, key);
-    LeftLine::RunsOn {
+    let faults = count_of(keys, key);
+    LeftLine {
         at: k,
-        borders,
-        op,
+        told: LeftEffect::RunsOn { borders, op },
         faults,
     }
 }
@@ -202,15 +194,15 @@ fn add_key_lines(
     lines: &mut Vec<LeftLine>,
     k: u32,
     width: u32,
-    runs: &[Run],
+    keys: &[u64],
     most: u64,
 ) -> Result<(), Memory>
     requires { 0 < width }
-    ensures { OnOk result (lines.new.items ≡ lines.old.items ++ each_below (key_line_of k width (keys_in width runs.now)) most) }
+    ensures { OnOk result (lines.new.items ≡ lines.old.items ++ each_below (key_line_of k width keys.now) most) }
 {
     let mut next = 0;
-    'keys: while let Some(key) = least_from(width, runs, next, most) {
-        let line = key_line(width, runs, k, key);
+    'keys: while let Some(key) = least_from(keys, next, most) {
+        let line = key_line(width, keys, k, key);
         push_line(lines, line)?;
         next = key + 1;
     }
@@ -226,8 +218,9 @@ fn add_beyond(lines: &mut Vec<LeftLine>, k: u32, beyond: u64) -> Result<(), Memo
     }
     push_line(
         lines,
-        LeftLine::Beyond {
+        LeftLine {
             at: k,
+            told: LeftEffect::Beyond,
             faults: beyond,
         },
     )
@@ -239,23 +232,23 @@ fn add_lines(
     k: u32,
     width: u32,
     horizon: u32,
-    runs: &[Run],
+    keys: &[u64],
     beyond: u64,
 ) -> Result<(), Memory>
     requires { 0 < width }
-    ensures { OnOk result (lines.new.items ≡ lines.old.items ++ (each_below (key_line_of k width (keys_in width runs.now)) ((horizon + 1) * width)
+    ensures { OnOk result (lines.new.items ≡ lines.old.items ++ (each_below (key_line_of k width keys.now) ((horizon + 1) * width)
         ++ beyond_line k beyond)) }
 {
     let most = (horizon as u64 + 1) * width as u64;
-    add_key_lines(lines, k, width, runs, most)?;
+    add_key_lines(lines, k, width, keys, most)?;
     add_beyond(lines, k, beyond)
 }
 
 /// The lines of operation `k`.
 fn add_lines_at(
     alloc: Global,
-    lines: &mut Vec<LeftLine>,
     nowhere: &mut MemSink,
+    lines: &mut Vec<LeftLine>,
     subject: &Subject<'_>,
     classes: &[CoverClass],
     k: u32,
@@ -269,7 +262,6 @@ fn add_lines_at(
         lines.new.items) }
 {
     let mut left = Left::new(alloc);
-    // Nothing is written.
     let mut line = Line::new();
     then_faults_at(&mut line, nowhere, &mut left, subject, classes, k);
     if left.lacked {
@@ -278,12 +270,13 @@ fn add_lines_at(
     let survey = subject.survey;
     let horizon = survey.horizon();
     let width = subject.graph.len();
-    add_lines(lines, k, width, horizon, &left.runs, left.beyond)
+    add_lines(lines, k, width, horizon, &left.keys, left.beyond)
 }
 
-/// The lines of all operations whose faults run on or are beyond, in order.
+/// The lines of all operations whose faults run on or are beyond, in order. Nothing is written.
 pub(crate) fn lines_left(
     alloc: Global,
+    nowhere: &mut MemSink,
     subject: &Subject<'_>,
     classes: &[CoverClass],
 ) -> Result<Vec<LeftLine>, Memory>
@@ -294,10 +287,9 @@ pub(crate) fn lines_left(
         → AreLinesOf (subject_of subject.now.graph.now subject.now.table.now subject.now.survey.now.horizon stops) classes.now
         (length subject.now.graph.now.operations) lines.items) }
 {
-    let mut nowhere = MemSink::new(alloc, 0)?;
     let mut lines = Vec::new(alloc);
     'operations: for k in 0..subject.graph.len() {
-        add_lines_at(alloc, &mut lines, &mut nowhere, subject, classes, k)?;
+        add_lines_at(alloc, nowhere, &mut lines, subject, classes, k)?;
     }
     Ok(lines)
 }

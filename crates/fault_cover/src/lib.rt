@@ -7,6 +7,7 @@
 //! `survey_of` finds what faults are judged by, `tell` tells of one, and `write_cover` writes what is reported of all faults of a class.
 #![tactic(auto)]
 
+mod candidates;
 mod class;
 mod counting;
 mod disturbance;

@@ -6,17 +6,16 @@ ghost use Rattle.verdict_tables.specs.SumText.{delay_text};
 ghost use Rattle.fault_cover.specs.Classes.{fault_at};
 ghost use Rattle.fault_cover.specs.CoverText.{back as back_of, class_name as class_name_of, classes_in, classes_name as classes_name_of, column_text};
 ghost use Rattle.fault_cover.specs.CoverText.{columns_text};
-ghost use Rattle.fault_cover.specs.CoverText.{front as front_of, heading_text, number_text, refused_only, remark, row_text, shows_text};
-ghost use Rattle.fault_cover.specs.CoverText.{single_text};
-ghost use Rattle.fault_cover.specs.CoverText.{sum_of, totals_line};
-ghost use Rattle.fault_cover.specs.Leftovers.{line_text};
+ghost use Rattle.fault_cover.specs.CoverText.{front as front_of, heading_text, place_text, refused_only, remark, row_text, shows_text};
+ghost use Rattle.fault_cover.specs.CoverText.{single_text, sum_of, totals_line};
+ghost use Rattle.fault_cover.specs.Leftovers.{effect_text, line_text};
 ghost use Rattle.fault_cover.specs.declared.effect.Effect.TheVariants as told;
 
 use crate::class::{CoverClass, CoverClasses};
 use crate::disturbance::Disturbance;
 use crate::effect::Effect;
 use crate::faults::Listener;
-use crate::left::LeftLine;
+use crate::left::{LeftEffect, LeftLine};
 use crate::tally::Tally;
 use fault_sites::{then_rest, verb};
 use itoa::Buffer;
@@ -201,7 +200,7 @@ fn front(disturbance: &Disturbance) -> &'static [u8]
     }
 }
 
-/// Goes on with an operand's number and words behind it.
+/// Goes on with the number of an operand or a reading, and words behind it.
 fn then_number<O: Sink>(line: &mut Line, out: &mut O, n: u32, words: &[u8])
     ensures { GathersTo (O.seen out.old) (O.seen out.new) line.old line.new (codes " " ++ (decimal n ++ words.now)) }
 {
@@ -209,24 +208,20 @@ fn then_number<O: Sink>(line: &mut Line, out: &mut O, n: u32, words: &[u8])
     line.text(out, words);
 }
 
-/// Goes on with an operand's number, words behind it, and another number.
-fn then_numbers<O: Sink>(line: &mut Line, out: &mut O, n: u32, words: &[u8], m: u32)
-    ensures { GathersTo (O.seen out.old) (O.seen out.new) line.old line.new (codes " " ++ (decimal n ++ (words.now ++ decimal m))) }
-{
-    then_counted(line, out, b" ", n as u64);
-    then_counted(line, out, words, m as u64);
-}
-
 /// Goes on with what is behind the operation of a fault.
 fn then_back<O: Sink>(line: &mut Line, out: &mut O, disturbance: &Disturbance)
     ensures { GathersTo (O.seen out.old) (O.seen out.new) line.old line.new (back_of disturbance.now) }
 {
-    match disturbance {
+    match *disturbance {
         Disturbance::AddToResult => line.text(out, b" add any"),
-        Disturbance::AddToOperand { j } => then_number(line, out, *j, b" add any"),
-        Disturbance::AddToRest { right } => then_number(line, out, *right, b" add any"),
-        Disturbance::Late { j, r } => then_numbers(line, out, *j, b" late ", *r),
-        Disturbance::Does(act) => then_rest(line, out, act),
+        Disturbance::AddToOperand { j: n } | Disturbance::AddToRest { right: n } => {
+            then_number(line, out, n, b" add any")
+        }
+        Disturbance::Late { j, r } => {
+            then_number(line, out, j, b" late ");
+            line.count(out, r as u64);
+        }
+        Disturbance::Does(act) => then_rest(line, out, &act),
     }
 }
 
@@ -237,6 +232,24 @@ fn then_single<O: Sink>(line: &mut Line, out: &mut O, k: u32, disturbance: &Dist
     line.text(out, front(disturbance));
     then_counted(line, out, b"N ", k as u64);
     then_back(line, out, disturbance);
+}
+
+/// Goes on with a fault at operation `k`, and with the operation.
+fn then_fault<O: Sink>(
+    line: &mut Line,
+    out: &mut O,
+    graph: &Graph,
+    k: u32,
+    disturbance: &Disturbance,
+)
+    ensures { GathersTo (O.seen out.old) (O.seen out.new) line.old line.new (codes ": " ++ (single_text (fault_at k disturbance.now)
+        ++ (codes ": " ++ (place_text graph.now k ++ codes "\n")))) }
+{
+    line.text(out, b": ");
+    then_single(line, out, k, disturbance);
+    line.text(out, b": ");
+    then_operation(line, out, graph, k);
+    line.text(out, b"\n");
 }
 
 /// Goes on with the line of a fault that shows.
@@ -254,11 +267,7 @@ fn then_shows<O: Sink>(
     then_counted(line, out, b"shows ", borders as u64);
     line.text(out, b" ");
     line.text(out, variable_name(graph, Kind::Out, output as u64));
-    line.text(out, b": ");
-    then_single(line, out, k, disturbance);
-    line.text(out, b": ");
-    then_operation(line, out, graph, k);
-    line.text(out, b"\n");
+    then_fault(line, out, graph, k, disturbance);
 }
 
 /// A line for each fault that shows.
@@ -268,7 +277,7 @@ pub(crate) struct Showing {}
 impl Listener for Showing {
     ghost text = { λ g h. shows_text g h.fault h.told };
 
-    ghost Keeps = { λ _ _. Unit {0} };
+    ghost Keeps = { λ _ _ _. Unit {0} };
 
     fn hear<O: Sink>(
         &mut self,
@@ -285,54 +294,28 @@ impl Listener for Showing {
     }
 }
 
-/// Goes on with how many faults of an operation there are.
-fn then_faults_of<O: Sink>(line: &mut Line, out: &mut O, graph: &Graph, k: u32, faults: u64)
-    ensures { GathersTo (O.seen out.old) (O.seen out.new) line.old line.new (number_text graph.now k faults) }
+/// Goes on with what is reported of the faults of a line.
+fn then_left_effect<O: Sink>(line: &mut Line, out: &mut O, told: LeftEffect)
+    ensures { GathersTo (O.seen out.old) (O.seen out.new) line.old line.new (effect_text told) }
 {
-    then_counted(line, out, b": faults ", faults);
-    line.text(out, b" of ");
-    then_operation(line, out, graph, k);
-    line.text(out, b"\n");
-}
-
-/// Goes on with the line of faults of operation `at` that run on.
-fn then_runs_on<O: Sink>(
-    line: &mut Line,
-    out: &mut O,
-    graph: &Graph,
-    at: u32,
-    borders: u64,
-    op: u64,
-    faults: u64,
-)
-    ensures { GathersTo (O.seen out.old) (O.seen out.new) line.old line.new (line_text graph.now (LeftLine.RunsOn at borders op faults)) }
-{
-    then_counted(line, out, b"runs-on ", borders);
-    then_counted(line, out, b" ", op);
-    then_faults_of(line, out, graph, at, faults);
-}
-
-/// Goes on with the line of faults of operation `at` that are beyond the horizon.
-fn then_beyond<O: Sink>(line: &mut Line, out: &mut O, graph: &Graph, at: u32, faults: u64)
-    ensures { GathersTo (O.seen out.old) (O.seen out.new) line.old line.new (line_text graph.now (LeftLine.Beyond at faults)) }
-{
-    line.text(out, b"beyond");
-    then_faults_of(line, out, graph, at, faults);
+    match told {
+        LeftEffect::RunsOn { borders, op } => {
+            then_counted(line, out, b"runs-on ", borders);
+            then_counted(line, out, b" ", op);
+        }
+        LeftEffect::Beyond => line.text(out, b"beyond"),
+    }
 }
 
 /// Goes on with a line of an operation whose faults run on or are beyond.
 fn then_left_line<O: Sink>(line: &mut Line, out: &mut O, graph: &Graph, left: &LeftLine)
     ensures { GathersTo (O.seen out.old) (O.seen out.new) line.old line.new (line_text graph.now left.now) }
 {
-    match *left {
-        LeftLine::RunsOn {
-            at,
-            borders,
-            op,
-            faults,
-        } => then_runs_on(line, out, graph, at, borders, op, faults),
-        LeftLine::Beyond { at, faults } => then_beyond(line, out, graph, at, faults),
-    }
+    then_left_effect(line, out, left.told);
+    then_counted(line, out, b": faults ", left.faults);
+    line.text(out, b" of ");
+    then_operation(line, out, graph, left.at);
+    line.text(out, b"\n");
 }
 
 /// One of the lines.

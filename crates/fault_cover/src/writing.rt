@@ -28,7 +28,7 @@ use op_graph::Graph;
 use signature_table::Table;
 use std::alloc::Global;
 use vcp_base::Memory;
-use vcp_outside::{Failed, Line, Sink};
+use vcp_outside::{Failed, Line, MemSink, Sink};
 
 /// Why a cover isn't written, or not whole.
 #[derive(Clone, Copy)]
@@ -97,6 +97,7 @@ fn then_showing<O: Sink>(
 /// The lines of operations whose faults run on or are beyond, where there are any by the tally of all faults.
 fn left_of(
     alloc: Global,
+    nowhere: &mut MemSink,
     subject: &Subject<'_>,
     classes: &[CoverClass],
     all: &Tally,
@@ -114,7 +115,7 @@ fn left_of(
     if all.runs_on == 0 && all.beyond == 0 {
         return Ok(Vec::new(alloc));
     }
-    lines_left(alloc, subject, classes)
+    lines_left(alloc, nowhere, subject, classes)
 }
 
 /// Goes on with the tables.
@@ -156,9 +157,10 @@ fn find(alloc: Global, subject: &Subject<'_>, classes: &[CoverClass]) -> Result<
         found.lines.items) }
 {
     let _operations = subject.graph.operations();
-    let counts = count_classes(alloc, subject, classes)?;
+    let mut nowhere = MemSink::new(alloc, 0)?;
+    let counts = count_classes(alloc, &mut nowhere, subject, classes)?;
     let all = total(&counts);
-    let lines = left_of(alloc, subject, classes, &all)?;
+    let lines = left_of(alloc, &mut nowhere, subject, classes, &all)?;
     Ok(Found { counts, all, lines })
 }
 

@@ -1,23 +1,26 @@
-use Rattle.std.proofs.Common.{◌∙◌, ap₂, sym}
-use Rattle.fault_sites.specs.Sites.{from, operator, stale}
-use Rattle.fault_cover.specs.Classes.{singles_at}
-use Rattle.fault_cover.proofs.Going.{acts_sited, passes_same}
+use Rattle.std.proofs.Common.{◌≡◌, ◌∙◌, map, ap, sym, arith}
+use Rattle.fault_sites.specs.Sites.{each_below}
+use Rattle.fault_cover.specs.Candidates.{row, rows}
+use Rattle.fault_cover.specs.Classes.{fault_at, singles_at}
+use Rattle.fault_cover.proofs.Enumerating.{rows_are}
+use Rattle.fault_cover.proofs.Going.{made_more, passes_none, passes_same}
 use Rattle.fault_cover.proofs.faults.then_operation_faults.Goals as goal
 
-pub returns-in-Stale : goal.returns-in-Stale
-returns-in-Stale g c = λ stops survey.
-    passes_same _ _ (c.then_stale.ensures stops survey)
-    (acts_sited c.args.k (stale c.operation-op.result)
-    ∙ sym (ap₂ (λ x o. singles_at x c.args.subject.now.graph.now c.args.k o) c.in-Stale.is c.operation-op.ensures))
+pub operands-init : goal.operands-init
+operands-init g c = λ stops survey. passes_none
 
-pub returns-in-From : goal.returns-in-From
-returns-in-From g c = λ stops survey.
-    passes_same _ _ (c.then_from.ensures stops survey)
-    (acts_sited c.args.k (from c.args.subject.now.graph.now c.args.k c.operation-op.result)
-    ∙ sym (ap₂ (λ x o. singles_at x c.args.subject.now.graph.now c.args.k o) c.in-From.is c.operation-op.ensures))
+pub operands-preserved : goal.operands-preserved
+operands-preserved g c = λ stops survey.
+    made_more (fault_at c.args.k) (row c.args.class c.args.subject.now.graph.now c.args.k c.operation-op.result) c.operands.j
+    (c.operands.invariant stops survey) (c.then_row.ensures stops survey)
 
-pub returns-in-Operator : goal.returns-in-Operator
-returns-in-Operator g c = λ stops survey.
-    passes_same _ _ (c.then_operators.ensures stops survey)
-    (acts_sited c.args.k (operator c.operation-op.result)
-    ∙ sym (ap₂ (λ x o. singles_at x c.args.subject.now.graph.now c.args.k o) c.in-Operator.is c.operation-op.ensures))
+pub returns : goal.returns
+returns g c = λ stops survey.
+    let graph = c.args.subject.now.graph.now in
+    let class = c.args.class in
+    let k = c.args.k in
+    let op = c.operation-op.result in
+    let all : c.operands.j ≡ rows class op = omega (arith, c.operands-test.false, c.operands.auto.j-end, c.rows-j-end.ensures) in
+    passes_same _ _ (c.operands.invariant stops survey)
+    (ap (λ n. map (fault_at k) (each_below (row class graph k op) n)) all ∙ ap (map (fault_at k)) (sym (rows_are class graph k op))
+    ∙ ap (singles_at class graph k) (sym c.operation-op.ensures))

@@ -1,12 +1,12 @@
 use Rattle.std.proofs.Common.{[], ◌∷◌, ◌++◌, ◌∙◌, ap, append_assoc, sym, arith}
 use Rattle.fault_sites.specs.Sites.{each_below}
-use Rattle.fault_cover.specs.Leftovers.{key_line, keys_in, run_line}
+use Rattle.fault_cover.specs.Leftovers.{key_line, run_line}
 use Rattle.fault_cover.proofs.Leaving.{lines_last, lines_next}
 use Rattle.fault_cover.proofs.left.add_key_lines.Goals as goal
 
 pub keys-preserved : goal.keys-preserved
 keys-preserved c =
-    let keys = keys_in c.args.width c.args.runs.now in
+    let keys = c.args.keys.now in
     let first = c.args.lines.now.items in
     let line = run_line c.args.k c.args.width keys c.in-Some.key in
     let so_far = each_below (key_line c.args.k c.args.width keys) c.keys.next in
@@ -20,7 +20,7 @@ keys-preserved c =
 
 pub returns : goal.returns
 returns c =
-    let keys = keys_in c.args.width c.args.runs.now in
+    let keys = c.args.keys.now in
     c.keys.invariant.lines
     ∙ ap (λ xs. c.args.lines.now.items ++ xs)
     (sym (lines_last c.args.k c.args.width keys c.keys.next c.args.most c.keys.invariant.low c.in_default.ensures))

@@ -1,11 +1,11 @@
 use Rattle.std.proofs.Common.{◌≡◌, ◌≤◌, ◌-◌, ◌++◌}
 use Rattle.fault_sites.specs.Sites.{each_below}
-use Rattle.fault_cover.specs.Leftovers.{key_line, keys_in}
+use Rattle.fault_cover.specs.Leftovers.{key_line}
 use Rattle.fault_cover.proofs.left.add_key_lines.Given as goal
 
 abbrev pub invariant-keys : goal.invariant-keys
 invariant-keys l = record {
-  lines : l.lines.items ≡ l.fn.lines.items ++ each_below (key_line l.k l.width (keys_in l.width l.runs)) l.next;
+  lines : l.lines.items ≡ l.fn.lines.items ++ each_below (key_line l.k l.width l.keys) l.next;
   low : l.next ≤ l.most;
 }
 

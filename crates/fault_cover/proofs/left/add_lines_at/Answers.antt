@@ -11,5 +11,5 @@ returns c =
     let passes = c.then_faults_at.ensures stops survey in
     lines_added (subject c.args.subject.now.graph.now c.args.subject.now.table.now c.args.subject.now.survey.now.horizon stops) c.args.classes.now c.args.k
     c.then_faults_at.new.listener c.deref.result.now c.len-width.result _ _ passes.heard c.if-left.false c.deref.ensures.value c.len-width.ensures.count
-    (passes.keeps [] c.new-left.ensures) c.requires.there passes.are c.horizon-horizon.result c.horizon-horizon.ensures is)
+    (passes.keeps [] (c.new-left.ensures c.args.subject.now.graph.now)) c.requires.there passes.are c.horizon-horizon.result c.horizon-horizon.ensures is)
     c.add_lines.ensures
