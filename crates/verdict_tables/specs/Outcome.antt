@@ -17,10 +17,14 @@ use Rattle.verdict_tables.specs.declared.words.Shown.{Shown}
 abbrev pub value_of : List ℕ → Option ℤ
 value_of w = option_and_then (in_type ty.Lint) (integer_of w)
 
+-- both numbers of a verdict
+abbrev pub numbers : ℤ → ℤ → Numbers
+numbers first second = record { first = first; second = second }
+
 -- two numbers, each behind another word
 abbrev pub numbers_of : List (List ℕ) → Option Numbers
 numbers_of (u ∷ a ∷ v ∷ b ∷ more) =
-    option_and_then (λ first. option_map (λ second. record { first = first; second = second }) (value_of b)) (value_of a)
+    option_and_then (λ first. option_map (numbers first) (value_of b)) (value_of a)
 numbers_of _ = None
 
 -- the output that was found, or output n where it has this name
@@ -63,12 +67,16 @@ stop_of w =
     (cond (bytes_eq w (stop_name stop.Operand)) (Some stop.Operand)
     None))
 
--- the words behind `stopped`: the cycle, the operation and the kind; the place follows from these
-abbrev pub stopped_of : Lists → List (List ℕ) → Option Verdict
-stopped_of g (n ∷ k ∷ why ∷ more) =
+-- a stop of which words write the cycle, the operation and the kind; the place follows from these
+abbrev pub stopped_by : Lists → List ℕ → List ℕ → List ℕ → Option Verdict
+stopped_by g n k why =
     option_and_then
     (λ cycle. option_and_then (λ op. option_map (λ kind. verdict.Stopped cycle op kind) (stop_of why)) (number_below (length g.operations) k))
     (cycle_of n)
+
+-- the words behind `stopped`
+abbrev pub stopped_of : Lists → List (List ℕ) → Option Verdict
+stopped_of g (n ∷ k ∷ why ∷ more) = stopped_by g n k why
 stopped_of g _ = None
 
 -- the word behind `ran-on`: the cycle

@@ -74,10 +74,10 @@ fn confirm(
     ensures names { IfOk result (λ v. IfSome v (Names (length graph.now.outputs) (length graph.now.operations))) }
 {
     match meant {
-        Some(verdict) => if tells_verdict(alloc, graph, at, line, verdict)? {
-            Ok(Some(verdict))
-        } else {
-            Ok(None)
+        Some(verdict) => match tells_verdict(alloc, graph, at, line, verdict) {
+            Ok(true) => Ok(Some(verdict)),
+            Ok(false) => Ok(None),
+            Err(Memory) => Err(Memory),
         },
         None => Ok(None),
     }

@@ -13,11 +13,21 @@ fn digest(line: &[u8]) -> Option<&[u8]>
     ensures { option_map (λ w. w.now) result ≡ digest_in (words_of line.now) }
 {
     let mut words = WordsLeft::new(line);
-    let mark = words.next()?;
-    let word = words.next()?;
-    words.next()?;
-    let of = words.next()?;
-    let digest = words.next()?;
+    let Some(mark) = words.next() else {
+        return None;
+    };
+    let Some(word) = words.next() else {
+        return None;
+    };
+    let Some(_) = words.next() else {
+        return None;
+    };
+    let Some(of) = words.next() else {
+        return None;
+    };
+    let Some(digest) = words.next() else {
+        return None;
+    };
     if is(mark, b"#") && is(word, b"sites") && is(of, b"of") {
         Some(digest)
     } else {

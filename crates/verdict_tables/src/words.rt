@@ -1,9 +1,9 @@
 //! Which verdict the words of a line may mean.
 
-ghost use Rattle.std.specs.Prelude.{◌≡◌, ◌<◌, IfSome, bytes_eq, length, option_map};
+ghost use Rattle.std.specs.Prelude.{◌≡◌, ◌<◌, IfSome, bytes_eq, length, option_and_then, option_map};
 ghost use Rattle.fault_script.specs.Forms.{number_below};
 ghost use Rattle.fault_injector.specs.Names.{Names};
-ghost use Rattle.verdict_tables.specs.Outcome.{value_of, numbers_of, named_then, output_named, shown_of, as_wrong, as_refused, stop_of, stopped_of, ran_on_of, meant as meant_of};
+ghost use Rattle.verdict_tables.specs.Outcome.{value_of, numbers, numbers_of, named_then, output_named, shown_of, as_wrong, as_refused, stop_of, stopped_by, stopped_of, ran_on_of, meant as meant_of};
 
 use fault_injector::Verdict;
 use fault_script::cycle_number;
@@ -38,17 +38,36 @@ fn value(word: &[u8]) -> Option<i64>
     number_in(Ty::Lint, word)
 }
 
+/// The numbers that two words write.
+fn two_values(a: &[u8], b: &[u8]) -> Option<Numbers>
+    ensures { result ≡ option_and_then (λ first. option_map (numbers first) (value_of b.now)) (value_of a.now) }
+{
+    match value(a) {
+        Some(first) => match value(b) {
+            Some(second) => Some(Numbers { first, second }),
+            None => None,
+        },
+        None => None,
+    }
+}
+
 /// Two numbers, each behind another word.
 fn two_numbers(words: &mut WordsLeft<'_>) -> Option<Numbers>
     ensures { result ≡ numbers_of words.old }
 {
-    words.next()?;
-    let a = words.next()?;
-    words.next()?;
-    let b = words.next()?;
-    let first = value(a)?;
-    let second = value(b)?;
-    Some(Numbers { first, second })
+    let Some(_) = words.next() else {
+        return None;
+    };
+    let Some(a) = words.next() else {
+        return None;
+    };
+    let Some(_) = words.next() else {
+        return None;
+    };
+    match words.next() {
+        Some(b) => two_values(a, b),
+        None => None,
+    }
 }
 
 /// The output that was found, or output `n` where it has this name.
@@ -83,16 +102,26 @@ fn shown_at(graph: &Graph, words: &mut WordsLeft<'_>) -> Option<Shown>
     ensures value { result ≡ shown_of graph.now words.old }
     ensures there { IfSome result (λ s. s.output < length graph.now.outputs) }
 {
-    let n = words.next()?;
-    let name = words.next()?;
-    let cycle = cycle_number(n)?;
-    let output = output(graph, name)?;
-    let numbers = two_numbers(words)?;
-    Some(Shown {
-        cycle,
-        output,
-        numbers,
-    })
+    let Some(n) = words.next() else {
+        return None;
+    };
+    let Some(name) = words.next() else {
+        return None;
+    };
+    let Some(cycle) = cycle_number(n) else {
+        return None;
+    };
+    let Some(output) = output(graph, name) else {
+        return None;
+    };
+    match two_numbers(words) {
+        Some(numbers) => Some(Shown {
+            cycle,
+            output,
+            numbers,
+        }),
+        None => None,
+    }
 }
 
 /// An output is released with a wrong value.
@@ -130,13 +159,13 @@ pub(crate) fn is(word: &[u8], name: &[u8]) -> bool
 fn stop(word: &[u8]) -> Option<StopKind>
     ensures { result ≡ stop_of word.now }
 {
-    if word == stop_name(StopKind::Range) {
+    if is(word, stop_name(StopKind::Range)) {
         return Some(StopKind::Range);
     }
-    if word == stop_name(StopKind::DivZero) {
+    if is(word, stop_name(StopKind::DivZero)) {
         return Some(StopKind::DivZero);
     }
-    if word == stop_name(StopKind::Operand) {
+    if is(word, stop_name(StopKind::Operand)) {
         return Some(StopKind::Operand);
     }
     None
@@ -147,11 +176,30 @@ fn operation_number(graph: &Graph, word: &[u8]) -> Option<u32>
     ensures value { result ≡ number_below (length graph.now.operations) word.now }
     ensures there { IfSome result (λ n. n < length graph.now.operations) }
 {
-    let number = numeral(word)?;
-    if number < graph.len() as u64 {
-        Some(number as u32)
-    } else {
-        None
+    match numeral(word) {
+        Some(number) => if number < graph.len() as u64 {
+            Some(number as u32)
+        } else {
+            None
+        },
+        None => None,
+    }
+}
+
+/// A run stopped, by the words for the cycle, the operation and the kind.
+fn stopped_at(graph: &Graph, n: &[u8], k: &[u8], why: &[u8]) -> Option<Verdict>
+    ensures value { result ≡ stopped_by graph.now n.now k.now why.now }
+    ensures names { IfSome result (Names (length graph.now.outputs) (length graph.now.operations)) }
+{
+    let Some(cycle) = cycle_number(n) else {
+        return None;
+    };
+    let Some(op) = operation_number(graph, k) else {
+        return None;
+    };
+    match stop(why) {
+        Some(kind) => Some(Verdict::Stopped { cycle, op, kind }),
+        None => None,
     }
 }
 
@@ -160,21 +208,29 @@ fn stopped(graph: &Graph, words: &mut WordsLeft<'_>) -> Option<Verdict>
     ensures value { result ≡ stopped_of graph.now words.old }
     ensures names { IfSome result (Names (length graph.now.outputs) (length graph.now.operations)) }
 {
-    let n = words.next()?;
-    let k = words.next()?;
-    let why = words.next()?;
-    let cycle = cycle_number(n)?;
-    let op = operation_number(graph, k)?;
-    let kind = stop(why)?;
-    Some(Verdict::Stopped { cycle, op, kind })
+    let Some(n) = words.next() else {
+        return None;
+    };
+    let Some(k) = words.next() else {
+        return None;
+    };
+    match words.next() {
+        Some(why) => stopped_at(graph, n, k, why),
+        None => None,
+    }
 }
 
 /// The word behind `ran-on`.
 fn ran_on(words: &mut WordsLeft<'_>) -> Option<Verdict>
     ensures { result ≡ ran_on_of words.old }
 {
-    let cycle = cycle_number(words.next()?)?;
-    Some(Verdict::RanOn { cycle })
+    let Some(n) = words.next() else {
+        return None;
+    };
+    match cycle_number(n) {
+        Some(cycle) => Some(Verdict::RanOn { cycle }),
+        None => None,
+    }
 }
 
 /// The words behind `wrong`.
@@ -182,8 +238,10 @@ fn wrong_of(graph: &Graph, words: &mut WordsLeft<'_>) -> Option<Verdict>
     ensures value { result ≡ option_map as_wrong (shown_of graph.now words.old) }
     ensures names { IfSome result (Names (length graph.now.outputs) (length graph.now.operations)) }
 {
-    let shown = shown_at(graph, words)?;
-    Some(wrong(shown))
+    match shown_at(graph, words) {
+        Some(shown) => Some(wrong(shown)),
+        None => None,
+    }
 }
 
 /// The words behind `refused`.
@@ -191,8 +249,10 @@ fn refused_of(graph: &Graph, words: &mut WordsLeft<'_>) -> Option<Verdict>
     ensures value { result ≡ option_map as_refused (shown_of graph.now words.old) }
     ensures names { IfSome result (Names (length graph.now.outputs) (length graph.now.operations)) }
 {
-    let shown = shown_at(graph, words)?;
-    Some(refused(shown))
+    match shown_at(graph, words) {
+        Some(shown) => Some(refused(shown)),
+        None => None,
+    }
 }
 
 /// The verdict that words may mean, by the first of them.
@@ -200,7 +260,9 @@ pub(crate) fn meant(graph: &Graph, words: &mut WordsLeft<'_>) -> Option<Verdict>
     ensures value { result ≡ meant_of graph.now words.old }
     ensures names { IfSome result (Names (length graph.now.outputs) (length graph.now.operations)) }
 {
-    let first = words.next()?;
+    let Some(first) = words.next() else {
+        return None;
+    };
     if is(first, b"same") {
         return Some(Verdict::Same);
     }

@@ -3,22 +3,20 @@
 ghost use Rattle.std.specs.Prelude.{◌≡◌, ◌<◌, ◌≤◌, ◌==◌, ◌&&◌, Some, length, slice_get};
 ghost use Rattle.vcp_base.specs.Limits.{most_cycles, most_operations};
 ghost use Rattle.coded_unit.specs.Asked.{Asked};
-ghost use Rattle.op_graph.specs.Reads.{named as named_of};
 ghost use Rattle.signature_table.specs.Signatures.{IsTableOf};
-ghost use Rattle.coded_machine.specs.Calls.{call_of, read_word};
+ghost use Rattle.coded_machine.specs.Calls.{call_of};
 ghost use Rattle.fault_script.specs.Changes.{acts_of};
-ghost use Rattle.fault_injector.specs.RunLaw.{taken as taken_of};
 ghost use Rattle.fault_injector.specs.Scripts.{right_by};
 ghost use Rattle.verdict_tables.specs.AnswersOver.{next_answer as next_answer_of};
 ghost use Rattle.verdict_tables.specs.Begun.{setting, acts, past};
 
-use coded_machine::{Setting, call_after, cell_at, word_at};
+use coded_machine::{Setting, call_after};
 use coded_unit::{Answer, Call, Word, table};
-use fault_injector::{answered, changed};
+use fault_injector::{Past, answered, changed, taken};
 use fault_script::{Act, Fault, Group};
 use op_graph::{Graph, Op};
 use signature_table::Table;
-use vcp_base::{Kind, Row};
+use vcp_base::Row;
 
 /// What a cycle begins with.
 #[derive(Clone, Copy)]
@@ -39,43 +37,6 @@ pub(crate) struct Begun<'c> {
     pub past_held: &'c [Word],
     /// The answers of the cycle before.
     pub past: &'c [Answer],
-}
-
-/// The operation that operand `j` of an operation reads.
-fn named(op: &Op, j: u32) -> u32
-    ensures { result ≡ named_of op.now j }
-{
-    match j {
-        0 => op.a,
-        1 => op.b,
-        _ => op.c,
-    }
-}
-
-/// The word that operand `j` of an operation read in the cycle before.
-fn read_before(b: &Begun<'_>, op: &Op, j: u32) -> Word
-    ensures { result ≡ read_word b.now.past_held.now b.now.past.now op.now.kind op.now.imm (named_of op.now j) }
-{
-    match op.kind {
-        Kind::Load => cell_at(b.past_held, op.imm.unsigned_abs()),
-        _ => word_at(b.past, named(op, j)),
-    }
-}
-
-/// The word that an act takes at the operation behind these answers.
-fn taken(b: &Begun<'_>, own: &[Answer], op: &Op, act: &Option<Act>) -> Word
-    requires { length own.now ≤ most_operations }
-    ensures { result ≡ taken_of (past b.now) own.now op.now act.now }
-{
-    match act {
-        Some(Act::OperandFrom { j: _, r }) => word_at(own, *r),
-        Some(Act::OperandStale { j }) => read_before(b, op, *j),
-        Some(Act::Skip) => word_at(b.past, own.len() as u32),
-        Some(Act::OperandAdd { j: _, e: _ })
-        | Some(Act::ResultAdd { e: _ })
-        | Some(Act::Operator { kind: _ })
-        | None => Word::ZERO,
-    }
 }
 
 /// Whether a fault is at an operation in a cycle.
@@ -137,7 +98,11 @@ pub(crate) fn next_answer(b: &Begun<'_>, op: &Op, own: &[Answer]) -> Answer
     ensures { result ≡ next_answer_of (setting b.now) (acts b.now) (past b.now) own.now op.now }
 {
     let act = act_at(b.group, b.cycle, own.len() as u32);
-    let word = taken(b, own, op, &act);
+    let before = Past {
+        held: b.past_held,
+        answers: b.past,
+    };
+    let word = taken(&before, own, op, &act);
     let call = next_call(b, op, own);
     right_answer(&act, &word, &call)
 }
