@@ -1,6 +1,8 @@
 -- One append after another.
 use Rattle.std.proofs.Common.{◌≡◌, ℕ, zero, suc, ◌+◌, List, [], ◌∷◌, ◌++◌, length, take, slice_get, Some, refl, sym, ap, subst, ◌∙◌, append_assoc, arith}
 use Rattle.std.proofs.lemmas.List.{append-nil}
+use Rattle.image_file.specs.declared.fields.writing.Writer.{Writer}
+use Rattle.image_file.specs.Written.{Writes}
 use Rattle.image_file.specs.Pieces.{entries}
 use Rattle.op_graph.specs.Rules.{Each}
 use Rattle.op_graph.specs.declared.op.Op.{Op}
@@ -9,11 +11,20 @@ use Rattle.std.specs.Prelude.{unsigned_abs}
 use Rattle.vcp_base.specs.declared.code.Profile.{Profile}
 use Rattle.signature_table.specs.Signatures.{correction, corrections_from, store_of}
 
-pub joined : (a b c x y : List ℕ) → b ≡ a ++ x → c ≡ b ++ y → c ≡ a ++ (x ++ y)
-joined a b c x y e f = f ∙ ap (λ t. t ++ y) e ∙ append_assoc a x y
+pub and_then : {a b c : Writer} {x y : List ℕ} → Writes a b x → Writes b c y → Writes a c (x ++ y)
+and_then {a} {b} {c} {x} {y} first second = record {
+  so_far = λ sound. first.so_far (second.so_far sound);
+  adds = λ sound. second.adds sound ∙ ap (λ t. t ++ y) (first.adds (second.so_far sound)) ∙ append_assoc a.bytes.items x y;
+}
 
-pub ended : (a b x : List ℕ) → b ≡ a ++ x → b ≡ a ++ (x ++ [])
-ended a b x e = e ∙ ap (λ t. a ++ t) (sym (append-nil x))
+pub ended : {a b : Writer} {x : List ℕ} → Writes a b x → Writes a b (x ++ [])
+ended {a} {b} {x} one = subst (Writes a b) (sym (append-nil x)) one
+
+pub nothing : {a : Writer} → Writes a a []
+nothing {a} = record {
+  so_far = λ sound. sound;
+  adds = λ sound. sym (append-nil a.bytes.items);
+}
 
 entries_push : {X : Type 0} (spell : List X → X → List ℕ) (before xs : List X) (x : X)
     → entries spell before (xs ++ x ∷ []) ≡ entries spell before xs ++ spell (before ++ xs) x
@@ -30,11 +41,10 @@ take_push (y ∷ xs) (suc k) x e =
     let more : suc k + 1 ≡ suc (k + 1) = omega arith in
     ap (λ m. take m (y ∷ xs)) more ∙ ap (λ r. y ∷ r) (take_push xs k x e)
 
-pub next_entry : {X : Type 0} (spell : List X → X → List ℕ) (out0 out1 out2 : List ℕ) (xs : List X) (k : ℕ) (x : X) → slice_get xs k ≡ Some x
-    → out1 ≡ out0 ++ entries spell [] (take k xs) → out2 ≡ out1 ++ spell (take k xs) x → out2 ≡ out0 ++ entries spell [] (take (k + 1) xs)
-next_entry spell out0 out1 out2 xs k x there so_far e =
-    joined out0 out1 out2 (entries spell [] (take k xs)) (spell (take k xs) x) so_far e
-    ∙ ap (λ t. out0 ++ t) (sym (entries_push spell [] (take k xs) x) ∙ ap (entries spell []) (sym (take_push xs k x there)))
+pub next_entry : {X : Type 0} {a b c : Writer} (spell : List X → X → List ℕ) (xs : List X) (k : ℕ) (x : X) → slice_get xs k ≡ Some x
+    → Writes a b (entries spell [] (take k xs)) → Writes b c (spell (take k xs) x) → Writes a c (entries spell [] (take (k + 1) xs))
+next_entry {X} {a} {b} {c} spell xs k x there so_far one =
+    subst (Writes a c) (sym (entries_push spell [] (take k xs) x) ∙ ap (entries spell []) (sym (take_push xs k x there))) (and_then so_far one)
 
 pub each_at : {X : Type 0} (P : List X → X → Type 0) (Q : X → Type 0) (earlier xs : List X) (i : ℕ) (x : X) → ((b : List X) (y : X) → P b y → Q y)
     → Each P earlier xs → slice_get xs i ≡ Some x → Q x

@@ -13,7 +13,7 @@ use Rattle.op_graph.specs.declared.op.Loaded.{Loaded}
 use Rattle.op_graph.specs.Lists.{Lists, cells, joined}
 use Rattle.op_graph.specs.Rules.{Each, LoadFits, StoreFits, LoadedBefore, scope, Operates, PlaceFits, Admitted}
 use Rattle.image_file.specs.Entries.{cell_piece}
-use Rattle.image_file.specs.Image.{parts_of, said, load_of, store_of, image_piece, head_piece, counts_piece, entry_counts, later_counts, magic_end, later_lists}
+use Rattle.image_file.specs.Image.{parts_of, said, load_of, store_of, image_piece, head_piece, counts_piece, entry_counts, later_counts, later_lists}
 use Rattle.image_file.specs.Graphs.{HasImage, lists_of}
 use Rattle.image_file.proofs.FittingLists.{names_fit, inputs_fit, outputs_fit, turns_fit, le_true}
 use Rattle.image_file.proofs.FittingOperations.{operations_fit, Sized}
@@ -113,7 +113,7 @@ scope_back g ls ss e f = ap (λ x. record { inputs = g.inputs; outputs = g.outpu
     ∙ ap (λ x. record { inputs = g.inputs; outputs = g.outputs; loads = ls; stores = x }) (sym f)
 
 pub graph_fits : GraphLaws → (g : Lists) (seed step : ℕ) → HasImage g seed step → image_piece.fits (parts_of g seed step)
-unfolding image_piece later_lists head_piece magic_end counts_piece entry_counts later_counts
+unfolding image_piece later_lists head_piece counts_piece entry_counts later_counts
 graph_fits laws g seed step h =
     let p = h.graph.part in
     let inits : All (λ l. FitsSigned w64 l.init) g.loads = all_from_get (λ l. FitsSigned w64 l.init) g.loads (λ k l e. laws.init g k l p e) in

@@ -20,7 +20,7 @@ use Rattle.op_graph.specs.Lists.{joined}
 use Rattle.op_graph.specs.Rules.{Each, IsPart, InputFits, OutputFits, LoadFits, StoreFits, TurnNodeFits, Operates, LoadedBefore, Admitted, PlaceFits}
 use Rattle.image_file.proofs.Entries.{each_more, Under, under_all, get_last}
 use Rattle.image_file.specs.Entries.{lower, above, number_of, rises, name_by, name_piece, input_piece, output_piece, cell_piece, turn_piece}
-use Rattle.image_file.specs.Image.{Parts, load_of, store_of, Said, said, image_piece, head_piece, counts_piece, op_by, op_piece, parts_of, entry_counts, later_counts, magic_end, op_number, op_operands, later_lists}
+use Rattle.image_file.specs.Image.{Parts, load_of, store_of, Said, said, image_piece, head_piece, counts_piece, op_by, op_piece, parts_of, entry_counts, later_counts, op_number, op_operands, later_lists}
 use Rattle.image_file.specs.Graphs.{lists_of, HasImage}
 
 pub both : (a b : Bool) → (a && b) ≡ true → (a ≡ true) × (b ≡ true)
@@ -262,7 +262,7 @@ admitted_keep s xs h = each_all _ (Admitted s.profile) [] xs (λ b x r. (r.1.0.0
 -- ---- the whole
 
 pub fits_graph : (p : Parts) → image_piece.fits p → HasImage (lists_of p) p.seed p.step
-unfolding image_piece later_lists head_piece magic_end counts_piece entry_counts later_counts
+unfolding image_piece later_lists head_piece counts_piece entry_counts later_counts
 fits_graph p h =
     let g = lists_of p in
     let head = h.0.1.1.1.1.1.1.1.1 in

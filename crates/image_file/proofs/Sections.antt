@@ -27,7 +27,7 @@ use Rattle.image_file.specs.declared.fields.fault.FieldFault.TheVariants.{Versio
 use Rattle.image_file.specs.Codes.{version_code, version_of, correction_width, type_of, kind_of}
 use Rattle.image_file.specs.Fields.{Anything, Is16, Is32, number16, number32, number, signed, type_field, kind_field, operand, residue, version_field}
 use Rattle.image_file.specs.Entries.{rises, name_fits, name_by, lower, name_piece, input_piece, output_piece, cell_piece, turn_piece}
-use Rattle.image_file.specs.Image.{Head, counts_piece, head_piece, Said, op_of, correction_of, corrected, op_by, op_piece, said, head_with, head_of, parts_with, image_piece, entry_counts, later_counts, magic_end, op_number, op_operands, later_lists}
+use Rattle.image_file.specs.Image.{Head, counts_piece, head_piece, Said, op_of, correction_of, corrected, op_by, op_piece, said, head_with, head_of, parts_with, image_piece, entry_counts, later_counts, op_number, op_operands, later_lists}
 use Rattle.image_file.proofs.PieceLaws.{Lawful, before_law, whole_law, fixed_law, byte_law, field_law, text_law, listed_law, Codes, IsWide, wide16, wide32, wide64}
 
 kind_stands : (n : ℕ) (a : Kind) → kind_of n ≡ Some a → kind_code a ≡ n
@@ -321,7 +321,7 @@ counts_law =
     meant.0.0.0.0.0.1 meant.0.0.0.0.1 meant.0.0.0.1 meant.0.0.1 meant.0.1 meant.1))))))))))
 
 pub head_law : Lawful Anything head_piece
-unfolding head_piece magic_end
+unfolding head_piece
 head_law = fixed_law _ _ _
     (fixed_law _ _ _ (fixed_law _ _ _ (fixed_law _ _ _ (fixed_law _ _ _ (fixed_law _ _ _ (fixed_law _ _ _ (fixed_law _ _ _ counts_law)))))))
 

@@ -14,7 +14,7 @@ use Rattle.image_file.specs.Graphs.{ImageFaultAt}
 use Rattle.image_file.proofs.PieceLaws.{IsBytes, all_fails}
 use Rattle.image_file.proofs.Sections.{image_law}
 use Rattle.image_file.specs.Entries.{name_by, input_piece, output_piece}
-use Rattle.image_file.specs.Image.{image_of, image_piece, head_piece, counts_piece, op_by, corrected, op_of, entry_counts, later_counts, magic_end, op_number, op_operands, later_lists}
+use Rattle.image_file.specs.Image.{image_of, image_piece, head_piece, counts_piece, op_by, corrected, op_of, entry_counts, later_counts, op_number, op_operands, later_lists}
 
 plus_one : Lists
 plus_one = record {
@@ -46,7 +46,7 @@ image_bytes =
     ∷ 12 ∷ 0 ∷ 0 ∷ 0 ∷ 0 ∷ 12 ∷ 204 ∷ 204 ∷ 205 ∷ []
 
 its_image : image_of plus_one 0 1 ≡ image_bytes
-unfolding plus_one image_bytes image_piece later_lists head_piece magic_end counts_piece entry_counts later_counts name_by input_piece output_piece op_by op_operands op_number corrected signature modulo
+unfolding plus_one image_bytes image_piece later_lists head_piece counts_piece entry_counts later_counts name_by input_piece output_piece op_by op_operands op_number corrected signature modulo
 its_image = refl
 
 -- the same graph in the wide code
@@ -67,7 +67,7 @@ wide_bytes =
     ∷ 12 ∷ 0 ∷ 0 ∷ 0 ∷ 0 ∷ 28 ∷ 204 ∷ 204 ∷ 204 ∷ 204 ∷ 204 ∷ 204 ∷ 204 ∷ []
 
 its_wide_image : image_of (record plus_one { profile = profile.Wide }) 0 1 ≡ wide_bytes
-unfolding plus_one wide_bytes image_piece later_lists head_piece magic_end counts_piece entry_counts later_counts name_by input_piece output_piece op_by op_operands op_number corrected signature modulo
+unfolding plus_one wide_bytes image_piece later_lists head_piece counts_piece entry_counts later_counts name_by input_piece output_piece op_by op_operands op_number corrected signature modulo
 its_wide_image = refl
 
 -- byte 180 as CE: the correction of the third operation is another one
@@ -97,11 +97,11 @@ small (b ∷ bytes) e zero = ltb-true _ _ (and (nat_lt b 256) (list_all (λ b. n
 small (b ∷ bytes) e (suc i) = small bytes (and (nat_lt b 256) (list_all (λ b. nat_lt b 256) bytes) e).1 i
 
 its_fault : ImageFaultAt broken (at.Table 177 214748366 214748365)
-unfolding broken image_piece later_lists head_piece magic_end counts_piece entry_counts later_counts name_by input_piece output_piece op_by op_operands op_number corrected signature modulo
+unfolding broken image_piece later_lists head_piece counts_piece entry_counts later_counts name_by input_piece output_piece op_by op_operands op_number corrected signature modulo
 its_fault = (left.Table 43 214748366 214748365, all_fails image_piece image_law broken (left.Table 43 214748366 214748365) (small broken refl) refl, refl)
 
 too_short : ImageFaultAt (86 ∷ 67 ∷ 80 ∷ 65 ∷ 78 ∷ 66 ∷ 68 ∷ 10 ∷ 0 ∷ []) (at.Short 9)
-unfolding image_piece later_lists head_piece magic_end counts_piece entry_counts later_counts
+unfolding image_piece later_lists head_piece counts_piece entry_counts later_counts
 too_short = (
   left.Short,
   all_fails image_piece image_law (86 ∷ 67 ∷ 80 ∷ 65 ∷ 78 ∷ 66 ∷ 68 ∷ 10 ∷ 0 ∷ []) left.Short

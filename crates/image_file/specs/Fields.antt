@@ -1,5 +1,5 @@
 -- Fields: the kinds of fields of an image, each with the values that it may hold and their spelling.
-use Rattle.std.specs.Prelude.{◌≡◌, ℕ, ◌*◌, ◌^◌, ◌<◌, ◌==◌, ℤ, Bool, true, Some}
+use Rattle.std.specs.Prelude.{◌≡◌, ℕ, ◌*◌, ◌^◌, ◌<◌, ◌==◌, ℤ, Bool, true, List, [], ◌∷◌, Some, Result}
 use Rattle.std.specs.Int.{w16, w32, w64, byte_len, cast_signed, cast_unsigned}
 use mir.Val.{SFits}
 use Rattle.vcp_base.specs.declared.ty.Ty.{Ty}
@@ -9,7 +9,7 @@ use Rattle.vcp_base.specs.Code.{admits}
 use Rattle.vcp_base.specs.Spellings.{ty_code, kind_code}
 use Rattle.image_file.specs.declared.fields.fault.FieldFault.{FieldFault}
 use Rattle.image_file.specs.declared.fields.fault.FieldFault.TheVariants.{Magic, Version, Field, Operand, Table}
-use Rattle.image_file.specs.Pieces.{FormatPiece, field, byte_field, before}
+use Rattle.image_file.specs.Pieces.{FormatPiece, ◌>>=◌, field, byte_field, before}
 use Rattle.image_file.specs.Codes.{version_code, version_of, correction_width, type_of, kind_of}
 
 abbrev pub IsByte : ℕ → Type 0
@@ -53,6 +53,12 @@ kind_field ok = byte_field kind_of kind_code Anything ok (λ left. Field left)
 -- a byte that is always the same, before the others
 abbrev pub fixed : {Y : Type 0} → ℕ → FormatPiece Y → FormatPiece Y
 fixed b others = before (byte_field (λ n. Some n) (λ n. n) IsByte (λ n. n == b) (λ left. Magic left)) (λ y. b) (λ n. others)
+
+-- what is read by `next` behind bytes that are always these
+abbrev pub behind : {X : Type 0} → List ℕ → (List ℕ → Result X FieldFault) → List ℕ → Result X FieldFault
+behind [] next bytes = next bytes
+behind (b ∷ wanted) next bytes =
+    (byte_field (λ n. Some n) (λ n. n) IsByte (λ n. n == b) (λ left. Magic left)).read bytes >>= λ x. behind wanted next x.1
 
 -- the number of an operand
 abbrev pub operand : (ℕ → Bool) → FormatPiece ℕ

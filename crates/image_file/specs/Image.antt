@@ -72,13 +72,9 @@ counts_piece =
     before (number (λ n. nat_lt n seeds)) (λ h. h.seed) (λ seed.
     entry_counts p step seed)))
 
--- `NBD` and a line feed, and the rest of the head
-unfoldable pub magic_end : FormatPiece Head
-magic_end = fixed 78 (fixed 66 (fixed 68 (fixed 10 counts_piece)))
-
--- `VCPANBD` and a line feed, and the rest of the head
+-- `VCPANBD` and a line feed, and the numbers
 unfoldable pub head_piece : FormatPiece Head
-head_piece = fixed 86 (fixed 67 (fixed 80 (fixed 65 magic_end)))
+head_piece = fixed 86 (fixed 67 (fixed 80 (fixed 65 (fixed 78 (fixed 66 (fixed 68 (fixed 10 counts_piece)))))))
 
 -- ---- operations
 

@@ -156,6 +156,11 @@ abbrev pub GivesExactly : {X Y : Type 0} → (X → Y) → Result X FieldFault �
 GivesExactly view (Ok x) read = read ≡ Ok (view x)
 GivesExactly view (Err f) read = read ≡ Err f
 
+-- reading goes on as `next` does, or has the fault
+abbrev pub Passes : {X Y : Type 0} → Result X FieldFault → Result Y FieldFault → Result Y FieldFault → Type 0
+Passes (Ok x) next read = read ≡ next
+Passes (Err f) next read = read ≡ Err f
+
 -- the same, unless memory ran out
 abbrev pub Fails : {Y : Type 0} → ReadError → Result Y FieldFault → Type 0
 Fails errors.Memory read = Unit {0}

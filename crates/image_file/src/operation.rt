@@ -10,9 +10,7 @@ ghost use Rattle.image_file.specs.Fields.{kind_field, type_field, signed, number
 ghost use Rattle.image_file.specs.Image.{corrected, op_by, op_operands, op_number, op_piece, correction_of};
 ghost use Rattle.image_file.specs.Views.{scope_of, said_of, Rising};
 
-use crate::fields::{
-    FieldFault, ReadError, any_number_here, residue_at, ty_named, u8_at, u32_at, u64_at,
-};
+use crate::fields::{FieldFault, ReadError, Reader, ty_named};
 use crate::scope::Scope;
 use crate::walk::Walk;
 use op_graph::{
@@ -24,85 +22,86 @@ use std::alloc::Global;
 use vcp_base::{Kind, Profile, Residue, Spot, Ty, kind_of_code};
 
 /// The kind at the front, one that the place may have.
-fn kind_here<'a>(p: &Place, bytes: &'a [u8]) -> Result<(Kind, &'a [u8]), FieldFault>
-    ensures { GivesExactly (λ x. (x.0, x.1.now)) result ((kind_field (kind_fits_of p.now)).read bytes.now) }
+fn kind_here(p: &Place, bytes: &mut Reader<'_>) -> Result<Kind, FieldFault>
+    ensures { GivesExactly (λ x. (x, bytes.new.left.now)) result ((kind_field (kind_fits_of p.now)).read bytes.old.left.now) }
 {
-    match u8_at(bytes) {
-        Ok((n, rest)) => match kind_of_code(n) {
-            Some(kind) if kind_fits(p, kind) => Ok((kind, rest)),
-            Some(_) => Err(FieldFault::Field { left: bytes.len() }),
-            None => Err(FieldFault::Field { left: bytes.len() }),
+    let left = bytes.left.len();
+    match bytes.read_u8() {
+        Ok(n) => match kind_of_code(n) {
+            Some(kind) if kind_fits(p, kind) => Ok(kind),
+            Some(_) => Err(FieldFault::Field { left }),
+            None => Err(FieldFault::Field { left }),
         },
         Err(fault) => Err(fault),
     }
 }
 
 /// The type of the operands at the front.
-fn from_here<'a>(
+fn from_here(
     profile: Profile,
     p: &Place,
     kind: Kind,
-    bytes: &'a [u8],
-) -> Result<(Ty, &'a [u8]), FieldFault>
-    ensures { GivesExactly (λ x. (x.0, x.1.now)) result ((type_field profile (from_fits_of (entry_of_place p.now kind) kind)).read bytes.now) }
+    bytes: &mut Reader<'_>,
+) -> Result<Ty, FieldFault>
+    ensures { GivesExactly (λ x. (x, bytes.new.left.now)) result
+        ((type_field profile (from_fits_of (entry_of_place p.now kind) kind)).read bytes.old.left.now) }
 {
-    match u8_at(bytes) {
-        Ok((n, rest)) => match ty_named(profile, n) {
-            Some(ty) if from_fits(entry_of(p, kind), kind, ty) => Ok((ty, rest)),
-            Some(_) => Err(FieldFault::Field { left: bytes.len() }),
-            None => Err(FieldFault::Field { left: bytes.len() }),
+    let left = bytes.left.len();
+    match bytes.read_u8() {
+        Ok(n) => match ty_named(profile, n) {
+            Some(ty) if from_fits(entry_of(p, kind), kind, ty) => Ok(ty),
+            Some(_) => Err(FieldFault::Field { left }),
+            None => Err(FieldFault::Field { left }),
         },
         Err(fault) => Err(fault),
     }
 }
 
 /// The type of the result at the front.
-fn ty_here(profile: Profile, kind: Kind, from: Ty, bytes: &[u8]) -> Result<(Ty, &[u8]), FieldFault>
-    ensures { GivesExactly (λ x. (x.0, x.1.now)) result ((type_field profile (ty_fits_of kind from)).read bytes.now) }
+fn ty_here(profile: Profile, kind: Kind, from: Ty, bytes: &mut Reader<'_>) -> Result<Ty, FieldFault>
+    ensures { GivesExactly (λ x. (x, bytes.new.left.now)) result ((type_field profile (ty_fits_of kind from)).read bytes.old.left.now) }
 {
-    match u8_at(bytes) {
-        Ok((n, rest)) => match ty_named(profile, n) {
-            Some(ty) if ty_fits(kind, from, ty) => Ok((ty, rest)),
-            Some(_) => Err(FieldFault::Field { left: bytes.len() }),
-            None => Err(FieldFault::Field { left: bytes.len() }),
+    let left = bytes.left.len();
+    match bytes.read_u8() {
+        Ok(n) => match ty_named(profile, n) {
+            Some(ty) if ty_fits(kind, from, ty) => Ok(ty),
+            Some(_) => Err(FieldFault::Field { left }),
+            None => Err(FieldFault::Field { left }),
         },
         Err(fault) => Err(fault),
     }
 }
 
 /// Operand `j` at the front, counted from 0.
-fn operand_here<'a>(
+fn operand_here(
     earlier: &[Op],
     kind: Kind,
     from: Ty,
     j: u32,
-    bytes: &'a [u8],
-) -> Result<(u32, &'a [u8]), FieldFault>
-    ensures { GivesExactly (λ x. (x.0, x.1.now)) result ((operand (operand_fits_of earlier.now (reads_as_of kind from j))).read bytes.now) }
+    bytes: &mut Reader<'_>,
+) -> Result<u32, FieldFault>
+    ensures { GivesExactly (λ x. (x, bytes.new.left.now)) result ((operand (operand_fits_of earlier.now (reads_as_of kind from j))).read bytes.old.left.now) }
 {
-    match u32_at(bytes) {
-        Ok((n, rest)) if operand_fits(earlier, reads_as(kind, from, j), n) => Ok((n, rest)),
-        Ok(_) => Err(FieldFault::Operand { left: bytes.len() }),
+    let left = bytes.left.len();
+    match bytes.read_u32() {
+        Ok(n) if operand_fits(earlier, reads_as(kind, from, j), n) => Ok(n),
+        Ok(_) => Err(FieldFault::Operand { left }),
         Err(fault) => Err(fault),
     }
 }
 
 /// The operation's own number at the front.
-fn imm_here<'a>(
-    p: &Place,
-    kind: Kind,
-    to: Ty,
-    bytes: &'a [u8],
-) -> Result<(i64, &'a [u8]), FieldFault>
-    ensures { GivesExactly (λ x. (x.0, x.1.now)) result ((signed (imm_fits_of (entry_of_place p.now kind) kind to)).read bytes.now) }
+fn imm_here(p: &Place, kind: Kind, to: Ty, bytes: &mut Reader<'_>) -> Result<i64, FieldFault>
+    ensures { GivesExactly (λ x. (x, bytes.new.left.now)) result ((signed (imm_fits_of (entry_of_place p.now kind) kind to)).read bytes.old.left.now) }
 {
-    match u64_at(bytes) {
-        Ok((n, rest)) => {
+    let left = bytes.left.len();
+    match bytes.read_u64() {
+        Ok(n) => {
             let imm = n.cast_signed();
             if imm_fits(entry_of(p, kind), kind, to, imm) {
-                Ok((imm, rest))
+                Ok(imm)
             } else {
-                Err(FieldFault::Field { left: bytes.len() })
+                Err(FieldFault::Field { left })
             }
         }
         Err(fault) => Err(fault),
@@ -110,17 +109,18 @@ fn imm_here<'a>(
 }
 
 /// The turn at the front.
-fn turn_here<'a>(
+fn turn_here(
     p: &Place,
     kind: Kind,
     turn_nodes: u32,
-    bytes: &'a [u8],
-) -> Result<(u32, &'a [u8]), FieldFault>
-    ensures { GivesExactly (λ x. (x.0, x.1.now)) result ((number (turn_fits_of (entry_of_place p.now kind) turn_nodes)).read bytes.now) }
+    bytes: &mut Reader<'_>,
+) -> Result<u32, FieldFault>
+    ensures { GivesExactly (λ x. (x, bytes.new.left.now)) result ((number (turn_fits_of (entry_of_place p.now kind) turn_nodes)).read bytes.old.left.now) }
 {
-    match u32_at(bytes) {
-        Ok((n, rest)) if turn_fits(entry_of(p, kind), turn_nodes, n) => Ok((n, rest)),
-        Ok(_) => Err(FieldFault::Field { left: bytes.len() }),
+    let left = bytes.left.len();
+    match bytes.read_u32() {
+        Ok(n) if turn_fits(entry_of(p, kind), turn_nodes, n) => Ok(n),
+        Ok(_) => Err(FieldFault::Field { left }),
         Err(fault) => Err(fault),
     }
 }
@@ -154,21 +154,22 @@ fn expected(s: &Scope<'_>, earlier: &[Op], op: &Op) -> Residue
 
 /// The operation, where its correction is at the front.
 #[tactic(auto, unfolding(crate::specs::Image::corrected))]
-fn corrected_here<'a>(
+fn corrected_here(
     s: &Scope<'_>,
     earlier: &[Op],
     op: Op,
-    bytes: &'a [u8],
-) -> Result<(Op, &'a [u8]), FieldFault>
+    bytes: &mut Reader<'_>,
+) -> Result<Op, FieldFault>
     requires step { s.now.step ≤ most_step }
     requires few { length earlier.now ≤ most_operations }
-    ensures { GivesExactly (λ x. (x.0, x.1.now)) result ((corrected (said_of s.now) earlier.now op).read bytes.now) }
+    ensures { GivesExactly (λ x. (x, bytes.new.left.now)) result ((corrected (said_of s.now) earlier.now op).read bytes.old.left.now) }
 {
     let expected = expected(s, earlier, &op);
-    match residue_at(s.profile, bytes) {
-        Ok((n, rest)) if n == expected => Ok((op, rest)),
-        Ok((n, _)) => Err(FieldFault::Table {
-            left: bytes.len(),
+    let left = bytes.left.len();
+    match bytes.read_residue(s.profile) {
+        Ok(n) if n == expected => Ok(op),
+        Ok(n) => Err(FieldFault::Table {
+            left,
             stored: n,
             expected,
         }),
@@ -189,22 +190,22 @@ struct Operands {
 
 /// The operation with these operands, where its own number, its place, its turn and its correction are at the front.
 #[tactic(auto, unfolding(crate::specs::Image::op_number))]
-fn op_with<'a>(
+fn op_with(
     s: &Scope<'_>,
     p: &Place,
     earlier: &[Op],
     of: Operands,
-    bytes: &'a [u8],
-) -> Result<(Op, &'a [u8]), FieldFault>
+    bytes: &mut Reader<'_>,
+) -> Result<Op, FieldFault>
     requires step { s.now.step ≤ most_step }
     requires few { length earlier.now ≤ most_operations }
-    ensures { GivesExactly (λ x. (x.0, x.1.now)) result
-        ((op_number p.now (said_of s.now) earlier.now of.kind of.from of.ty of.a of.b of.c).read bytes.now) }
+    ensures { GivesExactly (λ x. (x, bytes.new.left.now)) result
+        ((op_number p.now (said_of s.now) earlier.now of.kind of.from of.ty of.a of.b of.c).read bytes.old.left.now) }
 {
-    let (imm, rest) = imm_here(p, of.kind, of.ty, bytes)?;
-    let (line, rest) = any_number_here(rest)?;
-    let (col, rest) = any_number_here(rest)?;
-    let (turn, rest) = turn_here(p, of.kind, s.turn_nodes, rest)?;
+    let imm = imm_here(p, of.kind, of.ty, bytes)?;
+    let line = bytes.any_number()?;
+    let col = bytes.any_number()?;
+    let turn = turn_here(p, of.kind, s.turn_nodes, bytes)?;
     let op = Op {
         kind: of.kind,
         from: of.from,
@@ -216,27 +217,27 @@ fn op_with<'a>(
         spot: Spot { line, col },
         turn,
     };
-    corrected_here(s, earlier, op, rest)
+    corrected_here(s, earlier, op, bytes)
 }
 
 /// The operation of a kind and types, where its operands and what follows them are at the front.
 #[tactic(auto, unfolding(crate::specs::Image::op_operands))]
-fn op_of_kind<'a>(
+fn op_of_kind(
     s: &Scope<'_>,
     p: &Place,
     earlier: &[Op],
     kind: Kind,
     from: Ty,
     ty: Ty,
-    bytes: &'a [u8],
-) -> Result<(Op, &'a [u8]), FieldFault>
+    bytes: &mut Reader<'_>,
+) -> Result<Op, FieldFault>
     requires step { s.now.step ≤ most_step }
     requires few { length earlier.now ≤ most_operations }
-    ensures { GivesExactly (λ x. (x.0, x.1.now)) result ((op_operands p.now (said_of s.now) earlier.now kind from ty).read bytes.now) }
+    ensures { GivesExactly (λ x. (x, bytes.new.left.now)) result ((op_operands p.now (said_of s.now) earlier.now kind from ty).read bytes.old.left.now) }
 {
-    let (a, rest) = operand_here(earlier, kind, from, 0, bytes)?;
-    let (b, rest) = operand_here(earlier, kind, from, 1, rest)?;
-    let (c, rest) = operand_here(earlier, kind, from, 2, rest)?;
+    let a = operand_here(earlier, kind, from, 0, bytes)?;
+    let b = operand_here(earlier, kind, from, 1, bytes)?;
+    let c = operand_here(earlier, kind, from, 2, bytes)?;
     let of = Operands {
         kind,
         from,
@@ -245,48 +246,41 @@ fn op_of_kind<'a>(
         b,
         c,
     };
-    op_with(s, p, earlier, of, rest)
+    op_with(s, p, earlier, of, bytes)
 }
 
 /// The operation at the front, after others, which is this by the other lists.
 #[tactic(auto, unfolding(crate::specs::Image::op_by))]
-fn op_of<'a>(
-    s: &Scope<'_>,
-    p: &Place,
-    earlier: &[Op],
-    bytes: &'a [u8],
-) -> Result<(Op, &'a [u8]), FieldFault>
+fn op_of(s: &Scope<'_>, p: &Place, earlier: &[Op], bytes: &mut Reader<'_>) -> Result<Op, FieldFault>
     requires step { s.now.step ≤ most_step }
     requires few { length earlier.now ≤ most_operations }
-    ensures { GivesExactly (λ x. (x.0, x.1.now)) result ((op_by p.now (said_of s.now) earlier.now).read bytes.now) }
+    ensures { GivesExactly (λ x. (x, bytes.new.left.now)) result ((op_by p.now (said_of s.now) earlier.now).read bytes.old.left.now) }
 {
-    let (kind, rest) = kind_here(p, bytes)?;
-    let (from, rest) = from_here(s.profile, p, kind, rest)?;
-    let (ty, rest) = ty_here(s.profile, kind, from, rest)?;
-    op_of_kind(s, p, earlier, kind, from, ty, rest)
+    let kind = kind_here(p, bytes)?;
+    let from = from_here(s.profile, p, kind, bytes)?;
+    let ty = ty_here(s.profile, kind, from, bytes)?;
+    op_of_kind(s, p, earlier, kind, from, ty, bytes)
 }
 
 /// That many operations.
-pub(crate) fn operations_of<'a>(
+pub(crate) fn operations_of(
     alloc: Global,
     s: &Scope<'_>,
     count: u32,
-    bytes: &'a [u8],
-) -> Result<(Vec<Op>, &'a [u8]), ReadError>
+    bytes: &mut Reader<'_>,
+) -> Result<Vec<Op>, ReadError>
     requires step { s.now.step ≤ most_step }
     requires few { count ≤ most_operations }
     requires rising { Rising (scope_of s.now) }
-    ensures { Gives (λ x. (x.0.items, x.1.now)) result ((listed count (op_piece (said_of s.now))).read bytes.now) }
+    ensures { Gives (λ x. (x.items, bytes.new.left.now)) result ((listed count (op_piece (said_of s.now))).read bytes.old.left.now) }
 {
     let mut found: Vec<Op> = Vec::new(alloc);
     let mut walk = Walk::new(s);
-    let mut rest = bytes;
     'entries: for i in 0..count {
         let place = walk.place(s, i);
-        let (entry, after) = op_of(s, &place, &found, rest)?;
+        let entry = op_of(s, &place, &found, bytes)?;
         found.push(entry)?;
         walk = walk.past(s, i);
-        rest = after;
     }
-    Ok((found, rest))
+    Ok(found)
 }

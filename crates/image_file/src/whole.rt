@@ -6,7 +6,7 @@ ghost use Rattle.image_file.specs.Pieces.{Gives, read_all, FaultOf};
 ghost use Rattle.image_file.specs.Image.{load_of, store_of, image_piece, later_lists};
 ghost use Rattle.image_file.specs.Views.{parts, head as head_of, operations_piece, Rising};
 
-use crate::fields::{FieldFault, ReadError};
+use crate::fields::{FieldFault, ReadError, Reader};
 use crate::head::{Counts, head_here};
 use crate::lists::{cells_of, inputs_of, names_of, outputs_of, turns_of};
 use crate::operation::operations_of;
@@ -57,18 +57,18 @@ pub(crate) fn stores_of(alloc: Global, cells: &[Cell]) -> Result<Vec<u32>, ReadE
 }
 
 /// The operations, after what an image says before them.
-fn operations_after<'a>(
+fn operations_after(
     alloc: Global,
     counts: &Counts,
     inputs: &[Var],
     outputs: &[Outlet],
     cells: &[Cell],
-    bytes: &'a [u8],
-) -> Result<(Vec<Op>, &'a [u8]), ReadError>
+    bytes: &mut Reader<'_>,
+) -> Result<Vec<Op>, ReadError>
     requires step { counts.now.step ≤ most_step }
     requires few { counts.now.operations ≤ most_operations }
     requires rising { Rising (record { inputs = inputs.now; outputs = outputs.now; loads = map load_of cells.now; stores = map store_of cells.now }) }
-    ensures { Gives (λ x. (x.0.items, x.1.now)) result ((operations_piece counts.now inputs.now outputs.now cells.now).read bytes.now) }
+    ensures { Gives (λ x. (x.items, bytes.new.left.now)) result ((operations_piece counts.now inputs.now outputs.now cells.now).read bytes.old.left.now) }
 {
     let loads = loads_of(alloc, cells)?;
     let stores = stores_of(alloc, cells)?;
@@ -83,25 +83,25 @@ fn operations_after<'a>(
         stores: &stores,
         turn_nodes: counts.turn_nodes,
     };
-    let (operations, rest) = operations_of(alloc, &scope, counts.operations, bytes)?;
-    Ok((operations, rest))
+    let operations = operations_of(alloc, &scope, counts.operations, bytes)?;
+    Ok(operations)
 }
 
 /// What an image says, with its outputs, cells, turn nodes and operations at the front.
 #[tactic(auto, unfolding(crate::specs::Image::later_lists))]
-fn later_lists_of<'a>(
+fn later_lists_of(
     alloc: Global,
     counts: &Counts,
     names: Vec<Text>,
     inputs: Vec<Var>,
-    bytes: &'a [u8],
-) -> Result<(Whole, &'a [u8]), ReadError>
+    bytes: &mut Reader<'_>,
+) -> Result<Whole, ReadError>
     requires step { counts.now.step ≤ most_step }
     requires turn_nodes { counts.now.turn_nodes ≤ most_turn_nodes }
     requires few { counts.now.operations ≤ most_operations }
-    ensures { Gives (λ x. (parts x.0, x.1.now)) result ((later_lists (head_of counts.now) names.items inputs.items).read bytes.now) }
+    ensures { Gives (λ x. (parts x, bytes.new.left.now)) result ((later_lists (head_of counts.now) names.items inputs.items).read bytes.old.left.now) }
 {
-    let (outputs, rest) = outputs_of(
+    let outputs = outputs_of(
         alloc,
         counts.profile,
         counts.names,
@@ -109,51 +109,51 @@ fn later_lists_of<'a>(
         counts.outputs,
         bytes,
     )?;
-    let (cells, rest) = cells_of(
+    let cells = cells_of(
         alloc,
         counts.profile,
         counts.names,
         counts.operations,
         counts.cells,
-        rest,
+        bytes,
     )?;
-    let (turn_nodes, rest) = turns_of(alloc, counts.names, counts.turn_nodes, rest)?;
-    let (operations, rest) = operations_after(alloc, counts, &inputs, &outputs, &cells, rest)?;
-    Ok((
-        Whole {
-            profile: counts.profile,
-            step: counts.step,
-            seed: counts.seed,
-            names,
-            inputs,
-            outputs,
-            cells,
-            turn_nodes,
-            operations,
-        },
-        rest,
-    ))
+    let turn_nodes = turns_of(alloc, counts.names, counts.turn_nodes, bytes)?;
+    let operations = operations_after(alloc, counts, &inputs, &outputs, &cells, bytes)?;
+    Ok(Whole {
+        profile: counts.profile,
+        step: counts.step,
+        seed: counts.seed,
+        names,
+        inputs,
+        outputs,
+        cells,
+        turn_nodes,
+        operations,
+    })
 }
 
 #[tactic(auto, unfolding(crate::specs::Image::image_piece))]
-fn whole_of(alloc: Global, bytes: &[u8]) -> Result<(Whole, &[u8]), ReadError>
-    ensures { Gives (λ x. (parts x.0, x.1.now)) result (image_piece.read bytes.now) }
+fn whole_of(alloc: Global, bytes: &mut Reader<'_>) -> Result<Whole, ReadError>
+    ensures { Gives (λ x. (parts x, bytes.new.left.now)) result (image_piece.read bytes.old.left.now) }
 {
-    let (counts, rest) = head_here(bytes)?;
-    let (names, rest) = names_of(alloc, counts.names, rest)?;
-    let (inputs, rest) = inputs_of(alloc, counts.profile, counts.names, counts.inputs, rest)?;
-    later_lists_of(alloc, &counts, names, inputs, rest)
+    let counts = head_here(bytes)?;
+    let names = names_of(alloc, counts.names, bytes)?;
+    let inputs = inputs_of(alloc, counts.profile, counts.names, counts.inputs, bytes)?;
+    later_lists_of(alloc, &counts, names, inputs, bytes)
 }
 
 /// The image, after which no byte is left.
 fn all(alloc: Global, bytes: &[u8]) -> Result<Whole, ReadError>
     ensures { Gives parts result (read_all image_piece bytes.now) }
 {
-    let (whole, rest) = whole_of(alloc, bytes)?;
-    if rest.is_empty() {
+    let mut rest = Reader { left: bytes };
+    let whole = whole_of(alloc, &mut rest)?;
+    if rest.left.is_empty() {
         Ok(whole)
     } else {
-        Err(ReadError::FieldFault(FieldFault::Rest { left: rest.len() }))
+        Err(ReadError::FieldFault(FieldFault::Rest {
+            left: rest.left.len(),
+        }))
     }
 }
 

@@ -7,7 +7,7 @@ ghost use Rattle.image_file.specs.Pieces.{Gives, text_field};
 ghost use Rattle.image_file.specs.Entries.{lower, name_fits, name_by};
 
 use crate::fields::fault::{FieldFault, ReadError};
-use crate::fields::reading::between_here;
+use crate::fields::reading::Reader;
 use indexmap::IndexSet;
 use std::alloc::Global;
 use std::marker::Model;
@@ -58,45 +58,42 @@ impl Keys {
 }
 
 /// A name's bytes.
-fn text_here<'a>(
+fn text_here(
     alloc: Global,
     n: u32,
     seen: &mut Keys,
-    bytes: &'a [u8],
-) -> Result<(Text, &'a [u8]), ReadError>
-    ensures is { Gives (λ x. (x.0, x.1.now)) result ((text_field n (name_fits seen.old) (λ left. fault.Field left)).read bytes.now) }
-    ensures seen { IfOk result (λ x. seen.new ≡ seen.old ++ lower x.0 ∷ []) }
+    bytes: &mut Reader<'_>,
+) -> Result<Text, ReadError>
+    ensures is { Gives (λ x. (x, bytes.new.left.now)) result ((text_field n (name_fits seen.old) (λ left. fault.Field left)).read bytes.old.left.now) }
+    ensures seen { IfOk result (λ x. seen.new ≡ seen.old ++ lower x ∷ []) }
     ensures unchanged { OnErr result (seen.new ≡ seen.old) }
 {
     let n = n as usize;
-    if bytes.len() < n {
+    let left = bytes.left.len();
+    if left < n {
         return Err(ReadError::FieldFault(FieldFault::Short));
     }
-    let (text, rest) = bytes.split_at(n);
+    let (text, rest) = bytes.left.split_at(n);
     if !is_name(text) {
-        return Err(ReadError::FieldFault(FieldFault::Field { left: bytes.len() }));
+        return Err(ReadError::FieldFault(FieldFault::Field { left }));
     }
     let name = Text::copy_of(alloc, text)?;
     if !seen.insert(text)? {
-        return Err(ReadError::FieldFault(FieldFault::Field { left: bytes.len() }));
+        return Err(ReadError::FieldFault(FieldFault::Field { left }));
     }
-    Ok((name, rest))
+    bytes.left = rest;
+    Ok(name)
 }
 
-/// The name at the front, one to 1,048,576 letters, digits and underscores without a digit first; `Field` at its
+/// The next name, one to 1,048,576 letters, digits and underscores without a digit first; `Field` at its
 /// length or its first byte where it is no name or, without regard to case, one of those seen. It is seen from then
 /// on; after an error the names seen are as before.
 #[tactic(auto, unfolding(crate::specs::Entries::name_by))]
-pub fn name_of<'a>(
-    alloc: Global,
-    seen: &mut Keys,
-    bytes: &'a [u8],
-) -> Result<(Text, &'a [u8]), ReadError>
-    ensures is { Gives (λ x. (x.0, x.1.now)) result ((name_by seen.old).read bytes.now) }
-    ensures seen { IfOk result (λ x. seen.new ≡ seen.old ++ lower x.0 ∷ []) }
+pub fn name_of(alloc: Global, seen: &mut Keys, bytes: &mut Reader<'_>) -> Result<Text, ReadError>
+    ensures is { Gives (λ x. (x, bytes.new.left.now)) result ((name_by seen.old).read bytes.old.left.now) }
+    ensures seen { IfOk result (λ x. seen.new ≡ seen.old ++ lower x ∷ []) }
     ensures unchanged { OnErr result (seen.new ≡ seen.old) }
 {
-    let (n, rest) = between_here(1, MOST_NAME_BYTES, bytes)?;
-    let (text, rest) = text_here(alloc, n, seen, rest)?;
-    Ok((text, rest))
+    let n = bytes.between(1, MOST_NAME_BYTES)?;
+    text_here(alloc, n, seen, bytes)
 }

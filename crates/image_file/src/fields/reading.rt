@@ -1,6 +1,6 @@
-//! Fields at the front of bytes.
+//! Fields, read one after another.
 
-ghost use Rattle.std.specs.Prelude.{◌≡◌, ◌≤◌, ◌<◌, ◌&&◌, nat_lt, nat_le, true, IfOk};
+ghost use Rattle.std.specs.Prelude.{◌≡◌, ◌≤◌, ◌<◌, ◌&&◌, ℕ, get_or, nat_lt, nat_le, true, IfOk};
 ghost use Rattle.std.specs.Int.{w16, w32, w64};
 ghost use Rattle.vcp_base.specs.Types.{fits as fits_of};
 ghost use Rattle.image_file.specs.Pieces.{GivesExactly, byte_at, number_at};
@@ -10,66 +10,164 @@ ghost use Rattle.image_file.specs.Fields.{number, signed, type_field};
 use crate::fields::fault::FieldFault;
 use vcp_base::{Profile, Residue, Ty, admits, fits, ty_of_code};
 
-/// The byte at the front, and the bytes after it; `Short` where there is none.
-pub fn u8_at(bytes: &[u8]) -> Result<(u8, &[u8]), FieldFault>
-    ensures { GivesExactly (λ x. (x.0, x.1.now)) result (byte_at bytes.now) }
-{
-    match bytes {
-        [] => Err(FieldFault::Short),
-        [number, rest @ ..] => Ok((*number, rest)),
-    }
+/// What is left of bytes that are read field by field. After a fault nothing more is read from it.
+#[derive(Drop)]
+pub struct Reader<'a> {
+    pub(crate) left: &'a [u8],
 }
 
-/// The number of two bytes at the front, and the bytes after it; `Short` where they are fewer.
-pub fn u16_at(bytes: &[u8]) -> Result<(u16, &[u8]), FieldFault>
-    ensures { GivesExactly (λ x. (x.0, x.1.now)) result (number_at w16 bytes.now) }
-{
-    if bytes.len() < 2 {
-        return Err(FieldFault::Short);
+impl<'a> Reader<'a> {
+    /// The next byte; `Short` where there is none.
+    pub fn read_u8(&mut self) -> Result<u8, FieldFault>
+        ensures { GivesExactly (λ x. (x, self.new.left.now)) result (byte_at self.old.left.now) }
+    {
+        match self.left {
+            [] => Err(FieldFault::Short),
+            [number, rest @ ..] => {
+                self.left = rest;
+                Ok(*number)
+            }
+        }
     }
-    let (front, rest) = bytes.split_at(2);
-    let number = u16::from_be_bytes([front[0], front[1]]);
-    Ok((number, rest))
-}
 
-/// The number of four bytes at the front, and the bytes after it; `Short` where they are fewer.
-pub fn u32_at(bytes: &[u8]) -> Result<(u32, &[u8]), FieldFault>
-    ensures { GivesExactly (λ x. (x.0, x.1.now)) result (number_at w32 bytes.now) }
-{
-    if bytes.len() < 4 {
-        return Err(FieldFault::Short);
+    /// The number of the next two bytes; `Short` where they are fewer.
+    pub fn read_u16(&mut self) -> Result<u16, FieldFault>
+        ensures { GivesExactly (λ x. (x, self.new.left.now)) result (number_at w16 self.old.left.now) }
+    {
+        if self.left.len() < 2 {
+            return Err(FieldFault::Short);
+        }
+        let (front, rest) = self.left.split_at(2);
+        self.left = rest;
+        Ok(u16::from_be_bytes([front[0], front[1]]))
     }
-    let (front, rest) = bytes.split_at(4);
-    let number = u32::from_be_bytes([front[0], front[1], front[2], front[3]]);
-    Ok((number, rest))
-}
 
-/// The residue at the front: four bytes in the narrow code, and eight in the wide one.
-pub fn residue_at(profile: Profile, bytes: &[u8]) -> Result<(Residue, &[u8]), FieldFault>
-    ensures { GivesExactly (λ x. (x.0, x.1.now)) result (number_at (correction_width profile) bytes.now) }
-{
-    match profile {
-        Profile::Narrow => match u32_at(bytes) {
-            Ok((n, rest)) => Ok((n as Residue, rest)),
+    /// The number of the next four bytes; `Short` where they are fewer.
+    pub fn read_u32(&mut self) -> Result<u32, FieldFault>
+        ensures { GivesExactly (λ x. (x, self.new.left.now)) result (number_at w32 self.old.left.now) }
+    {
+        if self.left.len() < 4 {
+            return Err(FieldFault::Short);
+        }
+        let (front, rest) = self.left.split_at(4);
+        self.left = rest;
+        Ok(u32::from_be_bytes([front[0], front[1], front[2], front[3]]))
+    }
+
+    /// The number of the next eight bytes; `Short` where they are fewer.
+    pub fn read_u64(&mut self) -> Result<u64, FieldFault>
+        ensures { GivesExactly (λ x. (x, self.new.left.now)) result (number_at w64 self.old.left.now) }
+    {
+        if self.left.len() < 8 {
+            return Err(FieldFault::Short);
+        }
+        let (front, rest) = self.left.split_at(8);
+        self.left = rest;
+        Ok(u64::from_be_bytes([
+            front[0], front[1], front[2], front[3], front[4], front[5], front[6], front[7],
+        ]))
+    }
+
+    /// The next residue: four bytes in the narrow code, and eight in the wide one.
+    pub fn read_residue(&mut self, profile: Profile) -> Result<Residue, FieldFault>
+        ensures { GivesExactly (λ x. (x, self.new.left.now)) result (number_at (correction_width profile) self.old.left.now) }
+    {
+        match profile {
+            Profile::Narrow => match self.read_u32() {
+                Ok(n) => Ok(n as Residue),
+                Err(fault) => Err(fault),
+            },
+            Profile::Wide => self.read_u64(),
+        }
+    }
+
+    /// Any type.
+    pub(crate) fn any_ty(&mut self, profile: Profile) -> Result<Ty, FieldFault>
+        ensures { GivesExactly (λ x. (x, self.new.left.now)) result ((type_field profile (λ t. true)).read self.old.left.now) }
+    {
+        let left = self.left.len();
+        match self.read_u8() {
+            Ok(n) => match ty_named(profile, n) {
+                None => Err(FieldFault::Field { left }),
+                Some(ty) => Ok(ty),
+            },
             Err(fault) => Err(fault),
-        },
-        Profile::Wide => u64_at(bytes),
+        }
+    }
+
+    /// A number of four bytes below a limit; another one is `Field`.
+    pub fn below(&mut self, limit: u32) -> Result<u32, FieldFault>
+        ensures { GivesExactly (λ x. (x, self.new.left.now)) result ((number (λ n. nat_lt n limit)).read self.old.left.now) }
+    {
+        let left = self.left.len();
+        match self.read_u32() {
+            Ok(n) if n < limit => Ok(n),
+            Ok(_) => Err(FieldFault::Field { left }),
+            Err(fault) => Err(fault),
+        }
+    }
+
+    /// A number of four bytes up to a limit; another one is `Field`.
+    pub fn at_most(&mut self, limit: u32) -> Result<u32, FieldFault>
+        ensures is { GivesExactly (λ x. (x, self.new.left.now)) result ((number (λ n. nat_le n limit)).read self.old.left.now) }
+        ensures below { IfOk result (λ x. x ≤ limit) }
+    {
+        self.between(0, limit)
+    }
+
+    /// A number of four bytes from one to another; another one is `Field`.
+    pub fn between(&mut self, low: u32, high: u32) -> Result<u32, FieldFault>
+        ensures is { GivesExactly (λ x. (x, self.new.left.now)) result ((number (λ n. nat_le low n && nat_le n high)).read self.old.left.now) }
+        ensures below { IfOk result (λ x. x ≤ high) }
+    {
+        let left = self.left.len();
+        match self.read_u32() {
+            Ok(n) if low <= n && n <= high => Ok(n),
+            Ok(_) => Err(FieldFault::Field { left }),
+            Err(fault) => Err(fault),
+        }
+    }
+
+    /// Any number of four bytes.
+    pub fn any_number(&mut self) -> Result<u32, FieldFault>
+        ensures { GivesExactly (λ x. (x, self.new.left.now)) result ((number (λ n. true)).read self.old.left.now) }
+    {
+        self.read_u32()
+    }
+
+    /// A value of a type.
+    pub(crate) fn value(&mut self, ty: Ty) -> Result<i64, FieldFault>
+        ensures { GivesExactly (λ x. (x, self.new.left.now)) result ((signed (fits_of ty)).read self.old.left.now) }
+    {
+        let left = self.left.len();
+        match self.read_u64() {
+            Ok(n) => {
+                let v = n.cast_signed();
+                if fits(ty, v as i128) {
+                    Ok(v)
+                } else {
+                    Err(FieldFault::Field { left })
+                }
+            }
+            Err(fault) => Err(fault),
+        }
+    }
+
+    /// Any value.
+    pub(crate) fn any_value(&mut self) -> Result<i64, FieldFault>
+        ensures { GivesExactly (λ x. (x, self.new.left.now)) result ((signed (λ v. true)).read self.old.left.now) }
+    {
+        match self.read_u64() {
+            Ok(n) => Ok(n.cast_signed()),
+            Err(fault) => Err(fault),
+        }
     }
 }
 
-/// The number of eight bytes at the front, and the bytes after it; `Short` where they are fewer.
-pub fn u64_at(bytes: &[u8]) -> Result<(u64, &[u8]), FieldFault>
-    ensures { GivesExactly (λ x. (x.0, x.1.now)) result (number_at w64 bytes.now) }
-{
-    if bytes.len() < 8 {
-        return Err(FieldFault::Short);
-    }
-    let (front, rest) = bytes.split_at(8);
-    let number = u64::from_be_bytes([
-        front[0], front[1], front[2], front[3], front[4], front[5], front[6], front[7],
-    ]);
-    Ok((number, rest))
-}
+/// Each of these is a byte. It does nothing: it states what their type says.
+pub fn are_bytes(bytes: &[u8])
+    ensures { (i : ℕ) → get_or bytes.now i 0 < 256 }
+{}
 
 /// The type with the code, where the profile has words of it: LINT in the wide code alone.
 pub fn ty_named(profile: Profile, n: u8) -> Option<Ty>
@@ -78,87 +176,5 @@ pub fn ty_named(profile: Profile, n: u8) -> Option<Ty>
     match ty_of_code(n) {
         None => None,
         Some(ty) => if admits(profile, ty) { Some(ty) } else { None },
-    }
-}
-
-/// Any type.
-pub(crate) fn any_ty_here(profile: Profile, bytes: &[u8]) -> Result<(Ty, &[u8]), FieldFault>
-    ensures { GivesExactly (λ x. (x.0, x.1.now)) result ((type_field profile (λ t. true)).read bytes.now) }
-{
-    match u8_at(bytes) {
-        Ok((n, rest)) => match ty_named(profile, n) {
-            None => Err(FieldFault::Field { left: bytes.len() }),
-            Some(ty) => Ok((ty, rest)),
-        },
-        Err(fault) => Err(fault),
-    }
-}
-
-/// A number of four bytes below a limit; another one is `Field`.
-pub fn below_here(limit: u32, bytes: &[u8]) -> Result<(u32, &[u8]), FieldFault>
-    ensures { GivesExactly (λ x. (x.0, x.1.now)) result ((number (λ n. nat_lt n limit)).read bytes.now) }
-{
-    match u32_at(bytes) {
-        Ok((n, rest)) if n < limit => Ok((n, rest)),
-        Ok(_) => Err(FieldFault::Field { left: bytes.len() }),
-        Err(fault) => Err(fault),
-    }
-}
-
-/// A number of four bytes up to a limit; another one is `Field`.
-pub fn at_most_here(limit: u32, bytes: &[u8]) -> Result<(u32, &[u8]), FieldFault>
-    ensures is { GivesExactly (λ x. (x.0, x.1.now)) result ((number (λ n. nat_le n limit)).read bytes.now) }
-    ensures below { IfOk result (λ x. x.0 ≤ limit) }
-{
-    match u32_at(bytes) {
-        Ok((n, rest)) if n <= limit => Ok((n, rest)),
-        Ok(_) => Err(FieldFault::Field { left: bytes.len() }),
-        Err(fault) => Err(fault),
-    }
-}
-
-/// A number from one to another.
-pub(crate) fn between_here(low: u32, high: u32, bytes: &[u8]) -> Result<(u32, &[u8]), FieldFault>
-    ensures is { GivesExactly (λ x. (x.0, x.1.now)) result ((number (λ n. nat_le low n && nat_le n high)).read bytes.now) }
-    ensures below { IfOk result (λ x. x.0 ≤ high) }
-{
-    match u32_at(bytes) {
-        Ok((n, rest)) if low <= n && n <= high => Ok((n, rest)),
-        Ok(_) => Err(FieldFault::Field { left: bytes.len() }),
-        Err(fault) => Err(fault),
-    }
-}
-
-/// Any number of four bytes.
-pub fn any_number_here(bytes: &[u8]) -> Result<(u32, &[u8]), FieldFault>
-    ensures { GivesExactly (λ x. (x.0, x.1.now)) result ((number (λ n. true)).read bytes.now) }
-{
-    u32_at(bytes)
-}
-
-/// A value of a type.
-pub(crate) fn value_here(ty: Ty, bytes: &[u8]) -> Result<(i64, &[u8]), FieldFault>
-    ensures { GivesExactly (λ x. (x.0, x.1.now)) result ((signed (fits_of ty)).read bytes.now) }
-{
-    match u64_at(bytes) {
-        Ok((n, rest)) => {
-            let v = n.cast_signed();
-            if fits(ty, v as i128) {
-                Ok((v, rest))
-            } else {
-                Err(FieldFault::Field { left: bytes.len() })
-            }
-        }
-        Err(fault) => Err(fault),
-    }
-}
-
-/// Any value.
-pub(crate) fn any_value_here(bytes: &[u8]) -> Result<(i64, &[u8]), FieldFault>
-    ensures { GivesExactly (λ x. (x.0, x.1.now)) result ((signed (λ v. true)).read bytes.now) }
-{
-    match u64_at(bytes) {
-        Ok((n, rest)) => Ok((n.cast_signed(), rest)),
-        Err(fault) => Err(fault),
     }
 }

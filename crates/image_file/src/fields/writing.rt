@@ -1,64 +1,95 @@
-//! Fields, written at the end of bytes.
+//! Fields, written one after another.
 
-ghost use Rattle.std.specs.Prelude.{◌≡◌, ◌<◌, ◌++◌, ◌∷◌, [], if◌then◌else◌, is_ok};
+ghost use Rattle.std.specs.Prelude.{◌≡◌, ◌<◌, ◌∷◌, [], false};
 ghost use Rattle.std.specs.Int.{w16, w32, w64, to_be_bytes, cast_unsigned};
 ghost use Rattle.vcp_base.specs.Code.{modulus};
 ghost use Rattle.vcp_base.specs.Spellings.{ty_code as ty_code_of, kind_code as kind_code_of};
 ghost use Rattle.image_file.specs.Codes.{correction_width};
+ghost use Rattle.image_file.specs.Written.{Writes};
 
-use std::alloc::AllocError;
+use std::alloc::Global;
 use vcp_base::{Kind, Profile, Residue, Ty, kind_code, ty_code};
 
-/// Appends the code of a type, one byte. Without memory the bytes are as before; so too below.
-pub fn put_ty(out: &mut Vec<u8>, ty: Ty) -> Result<(), AllocError>
-    ensures { out.new.items ≡ (if is_ok result then out.old.items ++ (ty_code_of ty ∷ []) else out.old.items) }
-{
-    out.extend_from_slice(&[ty_code(ty)])
+/// Bytes that are written field by field. Where memory runs out it has failed, from then on, and its bytes lack some.
+#[derive(Drop)]
+pub struct Writer {
+    pub(crate) bytes: Vec<u8>,
+    pub(crate) has_failed: bool,
 }
 
-/// Appends the code of a kind, one byte.
-pub fn put_kind(out: &mut Vec<u8>, kind: Kind) -> Result<(), AllocError>
-    ensures { out.new.items ≡ (if is_ok result then out.old.items ++ (kind_code_of kind ∷ []) else out.old.items) }
-{
-    out.extend_from_slice(&[kind_code(kind)])
-}
+impl Writer {
+    /// No bytes.
+    pub fn new(alloc: Global) -> Writer
+        ensures bytes { result.bytes.items ≡ [] }
+        ensures sound { result.has_failed ≡ false }
+    {
+        Writer {
+            bytes: Vec::new(alloc),
+            has_failed: false,
+        }
+    }
 
-/// Appends a number of two bytes.
-pub fn put_u16(out: &mut Vec<u8>, n: u16) -> Result<(), AllocError>
-    ensures { out.new.items ≡ (if is_ok result then out.old.items ++ to_be_bytes w16 n else out.old.items) }
-{
-    out.extend_from_slice(&n.to_be_bytes())
-}
+    /// Appends bytes.
+    pub fn put(&mut self, more: &[u8])
+        ensures { Writes self.old self.new more.now }
+    {
+        match self.bytes.extend_from_slice(more) {
+            Ok(()) => {}
+            Err(_) => self.has_failed = true,
+        }
+    }
 
-/// Appends a number of four bytes.
-pub fn put_u32(out: &mut Vec<u8>, n: u32) -> Result<(), AllocError>
-    ensures { out.new.items ≡ (if is_ok result then out.old.items ++ to_be_bytes w32 n else out.old.items) }
-{
-    out.extend_from_slice(&n.to_be_bytes())
-}
+    /// Appends the code of a type, one byte.
+    pub fn put_ty(&mut self, ty: Ty)
+        ensures { Writes self.old self.new (ty_code_of ty ∷ []) }
+    {
+        self.put(&[ty_code(ty)]);
+    }
 
-/// Appends a number with a sign, of eight bytes.
-pub fn put_i64(out: &mut Vec<u8>, v: i64) -> Result<(), AllocError>
-    ensures { out.new.items ≡ (if is_ok result then out.old.items ++ to_be_bytes w64 (cast_unsigned w64 v) else out.old.items) }
-{
-    let n = v.cast_unsigned();
-    out.extend_from_slice(&n.to_be_bytes())
-}
+    /// Appends the code of a kind, one byte.
+    pub fn put_kind(&mut self, kind: Kind)
+        ensures { Writes self.old self.new (kind_code_of kind ∷ []) }
+    {
+        self.put(&[kind_code(kind)]);
+    }
 
-/// Appends a number of eight bytes.
-fn put_u64(out: &mut Vec<u8>, n: u64) -> Result<(), AllocError>
-    ensures { out.new.items ≡ (if is_ok result then out.old.items ++ to_be_bytes w64 n else out.old.items) }
-{
-    out.extend_from_slice(&n.to_be_bytes())
-}
+    /// Appends a number of two bytes.
+    pub fn put_u16(&mut self, n: u16)
+        ensures { Writes self.old self.new (to_be_bytes w16 n) }
+    {
+        self.put(&n.to_be_bytes());
+    }
 
-/// Appends a residue: four bytes in the narrow code, and eight in the wide one.
-pub fn put_residue(out: &mut Vec<u8>, profile: Profile, n: Residue) -> Result<(), AllocError>
-    requires { n < modulus profile }
-    ensures { out.new.items ≡ (if is_ok result then out.old.items ++ to_be_bytes (correction_width profile) n else out.old.items) }
-{
-    match profile {
-        Profile::Narrow => put_u32(out, n as u32),
-        Profile::Wide => put_u64(out, n),
+    /// Appends a number of four bytes.
+    pub fn put_u32(&mut self, n: u32)
+        ensures { Writes self.old self.new (to_be_bytes w32 n) }
+    {
+        self.put(&n.to_be_bytes());
+    }
+
+    /// Appends a number with a sign, of eight bytes.
+    pub fn put_i64(&mut self, v: i64)
+        ensures { Writes self.old self.new (to_be_bytes w64 (cast_unsigned w64 v)) }
+    {
+        let n = v.cast_unsigned();
+        self.put(&n.to_be_bytes());
+    }
+
+    /// Appends a number of eight bytes.
+    fn put_u64(&mut self, n: u64)
+        ensures { Writes self.old self.new (to_be_bytes w64 n) }
+    {
+        self.put(&n.to_be_bytes());
+    }
+
+    /// Appends a residue: four bytes in the narrow code, and eight in the wide one.
+    pub fn put_residue(&mut self, profile: Profile, n: Residue)
+        requires { n < modulus profile }
+        ensures { Writes self.old self.new (to_be_bytes (correction_width profile) n) }
+    {
+        match profile {
+            Profile::Narrow => self.put_u32(n as u32),
+            Profile::Wide => self.put_u64(n),
+        }
     }
 }

@@ -13,31 +13,34 @@ returns-in_err-entry-clause-is c =
     let p = err_from_is_err_and c.from_residual.result c.from_residual.ensures.1 in
     rw (p.1, p.2)
     (ends_with (λ b. (cell_piece c.args.profile c.args.names c.args.operations b).read) c.in_err-entry.field-0.0 _ c.entries.found.items c.args.count
-    c.entries.counter c.entries.rest.now _
+    c.entries.counter c.entries.bytes.left.now _
     c.deref.ensures.value c.entries-test.true c.in_err-entry.ensures c.entries.invariant)
 
 pub entries-preserved : goal.entries-preserved
 entries-preserved c =
     rw c.in_ok-push.ensures.items
-    (goes_on (λ b. (cell_piece c.args.profile c.args.names c.args.operations b).read) _ c.entries.found.items c.args.count c.entries.counter c.entries.rest.now
-    c.in_ok-entry.entry c.in_ok-entry.after.now _ c.deref.ensures.value c.entries-test.true c.in_ok-entry.ensures c.entries.invariant)
+    (goes_on (λ b. (cell_piece c.args.profile c.args.names c.args.operations b).read) _ c.entries.found.items c.args.count c.entries.counter
+    c.entries.bytes.left.now
+    c.in_ok-entry.entry c.cell_of.new.bytes.left.now _ c.deref.ensures.value c.entries-test.true c.in_ok-entry.ensures c.entries.invariant)
 
 pub returns-clause-loads : goal.returns-clause-loads
 returns-clause-loads c =
     loads_keep c.args.profile c.args.names c.args.operations c.entries.found.items
     (((listed_law c.args.count (cell_piece c.args.profile c.args.names c.args.operations)
-    (cell_law c.args.profile c.args.names c.args.operations)).takes c.args.bytes.now c.entries.found.items c.entries.rest.now
-    (λ i. omega (arith, c.type_inv.bytes i))
-    (is_done (λ b. (cell_piece c.args.profile c.args.names c.args.operations b).read) c.entries.found.items c.args.count c.entries.counter c.entries.rest.now
-    (many c.args.count (λ b. (cell_piece c.args.profile c.args.names c.args.operations b).read) [] c.args.bytes.now)
+    (cell_law c.args.profile c.args.names c.args.operations)).takes c.args.bytes.now.left.now c.entries.found.items c.entries.bytes.left.now
+    c.are_bytes.ensures
+    (is_done (λ b. (cell_piece c.args.profile c.args.names c.args.operations b).read) c.entries.found.items c.args.count c.entries.counter
+    c.entries.bytes.left.now
+    (many c.args.count (λ b. (cell_piece c.args.profile c.args.names c.args.operations b).read) [] c.args.bytes.now.left.now)
     (omega (arith, c.entries-test)) c.entries.invariant)).1.1)
 
 pub returns-clause-stores : goal.returns-clause-stores
 returns-clause-stores c =
     stores_keep c.args.profile c.args.names c.args.operations c.entries.found.items
     (((listed_law c.args.count (cell_piece c.args.profile c.args.names c.args.operations)
-    (cell_law c.args.profile c.args.names c.args.operations)).takes c.args.bytes.now c.entries.found.items c.entries.rest.now
-    (λ i. omega (arith, c.type_inv.bytes i))
-    (is_done (λ b. (cell_piece c.args.profile c.args.names c.args.operations b).read) c.entries.found.items c.args.count c.entries.counter c.entries.rest.now
-    (many c.args.count (λ b. (cell_piece c.args.profile c.args.names c.args.operations b).read) [] c.args.bytes.now)
+    (cell_law c.args.profile c.args.names c.args.operations)).takes c.args.bytes.now.left.now c.entries.found.items c.entries.bytes.left.now
+    c.are_bytes.ensures
+    (is_done (λ b. (cell_piece c.args.profile c.args.names c.args.operations b).read) c.entries.found.items c.args.count c.entries.counter
+    c.entries.bytes.left.now
+    (many c.args.count (λ b. (cell_piece c.args.profile c.args.names c.args.operations b).read) [] c.args.bytes.now.left.now)
     (omega (arith, c.entries-test)) c.entries.invariant)).1.1)

@@ -6,5 +6,6 @@ use Rattle.image_file.proofs.lists.cells_of.Given as goal
 
 abbrev pub invariant-entries : goal.invariant-entries
 invariant-entries l =
-    (with_front l.found.items (many (l.count - l.counter) (λ b. ((cell_piece l.profile l.names l.operations) b).read) l.found.items l.rest) ≡ many l.count
-    (λ b. ((cell_piece l.profile l.names l.operations) b).read) [] l.bytes)
+    (with_front l.found.items (many (l.count - l.counter) (λ b. ((cell_piece l.profile l.names l.operations) b).read) l.found.items l.bytes.left.now)
+    ≡ many l.count
+    (λ b. ((cell_piece l.profile l.names l.operations) b).read) [] l.initial.bytes.left.now)

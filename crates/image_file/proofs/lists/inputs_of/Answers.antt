@@ -8,11 +8,11 @@ returns-in_err-entry c =
     let p = err_from_is_err_and c.from_residual.result c.from_residual.ensures.1 in
     rw (p.1, p.2)
     (ends_with (λ b. (input_piece c.args.profile c.args.names b).read) c.in_err-entry.field-0.0 _ c.entries.found.items c.args.count c.entries.counter
-    c.entries.rest.now _
+    c.entries.bytes.left.now _
     c.deref.ensures.value c.entries-test.true c.in_err-entry.ensures c.entries.invariant)
 
 pub entries-preserved : goal.entries-preserved
 entries-preserved c =
     rw c.in_ok-push.ensures.items
-    (goes_on (λ b. (input_piece c.args.profile c.args.names b).read) _ c.entries.found.items c.args.count c.entries.counter c.entries.rest.now
-    c.in_ok-entry.entry c.in_ok-entry.after.now _ c.deref.ensures.value c.entries-test.true c.in_ok-entry.ensures c.entries.invariant)
+    (goes_on (λ b. (input_piece c.args.profile c.args.names b).read) _ c.entries.found.items c.args.count c.entries.counter c.entries.bytes.left.now
+    c.in_ok-entry.entry c.input_of.new.bytes.left.now _ c.deref.ensures.value c.entries-test.true c.in_ok-entry.ensures c.entries.invariant)

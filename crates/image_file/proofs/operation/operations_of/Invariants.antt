@@ -7,5 +7,5 @@ use Rattle.image_file.proofs.operation.operations_of.Given as goal
 
 abbrev pub invariant-entries : goal.invariant-entries
 invariant-entries l =
-    (with_front l.found.items (many (l.count - l.i) (λ b. ((op_piece (said_of l.s)) b).read) l.found.items l.rest) ≡ many l.count
-    (λ b. ((op_piece (said_of l.s)) b).read) [] l.bytes) × (length l.found.items ≡ l.i) × IsAt (scope_of l.s) l.i l.walk
+    (with_front l.found.items (many (l.count - l.i) (λ b. ((op_piece (said_of l.s)) b).read) l.found.items l.bytes.left.now) ≡ many l.count
+    (λ b. ((op_piece (said_of l.s)) b).read) [] l.initial.bytes.left.now) × (length l.found.items ≡ l.i) × IsAt (scope_of l.s) l.i l.walk

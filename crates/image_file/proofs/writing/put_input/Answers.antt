@@ -1,13 +1,7 @@
-use Rattle.std.proofs.Common.{◌++◌, ◌∷◌, []}
-use Rattle.std.specs.Int.{w32, to_be_bytes}
-use Rattle.vcp_base.specs.Spellings.{ty_code}
 use Rattle.image_file.specs.Entries.{input_piece}
-use Rattle.image_file.proofs.Appended.{joined, ended}
+use Rattle.image_file.proofs.Appended.{and_then, ended}
 use Rattle.image_file.proofs.writing.put_input.Goals as goal
 
 pub returns : goal.returns
 unfolding input_piece
-returns c = λ p names earlier.
-    joined c.args.out.now.items c.put_u32.new.out.items c.put_ty.new.out.items (to_be_bytes w32 c.args.v.name)
-    ((ty_code c.args.v.ty ∷ []) ++ ([])) c.in_ok-put_u32.ensures (
-    ended c.put_u32.new.out.items c.put_ty.new.out.items (ty_code c.args.v.ty ∷ []) c.in_ok-put_ty.ensures)
+returns c = λ p names earlier. and_then c.put_u32.ensures (ended c.put_ty.ensures)
