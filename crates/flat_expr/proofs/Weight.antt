@@ -9,7 +9,7 @@ abbrev mutual
   expr_weight (widen t a) = suc (expr_weight a)
   expr_weight (unary op t a spot) = suc (expr_weight a)
   expr_weight (binary op t a b spot) = suc (expr_weight a + expr_weight b)
-  expr_weight (call f t es spot) = suc (exprs_weight es)
+  expr_weight (call f t es spot) = suc (suc (exprs_weight es))
 
   pub exprs_weight : TExprTrees → ℕ
   exprs_weight no_texprs = 1

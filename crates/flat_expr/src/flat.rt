@@ -9,7 +9,7 @@ ghost use Rattle.op_graph.specs.declared.build.Build.TheVariants as build;
 ghost use Rattle.vcp_base.specs.declared.ty.Ty.TheVariants as type_of;
 ghost use Rattle.flat_expr.specs.Begin.{Begins, entered, held_from};
 ghost use Rattle.flat_expr.specs.Laws.{Laws};
-ghost use Rattle.flat_expr.specs.ReadSlots.{reads_slot};
+ghost use Rattle.flat_expr.specs.ReadSlots.{reads_slot, read_slots};
 ghost use Rattle.flat_expr.specs.State.{IsState, IsPlace, IsA, Pushes, Makes, is_plain, reads, acts, giving, neutral as neutral_of, neutral_place};
 ghost use Rattle.flat_expr.specs.State.{with_neutral, masks, guards, is_arithmetic, divides, is_comparison, denies, operates, signs, Reads, Flattens};
 ghost use Rattle.flat_expr.specs.State.{FlattensOne, FunFits, last_type, Allows, SlotsAllowed, applies, argument as argument_of, one_reads, one_size};
@@ -21,6 +21,7 @@ ghost use Rattle.vcp_base.specs.declared.kind.Kind.TheVariants as kind_of;
 ghost use Rattle.vcp_typed.specs.declared.slot.Slot.{Slot as SlotOf};
 ghost use Rattle.vcp_typed.specs.SourceRun.{is_input};
 ghost use Rattle.vcp_typed.specs.Checked.{IsExpr, AreExprs, SlotsFit};
+ghost use Rattle.vcp_typed.specs.TExprTree.{call as call_tree};
 ghost use Rattle.vcp_typed.specs.TExprViews.{texpr_tree, texpr_trees};
 ghost use Rattle.vcp_base.specs.Limits.{most_names, most_operations, most_turn_nodes};
 ghost use Rattle.vcp_base.specs.Types.{fits};
@@ -506,12 +507,24 @@ impl<'a> Flat<'a> {
             } => {
                 trees_of_nodes();
                 let args: &[TExpr] = &args.items;
-                let a = self.argument(args, 0)?;
-                let b = self.argument(args, 1)?;
-                let c = self.argument(args, 2)?;
-                self.apply(*fun, *ty, a, b, c, *spot)
+                self.call(*fun, *ty, args, *spot)
             }
         }
+    }
+
+    // The operations of a function's arguments, and then its value.
+    #[cycle(expr)]
+    fn call(&mut self, fun: Fun, ty: Ty, args: &[TExpr], spot: Spot) -> Result<u32, Build>
+        requires checked { IsExpr self.old.slots (call_tree fun ty (texpr_trees args.now) spot) }
+        requires code { Allows self.old.graph.profile (expr_is_wide (call_tree fun ty (texpr_trees args.now) spot)) }
+        ensures made { IfOk result (λ k. Flattens self.old self.new (call_tree fun ty (texpr_trees args.now) spot) k) }
+        ensures refuses { IfErr result
+            (λ why. Leaves self.old self.new (read_slots (texpr_trees args.now)) (expr_size (call_tree fun ty (texpr_trees args.now) spot)) why) }
+    {
+        let a = self.argument(args, 0)?;
+        let b = self.argument(args, 1)?;
+        let c = self.argument(args, 2)?;
+        self.apply(fun, ty, a, b, c, spot)
     }
 
     // The operations of the argument at a place; none, and 0, where there is no such argument.

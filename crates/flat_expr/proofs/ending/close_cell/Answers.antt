@@ -39,3 +39,6 @@ returns-clause-made c = λ s n h same.
     (subst (λ g. Closes s n (suc c.args.cell) g c.args.known.now) (sym e)
     (closes_store s n c.args.cell c.in-Some.k c.args.graph.now c.args.known.now l v.spot c.cell-loaded.ensures c.in-Some.is
     (subst IsPart e c.len-rules.ensures.rules) h))
+
+pub returns-in_err-store-clause-loads : goal.returns-in_err-store-clause-loads
+returns-in_err-store-clause-loads c = rw (err_from_is_err_and c.from_residual.result c.from_residual.ensures.1).1 tt

@@ -475,7 +475,8 @@ pub add_branch-returns-in_err-path-clause-made : goal.add_branch-returns-in_err-
 add_branch-returns-in_err-path-clause-made t c = rw (err_from_is_err_and c.from_residual.result c.from_residual.ensures.1).1 tt
 
 pub add_branch-returns-in_err-add_stmts-clause-made : goal.add_branch-returns-in_err-add_stmts-clause-made
-add_branch-returns-in_err-add_stmts-clause-made t c = rw (err_from_is_err_and c.from_residual-in_err-add_stmts.result c.from_residual-in_err-add_stmts.ensures.1).1 tt
+add_branch-returns-in_err-add_stmts-clause-made t c =
+    rw (err_from_is_err_and c.from_residual-in_err-add_stmts.result c.from_residual-in_err-add_stmts.ensures.1).1 tt
 
 pub add_branch-returns-else-more-clause-fills : goal.add_branch-returns-else-more-clause-fills
 add_branch-returns-else-more-clause-fills t c = tt
@@ -496,10 +497,12 @@ pub add_branches-returns-in_err-add_case_branch-clause-path : goal.add_branches-
 add_branches-returns-in_err-add_case_branch-clause-path t c = rw (err_from_is_err_and c.from_residual.result c.from_residual.ensures.1).1 tt
 
 pub add_branches-returns-in_err-add_other-clause-made : goal.add_branches-returns-in_err-add_other-clause-made
-add_branches-returns-in_err-add_other-clause-made t c = rw (err_from_is_err_and c.from_residual-in_err-add_other.result c.from_residual-in_err-add_other.ensures.1).1 tt
+add_branches-returns-in_err-add_other-clause-made t c =
+    rw (err_from_is_err_and c.from_residual-in_err-add_other.result c.from_residual-in_err-add_other.ensures.1).1 tt
 
 pub add_branches-returns-in_err-add_other-clause-path : goal.add_branches-returns-in_err-add_other-clause-path
-add_branches-returns-in_err-add_other-clause-path t c = rw (err_from_is_err_and c.from_residual-in_err-add_other.result c.from_residual-in_err-add_other.ensures.1).1 tt
+add_branches-returns-in_err-add_other-clause-path t c =
+    rw (err_from_is_err_and c.from_residual-in_err-add_other.result c.from_residual-in_err-add_other.ensures.1).1 tt
 
 pub add_branches-returns-clause-fills : goal.add_branches-returns-clause-fills
 add_branches-returns-clause-fills t c = tt
@@ -538,7 +541,8 @@ pub add_if-returns-in_err-add_arm-clause-made : goal.add_if-returns-in_err-add_a
 add_if-returns-in_err-add_arm-clause-made t c = rw (err_from_is_err_and c.from_residual.result c.from_residual.ensures.1).1 tt
 
 pub add_if-returns-in_err-add_other-clause-made : goal.add_if-returns-in_err-add_other-clause-made
-add_if-returns-in_err-add_other-clause-made t c = rw (err_from_is_err_and c.from_residual-in_err-add_other.result c.from_residual-in_err-add_other.ensures.1).1 tt
+add_if-returns-in_err-add_other-clause-made t c =
+    rw (err_from_is_err_and c.from_residual-in_err-add_other.result c.from_residual-in_err-add_other.ensures.1).1 tt
 
 pub add_if-returns-clause-fills : goal.add_if-returns-clause-fills
 add_if-returns-clause-fills t c = tt
@@ -559,10 +563,12 @@ pub add_turn-returns-in_err-node-clause-made : goal.add_turn-returns-in_err-node
 add_turn-returns-in_err-node-clause-made t c = rw (err_from_is_err_and c.from_residual.result c.from_residual.ensures.1).1 tt
 
 pub add_turn-returns-in_err-add_value-clause-made : goal.add_turn-returns-in_err-add_value-clause-made
-add_turn-returns-in_err-add_value-clause-made t c = rw (err_from_is_err_and c.from_residual-in_err-add_value.result c.from_residual-in_err-add_value.ensures.1).1 tt
+add_turn-returns-in_err-add_value-clause-made t c =
+    rw (err_from_is_err_and c.from_residual-in_err-add_value.result c.from_residual-in_err-add_value.ensures.1).1 tt
 
 pub add_turn-returns-in_err-add_stmts-clause-made : goal.add_turn-returns-in_err-add_stmts-clause-made
-add_turn-returns-in_err-add_stmts-clause-made t c = rw (err_from_is_err_and c.from_residual-in_err-add_stmts.result c.from_residual-in_err-add_stmts.ensures.1).1 tt
+add_turn-returns-in_err-add_stmts-clause-made t c =
+    rw (err_from_is_err_and c.from_residual-in_err-add_stmts.result c.from_residual-in_err-add_stmts.ensures.1).1 tt
 
 pub add_turn-returns-clause-fills : goal.add_turn-returns-clause-fills
 add_turn-returns-clause-fills t c = tt

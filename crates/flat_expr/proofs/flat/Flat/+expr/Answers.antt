@@ -1,4 +1,4 @@
-use Rattle.std.proofs.Common.{◌≡◌, ℕ, false, sym, ap, ap₂, ◌∙◌, subst, rules, w64, SFits}
+use Rattle.std.proofs.Common.{◌≡◌, sym, ap, ap₂, ◌∙◌, subst, rules, w64, SFits}
 use Rattle.std.proofs.lemmas.Result.{IfOk-weaker}
 use Rattle.std.proofs.lemmas.Int.{to_z-of_z}
 use Rattle.vcp_typed.specs.TExprTree.{literal, get, unary, binary}
@@ -175,33 +175,52 @@ pub argument-returns-else-i-args-clause-made : goal.argument-returns-else-i-args
 argument-returns-else-i-args-clause-made t c =
     subst (λ o. FlattensOne c.args.self.now c.args.self.now o 0) (sym (argument_none c.args.args.now c.args.i (omega (arith, c.if-i-args.false)))) refl
 
-pub expr-argument-requires : goal.expr-argument-requires
-expr-argument-requires t c =
+pub expr-call-requires : goal.expr-call-requires
+expr-call-requires t c =
     let es = texpr_trees c.deref-args.result.now in
     let e : texpr_tree c.args.e.now ≡ call c.in-Call.fun c.in-Call.ty es c.in-Call.spot =
     tree_of_call c.args.e.now c.in-Call.fun c.in-Call.ty c.in-Call.args c.in-Call.spot c.deref-args.result.now c.in-Call.is
-    (c.trees_of_nodes.ensures.call _ _ _ _) c.deref-args.ensures.value in
-    let ok : AreExprs c.args.self.now.slots es × (arguments c.in-Call.fun c.in-Call.ty ≡ Some (tys_of es)) =
-    subst (IsExpr c.args.self.now.slots) e c.requires.checked in
-    let code : Allows c.args.self.now.graph.profile (is_lint c.in-Call.ty || exprs_are_wide es) =
-    subst (λ x. Allows c.args.self.now.graph.profile (expr_is_wide x)) e c.requires.code in
-    let args = allows_second c.args.self.now.graph.profile (is_lint c.in-Call.ty) (exprs_are_wide es) code in
-    (omega (arith, ap expr_weight e), (ok.0, args))
-
-pub expr-argument-requires-in-Call : goal.expr-argument-requires-in-Call
-expr-argument-requires-in-Call t c =
-    let es = texpr_trees c.deref-args.result.now in
-    let e : texpr_tree c.args.e.now ≡ call c.in-Call.fun c.in-Call.ty es c.in-Call.spot =
-    tree_of_call c.args.e.now c.in-Call.fun c.in-Call.ty c.in-Call.args c.in-Call.spot c.deref-args.result.now c.in-Call.is
-    (c.trees_of_nodes.ensures.call _ _ _ _) c.deref-args.ensures.value in
-    let ok : AreExprs c.args.self.now.slots es × (arguments c.in-Call.fun c.in-Call.ty ≡ Some (tys_of es)) =
-    subst (IsExpr c.args.self.now.slots) e c.requires.checked in
-    let first : Follows c.args.self.now c.argument.new.self =
-    first_follows c.args.self.now c.argument.new.self c.in-Call.fun c.in-Call.ty es c.in_ok-a-in-Call.a ok.1 c.in_ok-a-in-Call.ensures.made in
-    let code : Allows c.args.self.now.graph.profile (is_lint c.in-Call.ty || exprs_are_wide es) =
-    subst (λ x. Allows c.args.self.now.graph.profile (expr_is_wide x)) e c.requires.code in
-    let args = allows_second c.args.self.now.graph.profile (is_lint c.in-Call.ty) (exprs_are_wide es) code in (
+    (c.trees_of_nodes.ensures.call _ _ _ _) c.deref-args.ensures.value in (
       omega (arith, ap expr_weight e),
+      (
+        subst (IsExpr c.args.self.now.slots) e c.requires.checked,
+        subst (λ x. Allows c.args.self.now.graph.profile (expr_is_wide x)) e c.requires.code,
+      ),
+    )
+
+pub expr-returns-in-Call-clause-made : goal.expr-returns-in-Call-clause-made
+expr-returns-in-Call-clause-made t c =
+    let es = texpr_trees c.deref-args.result.now in
+    let e : texpr_tree c.args.e.now ≡ call c.in-Call.fun c.in-Call.ty es c.in-Call.spot =
+    tree_of_call c.args.e.now c.in-Call.fun c.in-Call.ty c.in-Call.args c.in-Call.spot c.deref-args.result.now c.in-Call.is
+    (c.trees_of_nodes.ensures.call _ _ _ _) c.deref-args.ensures.value in
+    IfOk-weaker c.call.result _ _ (λ k p. subst (λ x. Flattens c.args.self.now c.call.new.self x k) (sym e) p) c.call.ensures.made
+
+pub expr-returns-in-Call-clause-refuses : goal.expr-returns-in-Call-clause-refuses
+expr-returns-in-Call-clause-refuses t c =
+    let es = texpr_trees c.deref-args.result.now in
+    let e : texpr_tree c.args.e.now ≡ call c.in-Call.fun c.in-Call.ty es c.in-Call.spot =
+    tree_of_call c.args.e.now c.in-Call.fun c.in-Call.ty c.in-Call.args c.in-Call.spot c.deref-args.result.now c.in-Call.is
+    (c.trees_of_nodes.ensures.call _ _ _ _) c.deref-args.ensures.value in
+    subst (λ x. IfErr c.call.result (λ why. Leaves c.args.self.now c.call.new.self (reads_slot x) (expr_size x) why)) (sym e) c.call.ensures.refuses
+
+pub call-argument-requires : goal.call-argument-requires
+call-argument-requires t c =
+    let es = texpr_trees c.args.args.now in
+    let ok : AreExprs c.args.self.now.slots es × (arguments c.args.fun c.args.ty ≡ Some (tys_of es)) = c.requires.checked in
+    let code : Allows c.args.self.now.graph.profile (is_lint c.args.ty || exprs_are_wide es) = c.requires.code in
+    let args = allows_second c.args.self.now.graph.profile (is_lint c.args.ty) (exprs_are_wide es) code in
+    (omega arith, (ok.0, args))
+
+pub call-argument-requires-2 : goal.call-argument-requires-2
+call-argument-requires-2 t c =
+    let es = texpr_trees c.args.args.now in
+    let ok : AreExprs c.args.self.now.slots es × (arguments c.args.fun c.args.ty ≡ Some (tys_of es)) = c.requires.checked in
+    let first : Follows c.args.self.now c.argument.new.self =
+    first_follows c.args.self.now c.argument.new.self c.args.fun c.args.ty es c.in_ok-a.a ok.1 c.in_ok-a.ensures.made in
+    let code : Allows c.args.self.now.graph.profile (is_lint c.args.ty || exprs_are_wide es) = c.requires.code in
+    let args = allows_second c.args.self.now.graph.profile (is_lint c.args.ty) (exprs_are_wide es) code in (
+      omega arith,
       (
         subst (λ sl. AreExprs sl es) (sym first.slots) ok.0,
         allows_at c.args.self.now.graph.profile c.argument.new.self.graph.profile
@@ -209,197 +228,151 @@ expr-argument-requires-in-Call t c =
       ),
     )
 
-pub expr-argument-requires-in-Call-2 : goal.expr-argument-requires-in-Call-2
-expr-argument-requires-in-Call-2 t c =
-    let es = texpr_trees c.deref-args.result.now in
-    let e : texpr_tree c.args.e.now ≡ call c.in-Call.fun c.in-Call.ty es c.in-Call.spot =
-    tree_of_call c.args.e.now c.in-Call.fun c.in-Call.ty c.in-Call.args c.in-Call.spot c.deref-args.result.now c.in-Call.is
-    (c.trees_of_nodes.ensures.call _ _ _ _) c.deref-args.ensures.value in
-    let ok : AreExprs c.args.self.now.slots es × (arguments c.in-Call.fun c.in-Call.ty ≡ Some (tys_of es)) =
-    subst (IsExpr c.args.self.now.slots) e c.requires.checked in
+pub call-argument-requires-3 : goal.call-argument-requires-3
+call-argument-requires-3 t c =
+    let es = texpr_trees c.args.args.now in
+    let ok : AreExprs c.args.self.now.slots es × (arguments c.args.fun c.args.ty ≡ Some (tys_of es)) = c.requires.checked in
     let first : Follows c.args.self.now c.argument.new.self =
-    first_follows c.args.self.now c.argument.new.self c.in-Call.fun c.in-Call.ty es c.in_ok-a-in-Call.a ok.1 c.in_ok-a-in-Call.ensures.made in
-    let second : Follows c.argument.new.self c.argument-in-Call.new.self =
-    one_follows c.argument.new.self c.argument-in-Call.new.self (argument es 1) c.in_ok-b-in-Call.b first.after c.in_ok-b-in-Call.ensures.made in
-    let code : Allows c.args.self.now.graph.profile (is_lint c.in-Call.ty || exprs_are_wide es) =
-    subst (λ x. Allows c.args.self.now.graph.profile (expr_is_wide x)) e c.requires.code in
-    let args = allows_second c.args.self.now.graph.profile (is_lint c.in-Call.ty) (exprs_are_wide es) code in (
-      omega (arith, ap expr_weight e),
+    first_follows c.args.self.now c.argument.new.self c.args.fun c.args.ty es c.in_ok-a.a ok.1 c.in_ok-a.ensures.made in
+    let second : Follows c.argument.new.self c.argument-2.new.self =
+    one_follows c.argument.new.self c.argument-2.new.self (argument es 1) c.in_ok-b.b first.after c.in_ok-b.ensures.made in
+    let code : Allows c.args.self.now.graph.profile (is_lint c.args.ty || exprs_are_wide es) = c.requires.code in
+    let args = allows_second c.args.self.now.graph.profile (is_lint c.args.ty) (exprs_are_wide es) code in (
+      omega arith,
       (
         subst (λ sl. AreExprs sl es) (sym (second.slots ∙ first.slots)) ok.0,
-        allows_at c.args.self.now.graph.profile c.argument-in-Call.new.self.graph.profile
+        allows_at c.args.self.now.graph.profile c.argument-2.new.self.graph.profile
             (exprs_are_wide es) (second.profile ∙ first.profile) args,
       ),
     )
 
-pub expr-apply-requires-clause-arguments : goal.expr-apply-requires-clause-arguments
-expr-apply-requires-clause-arguments t c =
-    let es = texpr_trees c.deref-args.result.now in
-    let e : texpr_tree c.args.e.now ≡ call c.in-Call.fun c.in-Call.ty es c.in-Call.spot =
-    tree_of_call c.args.e.now c.in-Call.fun c.in-Call.ty c.in-Call.args c.in-Call.spot c.deref-args.result.now c.in-Call.is
-    (c.trees_of_nodes.ensures.call _ _ _ _) c.deref-args.ensures.value in
-    let ok : AreExprs c.args.self.now.slots es × (arguments c.in-Call.fun c.in-Call.ty ≡ Some (tys_of es)) =
-    subst (IsExpr c.args.self.now.slots) e c.requires.checked in
-    call_fits c.args.self.now c.argument.new.self c.argument-in-Call.new.self c.argument-in-Call-2.new.self c.in-Call.fun c.in-Call.ty es c.in_ok-a-in-Call.a c.in_ok-b-in-Call.b c.in_ok-c-in-Call.c ok.1 c.in_ok-a-in-Call.ensures.made c.in_ok-b-in-Call.ensures.made c.in_ok-c-in-Call.ensures.made
+pub call-apply-requires-clause-arguments : goal.call-apply-requires-clause-arguments
+call-apply-requires-clause-arguments t c =
+    let es = texpr_trees c.args.args.now in
+    let ok : AreExprs c.args.self.now.slots es × (arguments c.args.fun c.args.ty ≡ Some (tys_of es)) = c.requires.checked in
+    call_fits c.args.self.now c.argument.new.self c.argument-2.new.self c.argument-3.new.self c.args.fun c.args.ty es c.in_ok-a.a c.in_ok-b.b
+    c.in_ok-c.c ok.1 c.in_ok-a.ensures.made c.in_ok-b.ensures.made c.in_ok-c.ensures.made
 
-pub expr-apply-requires-clause-ty : goal.expr-apply-requires-clause-ty
-expr-apply-requires-clause-ty t c =
-    let es = texpr_trees c.deref-args.result.now in
-    let e : texpr_tree c.args.e.now ≡ call c.in-Call.fun c.in-Call.ty es c.in-Call.spot =
-    tree_of_call c.args.e.now c.in-Call.fun c.in-Call.ty c.in-Call.args c.in-Call.spot c.deref-args.result.now c.in-Call.is
-    (c.trees_of_nodes.ensures.call _ _ _ _) c.deref-args.ensures.value in
-    let ok : AreExprs c.args.self.now.slots es × (arguments c.in-Call.fun c.in-Call.ty ≡ Some (tys_of es)) =
-    subst (IsExpr c.args.self.now.slots) e c.requires.checked in
-    let code : Allows c.args.self.now.graph.profile (is_lint c.in-Call.ty || exprs_are_wide es) =
-    subst (λ x. Allows c.args.self.now.graph.profile (expr_is_wide x)) e c.requires.code in
+pub call-apply-requires-clause-ty : goal.call-apply-requires-clause-ty
+call-apply-requires-clause-ty t c =
+    let es = texpr_trees c.args.args.now in
+    let ok : AreExprs c.args.self.now.slots es × (arguments c.args.fun c.args.ty ≡ Some (tys_of es)) = c.requires.checked in
+    let code : Allows c.args.self.now.graph.profile (is_lint c.args.ty || exprs_are_wide es) = c.requires.code in
     let first : Follows c.args.self.now c.argument.new.self =
-    first_follows c.args.self.now c.argument.new.self c.in-Call.fun c.in-Call.ty es c.in_ok-a-in-Call.a ok.1 c.in_ok-a-in-Call.ensures.made in
-    let second : Follows c.argument.new.self c.argument-in-Call.new.self =
-    one_follows c.argument.new.self c.argument-in-Call.new.self (argument es 1) c.in_ok-b-in-Call.b first.after c.in_ok-b-in-Call.ensures.made in
-    let third : Follows c.argument-in-Call.new.self c.argument-in-Call-2.new.self =
-    one_follows c.argument-in-Call.new.self c.argument-in-Call-2.new.self (argument es 2) c.in_ok-c-in-Call.c second.after c.in_ok-c-in-Call.ensures.made in
-    let own = call_admitted c.args.self.now.graph.profile c.in-Call.fun c.in-Call.ty es ok.1 code in
-    still c.args.self.now.graph.profile c.argument-in-Call-2.new.self.graph.profile c.in-Call.ty (third.profile ∙ second.profile ∙ first.profile) own.0
+    first_follows c.args.self.now c.argument.new.self c.args.fun c.args.ty es c.in_ok-a.a ok.1 c.in_ok-a.ensures.made in
+    let second : Follows c.argument.new.self c.argument-2.new.self =
+    one_follows c.argument.new.self c.argument-2.new.self (argument es 1) c.in_ok-b.b first.after c.in_ok-b.ensures.made in
+    let third : Follows c.argument-2.new.self c.argument-3.new.self =
+    one_follows c.argument-2.new.self c.argument-3.new.self (argument es 2) c.in_ok-c.c second.after c.in_ok-c.ensures.made in
+    let own = call_admitted c.args.self.now.graph.profile c.args.fun c.args.ty es ok.1 code in
+    still c.args.self.now.graph.profile c.argument-3.new.self.graph.profile c.args.ty (third.profile ∙ second.profile ∙ first.profile) own.0
 
-pub expr-apply-requires-clause-last : goal.expr-apply-requires-clause-last
-expr-apply-requires-clause-last t c =
-    let es = texpr_trees c.deref-args.result.now in
-    let e : texpr_tree c.args.e.now ≡ call c.in-Call.fun c.in-Call.ty es c.in-Call.spot =
-    tree_of_call c.args.e.now c.in-Call.fun c.in-Call.ty c.in-Call.args c.in-Call.spot c.deref-args.result.now c.in-Call.is
-    (c.trees_of_nodes.ensures.call _ _ _ _) c.deref-args.ensures.value in
-    let ok : AreExprs c.args.self.now.slots es × (arguments c.in-Call.fun c.in-Call.ty ≡ Some (tys_of es)) =
-    subst (IsExpr c.args.self.now.slots) e c.requires.checked in
-    let code : Allows c.args.self.now.graph.profile (is_lint c.in-Call.ty || exprs_are_wide es) =
-    subst (λ x. Allows c.args.self.now.graph.profile (expr_is_wide x)) e c.requires.code in
+pub call-apply-requires-clause-last : goal.call-apply-requires-clause-last
+call-apply-requires-clause-last t c =
+    let es = texpr_trees c.args.args.now in
+    let ok : AreExprs c.args.self.now.slots es × (arguments c.args.fun c.args.ty ≡ Some (tys_of es)) = c.requires.checked in
+    let code : Allows c.args.self.now.graph.profile (is_lint c.args.ty || exprs_are_wide es) = c.requires.code in
     let first : Follows c.args.self.now c.argument.new.self =
-    first_follows c.args.self.now c.argument.new.self c.in-Call.fun c.in-Call.ty es c.in_ok-a-in-Call.a ok.1 c.in_ok-a-in-Call.ensures.made in
-    let second : Follows c.argument.new.self c.argument-in-Call.new.self =
-    one_follows c.argument.new.self c.argument-in-Call.new.self (argument es 1) c.in_ok-b-in-Call.b first.after c.in_ok-b-in-Call.ensures.made in
-    let third : Follows c.argument-in-Call.new.self c.argument-in-Call-2.new.self =
-    one_follows c.argument-in-Call.new.self c.argument-in-Call-2.new.self (argument es 2) c.in_ok-c-in-Call.c second.after c.in_ok-c-in-Call.ensures.made in
-    let own = call_admitted c.args.self.now.graph.profile c.in-Call.fun c.in-Call.ty es ok.1 code in
-    still c.args.self.now.graph.profile c.argument-in-Call-2.new.self.graph.profile (last_type c.in-Call.fun c.in-Call.ty)
+    first_follows c.args.self.now c.argument.new.self c.args.fun c.args.ty es c.in_ok-a.a ok.1 c.in_ok-a.ensures.made in
+    let second : Follows c.argument.new.self c.argument-2.new.self =
+    one_follows c.argument.new.self c.argument-2.new.self (argument es 1) c.in_ok-b.b first.after c.in_ok-b.ensures.made in
+    let third : Follows c.argument-2.new.self c.argument-3.new.self =
+    one_follows c.argument-2.new.self c.argument-3.new.self (argument es 2) c.in_ok-c.c second.after c.in_ok-c.ensures.made in
+    let own = call_admitted c.args.self.now.graph.profile c.args.fun c.args.ty es ok.1 code in
+    still c.args.self.now.graph.profile c.argument-3.new.self.graph.profile (last_type c.args.fun c.args.ty)
     (third.profile ∙ second.profile ∙ first.profile) own.1
 
-pub expr-returns-in_ok-c-in-Call-clause-made : goal.expr-returns-in_ok-c-in-Call-clause-made
-expr-returns-in_ok-c-in-Call-clause-made t c =
-    let es = texpr_trees c.deref-args.result.now in
-    let e : texpr_tree c.args.e.now ≡ call c.in-Call.fun c.in-Call.ty es c.in-Call.spot =
-    tree_of_call c.args.e.now c.in-Call.fun c.in-Call.ty c.in-Call.args c.in-Call.spot c.deref-args.result.now c.in-Call.is
-    (c.trees_of_nodes.ensures.call _ _ _ _) c.deref-args.ensures.value in
-    let ok : AreExprs c.args.self.now.slots es × (arguments c.in-Call.fun c.in-Call.ty ≡ Some (tys_of es)) =
-    subst (IsExpr c.args.self.now.slots) e c.requires.checked in
+pub call-returns-clause-made : goal.call-returns-clause-made
+call-returns-clause-made t c =
+    let es = texpr_trees c.args.args.now in
+    let ok : AreExprs c.args.self.now.slots es × (arguments c.args.fun c.args.ty ≡ Some (tys_of es)) = c.requires.checked in
     IfOk-weaker c.apply.result _ _ (λ k p.
-    subst (λ x. Flattens c.args.self.now c.apply.new.self x k) (sym e)
-    (call_made c.args.self.now c.argument.new.self c.argument-in-Call.new.self c.argument-in-Call-2.new.self c.apply.new.self c.in-Call.fun c.in-Call.ty es c.in-Call.spot c.in_ok-a-in-Call.a c.in_ok-b-in-Call.b c.in_ok-c-in-Call.c k ok.1 c.in_ok-a-in-Call.ensures.made c.in_ok-b-in-Call.ensures.made c.in_ok-c-in-Call.ensures.made p)) c.apply.ensures.made
+    (call_made c.args.self.now c.argument.new.self c.argument-2.new.self c.argument-3.new.self c.apply.new.self c.args.fun c.args.ty es c.args.spot
+    c.in_ok-a.a c.in_ok-b.b c.in_ok-c.c k ok.1 c.in_ok-a.ensures.made c.in_ok-b.ensures.made c.in_ok-c.ensures.made p)) c.apply.ensures.made
 
-pub expr-returns-in_err-a-in-Call-clause-refuses : goal.expr-returns-in_err-a-in-Call-clause-refuses
-expr-returns-in_err-a-in-Call-clause-refuses t c =
-    let es = texpr_trees c.deref-args.result.now in
-    let e : texpr_tree c.args.e.now ≡ call c.in-Call.fun c.in-Call.ty es c.in-Call.spot =
-    tree_of_call c.args.e.now c.in-Call.fun c.in-Call.ty c.in-Call.args c.in-Call.spot c.deref-args.result.now c.in-Call.is
-    (c.trees_of_nodes.ensures.call _ _ _ _) c.deref-args.ensures.value in
-    let ok : AreExprs c.args.self.now.slots es × (arguments c.in-Call.fun c.in-Call.ty ≡ Some (tys_of es)) =
-    subst (IsExpr c.args.self.now.slots) e c.requires.checked in
-    let q = err_from_is_err_and c.from_residual-in_err-a-in-Call.result c.from_residual-in_err-a-in-Call.ensures.1 in
-    let not_read : (slot : ℕ) → reads_slot (texpr_tree c.args.e.now) slot ≡ false → read_slots es slot ≡ false =
-    λ slot no. sym (ap (λ x. reads_slot x slot) e) ∙ no in
-    let h = more_leaves (one_reads (argument es 0)) (reads_slot (texpr_tree c.args.e.now)) c.args.self.now c.argument.new.self (one_size (argument es 0))
-    (expr_size (texpr_tree c.args.e.now)) c.argument.result (λ slot no. unread_argument es 0 slot (not_read slot no))
-    (omega (arith, ap expr_size e, sizes es)) c.argument.ensures.refuses in
-    rw (q.1, q.2) (subst (λ r. IfErr r (λ e. Leaves c.args.self.now c.argument.new.self (reads_slot (texpr_tree c.args.e.now)) (expr_size
-    (texpr_tree c.args.e.now)) e)) c.in_err-a-in-Call.was h)
+pub call-returns-in_err-a-clause-refuses : goal.call-returns-in_err-a-clause-refuses
+call-returns-in_err-a-clause-refuses t c =
+    let es = texpr_trees c.args.args.now in
+    let ok : AreExprs c.args.self.now.slots es × (arguments c.args.fun c.args.ty ≡ Some (tys_of es)) = c.requires.checked in
+    let q = err_from_is_err_and c.from_residual.result c.from_residual.ensures.1 in
+    let h = more_leaves (one_reads (argument es 0)) (read_slots es) c.args.self.now c.argument.new.self (one_size (argument es 0))
+    (expr_size (call c.args.fun c.args.ty es c.args.spot)) c.argument.result (λ slot no. unread_argument es 0 slot no)
+    (omega (arith, sizes es)) c.argument.ensures.refuses in
+    rw (q.1, q.2) (subst (λ r. IfErr r (λ e. Leaves c.args.self.now c.argument.new.self (read_slots es) (expr_size (call c.args.fun c.args.ty es
+    c.args.spot)) e)) c.in_err-a.was h)
 
-pub expr-returns-in_err-b-in-Call-clause-refuses : goal.expr-returns-in_err-b-in-Call-clause-refuses
-expr-returns-in_err-b-in-Call-clause-refuses t c =
-    let es = texpr_trees c.deref-args.result.now in
-    let e : texpr_tree c.args.e.now ≡ call c.in-Call.fun c.in-Call.ty es c.in-Call.spot =
-    tree_of_call c.args.e.now c.in-Call.fun c.in-Call.ty c.in-Call.args c.in-Call.spot c.deref-args.result.now c.in-Call.is
-    (c.trees_of_nodes.ensures.call _ _ _ _) c.deref-args.ensures.value in
-    let ok : AreExprs c.args.self.now.slots es × (arguments c.in-Call.fun c.in-Call.ty ≡ Some (tys_of es)) =
-    subst (IsExpr c.args.self.now.slots) e c.requires.checked in
+pub call-returns-in_err-b-clause-refuses : goal.call-returns-in_err-b-clause-refuses
+call-returns-in_err-b-clause-refuses t c =
+    let es = texpr_trees c.args.args.now in
+    let ok : AreExprs c.args.self.now.slots es × (arguments c.args.fun c.args.ty ≡ Some (tys_of es)) = c.requires.checked in
     let first : Follows c.args.self.now c.argument.new.self =
-    first_follows c.args.self.now c.argument.new.self c.in-Call.fun c.in-Call.ty es c.in_ok-a-in-Call.a ok.1 c.in_ok-a-in-Call.ensures.made in
-    let count = one_count c.args.self.now c.argument.new.self (argument es 0) c.in_ok-a-in-Call.a c.in_ok-a-in-Call.ensures.made in
-    let q = err_from_is_err_and c.from_residual-in_err-b-in-Call.result c.from_residual-in_err-b-in-Call.ensures.1 in
-    let not_read : (slot : ℕ) → reads_slot (texpr_tree c.args.e.now) slot ≡ false → read_slots es slot ≡ false =
-    λ slot no. sym (ap (λ x. reads_slot x slot) e) ∙ no in
-    let unread = one_unread c.args.self.now c.argument.new.self (argument es 0) c.in_ok-a-in-Call.a c.in_ok-a-in-Call.ensures.made in
-    let h = more_leaves (read_slots es) (reads_slot (texpr_tree c.args.e.now)) c.args.self.now c.argument-in-Call.new.self
+    first_follows c.args.self.now c.argument.new.self c.args.fun c.args.ty es c.in_ok-a.a ok.1 c.in_ok-a.ensures.made in
+    let count = one_count c.args.self.now c.argument.new.self (argument es 0) c.in_ok-a.a c.in_ok-a.ensures.made in
+    let q = err_from_is_err_and c.from_residual-in_err-b.result c.from_residual-in_err-b.ensures.1 in
+    let unread = one_unread c.args.self.now c.argument.new.self (argument es 0) c.in_ok-a.a c.in_ok-a.ensures.made in
+    let h = more_leaves (read_slots es) (read_slots es) c.args.self.now c.argument-2.new.self
     (one_size (argument es 0) + one_size (argument es 1))
-    (expr_size (texpr_tree c.args.e.now)) c.argument-in-Call.result not_read (omega (arith, ap expr_size e, sizes es))
-    (later_leaves (one_reads (argument es 0)) (one_reads (argument es 1)) (read_slots es) c.args.self.now c.argument.new.self c.argument-in-Call.new.self
-    (one_size (argument es 0)) (one_size (argument es 1)) c.argument-in-Call.result
-    (λ slot no. (unread_argument es 0 slot no, unread_argument es 1 slot no)) first unread count c.argument-in-Call.ensures.refuses) in
+    (expr_size (call c.args.fun c.args.ty es c.args.spot)) c.argument-2.result (λ slot no. no) (omega (arith, sizes es))
+    (later_leaves (one_reads (argument es 0)) (one_reads (argument es 1)) (read_slots es) c.args.self.now c.argument.new.self c.argument-2.new.self
+    (one_size (argument es 0)) (one_size (argument es 1)) c.argument-2.result
+    (λ slot no. (unread_argument es 0 slot no, unread_argument es 1 slot no)) first unread count c.argument-2.ensures.refuses) in
     rw (q.1, q.2)
-    (subst (λ r. IfErr r (λ e. Leaves c.args.self.now c.argument-in-Call.new.self (reads_slot (texpr_tree c.args.e.now)) (expr_size
-    (texpr_tree c.args.e.now)) e)) c.in_err-b-in-Call.was h)
+    (subst (λ r. IfErr r (λ e. Leaves c.args.self.now c.argument-2.new.self (read_slots es) (expr_size (call c.args.fun c.args.ty es c.args.spot)) e))
+    c.in_err-b.was h)
 
-pub expr-returns-in_err-c-in-Call-clause-refuses : goal.expr-returns-in_err-c-in-Call-clause-refuses
-expr-returns-in_err-c-in-Call-clause-refuses t c =
-    let es = texpr_trees c.deref-args.result.now in
-    let e : texpr_tree c.args.e.now ≡ call c.in-Call.fun c.in-Call.ty es c.in-Call.spot =
-    tree_of_call c.args.e.now c.in-Call.fun c.in-Call.ty c.in-Call.args c.in-Call.spot c.deref-args.result.now c.in-Call.is
-    (c.trees_of_nodes.ensures.call _ _ _ _) c.deref-args.ensures.value in
-    let ok : AreExprs c.args.self.now.slots es × (arguments c.in-Call.fun c.in-Call.ty ≡ Some (tys_of es)) =
-    subst (IsExpr c.args.self.now.slots) e c.requires.checked in
+pub call-returns-in_err-c-clause-refuses : goal.call-returns-in_err-c-clause-refuses
+call-returns-in_err-c-clause-refuses t c =
+    let es = texpr_trees c.args.args.now in
+    let ok : AreExprs c.args.self.now.slots es × (arguments c.args.fun c.args.ty ≡ Some (tys_of es)) = c.requires.checked in
     let first : Follows c.args.self.now c.argument.new.self =
-    first_follows c.args.self.now c.argument.new.self c.in-Call.fun c.in-Call.ty es c.in_ok-a-in-Call.a ok.1 c.in_ok-a-in-Call.ensures.made in
-    let second : Follows c.argument.new.self c.argument-in-Call.new.self =
-    one_follows c.argument.new.self c.argument-in-Call.new.self (argument es 1) c.in_ok-b-in-Call.b first.after c.in_ok-b-in-Call.ensures.made in
-    let count = one_count c.args.self.now c.argument.new.self (argument es 0) c.in_ok-a-in-Call.a c.in_ok-a-in-Call.ensures.made in
-    let count2 = one_count c.argument.new.self c.argument-in-Call.new.self (argument es 1) c.in_ok-b-in-Call.b c.in_ok-b-in-Call.ensures.made in
-    let q = err_from_is_err_and c.from_residual-in_err-c-in-Call.result c.from_residual-in_err-c-in-Call.ensures.1 in
-    let not_read : (slot : ℕ) → reads_slot (texpr_tree c.args.e.now) slot ≡ false → read_slots es slot ≡ false =
-    λ slot no. sym (ap (λ x. reads_slot x slot) e) ∙ no in
-    let unread = one_unread c.args.self.now c.argument.new.self (argument es 0) c.in_ok-a-in-Call.a c.in_ok-a-in-Call.ensures.made in
-    let unread2 = one_unread c.argument.new.self c.argument-in-Call.new.self (argument es 1) c.in_ok-b-in-Call.b c.in_ok-b-in-Call.ensures.made in
-    let h = more_leaves (read_slots es) (reads_slot (texpr_tree c.args.e.now)) c.args.self.now c.argument-in-Call-2.new.self
+    first_follows c.args.self.now c.argument.new.self c.args.fun c.args.ty es c.in_ok-a.a ok.1 c.in_ok-a.ensures.made in
+    let second : Follows c.argument.new.self c.argument-2.new.self =
+    one_follows c.argument.new.self c.argument-2.new.self (argument es 1) c.in_ok-b.b first.after c.in_ok-b.ensures.made in
+    let count = one_count c.args.self.now c.argument.new.self (argument es 0) c.in_ok-a.a c.in_ok-a.ensures.made in
+    let count2 = one_count c.argument.new.self c.argument-2.new.self (argument es 1) c.in_ok-b.b c.in_ok-b.ensures.made in
+    let q = err_from_is_err_and c.from_residual-in_err-c.result c.from_residual-in_err-c.ensures.1 in
+    let unread = one_unread c.args.self.now c.argument.new.self (argument es 0) c.in_ok-a.a c.in_ok-a.ensures.made in
+    let unread2 = one_unread c.argument.new.self c.argument-2.new.self (argument es 1) c.in_ok-b.b c.in_ok-b.ensures.made in
+    let h = more_leaves (read_slots es) (read_slots es) c.args.self.now c.argument-3.new.self
     (one_size (argument es 0) + (one_size (argument es 1) + one_size (argument es 2)))
-    (expr_size (texpr_tree c.args.e.now)) c.argument-in-Call-2.result not_read (omega (arith, ap expr_size e, sizes es))
-    (later_leaves (one_reads (argument es 0)) (read_slots es) (read_slots es) c.args.self.now c.argument.new.self c.argument-in-Call-2.new.self
-    (one_size (argument es 0)) (one_size (argument es 1) + one_size (argument es 2)) c.argument-in-Call-2.result
+    (expr_size (call c.args.fun c.args.ty es c.args.spot)) c.argument-3.result (λ slot no. no) (omega (arith, sizes es))
+    (later_leaves (one_reads (argument es 0)) (read_slots es) (read_slots es) c.args.self.now c.argument.new.self c.argument-3.new.self
+    (one_size (argument es 0)) (one_size (argument es 1) + one_size (argument es 2)) c.argument-3.result
     (λ slot no. (unread_argument es 0 slot no, no)) first unread count
-    (later_leaves (one_reads (argument es 1)) (one_reads (argument es 2)) (read_slots es) c.argument.new.self c.argument-in-Call.new.self
-    c.argument-in-Call-2.new.self (one_size (argument es 1)) (one_size (argument es 2)) c.argument-in-Call-2.result
-    (λ slot no. (unread_argument es 1 slot no, unread_argument es 2 slot no)) second unread2 count2 c.argument-in-Call-2.ensures.refuses)) in
+    (later_leaves (one_reads (argument es 1)) (one_reads (argument es 2)) (read_slots es) c.argument.new.self c.argument-2.new.self
+    c.argument-3.new.self (one_size (argument es 1)) (one_size (argument es 2)) c.argument-3.result
+    (λ slot no. (unread_argument es 1 slot no, unread_argument es 2 slot no)) second unread2 count2 c.argument-3.ensures.refuses)) in
     rw (q.1, q.2)
-    (subst (λ r. IfErr r (λ e. Leaves c.args.self.now c.argument-in-Call-2.new.self (reads_slot (texpr_tree c.args.e.now)) (expr_size
-    (texpr_tree c.args.e.now)) e)) c.in_err-c-in-Call.was h)
+    (subst (λ r. IfErr r (λ e. Leaves c.args.self.now c.argument-3.new.self (read_slots es) (expr_size (call c.args.fun c.args.ty es c.args.spot)) e))
+    c.in_err-c.was h)
 
-pub expr-returns-in_ok-c-in-Call-clause-refuses : goal.expr-returns-in_ok-c-in-Call-clause-refuses
-expr-returns-in_ok-c-in-Call-clause-refuses t c =
-    let es = texpr_trees c.deref-args.result.now in
-    let e : texpr_tree c.args.e.now ≡ call c.in-Call.fun c.in-Call.ty es c.in-Call.spot =
-    tree_of_call c.args.e.now c.in-Call.fun c.in-Call.ty c.in-Call.args c.in-Call.spot c.deref-args.result.now c.in-Call.is
-    (c.trees_of_nodes.ensures.call _ _ _ _) c.deref-args.ensures.value in
-    let ok : AreExprs c.args.self.now.slots es × (arguments c.in-Call.fun c.in-Call.ty ≡ Some (tys_of es)) =
-    subst (IsExpr c.args.self.now.slots) e c.requires.checked in
+pub call-returns-clause-refuses : goal.call-returns-clause-refuses
+call-returns-clause-refuses t c =
+    let es = texpr_trees c.args.args.now in
+    let ok : AreExprs c.args.self.now.slots es × (arguments c.args.fun c.args.ty ≡ Some (tys_of es)) = c.requires.checked in
     let first : Follows c.args.self.now c.argument.new.self =
-    first_follows c.args.self.now c.argument.new.self c.in-Call.fun c.in-Call.ty es c.in_ok-a-in-Call.a ok.1 c.in_ok-a-in-Call.ensures.made in
-    let second : Follows c.argument.new.self c.argument-in-Call.new.self =
-    one_follows c.argument.new.self c.argument-in-Call.new.self (argument es 1) c.in_ok-b-in-Call.b first.after c.in_ok-b-in-Call.ensures.made in
-    let third : Follows c.argument-in-Call.new.self c.argument-in-Call-2.new.self =
-    one_follows c.argument-in-Call.new.self c.argument-in-Call-2.new.self (argument es 2) c.in_ok-c-in-Call.c second.after c.in_ok-c-in-Call.ensures.made in
-    let count = one_count c.args.self.now c.argument.new.self (argument es 0) c.in_ok-a-in-Call.a c.in_ok-a-in-Call.ensures.made in
-    let count2 = one_count c.argument.new.self c.argument-in-Call.new.self (argument es 1) c.in_ok-b-in-Call.b c.in_ok-b-in-Call.ensures.made in
-    let count3 = one_count c.argument-in-Call.new.self c.argument-in-Call-2.new.self (argument es 2) c.in_ok-c-in-Call.c c.in_ok-c-in-Call.ensures.made in
-    let not_read : (slot : ℕ) → reads_slot (texpr_tree c.args.e.now) slot ≡ false → read_slots es slot ≡ false =
-    λ slot no. sym (ap (λ x. reads_slot x slot) e) ∙ no in
-    let unread = one_unread c.args.self.now c.argument.new.self (argument es 0) c.in_ok-a-in-Call.a c.in_ok-a-in-Call.ensures.made in
-    let unread2 = one_unread c.argument.new.self c.argument-in-Call.new.self (argument es 1) c.in_ok-b-in-Call.b c.in_ok-b-in-Call.ensures.made in
-    let unread3 = one_unread c.argument-in-Call.new.self c.argument-in-Call-2.new.self (argument es 2) c.in_ok-c-in-Call.c c.in_ok-c-in-Call.ensures.made in
-    more_leaves (read_slots es) (reads_slot (texpr_tree c.args.e.now)) c.args.self.now c.apply.new.self
-    (one_size (argument es 0) + (one_size (argument es 1) + (one_size (argument es 2) + function_size c.in-Call.fun)))
-    (expr_size (texpr_tree c.args.e.now)) c.apply.result not_read (omega (arith, ap expr_size e, sizes es))
+    first_follows c.args.self.now c.argument.new.self c.args.fun c.args.ty es c.in_ok-a.a ok.1 c.in_ok-a.ensures.made in
+    let second : Follows c.argument.new.self c.argument-2.new.self =
+    one_follows c.argument.new.self c.argument-2.new.self (argument es 1) c.in_ok-b.b first.after c.in_ok-b.ensures.made in
+    let third : Follows c.argument-2.new.self c.argument-3.new.self =
+    one_follows c.argument-2.new.self c.argument-3.new.self (argument es 2) c.in_ok-c.c second.after c.in_ok-c.ensures.made in
+    let count = one_count c.args.self.now c.argument.new.self (argument es 0) c.in_ok-a.a c.in_ok-a.ensures.made in
+    let count2 = one_count c.argument.new.self c.argument-2.new.self (argument es 1) c.in_ok-b.b c.in_ok-b.ensures.made in
+    let count3 = one_count c.argument-2.new.self c.argument-3.new.self (argument es 2) c.in_ok-c.c c.in_ok-c.ensures.made in
+    let unread = one_unread c.args.self.now c.argument.new.self (argument es 0) c.in_ok-a.a c.in_ok-a.ensures.made in
+    let unread2 = one_unread c.argument.new.self c.argument-2.new.self (argument es 1) c.in_ok-b.b c.in_ok-b.ensures.made in
+    let unread3 = one_unread c.argument-2.new.self c.argument-3.new.self (argument es 2) c.in_ok-c.c c.in_ok-c.ensures.made in
+    more_leaves (read_slots es) (read_slots es) c.args.self.now c.apply.new.self
+    (one_size (argument es 0) + (one_size (argument es 1) + (one_size (argument es 2) + function_size c.args.fun)))
+    (expr_size (call c.args.fun c.args.ty es c.args.spot)) c.apply.result (λ slot no. no) (omega (arith, sizes es))
     (later_leaves (one_reads (argument es 0)) (read_slots es) (read_slots es) c.args.self.now c.argument.new.self c.apply.new.self (one_size (argument es 0))
-    (one_size (argument es 1) + (one_size (argument es 2) + function_size c.in-Call.fun)) c.apply.result
+    (one_size (argument es 1) + (one_size (argument es 2) + function_size c.args.fun)) c.apply.result
     (λ slot no. (unread_argument es 0 slot no, no)) first unread count
-    (later_leaves (one_reads (argument es 1)) (read_slots es) (read_slots es) c.argument.new.self c.argument-in-Call.new.self c.apply.new.self
-    (one_size (argument es 1)) (one_size (argument es 2) + function_size c.in-Call.fun) c.apply.result
+    (later_leaves (one_reads (argument es 1)) (read_slots es) (read_slots es) c.argument.new.self c.argument-2.new.self c.apply.new.self
+    (one_size (argument es 1)) (one_size (argument es 2) + function_size c.args.fun) c.apply.result
     (λ slot no. (unread_argument es 1 slot no, no)) second unread2 count2
-    (later_leaves (one_reads (argument es 2)) no_slot (read_slots es) c.argument-in-Call.new.self c.argument-in-Call-2.new.self c.apply.new.self
-    (one_size (argument es 2)) (function_size c.in-Call.fun) c.apply.result (λ slot no. (unread_argument es 2 slot no, refl)) third unread3 count3
+    (later_leaves (one_reads (argument es 2)) no_slot (read_slots es) c.argument-2.new.self c.argument-3.new.self c.apply.new.self
+    (one_size (argument es 2)) (function_size c.args.fun) c.apply.result (λ slot no. (unread_argument es 2 slot no, refl)) third unread3 count3
     c.apply.ensures.refuses)))
 
 -- ---- refusals of one part
@@ -429,3 +402,23 @@ expr-returns-in_err-a-in-Unary-clause-refuses t c =
     c.expr-in-Unary.result (λ slot no. sym (ap (λ x. reads_slot x slot) tree) ∙ no) (omega (arith, ap expr_size tree)) c.expr-in-Unary.ensures.refuses in
     rw (q.1, q.2)
     (subst (λ r. IfErr r (λ e. Leaves c.args.self.now c.expr-in-Unary.new.self all (expr_size (texpr_tree c.args.e.now)) e)) c.in_err-a-in-Unary.was h)
+
+pub call-returns-in_err-a-clause-made : goal.call-returns-in_err-a-clause-made
+call-returns-in_err-a-clause-made t c = rw (err_from_is_err_and c.from_residual.result c.from_residual.ensures.1).1 tt
+
+pub call-returns-in_err-b-clause-made : goal.call-returns-in_err-b-clause-made
+call-returns-in_err-b-clause-made t c = rw (err_from_is_err_and c.from_residual-in_err-b.result c.from_residual-in_err-b.ensures.1).1 tt
+
+pub call-returns-in_err-c-clause-made : goal.call-returns-in_err-c-clause-made
+call-returns-in_err-c-clause-made t c = rw (err_from_is_err_and c.from_residual-in_err-c.result c.from_residual-in_err-c.ensures.1).1 tt
+
+pub expr-returns-in_err-a-in-Unary-clause-made : goal.expr-returns-in_err-a-in-Unary-clause-made
+expr-returns-in_err-a-in-Unary-clause-made t c = rw (err_from_is_err_and c.from_residual.result c.from_residual.ensures.1).1 tt
+
+pub expr-returns-in_err-a-in-Binary-clause-made : goal.expr-returns-in_err-a-in-Binary-clause-made
+expr-returns-in_err-a-in-Binary-clause-made t c =
+    rw (err_from_is_err_and c.from_residual-in_err-a-in-Binary.result c.from_residual-in_err-a-in-Binary.ensures.1).1 tt
+
+pub expr-returns-in_err-b-in-Binary-clause-made : goal.expr-returns-in_err-b-in-Binary-clause-made
+expr-returns-in_err-b-in-Binary-clause-made t c =
+    rw (err_from_is_err_and c.from_residual-in_err-b-in-Binary.result c.from_residual-in_err-b-in-Binary.ensures.1).1 tt

@@ -58,3 +58,15 @@ returns-in_err-m-clause-refuses c =
     let q = err_from_is_err_and c.from_residual.result c.from_residual.ensures.1 in
     let h = more_refuses c.args.self.now c.mask.new.self 1 5 c.mask.result (omega arith) c.mask.ensures.refuses in
     rw (q.1, q.2) (subst (λ r. IfErr r (λ e. Refuses c.args.self.now c.mask.new.self 5 e)) c.in_err-m.was h)
+
+pub returns-in_err-m-clause-made : goal.returns-in_err-m-clause-made
+returns-in_err-m-clause-made c = rw (err_from_is_err_and c.from_residual.result c.from_residual.ensures.1).1 tt
+
+pub returns-in_err-z-clause-made : goal.returns-in_err-z-clause-made
+returns-in_err-z-clause-made c = rw (err_from_is_err_and c.from_residual-in_err-z.result c.from_residual-in_err-z.ensures.1).1 tt
+
+pub returns-in_err-r-clause-made : goal.returns-in_err-r-clause-made
+returns-in_err-r-clause-made c = rw (err_from_is_err_and c.from_residual-in_err-r.result c.from_residual-in_err-r.ensures.1).1 tt
+
+pub returns-in_err-n-clause-made : goal.returns-in_err-n-clause-made
+returns-in_err-n-clause-made c = rw (err_from_is_err_and c.from_residual-in_err-n.result c.from_residual-in_err-n.ensures.1).1 tt

@@ -94,3 +94,6 @@ returns-in_err-k-clause-refuses c =
     let h = load_refuses (one_slot c.args.slot) a c.load.new.self c.load.result c.self.invariant some c.load.ensures.err c.load.ensures.full in
     rw (q.1, q.2) (subst (λ r. IfErr r (λ e. Leaves c.args.self.now (record a { graph = c.load.new.self }) (one_slot c.args.slot) 0 e)) c.in_err-k.was
     (subst (λ (s : State). IfErr c.load.result (λ e. Leaves s (record a { graph = c.load.new.self }) (one_slot c.args.slot) 0 e)) c.self.view_is h))
+
+pub returns-in_err-k-clause-made : goal.returns-in_err-k-clause-made
+returns-in_err-k-clause-made c = rw (err_from_is_err_and c.from_residual.result c.from_residual.ensures.1).1 tt
