@@ -40,8 +40,14 @@ pub(crate) fn cut_at(word: &[u8], byte: u8) -> Option<(&[u8], &[u8])>
 pub(crate) fn spot(word: &[u8]) -> Option<Spot>
     ensures { result ≡ spot_of word.now }
 {
-    let (front, back) = cut_at(word, b':')?;
-    let line = index_number(front)?;
-    let col = index_number(back)?;
-    Some(Spot { line, col })
+    let Some((front, back)) = cut_at(word, b':') else {
+        return None;
+    };
+    let Some(line) = index_number(front) else {
+        return None;
+    };
+    match index_number(back) {
+        Some(col) => Some(Spot { line, col }),
+        None => None,
+    }
 }

@@ -25,9 +25,15 @@ fn image_named(line: &[u8]) -> Option<&[u8]>
     ensures { option_map (λ d. d.now) result ≡ image_named_of (words_of line.now) }
 {
     let mut words = WordsLeft::new(line);
-    let mark = words.next()?;
-    let of = words.next()?;
-    let digest = words.only()?;
+    let Some(mark) = words.next() else {
+        return None;
+    };
+    let Some(of) = words.next() else {
+        return None;
+    };
+    let Some(digest) = words.only() else {
+        return None;
+    };
     if is(mark, b"#") && is(of, b"of") {
         Some(digest)
     } else {

@@ -68,11 +68,13 @@ pub(crate) fn cycles_said(word: &[u8]) -> Option<Span>
             Some(n) => Some(Span { first: n, last: n }),
             None => None,
         },
-        Some((front, back)) => {
-            let first = cycle_number(front)?;
-            let last = last(back)?;
-            from_to(first, last)
-        }
+        Some((front, back)) => match cycle_number(front) {
+            Some(first) => match last(back) {
+                Some(last) => from_to(first, last),
+                None => None,
+            },
+            None => None,
+        },
     }
 }
 
@@ -94,7 +96,10 @@ pub(crate) fn take_ending(words: &mut WordsLeft<'_>) -> Option<Ending>
         return Some(Ending::Alone);
     };
     if is(word, b"bit") {
-        return bit(words.only()?);
+        return match words.only() {
+            Some(word) => bit(word),
+            None => None,
+        };
     }
     if is(word, b"together") && words.is_end() {
         Some(Ending::Together)
