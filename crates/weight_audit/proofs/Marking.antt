@@ -1,9 +1,15 @@
 -- Marking: which operations are marked, and from which a path leads.
-use Rattle.std.proofs.Common.{◌≡◌, ◌≢◌, ◌⊎◌, ⊎_elim, ℕ, zero, suc, ◌<◌, ◌≤◌, ◌==◌, Bool, true, false, List, [], ◌∷◌, replicate, sym, subst, refl, arith}
-use Rattle.std.proofs.lemmas.Bool.Decides.{eqb_tells}
+use Rattle.std.proofs.Common.{◌≡◌, ◌≢◌, ◌⊎◌, ⊎_elim, inl, inr, ℕ, zero, suc, ◌<◌, ◌≤◌, ◌==◌, Bool, true, false, cond, nat_lt, List, [], ◌∷◌, replicate, Some, None, sym, subst, refl, arith}
+use Rattle.std.proofs.lemmas.Bool.Decides.{eqb_tells, nat_tests}
+use Rattle.std.specs.Option.{is_some}
+use Rattle.vcp_base.specs.Kinds.{operands, operand_type}
+use Rattle.vcp_base.specs.declared.kind.Kind.{Kind}
+use Rattle.vcp_base.specs.declared.kind.Kind.TheVariants as kind
+use Rattle.vcp_base.specs.declared.ty.Ty.{Ty}
 use Rattle.op_graph.specs.declared.op.Op.{Op}
 use Rattle.op_graph.specs.Lists.{Lists, cells}
-use Rattle.op_graph.specs.Reads.{Reads}
+use Rattle.op_graph.specs.Reads.{named, Reads}
+use Rattle.op_graph.specs.Rules.{reads_as}
 use Rattle.weight_audit.specs.Paths.{Step, Crosses, Leads, Reached}
 use Rattle.weight_audit.specs.Sweeping.{mark, MarksRead, CrossesMarked}
 
@@ -88,3 +94,35 @@ complete_before g out borders later marks are closed crossed (Step.Cross l ∷ s
 pub crossed_complete : (g : Lists) (out borders : ℕ) (later marks : List Bool) → AreComplete g out borders later → ClosedFrom g.operations 0 marks
     → ((k l : ℕ) → Crosses (cells g) k l → mark later l ≡ true → mark marks k ≡ true) → AreComplete g out (suc borders) marks
 crossed_complete g out borders later marks are closed crossed k path = complete_before g out borders later marks are closed crossed path.0 k path.1
+
+-- ---- what one operation reads
+
+-- a kind with a fourth operand would have a third
+some_lower : (n j : ℕ) (t u : Ty) → is_some (cond (nat_lt (suc (suc (suc j))) n) (Some t) None) ≡ true
+    → is_some (cond (nat_lt 2 n) (Some u) None) ≡ true
+some_lower n j t u h = by_tests (nat_lt (suc (suc (suc j))) n) (nat_lt 2 n) refl refl h
+  where
+    by_tests : (a b : Bool) → nat_lt (suc (suc (suc j))) n ≡ a → nat_lt 2 n ≡ b → is_some (cond a (Some t) None) ≡ true
+        → is_some (cond b (Some u) None) ≡ true
+    by_tests false b e f h = absurd cc
+    by_tests true true e f h = refl
+    by_tests true false e f h = absurd (grind (arith, nat_tests))
+
+third_there : (k : Kind) (from : Ty) (j : ℕ) → is_some (reads_as k from (suc (suc (suc j)))) ≡ true → is_some (reads_as k from 2) ≡ true
+third_there kind.Load from j h = absurd cc
+third_there k from j h = some_lower (operands k) j (operand_type k (suc (suc (suc j))) from) (operand_type k 2 from) h
+
+-- each operand's operation is marked
+pub all_marked : (op : Op) (marks : List Bool) (k place : ℕ) → (is_some (reads_as op.kind op.from 0) ≡ true → mark marks op.a ≡ true)
+    → (is_some (reads_as op.kind op.from 1) ≡ true → mark marks op.b ≡ true) → (is_some (reads_as op.kind op.from 2) ≡ true → mark marks op.c ≡ true)
+    → is_some (reads_as op.kind op.from place) ≡ true → named op place ≡ k → mark marks k ≡ true
+all_marked op marks k zero a b c reads e = subst (λ (n : ℕ). mark marks n ≡ true) e (a reads)
+all_marked op marks k (suc zero) a b c reads e = subst (λ (n : ℕ). mark marks n ≡ true) e (b reads)
+all_marked op marks k (suc (suc zero)) a b c reads e = subst (λ (n : ℕ). mark marks n ≡ true) e (c reads)
+all_marked op marks k (suc (suc (suc j))) a b c reads e =
+    subst (λ (n : ℕ). mark marks n ≡ true) e (c (third_there op.kind op.from j reads))
+
+-- what was marked before, or is read
+pub or_before : {P Q T : Type 0} → (Q → P ⊎ T) → Q ⊎ T → P ⊎ T
+or_before f (inl q) = f q
+or_before f (inr t) = inr t
