@@ -37,8 +37,10 @@ fn image_of(alloc: Global, text: &[u8]) -> Result<Image, NoInput>
     ensures err { IfErr result (Untaken (NotImage text.now)) }
     ensures caused { IfErr result IsCaused }
 {
-    let (graph, table) = read_image(alloc, text)?;
-    Ok(Image { graph, table })
+    match read_image(alloc, text) {
+        Ok((graph, table)) => Ok(Image { graph, table }),
+        Err(fault) => Err(NoInput::from(fault)),
+    }
 }
 
 /// The image under a name: the file is read whole, and has at most 16,777,216 bytes. It is that of a graph

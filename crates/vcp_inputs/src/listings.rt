@@ -17,7 +17,7 @@ use crate::reading::read_file;
 use crate::refusal::NoInput;
 use il_front::{MOST_IL_BYTES, read_il};
 use std::alloc::Global;
-use vcp_base::Text;
+use vcp_base::{Memory, Text};
 use vcp_outside::Files;
 use vcp_typed::Typed;
 
@@ -28,7 +28,10 @@ pub fn listed_program(alloc: Global, text: &[u8]) -> Result<Typed, NoInput>
     ensures err { IfErr result (Untaken (NotListing text.now)) }
     ensures caused { IfErr result IsCaused }
 {
-    Ok(read_il(alloc, text)?)
+    match read_il(alloc, text) {
+        Ok(program) => Ok(program),
+        Err(fault) => Err(NoInput::from(fault)),
+    }
 }
 
 /// That program, made twice, and taken where both have the same operations, which they have. Where the processor erred in one of the
@@ -39,12 +42,15 @@ fn listed_twice(alloc: Global, text: &[u8]) -> Result<Typed, NoInput>
     ensures err { IfErr result (Untaken (NotListing text.now)) }
     ensures caused { IfErr result IsCaused }
 {
-    let program = listed_program(alloc, text)?;
-    let again = listed_program(alloc, text)?;
-    if have_same_operations(alloc, &program, &again)? {
-        Ok(program)
-    } else {
-        Err(NoInput::Memory)
+    match listed_program(alloc, text) {
+        Ok(program) => match listed_program(alloc, text) {
+            Ok(again) => match have_same_operations(alloc, &program, &again) {
+                Ok(true) => Ok(program),
+                Ok(false) | Err(Memory) => Err(NoInput::Memory),
+            },
+            Err(input) => Err(input),
+        },
+        Err(input) => Err(input),
     }
 }
 

@@ -124,8 +124,14 @@ impl RowsSource {
         ensures fresh { IfOk result (λ left. left.ended ≡ false) }
     {
         match self {
-            RowsSource::File(text) => Ok(Rows::new(alloc, text.bytes(), columns)?),
-            RowsSource::Cycles(number) => Ok(Rows::cycles(*number, columns)?),
+            RowsSource::File(text) => match Rows::new(alloc, text.bytes(), columns) {
+                Ok(rows) => Ok(rows),
+                Err(fault) => Err(NoInput::from(fault)),
+            },
+            RowsSource::Cycles(number) => match Rows::cycles(*number, columns) {
+                Ok(rows) => Ok(rows),
+                Err(fault) => Err(NoInput::from(fault)),
+            },
         }
     }
 }

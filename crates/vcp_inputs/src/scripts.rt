@@ -30,7 +30,10 @@ fn script_of(alloc: Global, text: &[u8], graph: &Graph) -> Result<Script, NoInpu
     ensures fits { IfOk result (λ s. All (GroupFits graph.now) s) }
     ensures few { IfOk result (λ s. length s ≤ most_faults) }
 {
-    Ok(read_script(alloc, text, graph)?)
+    match read_script(alloc, text, graph) {
+        Ok(script) => Ok(script),
+        Err(fault) => Err(NoInput::from(fault)),
+    }
 }
 
 /// The script under a name, for a graph: the file is read whole, and has at most 1,048,576 bytes. What is

@@ -20,7 +20,7 @@ use st_parser::parse;
 use st_tree::{Program, spelled_names_are_declarable};
 use st_types::typed;
 use std::alloc::Global;
-use vcp_base::{MOST_SOURCE_BYTES, Text};
+use vcp_base::{MOST_SOURCE_BYTES, Memory, Text};
 use vcp_outside::Files;
 use vcp_typed::Typed;
 
@@ -53,17 +53,19 @@ fn typed_program(alloc: Global, source: &[u8], how_often: HowOften) -> Result<Ty
     ensures err { IfErr result (Untaken (NotTyped source.now)) }
     ensures caused { IfErr result IsCaused }
 {
-    let program = typed_once(alloc, source)?;
+    let program = match typed_once(alloc, source) {
+        Ok(program) => program,
+        Err(input) => return Err(input),
+    };
     match how_often {
         HowOften::Once => Ok(program),
-        HowOften::Twice => {
-            let again = typed_once(alloc, source)?;
-            if have_same_operations(alloc, &program, &again)? {
-                Ok(program)
-            } else {
-                Err(NoInput::Memory)
-            }
-        }
+        HowOften::Twice => match typed_once(alloc, source) {
+            Ok(again) => match have_same_operations(alloc, &program, &again) {
+                Ok(true) => Ok(program),
+                Ok(false) | Err(Memory) => Err(NoInput::Memory),
+            },
+            Err(input) => Err(input),
+        },
     }
 }
 

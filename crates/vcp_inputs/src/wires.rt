@@ -27,7 +27,10 @@ fn wire_of(alloc: Global, text: &[u8]) -> Result<WireScript, NoInput>
     ensures caused { IfErr result IsCaused }
     ensures fits { IfOk result ScriptFits }
 {
-    Ok(read_wire(alloc, text)?)
+    match read_wire(alloc, text) {
+        Ok(script) => Ok(script),
+        Err(fault) => Err(NoInput::from(fault)),
+    }
 }
 
 /// The script of a wire under a name: the file is read whole, and has at most 1,048,576 bytes. Its numbers
