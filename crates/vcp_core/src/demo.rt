@@ -22,7 +22,7 @@ use coded_unit::Unit;
 use program_maker::make;
 use run_report::summary_line;
 use std::alloc::Global;
-use vcp_base::{Columns, Row, Text};
+use vcp_base::{Columns, Memory, Row, Text};
 use vcp_inputs::{DEFAULT_CODE, HowOften, RowsSource, typed_of};
 use vcp_outside::{Failed, Sink};
 use vcp_typed::Typed;
@@ -110,7 +110,10 @@ pub fn demo_command<'a, U: Unit, O: Sink>(
     ensures { (files : FilesSeen) → Performs (about (demo number)) (λ h. DemoTask number) files files
         (moment (U.seen unit.old) (O.seen out.old)) (moment (U.seen unit.new) (O.seen out.new)) (told_line result) (told_status result) }
 {
-    let made = make(alloc, number)?;
+    let made = match make(alloc, number) {
+        Ok(made) => made,
+        Err(Memory) => return Err(Fault::Memory),
+    };
     match typed_of(alloc, &made.source, HowOften::Twice) {
         Ok(program) => run_made(alloc, number, &program, made.rows, unit, out),
         Err(input) => Err(Fault::Input { name: MADE, input }),
@@ -131,7 +134,10 @@ fn run_made<'a, U: Unit, O: Sink>(
     ensures { (files : FilesSeen) → Performs (about (demo number)) (λ h. DemoTask number) files files
         (moment (U.seen unit.old) (O.seen out.old)) (moment (U.seen unit.new) (O.seen out.new)) (told_line result) (told_status result) }
 {
-    let columns = input_columns(alloc, program)?;
+    let columns = match input_columns(alloc, program) {
+        Ok(columns) => columns,
+        Err(Memory) => return Err(Fault::Memory),
+    };
     let source = RowsSource::File(rows);
     match source.open(alloc, &columns) {
         Ok(mut rows) => run_ended(

@@ -1,11 +1,7 @@
 //! Why a command ends before all is written.
 
-ghost use Rattle.std.specs.Prelude.{◌≡◌};
-ghost use Rattle.vcp_core.specs.declared.fault.Fault.TheVariants as fault;
-
 use std::fmt;
 use thiserror::Error;
-use vcp_base::Memory;
 use vcp_inputs::NoInput;
 
 /// Why a command ends before all is written.
@@ -31,13 +27,5 @@ pub enum Fault<'a> {
 impl<'a> fmt::Debug for Fault<'a> {
     fn fmt<W: fmt::Write>(&self, f: &mut fmt::Formatter<W>) -> fmt::Result {
         fmt::Display::fmt(self, f)
-    }
-}
-
-impl<'a> From<Memory> for Fault<'a> {
-    ghost from_gives = { λ _ e. e ≡ fault.Memory };
-
-    fn from(_: Memory) -> Fault<'a> {
-        Fault::Memory
     }
 }

@@ -9,7 +9,7 @@ use crate::fault::Fault;
 use crate::loading::rows_name;
 use signature_table::Table;
 use std::alloc::Global;
-use vcp_base::{Columns, Text};
+use vcp_base::{Columns, Memory, Text};
 use vcp_inputs::{
     Image, NoInput, Refusal, RowsSource, RowsWord, graph_columns, load_image, load_rows,
 };
@@ -78,7 +78,10 @@ pub fn load_image_rows<'a, F: Files>(
             input: NoInput::Refused(Refusal::Seed),
         });
     }
-    let columns = graph_columns(alloc, &loaded.graph)?;
+    let columns = match graph_columns(alloc, &loaded.graph) {
+        Ok(columns) => columns,
+        Err(Memory) => return Err(Fault::Memory),
+    };
     match load_rows(alloc, files, rows, &columns) {
         Ok(source) => Ok(ImageRows {
             image: loaded,

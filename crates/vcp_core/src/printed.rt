@@ -184,9 +184,17 @@ fn run_machine<U: Unit, O: Sink, R: ReleasedRows, P: Printed<R>>(
 {
     // So the rows before a wrong answer are those that are meant.
     rows_before_a_wrong_answer_follow_the_graph();
-    printed.print_first(out, outputs)?;
-    let end = run_rows(alloc, machine, rows, unit, out, released)?;
-    Ok(printed.print_last(out, machine, outputs, released, &end)?)
+    match printed.print_first(out, outputs) {
+        Ok(()) => {}
+        Err(Failed) => return Err(RunFault::Write),
+    }
+    match run_rows(alloc, machine, rows, unit, out, released) {
+        Ok(end) => match printed.print_last(out, machine, outputs, released, &end) {
+            Ok(ending) => Ok(ending),
+            Err(Failed) => Err(RunFault::Write),
+        },
+        Err(fault) => Err(fault),
+    }
 }
 
 /// Runs a program's operations on the rows that are left, on the unit, as words of the code, and prints

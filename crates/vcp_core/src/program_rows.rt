@@ -8,7 +8,7 @@ use crate::fault::Fault;
 use crate::loading::{input_columns, rows_name};
 use command_meaning::lists_are_told;
 use std::alloc::Global;
-use vcp_base::Columns;
+use vcp_base::{Columns, Memory};
 use vcp_inputs::{RowsSource, RowsWord, load_rows};
 use vcp_outside::Files;
 use vcp_typed::Typed;
@@ -49,7 +49,10 @@ pub fn load_program_rows<'a, F: Files>(
 {
     // So an instruction list has the columns of its typed program.
     lists_are_told();
-    let columns = input_columns(alloc, &program)?;
+    let columns = match input_columns(alloc, &program) {
+        Ok(columns) => columns,
+        Err(Memory) => return Err(Fault::Memory),
+    };
     match load_rows(alloc, files, rows, &columns) {
         Ok(source) => Ok(ProgramRows {
             program,

@@ -1,5 +1,4 @@
 use Rattle.std.proofs.Common.{ap, inl, inr, refl, Err}
-use Rattle.std.proofs.lemmas.Result.{err_from_is_err_and}
 use Rattle.vcp_inputs.specs.Forms.{demo}
 use Rattle.command_meaning.specs.Abouts.{about, made_name}
 use Rattle.vcp_core.specs.Demo.{DemoTask}
@@ -8,21 +7,20 @@ use Rattle.vcp_core.proofs.Performing.{input_performs, still, wanted_performs}
 use Rattle.vcp_core.proofs.demo.demo_command.Goals as goal
 
 pub run_made-requires-clause-typed : goal.run_made-requires-clause-typed
-run_made-requires-clause-typed g c b = rw c.in_ok-made.ensures.source at (c.in-Ok.ensures.loads made_name b)
+run_made-requires-clause-typed g c b = rw c.in-Ok.ensures.source at (c.in-Ok-typed_of.ensures.loads made_name b)
 
-pub returns-in_err-made : goal.returns-in_err-made
-returns-in_err-made g c files =
+pub returns-in-Err : goal.returns-in-Err
+returns-in-Err g c files =
     let number = c.args.number in
-    let q = err_from_is_err_and c.from_residual.result c.from_residual.ensures.1 in
-    rw (q.1, q.2) (wanted_performs (about (demo number)) (λ h. DemoTask number) files files refl (λ none. refl) _ _ (still _) refl refl)
+    wanted_performs (about (demo number)) (λ h. DemoTask number) files files refl (λ none. refl) _ _ (still _) refl refl
 
 pub returns : goal.returns
 returns g c files =
     let number = c.args.number in
-    let i = c.in-Err.input in
+    let i = c.in-Err-typed_of.input in
     input_performs (about (demo number)) (λ h. DemoTask number) files files refl (λ none. refl) (inr (inl refl)) _ made_name i
-    (λ h may. source_lost number files _ _ (still _) i 0 0 (λ e. c.in-Err.ensures.read (ap Err e))
-    (rw c.in_ok-made.ensures.source at (c.in-Err.ensures.loads made_name 0)))
-    (λ some. absurd (some refl)) (λ is. absurd (c.in-Err.ensures.read (ap Err is))) (λ no. refl)
-    (λ is. absurd (c.in-Err.ensures.read (ap Err is)))
-    c.in-Err.ensures.caused (inr (inl refl))
+    (λ h may. source_lost number files _ _ (still _) i 0 0 (λ e. c.in-Err-typed_of.ensures.read (ap Err e))
+    (rw c.in-Ok.ensures.source at (c.in-Err-typed_of.ensures.loads made_name 0)))
+    (λ some. absurd (some refl)) (λ is. absurd (c.in-Err-typed_of.ensures.read (ap Err is))) (λ no. refl)
+    (λ is. absurd (c.in-Err-typed_of.ensures.read (ap Err is)))
+    c.in-Err-typed_of.ensures.caused (inr (inl refl))

@@ -1,5 +1,4 @@
 use Rattle.std.proofs.Common.{◌∙◌, ap, inl, inr, refl, Ok, Err}
-use Rattle.std.proofs.lemmas.Result.{err_from_is_err_and}
 use Rattle.input_rows.specs.RowsOf.{types_of}
 use Rattle.program_maker.specs.MadeRows.{made_rows}
 use Rattle.vcp_typed.specs.Fitting.{input_columns}
@@ -19,31 +18,30 @@ use Rattle.vcp_core.proofs.PlainNames.{types-of-inputs}
 use Rattle.vcp_core.proofs.demo.run_made.Goals as goal
 
 pub run_program-requires-clause-types : goal.run_program-requires-clause-types
-run_program-requires-clause-types g c = c.in-Ok.ensures.types ∙ (ap types_of c.in_ok-columns.ensures.columns ∙ types-of-inputs c.args.program.now.slots)
+run_program-requires-clause-types g c = c.in-Ok-open.ensures.types ∙ (ap types_of c.in-Ok.ensures.columns ∙ types-of-inputs c.args.program.now.slots)
 
-pub returns-in_err-columns : goal.returns-in_err-columns
-returns-in_err-columns g c files =
+pub returns-in-Err : goal.returns-in-Err
+returns-in-Err g c files =
     let number = c.args.number in
-    let q = err_from_is_err_and c.from_residual.result c.from_residual.ensures.1 in
-    rw (q.1, q.2) (wanted_performs (about (demo number)) (λ h. DemoTask number) files files refl (λ none. refl) _ _ (still _) refl refl)
+    wanted_performs (about (demo number)) (λ h. DemoTask number) files files refl (λ none. refl) _ _ (still _) refl refl
 
-pub returns-in-Ok : goal.returns-in-Ok
-returns-in-Ok g c files =
+pub returns-in-Ok-open : goal.returns-in-Ok-open
+returns-in-Ok-open g c files =
     let number = c.args.number in
     let program = c.args.program.now in
-    let j = summary_job number program c.in-Ok.rows in
+    let j = summary_job number program c.in-Ok-open.rows in
     let before = moment (g.U.Unit.seen c.args.unit.now) (g.O.Sink.seen c.args.out.now) in
     let after = moment (g.U.Unit.seen c.run_program.new.unit) (g.O.Sink.seen c.run_program.new.out) in
     let ended : RunsTo j before after c.run_program.result = c.run_program.ensures.ran (source program) made_name (summed_up number) no_words
-    (as-itself program c.in-Ok.rows)
-    (λ h. summed-shown _ _ (λ (x : Sums). x.last) (λ (x : Sums). x.sum) (λ now rows kept. kept) no-sums number program c.in-Ok.rows h c.in-Ok.ensures.few) in
-    let opens = opens-as c.args.rows (made_rows number) c.in_ok-columns.columns (input_columns program.slots) 0 0 (Ok c.in-Ok.rows) c.requires.rows
-    c.in_ok-columns.ensures.columns (c.in-Ok.ensures.opens 0 0) in
+    (as-itself program c.in-Ok-open.rows)
+    (λ h. summed-shown _ _ (λ (x : Sums). x.last) (λ (x : Sums). x.sum) (λ now rows kept. kept) no-sums number program c.in-Ok-open.rows h c.in-Ok-open.ensures.few) in
+    let opens = opens-as c.args.rows (made_rows number) c.in-Ok.columns (input_columns program.slots) 0 0 (Ok c.in-Ok-open.rows) c.requires.rows
+    c.in-Ok.ensures.columns (c.in-Ok-open.ensures.opens 0 0) in
     rw (c.run_ended.ensures.line, c.run_ended.ensures.status)
     (run_performs (about (demo number)) (λ h. DemoTask number) files files refl (λ none. refl) (inr (inl refl)) before after made_name c.run_program.result
     (λ e is. run_ends e)
     (λ h may. ran (about (demo number)) files files before after (DemoTask number) j c.run_program.result refl
-    (opened_comes number program c.in-Ok.rows 0 0 (c.requires.typed 0) opens) c.run_program.ensures.causes.write ended)
+    (opened_comes number program c.in-Ok-open.rows 0 0 (c.requires.typed 0) opens) c.run_program.ensures.causes.write ended)
     (λ some. absurd (some refl)) (λ no. absurd cc) (λ calls. c.run_program.ensures.causes.stopped) c.run_program.ensures.causes.refused
     c.run_program.ensures.causes.write refl c.run_program.ensures.causes.stayed (inr (inl refl)))
 
@@ -51,11 +49,11 @@ pub returns : goal.returns
 returns g c files =
     let number = c.args.number in
     let program = c.args.program.now in
-    let i = c.in-Err.input in
-    let opens = opens-as c.args.rows (made_rows number) c.in_ok-columns.columns (input_columns program.slots) 0 0 (Err i) c.requires.rows
-    c.in_ok-columns.ensures.columns (c.in-Err.ensures.opens 0 0) in
+    let i = c.in-Err-open.input in
+    let opens = opens-as c.args.rows (made_rows number) c.in-Ok.columns (input_columns program.slots) 0 0 (Err i) c.requires.rows
+    c.in-Ok.ensures.columns (c.in-Err-open.ensures.opens 0 0) in
     input_performs (about (demo number)) (λ h. DemoTask number) files files refl (λ none. refl) (inr (inl refl)) _ made_name i
-    (λ h may. rows_lost number files _ _ (still _) program i 0 0 (c.requires.typed 0) (λ e. c.in-Err.ensures.read (ap Err e)) opens)
-    (λ some. absurd (some refl)) (λ is. absurd (c.in-Err.ensures.read (ap Err is))) (λ no. refl)
-    (λ is. absurd (c.in-Err.ensures.read (ap Err is)))
-    c.in-Err.ensures.caused (inr (inl refl))
+    (λ h may. rows_lost number files _ _ (still _) program i 0 0 (c.requires.typed 0) (λ e. c.in-Err-open.ensures.read (ap Err e)) opens)
+    (λ some. absurd (some refl)) (λ is. absurd (c.in-Err-open.ensures.read (ap Err is))) (λ no. refl)
+    (λ is. absurd (c.in-Err-open.ensures.read (ap Err is)))
+    c.in-Err-open.ensures.caused (inr (inl refl))

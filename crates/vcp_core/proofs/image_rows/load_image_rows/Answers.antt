@@ -1,5 +1,4 @@
 use Rattle.std.proofs.Common.{◌∙◌, ap, arith, Err}
-use Rattle.std.proofs.lemmas.Result.{err_from_is_err_and}
 use Rattle.vcp_inputs.specs.Forms.{rows_of}
 use Rattle.vcp_base.specs.Limits.{most_image_bytes}
 use Rattle.vcp_inputs.specs.Images.{ImageOf, NotImage}
@@ -34,13 +33,12 @@ returns-then-has_seed-clause-unread g c f here reads =
     (seed_lost c.args.image.now (rows_of c.args.rows) files mid here c.load_image.ensures.held c.in-Ok.loaded read c.args.second f reads
     (c.has_seed.ensures.has c.if-has_seed.true))
 
-pub returns-in_err-columns-clause-unread : goal.returns-in_err-columns-clause-unread
-returns-in_err-columns-clause-unread g c =
+pub returns-in-Err-graph_columns-clause-unread : goal.returns-in-Err-graph_columns-clause-unread
+returns-in-Err-graph_columns-clause-unread g c =
     let files = g.F.Files.seen c.args.files.now in
     let mid = g.F.Files.seen c.load_image.new.files in
-    let q = err_from_is_err_and c.from_residual.result c.from_residual.ensures.1 in
-    rw (q.1, q.2) (λ f here reads.
-    columns_lost c.args.image.now (rows_of c.args.rows) files mid here c.load_image.ensures.held c.args.second f reads (c.in-Ok.ensures.stayed (λ e. cc)))
+    λ f here reads.
+    columns_lost c.args.image.now (rows_of c.args.rows) files mid here c.load_image.ensures.held c.args.second f reads (c.in-Ok.ensures.stayed (λ e. cc))
 
 -- ---- there is nothing of ROWS
 
@@ -57,7 +55,7 @@ returns-clause-unread g c f here reads =
       held = c.load_image.ensures.held;
     } in
     rw c.rows_name.ensures
-    (rows_lost c.args.image.now (rows_of c.args.rows) files mid later c.in-Ok.loaded c.in_ok-columns.columns c.in_ok-columns.ensures.columns read
+    (rows_lost c.args.image.now (rows_of c.args.rows) files mid later c.in-Ok.loaded c.in-Ok-graph_columns.columns c.in-Ok-graph_columns.ensures.columns read
     c.load_rows.ensures.held here c.in-Err-load_rows.input c.in-Err-load_rows.ensures.loads
     (λ is. c.in-Err-load_rows.ensures.begun (ap Err is)) (λ is. c.in-Err-load_rows.ensures.unread (ap Err is))
     (λ no. c.in-Err-load_rows.ensures.stayed (λ e. no cc))
@@ -68,10 +66,10 @@ returns-clause-unread g c f here reads =
 
 pub returns-in-Ok-load_rows-clause-fit : goal.returns-in-Ok-load_rows-clause-fit
 returns-in-Ok-load_rows-clause-fit g c = record {
-  columns = c.in_ok-columns.ensures.columns;
+  columns = c.in-Ok-graph_columns.ensures.columns;
   table = c.in-Ok.ensures.table;
   few = c.in-Ok-load_rows.ensures.few;
-  narrow = c.in_ok-columns.ensures.few;
+  narrow = c.in-Ok-graph_columns.ensures.few;
 }
 
 pub returns-in-Ok-load_rows-clause-read : goal.returns-in-Ok-load_rows-clause-read

@@ -1,5 +1,4 @@
 use Rattle.std.proofs.Common.{◌∙◌, ap, arith, Err}
-use Rattle.std.proofs.lemmas.Result.{err_from_is_err_and}
 use Rattle.vcp_inputs.specs.Forms.{rows_of}
 use Rattle.command_meaning.specs.Abouts.{about}
 use Rattle.vcp_core.specs.Tasks.{TaskOf}
@@ -9,12 +8,11 @@ use Rattle.vcp_core.proofs.ProgramsRead.{rows_lost, some_files}
 use Rattle.vcp_core.proofs.program_rows.load_program_rows.Goals as goal
 
 -- memory is wanted
-pub returns-in_err-columns-clause-unread : goal.returns-in_err-columns-clause-unread
-returns-in_err-columns-clause-unread g c =
+pub returns-in-Err-clause-unread : goal.returns-in-Err-clause-unread
+returns-in-Err-clause-unread g c =
     let mid = g.F.Files.seen c.args.files.now in
-    let q = err_from_is_err_and c.from_residual.result c.from_residual.ensures.1 in
-    rw (q.1, q.2) (λ l p files read f here reads.
-    files_wanted (about f) (TaskOf f) files mid (some_files p (rows_of c.args.rows) l f reads) read.held here read.faults)
+    λ l p files read f here reads.
+    files_wanted (about f) (TaskOf f) files mid (some_files p (rows_of c.args.rows) l f reads) read.held here read.faults
 
 -- there is nothing of ROWS
 pub returns-clause-unread : goal.returns-clause-unread
@@ -22,24 +20,24 @@ returns-clause-unread g c l p files read f here reads =
     let mid = g.F.Files.seen c.args.files.now in
     let later = g.F.Files.seen c.load_rows.new.files in
     rw c.rows_name.ensures
-    (rows_lost c.lists_are_told.ensures.columns p (rows_of c.args.rows) files mid later c.args.program c.in_ok-columns.columns c.in_ok-columns.ensures.columns
-    c.load_rows.ensures.held here c.in-Err.input c.in-Err.ensures.loads
-    (λ is. c.in-Err.ensures.begun (ap Err is)) (λ is. c.in-Err.ensures.unread (ap Err is)) (λ no. c.in-Err.ensures.stayed (λ e. no cc))
-    (λ r is other. c.in-Err.ensures.whole r (ap Err is) other) (λ is. c.in-Err.ensures.long (ap Err is)) c.in-Err.ensures.caused l f reads read)
+    (rows_lost c.lists_are_told.ensures.columns p (rows_of c.args.rows) files mid later c.args.program c.in-Ok.columns c.in-Ok.ensures.columns
+    c.load_rows.ensures.held here c.in-Err-load_rows.input c.in-Err-load_rows.ensures.loads
+    (λ is. c.in-Err-load_rows.ensures.begun (ap Err is)) (λ is. c.in-Err-load_rows.ensures.unread (ap Err is)) (λ no. c.in-Err-load_rows.ensures.stayed (λ e. no cc))
+    (λ r is other. c.in-Err-load_rows.ensures.whole r (ap Err is) other) (λ is. c.in-Err-load_rows.ensures.long (ap Err is)) c.in-Err-load_rows.ensures.caused l f reads read)
 
 -- they were read
-pub returns-in-Ok-clause-fit : goal.returns-in-Ok-clause-fit
-returns-in-Ok-clause-fit g c =
-    record { columns = c.in_ok-columns.ensures.columns; few = c.in-Ok.ensures.few; narrow = c.in_ok-columns.ensures.few }
+pub returns-in-Ok-load_rows-clause-fit : goal.returns-in-Ok-load_rows-clause-fit
+returns-in-Ok-load_rows-clause-fit g c =
+    record { columns = c.in-Ok.ensures.columns; few = c.in-Ok-load_rows.ensures.few; narrow = c.in-Ok.ensures.few }
 
-pub returns-in-Ok-clause-read : goal.returns-in-Ok-clause-read
-returns-in-Ok-clause-read g c l p files read = record {
+pub returns-in-Ok-load_rows-clause-read : goal.returns-in-Ok-load_rows-clause-read
+returns-in-Ok-load_rows-clause-read g c l p files read = record {
   file = record {
     loads = read.loads;
-    ended = c.in-Ok.ensures.ended read.ended;
-    faults = c.in-Ok.ensures.stayed (λ e. cc) ∙ read.faults;
+    ended = c.in-Ok-load_rows.ensures.ended read.ended;
+    faults = c.in-Ok-load_rows.ensures.stayed (λ e. cc) ∙ read.faults;
     broken = omega (arith, read.broken, c.load_rows.ensures.broken_later);
     held = c.load_rows.ensures.held ∙ read.held;
   };
-  rows_are = if_some_same files.held (g.F.Files.seen c.args.files.now).held _ read.held c.in-Ok.ensures.loads;
+  rows_are = if_some_same files.held (g.F.Files.seen c.args.files.now).held _ read.held c.in-Ok-load_rows.ensures.loads;
 }
