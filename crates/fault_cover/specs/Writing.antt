@@ -5,6 +5,8 @@ use Rattle.vcp_outside.specs.Counts.{Rose}
 use Rattle.vcp_outside.specs.Seen.{SinkSeen}
 use Rattle.vcp_outside.specs.Written.{AppendsPart}
 use Rattle.op_graph.specs.Lists.{Lists}
+use Rattle.range_walk.specs.declared.range.Stops.{Stops}
+use Rattle.signature_table.specs.Signatures.{Numbers}
 use Rattle.fault_sites.specs.Sites.{each_below}
 use Rattle.fault_cover.specs.declared.class.CoverClass.{CoverClass}
 use Rattle.fault_cover.specs.declared.class.CoverClasses.{CoverClasses}
@@ -16,7 +18,8 @@ use Rattle.fault_cover.specs.declared.writing.Uncovered.TheVariants as uncovered
 use Rattle.fault_cover.specs.Counts.{AreCounted}
 use Rattle.fault_cover.specs.CoverText.{CoverOf, Covered, class_name, heard_at, heard_of, lines_text, row_text, sum_of, tables_text, tally, totals_line}
 use Rattle.fault_cover.specs.Leftovers.{AreCovered, lines_at}
-use Rattle.fault_cover.specs.Telling.{Subject}
+use Rattle.fault_cover.specs.Surveys.{IsSurvey, Surveyed}
+use Rattle.fault_cover.specs.Telling.{Subject, subject}
 
 -- The cover is written, and it is found whether something is reported of a fault that is neither `refused` nor `nothing`; or a part of it is written, where
 -- the sink failed; or memory was lacking, and nothing is written.
@@ -33,6 +36,11 @@ pub record IsFound (s : Subject) (classes : List CoverClass) (counts : List Clas
   pub counted_are : AreCounted counts covered
   pub all_is : all ≡ tally (heard_of covered)
   pub lines_are : lines ≡ each_below (λ k. lines_at s.graph s.horizon (heard_at covered k) k) (length s.graph.operations)
+
+-- by a survey, whatever the operations that may stop by which it is one
+abbrev pub Finds : Lists → Numbers → Surveyed → List CoverClass → List ClassCount → Tally → List LeftLine → Type 0
+Finds g t v classes counts all lines = (stops : List Stops) → IsSurvey (subject g t v.horizon stops) v → IsFound (subject g t v.horizon stops) classes counts all
+    lines
 
 -- the cover without its remark and its last LF
 abbrev pub body_text : Lists → ℕ → List Covered → List ℕ

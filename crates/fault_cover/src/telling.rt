@@ -9,7 +9,6 @@ ghost use Rattle.op_graph.specs.Rules.{IsGraph};
 ghost use Rattle.signature_table.specs.Signatures.{IsTableOf, Numbers};
 ghost use Rattle.range_walk.specs.declared.range.Stops.{Stops};
 ghost use Rattle.weight_audit.specs.Audit.{IsAudit};
-ghost use Rattle.fault_cover.specs.declared.disturbance.Disturbance.TheVariants as disturbance;
 ghost use Rattle.fault_cover.specs.declared.effect.Effect.TheVariants as told;
 ghost use Rattle.fault_cover.specs.Beginnings.{ArePlaced, IsPlaced, rest_of as rest_of_disturbance, start_at, starts_at};
 ghost use Rattle.fault_cover.specs.Sited.{IsSited};
@@ -316,22 +315,12 @@ fn does_as(one: Kind, other: Kind) -> bool
     gives_own(one) && gives_own(other) || copies(one) && copies(other)
 }
 
-/// Whether the act does the operation as one of another kind that does the same.
-fn operates_the_same(own: Kind, act: Act) -> bool
-    ensures { result ≡ does_the_same_of own (disturbance.Does act) }
-{
-    match act {
-        Act::Operator { kind } => does_as(own, kind),
-        _ => false,
-    }
-}
-
 /// Whether the operation is done as one of another kind that does the same.
 fn does_the_same(own: Kind, disturbance: &Disturbance) -> bool
     ensures { result ≡ does_the_same_of own disturbance.now }
 {
     match *disturbance {
-        Disturbance::Does(act) => operates_the_same(own, act),
+        Disturbance::Does(Act::Operator { kind }) => does_as(own, kind),
         _ => false,
     }
 }

@@ -13,7 +13,7 @@ ghost use Rattle.fault_cover.specs.CoverText.{tally as tally_of};
 ghost use Rattle.fault_cover.specs.Leftovers.{AreCovered, lines_at};
 ghost use Rattle.fault_cover.specs.Surveys.{IsMapped, IsSurvey};
 ghost use Rattle.fault_cover.specs.Telling.{subject as subject_of};
-ghost use Rattle.fault_cover.specs.Writing.{IsFound, IsSmall, WritesCover, body_text, count_row};
+ghost use Rattle.fault_cover.specs.Writing.{Finds, IsFound, IsSmall, WritesCover, body_text, count_row};
 
 use crate::class::{CoverClass, CoverClasses};
 use crate::counting::{ClassCount, DELAYS, count_classes, count_in, delayed, total};
@@ -146,22 +146,38 @@ impl Drop for Found {
     }
 }
 
+/// What a cover is written of, while nothing is written.
+fn find_by(
+    alloc: Global,
+    nowhere: &mut MemSink,
+    subject: &Subject<'_>,
+    classes: &[CoverClass],
+) -> Result<Found, Memory>
+    requires table { IsTableOf subject.now.table.now subject.now.graph.now }
+    requires mapped { IsMapped subject.now.graph.now subject.now.survey.now }
+    requires few { length classes.now ≤ 7 }
+    ensures { IfOk result (λ found. Finds subject.now.graph.now subject.now.table.now subject.now.survey.now classes.now found.counts.items found.all
+        found.lines.items) }
+{
+    let _operations = subject.graph.operations();
+    let counts = count_classes(alloc, nowhere, subject, classes)?;
+    let all = total(&counts);
+    let lines = left_of(alloc, nowhere, subject, classes, &all)?;
+    Ok(Found { counts, all, lines })
+}
+
 /// What a cover is written of. All memory is taken here.
 fn find(alloc: Global, subject: &Subject<'_>, classes: &[CoverClass]) -> Result<Found, Memory>
     requires table { IsTableOf subject.now.table.now subject.now.graph.now }
     requires mapped { IsMapped subject.now.graph.now subject.now.survey.now }
     requires few { length classes.now ≤ 7 }
-    ensures { IfOk result (λ found. (stops : List Stops)
-        → IsSurvey (subject_of subject.now.graph.now subject.now.table.now subject.now.survey.now.horizon stops) subject.now.survey.now
-        → IsFound (subject_of subject.now.graph.now subject.now.table.now subject.now.survey.now.horizon stops) classes.now found.counts.items found.all
+    ensures { IfOk result (λ found. Finds subject.now.graph.now subject.now.table.now subject.now.survey.now classes.now found.counts.items found.all
         found.lines.items) }
 {
-    let _operations = subject.graph.operations();
-    let mut nowhere = MemSink::new(alloc, 0)?;
-    let counts = count_classes(alloc, &mut nowhere, subject, classes)?;
-    let all = total(&counts);
-    let lines = left_of(alloc, &mut nowhere, subject, classes, &all)?;
-    Ok(Found { counts, all, lines })
+    match MemSink::new(alloc, 0) {
+        Ok(mut nowhere) => find_by(alloc, &mut nowhere, subject, classes),
+        Err(e) => Err(e),
+    }
 }
 
 /// Goes on with what is found.
