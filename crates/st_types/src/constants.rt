@@ -102,8 +102,7 @@ fn form_of(names: &Names, e: &Expr) -> Result<Option<Form>, Memory>
         })),
         Expr::Name { name, .. } => form_of_name(names, name.bytes()),
         Expr::Unary { op, arg, .. } => Ok(form_of_negated(negated(*op, arg))),
-        Expr::Binary { .. } => Ok(None),
-        Expr::Call { .. } => Ok(None),
+        Expr::Binary { .. } | Expr::Call { .. } => Ok(None),
     }
 }
 

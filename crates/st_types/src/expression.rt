@@ -31,10 +31,9 @@ fn got(spot: Spot, e: &Entry) -> TExpr
 {
     match e.section {
         Section::Constant => TExpr::literal(e.ty, e.value, spot),
-        Section::Input => TExpr::get(e.slot, e.ty),
-        Section::Output => TExpr::get(e.slot, e.ty),
-        Section::Local => TExpr::get(e.slot, e.ty),
-        Section::Retain => TExpr::get(e.slot, e.ty),
+        Section::Input | Section::Output | Section::Local | Section::Retain => {
+            TExpr::get(e.slot, e.ty)
+        }
     }
 }
 

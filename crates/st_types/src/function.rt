@@ -60,18 +60,9 @@ fn arity(fun: Fun) -> usize
     ensures { result ≡ arity_of fun }
 {
     match fun {
-        Fun::Abs => 1,
-        Fun::Min => 2,
-        Fun::Max => 2,
-        Fun::Limit => 3,
-        Fun::Sel => 3,
-        Fun::IntToDint => 1,
-        Fun::IntToLint => 1,
-        Fun::DintToInt => 1,
-        Fun::DintToLint => 1,
-        Fun::LintToInt => 1,
-        Fun::LintToDint => 1,
-        Fun::BoolToInt => 1,
+        Fun::Min | Fun::Max => 2,
+        Fun::Limit | Fun::Sel => 3,
+        _ => 1,
     }
 }
 
@@ -96,9 +87,7 @@ fn of_sel(on: Ty, a: Ty, b: Ty) -> Option<Ty>
 {
     match on {
         Ty::Bool => joined_or_bool(a, b),
-        Ty::Int => None,
-        Ty::Dint => None,
-        Ty::Lint => None,
+        Ty::Int | Ty::Dint | Ty::Lint => None,
     }
 }
 
@@ -120,18 +109,8 @@ fn of_two(fun: Fun, a: Ty, b: Ty) -> Option<Ty>
     ensures { result ≡ of_two_of fun a b }
 {
     match fun {
-        Fun::Min => joined(a, b),
-        Fun::Max => joined(a, b),
-        Fun::Abs => None,
-        Fun::Limit => None,
-        Fun::Sel => None,
-        Fun::IntToDint => None,
-        Fun::IntToLint => None,
-        Fun::DintToInt => None,
-        Fun::DintToLint => None,
-        Fun::LintToInt => None,
-        Fun::LintToDint => None,
-        Fun::BoolToInt => None,
+        Fun::Min | Fun::Max => joined(a, b),
+        _ => None,
     }
 }
 
@@ -150,16 +129,7 @@ fn of_three(fun: Fun, a: Ty, b: Ty, c: Ty) -> Option<Ty>
     match fun {
         Fun::Limit => of_limit(a, b, c),
         Fun::Sel => of_sel(a, b, c),
-        Fun::Abs => None,
-        Fun::Min => None,
-        Fun::Max => None,
-        Fun::IntToDint => None,
-        Fun::IntToLint => None,
-        Fun::DintToInt => None,
-        Fun::DintToLint => None,
-        Fun::LintToInt => None,
-        Fun::LintToDint => None,
-        Fun::BoolToInt => None,
+        _ => None,
     }
 }
 
@@ -181,9 +151,7 @@ fn of_numbers(alloc: Global, types: &[Ty], ty: Ty) -> Result<Option<Vec<Ty>>, Me
 {
     match ty {
         Ty::Bool => Ok(None),
-        Ty::Int => Ok(Some(types.to_vec(alloc)?)),
-        Ty::Dint => Ok(Some(types.to_vec(alloc)?)),
-        Ty::Lint => Ok(Some(types.to_vec(alloc)?)),
+        Ty::Int | Ty::Dint | Ty::Lint => Ok(Some(types.to_vec(alloc)?)),
     }
 }
 

@@ -60,10 +60,8 @@ pub(crate) fn negated(op: UnOp, arg: &Expr) -> Option<Untyped>
                 }),
                 Some(_) => None,
             },
-            Expr::Name { .. } => None,
-            Expr::Unary { .. } => None,
-            Expr::Binary { .. } => None,
-            Expr::Call { .. } => None,
+            Expr::Name { .. } | Expr::Unary { .. } | Expr::Binary { .. } | Expr::Call { .. } =>
+                None,
         },
     }
 }

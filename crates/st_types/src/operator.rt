@@ -45,9 +45,7 @@ pub(crate) fn joined_or_bool(a: Ty, b: Ty) -> Option<Ty>
 {
     match a {
         Ty::Bool => both_bool(a, b),
-        Ty::Int => joined(a, b),
-        Ty::Dint => joined(a, b),
-        Ty::Lint => joined(a, b),
+        Ty::Int | Ty::Dint | Ty::Lint => joined(a, b),
     }
 }
 
@@ -56,20 +54,10 @@ pub fn common(op: BinOp, a: Ty, b: Ty) -> Option<Ty>
     ensures { result ≡ common_of op a b }
 {
     match op {
-        BinOp::Mul => joined(a, b),
-        BinOp::Div => joined(a, b),
-        BinOp::Mod => joined(a, b),
-        BinOp::Add => joined(a, b),
-        BinOp::Sub => joined(a, b),
-        BinOp::Lt => joined(a, b),
-        BinOp::Gt => joined(a, b),
-        BinOp::Le => joined(a, b),
-        BinOp::Ge => joined(a, b),
-        BinOp::Eq => joined_or_bool(a, b),
-        BinOp::Ne => joined_or_bool(a, b),
-        BinOp::And => both_bool(a, b),
-        BinOp::Xor => both_bool(a, b),
-        BinOp::Or => both_bool(a, b),
+        BinOp::Mul | BinOp::Div | BinOp::Mod | BinOp::Add | BinOp::Sub => joined(a, b),
+        BinOp::Lt | BinOp::Gt | BinOp::Le | BinOp::Ge => joined(a, b),
+        BinOp::Eq | BinOp::Ne => joined_or_bool(a, b),
+        BinOp::And | BinOp::Xor | BinOp::Or => both_bool(a, b),
     }
 }
 

@@ -20,11 +20,8 @@ pub fn is_set(section: Section) -> bool
     ensures { result ≡ is_set_of section }
 {
     match section {
-        Section::Input => false,
-        Section::Output => true,
-        Section::Local => true,
-        Section::Retain => true,
-        Section::Constant => false,
+        Section::Output | Section::Local | Section::Retain => true,
+        Section::Input | Section::Constant => false,
     }
 }
 
@@ -33,11 +30,8 @@ pub(crate) fn is_constant(section: Section) -> bool
     ensures { result ≡ is_constant_of section }
 {
     match section {
-        Section::Input => false,
-        Section::Output => false,
-        Section::Local => false,
-        Section::Retain => false,
         Section::Constant => true,
+        Section::Input | Section::Output | Section::Local | Section::Retain => false,
     }
 }
 
