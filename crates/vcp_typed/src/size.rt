@@ -38,9 +38,7 @@ fn operator_size(op: BinOp) -> u32
     ensures { result ≡ operator_size op }
 {
     match op {
-        BinOp::Le => 4,
-        BinOp::Ge => 4,
-        BinOp::Ne => 4,
+        BinOp::Le | BinOp::Ge | BinOp::Ne => 4,
         _ => 3,
     }
 }
@@ -50,17 +48,9 @@ fn function_size(fun: Fun) -> u32
 {
     match fun {
         Fun::Abs => 5,
-        Fun::Min => 3,
-        Fun::Max => 3,
         Fun::Limit => 6,
-        Fun::Sel => 3,
-        Fun::IntToDint => 2,
-        Fun::IntToLint => 2,
-        Fun::DintToInt => 2,
-        Fun::DintToLint => 2,
-        Fun::LintToInt => 2,
-        Fun::LintToDint => 2,
-        Fun::BoolToInt => 2,
+        Fun::Min | Fun::Max | Fun::Sel => 3,
+        _ => 2,
     }
 }
 

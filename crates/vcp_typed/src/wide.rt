@@ -15,12 +15,7 @@ use vcp_base::Ty;
 fn is_lint(ty: Ty) -> bool
     ensures { result ≡ is_lint ty }
 {
-    match ty {
-        Ty::Bool => false,
-        Ty::Int => false,
-        Ty::Dint => false,
-        Ty::Lint => true,
-    }
+    matches!(ty, Ty::Lint)
 }
 
 fn either(a: bool, b: bool) -> bool
