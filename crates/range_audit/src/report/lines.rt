@@ -43,8 +43,9 @@ fn then_spaced_range<O: Sink>(line: &mut Line, out: &mut O, range: Range)
 pub(crate) fn then_there<O: Sink>(line: &mut Line, out: &mut O, known: &[Range], n: u32)
     ensures { GathersTo (O.seen out.old) (O.seen out.new) line.old line.new (there_text (slice_get known.now n)) }
 {
-    if let Some(range) = known.get(n as usize) {
-        then_spaced_range(line, out, *range);
+    let place = n as usize;
+    if place < known.len() {
+        then_spaced_range(line, out, known[place]);
     }
 }
 
@@ -128,8 +129,8 @@ fn then_read<O: Sink>(
 )
     ensures { GathersTo (O.seen out.old) (O.seen out.new) line.old line.new (read_text graph.now known.now n word.now (slice_get graph.now.operations n)) }
 {
-    if let Some(op) = graph.operations().get(n as usize) {
-        then_op(line, out, graph, known, n, op, word);
+    if n < graph.len() {
+        then_op(line, out, graph, known, n, &graph.operation(n), word);
     }
 }
 
