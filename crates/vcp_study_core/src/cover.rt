@@ -8,7 +8,6 @@ ghost use Rattle.fault_cover.specs.Surveys.{IsMapped, IsSurveyOf};
 ghost use Rattle.vcp_inputs.specs.declared.refusal.NoInput.TheVariants as input;
 ghost use Rattle.vcp_inputs.specs.declared.refusal.Refusal.TheVariants as refusal;
 ghost use Rattle.vcp_study_core.specs.CarriedOut.{WritesSo, told_line, told_status};
-ghost use Rattle.vcp_study_core.specs.Parts.{digits};
 ghost use Rattle.vcp_study_core.specs.Texts.{IsCover, WritesOne, Weighed};
 
 use crate::fault::Fault;
@@ -40,38 +39,6 @@ fn surveyed(alloc: Global, image: &Image, horizon: u32) -> Result<Survey, NoInpu
     }
 }
 
-/// Writes the cover of a surveyed image, with the digits of its digest; whether a fault is reported neither as refused nor as nothing.
-fn write_surveyed<'a, O: Sink>(
-    alloc: Global,
-    image: &Image,
-    horizon: u32,
-    survey: &Survey,
-    classes: CoverClasses,
-    digest: &[u8],
-    out: &mut O,
-) -> Result<bool, Fault<'a>>
-    requires table { image.now.table ≡ table_of image.now.table.seed image.now.table.step image.now.graph }
-    requires survey { IsSurveyOf image.now.graph horizon survey.now }
-    requires mapped { IsMapped image.now.graph survey.now }
-    requires digest { digest.now ≡ digits image.now }
-    ensures { WritesSo (WritesOne (IsCover image.now horizon classes)) (O.seen out.old) (O.seen out.new) (told_line result) (told_status result) }
-{
-    what_is_told_is_certain();
-    match write_cover_text(
-        alloc,
-        out,
-        &image.graph,
-        &image.table,
-        survey,
-        classes,
-        digest,
-    ) {
-        Ok(found) => Ok(found),
-        Err(Uncovered::Memory) => Err(Fault::Memory),
-        Err(Uncovered::Failed) => Err(Fault::Write),
-    }
-}
-
 /// Writes the cover of a surveyed image; whether a fault is reported neither as refused nor as nothing.
 fn write_survey<'a, O: Sink>(
     alloc: Global,
@@ -86,8 +53,21 @@ fn write_survey<'a, O: Sink>(
     requires mapped { IsMapped image.now.graph survey.now }
     ensures { WritesSo (WritesOne (IsCover image.now horizon classes)) (O.seen out.old) (O.seen out.new) (told_line result) (told_status result) }
 {
+    what_is_told_is_certain();
     match image_digest(alloc, &image.graph, &image.table) {
-        Ok(digest) => write_surveyed(alloc, image, horizon, survey, classes, &digest, out),
+        Ok(digest) => match write_cover_text(
+            alloc,
+            out,
+            &image.graph,
+            &image.table,
+            survey,
+            classes,
+            &digest,
+        ) {
+            Ok(found) => Ok(found),
+            Err(Uncovered::Memory) => Err(Fault::Memory),
+            Err(Uncovered::Failed) => Err(Fault::Write),
+        },
         Err(_) => Err(Fault::Memory),
     }
 }

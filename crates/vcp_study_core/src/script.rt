@@ -1,11 +1,10 @@
 //! The command `script`, behind its image.
 
-ghost use Rattle.std.specs.Prelude.{ℕ, List, ◌≡◌, ◌≤◌, All, length};
+ghost use Rattle.std.specs.Prelude.{ℕ, List, ◌≡◌, ◌≤◌, length};
 ghost use Rattle.signature_table.specs.Signatures.{table_of};
 ghost use Rattle.fault_names.specs.Entries.{most_named_bytes};
 ghost use Rattle.vcp_study_core.specs.CarriedOut.{Studies, WritesSo, told_line, told_status};
 ghost use Rattle.vcp_study_core.specs.Forms.{script_named};
-ghost use Rattle.vcp_study_core.specs.Parts.{digits};
 ghost use Rattle.vcp_study_core.specs.Tasks.{StudyOf};
 ghost use Rattle.vcp_study_core.specs.Texts.{NamedScript};
 
@@ -17,31 +16,6 @@ use std::alloc::Global;
 use vcp_base::Text;
 use vcp_inputs::Image;
 use vcp_outside::{Files, Sink};
-
-/// Writes the script of the text of the file under a name for the image with this digest, unless a line is refused. It looks for nothing: `false`.
-fn write_checked<'a, O: Sink>(
-    name: &'a Text,
-    image: &Image,
-    digest: &[u8],
-    text: &[u8],
-    out: &mut O,
-) -> Result<bool, Fault<'a>>
-    requires short { length text.now ≤ most_named_bytes }
-    requires same { digest.now ≡ digits image.now }
-    requires plain { All (λ b. 32 ≤ b) digest.now }
-    requires count { length digest.now ≡ 64 }
-    ensures { WritesSo (NamedScript name.now image.now text.now) (O.seen out.old) (O.seen out.new) (told_line result) (told_status result) }
-{
-    a_script_by_names_is_read_back();
-    let _rules = image.graph.len();
-    match check(&image.graph, digest, text) {
-        Ok(()) => told(write_script(out, digest, &image.graph, text), false),
-        Err(refused) => Err(Fault::Refused {
-            name: name.bytes(),
-            why: StudyRefusal::Named(refused),
-        }),
-    }
-}
 
 /// Writes the script of the text of the file under a name for an image, unless a line is refused. It looks for nothing: `false`.
 fn write_named<'a, O: Sink>(
@@ -55,8 +29,16 @@ fn write_named<'a, O: Sink>(
     requires table { image.now.table ≡ table_of image.now.table.seed image.now.table.step image.now.graph }
     ensures { WritesSo (NamedScript name.now image.now text.now) (O.seen out.old) (O.seen out.new) (told_line result) (told_status result) }
 {
+    a_script_by_names_is_read_back();
+    let _rules = image.graph.len();
     match image_digest(alloc, &image.graph, &image.table) {
-        Ok(digest) => write_checked(name, image, &digest, text, out),
+        Ok(digest) => match check(&image.graph, &digest, text) {
+            Ok(()) => told(write_script(out, &digest, &image.graph, text), false),
+            Err(refused) => Err(Fault::Refused {
+                name: name.bytes(),
+                why: StudyRefusal::Named(refused),
+            }),
+        },
         Err(_) => Err(Fault::Memory),
     }
 }
