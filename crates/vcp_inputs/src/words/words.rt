@@ -103,7 +103,9 @@ fn ended<'a>(command: Command<'a>, words: &CommandWords<'a>) -> Option<Command<'
 fn check_words<'a>(words: &mut CommandWords<'a>) -> Option<Command<'a>>
     ensures { option_map form result ≡ name_then (λ p. end_then (check p)) words.old }
 {
-    let source = words.name()?;
+    let Some(source) = words.name() else {
+        return None;
+    };
     ended(Command::Check { source }, words)
 }
 
@@ -111,7 +113,9 @@ fn check_words<'a>(words: &mut CommandWords<'a>) -> Option<Command<'a>>
 fn format_words<'a>(words: &mut CommandWords<'a>) -> Option<Command<'a>>
     ensures { option_map form result ≡ name_then (λ p. end_then (format p)) words.old }
 {
-    let source = words.name()?;
+    let Some(source) = words.name() else {
+        return None;
+    };
     ended(Command::Format { source }, words)
 }
 
@@ -119,8 +123,12 @@ fn format_words<'a>(words: &mut CommandWords<'a>) -> Option<Command<'a>>
 fn plain_words<'a>(words: &mut CommandWords<'a>) -> Option<Command<'a>>
     ensures { option_map form result ≡ name_then (λ p. rows_then (λ rows. end_then (plain p rows))) words.old }
 {
-    let source = words.name()?;
-    let rows = words.rows()?;
+    let Some(source) = words.name() else {
+        return None;
+    };
+    let Some(rows) = words.rows() else {
+        return None;
+    };
     ended(Command::Plain { source, rows }, words)
 }
 
@@ -128,9 +136,15 @@ fn plain_words<'a>(words: &mut CommandWords<'a>) -> Option<Command<'a>>
 fn run_words<'a>(words: &mut CommandWords<'a>) -> Option<Command<'a>>
     ensures { option_map form result ≡ name_then (λ p. rows_then (λ rows. code_then (run p rows))) words.old }
 {
-    let source = words.name()?;
-    let rows = words.rows()?;
-    let code = words.code()?;
+    let Some(source) = words.name() else {
+        return None;
+    };
+    let Some(rows) = words.rows() else {
+        return None;
+    };
+    let Some(code) = words.code() else {
+        return None;
+    };
     Some(Command::Run { source, rows, code })
 }
 
@@ -138,9 +152,15 @@ fn run_words<'a>(words: &mut CommandWords<'a>) -> Option<Command<'a>>
 fn il_words<'a>(words: &mut CommandWords<'a>) -> Option<Command<'a>>
     ensures { option_map form result ≡ name_then (λ p. rows_then (λ rows. code_then (il p rows))) words.old }
 {
-    let source = words.name()?;
-    let rows = words.rows()?;
-    let code = words.code()?;
+    let Some(source) = words.name() else {
+        return None;
+    };
+    let Some(rows) = words.rows() else {
+        return None;
+    };
+    let Some(code) = words.code() else {
+        return None;
+    };
     Some(Command::Il { source, rows, code })
 }
 
@@ -148,8 +168,12 @@ fn il_words<'a>(words: &mut CommandWords<'a>) -> Option<Command<'a>>
 fn compile_words<'a>(words: &mut CommandWords<'a>) -> Option<Command<'a>>
     ensures { option_map form result ≡ name_then (λ p. code_then (compile p)) words.old }
 {
-    let source = words.name()?;
-    let code = words.code()?;
+    let Some(source) = words.name() else {
+        return None;
+    };
+    let Some(code) = words.code() else {
+        return None;
+    };
     Some(Command::Compile { source, code })
 }
 
@@ -157,7 +181,9 @@ fn compile_words<'a>(words: &mut CommandWords<'a>) -> Option<Command<'a>>
 fn wire_words<'a>(words: &mut CommandWords<'a>) -> Option<Command<'a>>
     ensures { option_map form result ≡ name_then (λ f. end_then (wire f)) words.old }
 {
-    let script = words.name()?;
+    let Some(script) = words.name() else {
+        return None;
+    };
     ended(Command::Wire { script }, words)
 }
 
@@ -165,7 +191,9 @@ fn wire_words<'a>(words: &mut CommandWords<'a>) -> Option<Command<'a>>
 fn demo_words<'a>(words: &mut CommandWords<'a>) -> Option<Command<'a>>
     ensures { option_map form result ≡ number_then 0 most_made (λ n. end_then (demo n)) words.old }
 {
-    let number = words.number(0, u32::MAX)?;
+    let Some(number) = words.number(0, u32::MAX) else {
+        return None;
+    };
     ended(Command::Demo { number }, words)
 }
 
@@ -173,7 +201,9 @@ fn demo_words<'a>(words: &mut CommandWords<'a>) -> Option<Command<'a>>
 fn list_words<'a>(words: &mut CommandWords<'a>) -> Option<Command<'a>>
     ensures { option_map form result ≡ name_then (λ m. end_then (list m)) words.old }
 {
-    let image = words.name()?;
+    let Some(image) = words.name() else {
+        return None;
+    };
     ended(Command::List { image }, words)
 }
 
@@ -181,8 +211,12 @@ fn list_words<'a>(words: &mut CommandWords<'a>) -> Option<Command<'a>>
 fn exec_words<'a>(words: &mut CommandWords<'a>) -> Option<Command<'a>>
     ensures { option_map form result ≡ name_then (λ m. rows_then (λ rows. end_then (exec m rows))) words.old }
 {
-    let image = words.name()?;
-    let rows = words.rows()?;
+    let Some(image) = words.name() else {
+        return None;
+    };
+    let Some(rows) = words.rows() else {
+        return None;
+    };
     ended(Command::Exec { image, rows }, words)
 }
 
@@ -190,9 +224,15 @@ fn exec_words<'a>(words: &mut CommandWords<'a>) -> Option<Command<'a>>
 fn trace_words<'a>(words: &mut CommandWords<'a>) -> Option<Command<'a>>
     ensures { option_map form result ≡ name_then (λ m. rows_then (λ rows. number_then 0 (most_cycles - 1) (λ c. end_then (trace m rows c)))) words.old }
 {
-    let image = words.name()?;
-    let rows = words.rows()?;
-    let cycle = words.number(0, MOST_CYCLES - 1)?;
+    let Some(image) = words.name() else {
+        return None;
+    };
+    let Some(rows) = words.rows() else {
+        return None;
+    };
+    let Some(cycle) = words.number(0, MOST_CYCLES - 1) else {
+        return None;
+    };
     ended(Command::Trace { image, rows, cycle }, words)
 }
 
@@ -200,7 +240,9 @@ fn trace_words<'a>(words: &mut CommandWords<'a>) -> Option<Command<'a>>
 fn widen_words<'a>(words: &mut CommandWords<'a>) -> Option<Command<'a>>
     ensures { option_map form result ≡ name_then (λ m. end_then (widen m)) words.old }
 {
-    let image = words.name()?;
+    let Some(image) = words.name() else {
+        return None;
+    };
     ended(Command::Widen { image }, words)
 }
 
@@ -208,8 +250,12 @@ fn widen_words<'a>(words: &mut CommandWords<'a>) -> Option<Command<'a>>
 fn audit_words<'a>(words: &mut CommandWords<'a>) -> Option<Command<'a>>
     ensures { option_map form result ≡ name_then (λ m. number_then 0 most_horizon (λ h. end_then (audit m h))) words.old }
 {
-    let image = words.name()?;
-    let horizon = words.number(0, MOST_HORIZON)?;
+    let Some(image) = words.name() else {
+        return None;
+    };
+    let Some(horizon) = words.number(0, MOST_HORIZON) else {
+        return None;
+    };
     ended(Command::Audit { image, horizon }, words)
 }
 
@@ -217,9 +263,15 @@ fn audit_words<'a>(words: &mut CommandWords<'a>) -> Option<Command<'a>>
 fn inject_words<'a>(words: &mut CommandWords<'a>) -> Option<Command<'a>>
     ensures { option_map form result ≡ name_then (λ m. rows_then (λ rows. name_then (λ f. end_then (inject m rows f)))) words.old }
 {
-    let image = words.name()?;
-    let rows = words.rows()?;
-    let script = words.name()?;
+    let Some(image) = words.name() else {
+        return None;
+    };
+    let Some(rows) = words.rows() else {
+        return None;
+    };
+    let Some(script) = words.name() else {
+        return None;
+    };
     ended(
         Command::Inject {
             image,
@@ -234,9 +286,15 @@ fn inject_words<'a>(words: &mut CommandWords<'a>) -> Option<Command<'a>>
 fn pair_words<'a>(words: &mut CommandWords<'a>) -> Option<Command<'a>>
     ensures { option_map form result ≡ name_then (λ m. rows_then (λ rows. number_then 0 (seeds - 1) (λ s. end_then (pair m rows s)))) words.old }
 {
-    let image = words.name()?;
-    let rows = words.rows()?;
-    let seed = words.number(0, SEEDS - 1)?;
+    let Some(image) = words.name() else {
+        return None;
+    };
+    let Some(rows) = words.rows() else {
+        return None;
+    };
+    let Some(seed) = words.number(0, SEEDS - 1) else {
+        return None;
+    };
     ended(Command::Pair { image, rows, seed }, words)
 }
 
@@ -245,10 +303,18 @@ fn pairs_words<'a>(words: &mut CommandWords<'a>) -> Option<Command<'a>>
     ensures { option_map form result
         ≡ name_then (λ m. rows_then (λ rows. number_then 0 (seeds - 1) (λ s. name_then (λ f. end_then (pairs m rows s f))))) words.old }
 {
-    let image = words.name()?;
-    let rows = words.rows()?;
-    let seed = words.number(0, SEEDS - 1)?;
-    let script = words.name()?;
+    let Some(image) = words.name() else {
+        return None;
+    };
+    let Some(rows) = words.rows() else {
+        return None;
+    };
+    let Some(seed) = words.number(0, SEEDS - 1) else {
+        return None;
+    };
+    let Some(script) = words.name() else {
+        return None;
+    };
     ended(
         Command::Pairs {
             image,

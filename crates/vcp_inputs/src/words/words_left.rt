@@ -88,7 +88,9 @@ impl<'a> CommandWords<'a> {
     pub fn name(&mut self) -> Option<&'a Text>
         ensures { option_map (λ name. (name.now, self.new)) result ≡ name_and_rest self.old }
     {
-        let word = self.next()?;
+        let Some(word) = self.next() else {
+            return None;
+        };
         if is_file_name(word) { Some(word) } else { None }
     }
 
@@ -97,10 +99,14 @@ impl<'a> CommandWords<'a> {
         ensures rows { option_map (λ rows. (rows_of rows, self.new)) result ≡ rows_and_rest self.old }
         ensures few { IfSome result (λ rows. AreFew (rows_of rows)) }
     {
-        let word = self.next()?;
+        let Some(word) = self.next() else {
+            return None;
+        };
         if is_word(word.bytes(), b"--cycles") {
-            let cycles = number(self.next()?, 0, MOST_CYCLES as u64)?;
-            return Some(RowsWord::Cycles(cycles as u32));
+            return match self.number(0, MOST_CYCLES) {
+                Some(cycles) => Some(RowsWord::Cycles(cycles)),
+                None => None,
+            };
         }
         if is_file_name(word) {
             Some(RowsWord::File(word))
@@ -114,8 +120,13 @@ impl<'a> CommandWords<'a> {
         ensures number { option_map (λ n. (n, self.new)) result ≡ number_and_rest least most self.old }
         ensures most { IfSome result (λ n. n ≤ most) }
     {
-        let number = number(self.next()?, least as u64, most as u64)?;
-        Some(number as u32)
+        let Some(word) = self.next() else {
+            return None;
+        };
+        match number(word, least as u64, most as u64) {
+            Some(number) => Some(number as u32),
+            None => None,
+        }
     }
 
     /// Takes CODE, to the last word: `--seed N` and `--step N`, each at most once.
