@@ -1,5 +1,5 @@
 -- Alone: a group that is judged alone, behind a run without faults of its own.
-use Rattle.std.proofs.Common.{◌≡◌, ℕ, ◌<◌, ◌≤◌, ◌-◌, ◌^◌, List, [], ◌∷◌, ℤ, Result, Ok, Err, IfOk, OnErr, refl, sym, subst, ◌∙◌, arith}
+use Rattle.std.proofs.Common.{◌≡◌, ℕ, ◌<◌, ◌≤◌, ◌-◌, ◌^◌, List, [], ◌∷◌, ℤ, Result, Ok, Err, IfOk, refl, sym, subst, ◌∙◌, arith}
 use Rattle.coded_unit.specs.Seen.{StoodStill, UnitSeen}
 use Rattle.op_graph.specs.Lists.{Lists}
 use Rattle.signature_table.specs.Signatures.{Numbers}
@@ -24,10 +24,6 @@ parted a b c low high still =
 pub if_ok : {X E : Type 0} (P Q : X → Type 0) (x : Result X E) → ((v : X) → P v → Q v) → IfOk x P → IfOk x Q
 if_ok P Q (Ok v) f h = f v h
 if_ok P Q (Err e) f h = tt
-
-pub on_err : {X E : Type 0} (P : Type 0) (x : Result X E) → P → OnErr x P
-on_err P (Ok v) p = tt
-on_err P (Err e) p = p
 
 -- the calls of the run without faults, and then those of the rerun
 pub judged_alone : GroupLaws → (t : Numbers) (g : Lists) (rows : List (List ℤ)) (r : KeptRun) (faults : List Fault) (v : Verdict) (before mid now : UnitSeen)

@@ -18,7 +18,8 @@ use input_rows::RowList;
 use op_graph::Graph;
 use signature_table::Table;
 use std::alloc::Global;
-use vcp_outside::Sink;
+use vcp_base::Memory;
+use vcp_outside::{Failed, Sink};
 
 /// Finds the verdict of each group of a script over rows of inputs, in order, and writes its line before
 /// the next group is looked at; then it writes the totals, which count groups. The run without faults is
@@ -82,10 +83,18 @@ fn judge_groups<U: Unit, O: Sink>(
     let mut totals = Totals::new();
     'groups: for i in 0..script.len() {
         let group = script.at(i);
-        let verdict = reference.verdict(alloc, group, unit)?;
-        verdict_line(out, graph, group.line(), &verdict)?;
+        let verdict = match reference.verdict(alloc, group, unit) {
+            Ok(verdict) => verdict,
+            Err(Memory) => return Err(CampaignFault::Memory),
+        };
+        match verdict_line(out, graph, group.line(), &verdict) {
+            Ok(()) => {}
+            Err(Failed) => return Err(CampaignFault::Write),
+        }
         totals.count(&verdict);
     }
-    totals_line(out, &totals)?;
-    Ok(())
+    match totals_line(out, &totals) {
+        Ok(()) => Ok(()),
+        Err(Failed) => Err(CampaignFault::Write),
+    }
 }

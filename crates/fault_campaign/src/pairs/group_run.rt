@@ -8,6 +8,7 @@ ghost use Rattle.fault_script.specs.Changes.{none_kept};
 ghost use Rattle.fault_script.specs.Fits.{Fits};
 ghost use Rattle.fault_script.specs.Groups.{GroupFits};
 ghost use Rattle.fault_injector.specs.Carried.{faults_of, keeps_of};
+ghost use Rattle.pair_channel.specs.PairStates.{fresh_pair};
 ghost use Rattle.pair_channel.specs.PairTurns.{PairTurn};
 ghost use Rattle.fault_campaign.specs.GroupRuns.{GroupRan, CycleAsked, outer_seen, processor_seen};
 
@@ -87,6 +88,46 @@ fn paired<U: Unit>(
         (U.seen scripted.old.unit.now) (U.seen scripted.new.unit.now) v) }
     ensures none { OnErr result (U.seen scripted.new.unit.now ≡ U.seen scripted.old.unit.now) }
 {
+    let mut inputs = Row::zeros(alloc, graph.inputs())?;
+    let mut outputs = Row::zeros(alloc, graph.outputs())?;
+    match Pair::new(alloc, graph, table, other) {
+        Ok(mut pair) => Ok(carry_rows(
+            &mut pair,
+            graph,
+            table,
+            other,
+            rows,
+            scripted,
+            &mut inputs,
+            &mut outputs,
+        )),
+        Err(Memory) => Err(Memory),
+    }
+}
+
+/// The same by a pair before its first cycle, with rows for the inputs and the outputs of a cycle.
+fn carry_rows<U: Unit>(
+    pair: &mut Pair<'_>,
+    graph: &Graph,
+    table: &Table,
+    other: &Table,
+    rows: &RowList,
+    scripted: &mut Scripted<'_, U>,
+    inputs: &mut Row,
+    outputs: &mut Row,
+) -> PairVerdict
+    requires fresh { pair.old ≡ fresh_pair graph.now table.now other.now }
+    requires table { IsTableOf table.now graph.now }
+    requires width { All (λ row. length row ≡ length graph.now.inputs) rows.now }
+    requires few { length rows.now ≤ most_cycles }
+    requires inputs { length inputs.old ≡ length graph.now.inputs }
+    requires outputs { length outputs.old ≡ length graph.now.outputs }
+    requires faults { All (Fits graph.now) (faults_of scripted.old.carried.items) }
+    requires kept { keeps_of scripted.old.carried.items ≡ none_kept (faults_of scripted.old.carried.items) }
+    ensures same { scripted.new.unit.ghost_name ≡ scripted.old.unit.ghost_name }
+    ensures ran { GroupRan table.now graph.now (faults_of scripted.old.carried.items) rows.now
+        (U.seen scripted.old.unit.now) (U.seen scripted.new.unit.now) result }
+{
     // What these laws and calls ensure is known of each cycle and of the whole run.
     pairs_follow_their_answers();
     one_honest_channel_holds_the_pair();
@@ -96,19 +137,16 @@ fn paired<U: Unit>(
     let _rules = graph.len();
     let _step = table.step();
     let _other = other.step();
-    let mut pair = Pair::new(alloc, graph, table, other)?;
-    let mut inputs = Row::zeros(alloc, graph.inputs())?;
-    let mut outputs = Row::zeros(alloc, graph.outputs())?;
     let mut second = CpuUnit::new();
     let count = rows.len() as u32;
     'rows: for cycle in 0..count {
-        rows.get(cycle, &mut inputs);
-        match carry(&mut pair, scripted, &mut second, &inputs, &mut outputs) {
+        rows.get(cycle, inputs);
+        match carry(pair, scripted, &mut second, inputs, outputs) {
             PairEnd::Released => {}
-            end => return Ok(verdict_at(cycle, &end)),
+            end => return verdict_at(cycle, &end),
         }
     }
-    Ok(PairVerdict::Same)
+    PairVerdict::Same
 }
 
 /// One cycle of the pair, the first channel's calls one by one.

@@ -332,8 +332,14 @@ impl<'a> Reference<'a> {
         verdicts_read_off_right_answers_are_defined();
         entries_keep_their_rules();
         let _cycles = self.cycles();
-        let mut work = Work::new(alloc, self)?;
-        let mut faults = Vec::with_capacity(alloc, group.len())?;
+        let mut work = match Work::new(alloc, self) {
+            Ok(work) => work,
+            Err(Memory) => return Err(Memory),
+        };
+        let mut faults = match Vec::with_capacity(alloc, group.len()) {
+            Ok(faults) => faults,
+            Err(_) => return Err(Memory),
+        };
         Ok(rerun(self, group, unit, &mut work, &mut faults))
     }
 }
@@ -366,6 +372,8 @@ pub fn verdict<U: Unit>(
 {
     // The calls are put together from those of the run without faults and of the rerun.
     groups_are_rerun_one_after_another();
-    let reference = Reference::new(alloc, graph, table, rows, unit)?;
-    reference.verdict(alloc, group, unit)
+    match Reference::new(alloc, graph, table, rows, unit) {
+        Ok(reference) => reference.verdict(alloc, group, unit),
+        Err(Memory) => Err(Memory),
+    }
 }

@@ -1,5 +1,4 @@
 use Rattle.std.proofs.Common.{◌≡◌, ◌∙◌, ap, sym, refl, subst, length, List, Err, arith}
-use Rattle.std.proofs.lemmas.Result.{err_from_is_err_and}
 use Rattle.op_graph.specs.Lists.{Lists}
 use Rattle.std.specs.Io.KnownBytes.{Appends}
 use Rattle.vcp_outside.specs.Written.{AppendsPart}
@@ -26,39 +25,35 @@ groups-init g c =
       stayed = refl;
     }
 
-pub returns-in_err-verdict-clause-told : goal.returns-in_err-verdict-clause-told
-returns-in_err-verdict-clause-told g c = λ before judged right.
+pub returns-in-Err-clause-told : goal.returns-in-Err-clause-told
+returns-in-Err-clause-told g c = λ before judged right.
     let r : KeptRun = c.args.reference.now in
     let script = c.args.script.now in
     let old = (g.O.Sink.seen c.args.out.now).written in
     let new = (g.O.Sink.seen c.groups.out).written in
-    let p = err_from_is_err_and c.from_residual.result c.from_residual.ensures.1 in
-    rw (p.1, p.2)
-    (subst (λ (u : UnitSeen). Told r.table r.graph script r.rows before u old new (Err fault.Memory)) (sym (ap g.U.Unit.seen c.in_err-verdict.ensures.err))
+    (subst (λ (u : UnitSeen). Told r.table r.graph script r.rows before u old new (Err fault.Memory)) (sym (ap g.U.Unit.seen c.in-Err.ensures.err))
     (memory_exit r.table r.graph script r.rows r.answers before (g.U.Unit.seen c.groups.unit) old new c.groups.i c.groups.totals
     (c.groups.invariant.so_far before judged right)))
 
 pub line-requires : goal.line-requires
 line-requires g c = (group_fits c.args.reference.now.graph c.args.script.now c.groups.i c.at-group.result.now c.at-group.ensures c.requires.groups).some
 
-pub returns-in_err-verdict_line-clause-told : goal.returns-in_err-verdict_line-clause-told
-returns-in_err-verdict_line-clause-told g c = λ before judged right.
+pub returns-in-Err-verdict_line-clause-told : goal.returns-in-Err-verdict_line-clause-told
+returns-in-Err-verdict_line-clause-told g c = λ before judged right.
     let r : KeptRun = c.args.reference.now in
     let script = c.args.script.now in
     let i = c.groups.invariant in
     let unit = g.U.Unit in
     let f : List Fault = c.at-group.result.now in
-    let v : Verdict = c.in_ok-verdict.verdict in
-    let found = c.in_ok-verdict.ensures in
+    let v : Verdict = c.in-Ok.verdict in
+    let found = c.in-Ok.ensures in
     let so_far = i.so_far before judged right in
     let old = (g.O.Sink.seen c.args.out.now).written in
     let mid = (g.O.Sink.seen c.groups.out).written in
     let new = (g.O.Sink.seen c.verdict_line.new.out).written in
-    let p = err_from_is_err_and c.from_residual-in_err-verdict_line.result c.from_residual-in_err-verdict_line.ensures.1 in
     let next = next_found r script before (unit.seen c.args.unit.now) (unit.seen c.groups.unit) (unit.seen c.verdict.new.unit) c.groups.i f v c.at-group.ensures
     judged.carried.never_falls i.never_falls right c.requires.groups found.reran found.names found.verdict in
-    let part = subst (λ (h : Lists). AppendsPart mid new (verdict_text h c.line.result v)) c.graph-graph.ensures c.in_err-verdict_line.ensures.part in
-    rw (p.1, p.2)
+    let part = subst (λ (h : Lists). AppendsPart mid new (verdict_text h c.line.result v)) c.graph-graph.ensures c.in-Err-verdict_line.ensures.part in
     (line_exit r.table r.graph script r.rows c.groups_are_rerun_one_after_another.ensures r.answers before (unit.seen c.groups.unit)
     (unit.seen c.verdict.new.unit) old mid new c.groups.i c.groups.totals so_far f v c.line.result next c.line.ensures part)
 
@@ -69,12 +64,12 @@ groups-preserved g c =
     let i = c.groups.invariant in
     let unit = g.U.Unit in
     let f : List Fault = c.at-group.result.now in
-    let v : Verdict = c.in_ok-verdict.verdict in
-    let found = c.in_ok-verdict.ensures in
+    let v : Verdict = c.in-Ok.verdict in
+    let found = c.in-Ok.ensures in
     let old = (g.O.Sink.seen c.args.out.now).written in
     let mid = (g.O.Sink.seen c.groups.out).written in
     let new = (g.O.Sink.seen c.verdict_line.new.out).written in
-    let said = subst (λ (h : Lists). Appends mid new (verdict_text h c.line.result v)) c.graph-graph.ensures c.in_ok-verdict_line.ensures.whole in
+    let said = subst (λ (h : Lists). Appends mid new (verdict_text h c.line.result v)) c.graph-graph.ensures c.in-Ok-verdict_line.ensures.whole in
     record {
       so_far = λ before judged right.
           let next = next_found r script before (unit.seen c.args.unit.now) (unit.seen c.groups.unit) (unit.seen c.verdict.new.unit) c.groups.i f v
@@ -84,41 +79,37 @@ groups-preserved g c =
           (unit.seen c.verdict.new.unit) old mid new c.groups.i c.groups.totals (i.so_far before judged right) f v c.line.result next c.line.ensures said);
       counted = rw (c.count.ensures) (omega (arith, one_counted c.groups.totals v, i.counted));
       never_falls = omega (arith, i.never_falls, found.never_falls);
-      stayed = c.in_ok-verdict_line.ensures.cause.stayed ∙ i.stayed;
+      stayed = c.in-Ok-verdict_line.ensures.cause.stayed ∙ i.stayed;
     }
 
-pub returns-in_err-totals_line-clause-told : goal.returns-in_err-totals_line-clause-told
-returns-in_err-totals_line-clause-told g c = λ before judged right.
+pub returns-in-Err-totals_line-clause-told : goal.returns-in-Err-totals_line-clause-told
+returns-in-Err-totals_line-clause-told g c = λ before judged right.
     let r : KeptRun = c.args.reference.now in
-    let p = err_from_is_err_and c.from_residual-in_err-totals_line.result c.from_residual-in_err-totals_line.ensures.1 in
     let all : c.groups.i ≡ length c.args.script.now = omega (arith, c.groups-test.false, c.groups.auto.i-end, c.len-i-end.ensures) in
     let so_far = rw all at (c.groups.invariant.so_far before judged right) in
-    rw (p.1, p.2)
     (totals_exit r.table r.graph c.args.script.now r.rows r.answers before (g.U.Unit.seen c.groups.unit) _ _ _ c.groups.totals so_far
-    c.in_err-totals_line.ensures.part)
+    c.in-Err-totals_line.ensures.part)
 
-pub returns-clause-told : goal.returns-clause-told
-returns-clause-told g c = λ before judged right.
+pub returns-in-Ok-totals_line-clause-told : goal.returns-in-Ok-totals_line-clause-told
+returns-in-Ok-totals_line-clause-told g c = λ before judged right.
     let r : KeptRun = c.args.reference.now in
     let all : c.groups.i ≡ length c.args.script.now = omega (arith, c.groups-test.false, c.groups.auto.i-end, c.len-i-end.ensures) in
     let so_far = rw all at (c.groups.invariant.so_far before judged right) in
     all_told r.table r.graph c.args.script.now r.rows r.answers before (g.U.Unit.seen c.groups.unit) _ _ _ c.groups.totals so_far
-    c.in_ok-totals_line.ensures.whole
+    c.in-Ok-totals_line.ensures.whole
 
 -- ---- the sink's count of faults
 
-pub returns-in_err-verdict-clause-stayed : goal.returns-in_err-verdict-clause-stayed
-returns-in_err-verdict-clause-stayed g c = λ other. c.groups.invariant.stayed
+pub returns-in-Err-clause-stayed : goal.returns-in-Err-clause-stayed
+returns-in-Err-clause-stayed g c = λ other. c.groups.invariant.stayed
 
-pub returns-in_err-verdict_line-clause-stayed : goal.returns-in_err-verdict_line-clause-stayed
-returns-in_err-verdict_line-clause-stayed g c = λ other.
-    let p = err_from_is_err_and c.from_residual-in_err-verdict_line.result c.from_residual-in_err-verdict_line.ensures.1 in
-    absurd (other (p.1 ∙ ap Err p.2))
+pub returns-in-Err-verdict_line-clause-stayed : goal.returns-in-Err-verdict_line-clause-stayed
+returns-in-Err-verdict_line-clause-stayed g c = λ other.
+    absurd (other refl)
 
-pub returns-in_err-totals_line-clause-stayed : goal.returns-in_err-totals_line-clause-stayed
-returns-in_err-totals_line-clause-stayed g c = λ other.
-    let p = err_from_is_err_and c.from_residual-in_err-totals_line.result c.from_residual-in_err-totals_line.ensures.1 in
-    absurd (other (p.1 ∙ ap Err p.2))
+pub returns-in-Err-totals_line-clause-stayed : goal.returns-in-Err-totals_line-clause-stayed
+returns-in-Err-totals_line-clause-stayed g c = λ other.
+    absurd (other refl)
 
-pub returns-clause-stayed : goal.returns-clause-stayed
-returns-clause-stayed g c = λ other. c.in_ok-totals_line.ensures.cause.stayed ∙ c.groups.invariant.stayed
+pub returns-in-Ok-totals_line-clause-stayed : goal.returns-in-Ok-totals_line-clause-stayed
+returns-in-Ok-totals_line-clause-stayed g c = λ other. c.in-Ok-totals_line.ensures.cause.stayed ∙ c.groups.invariant.stayed

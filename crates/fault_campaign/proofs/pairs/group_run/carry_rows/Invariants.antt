@@ -2,7 +2,7 @@ use Rattle.std.proofs.Common.{◌≡◌, drop, length}
 use Rattle.fault_injector.specs.Carried.{faults_of, keeps_of}
 use Rattle.pair_channel.specs.PairStates.{PairState}
 use Rattle.fault_campaign.proofs.GroupSoFar.{Fair, GroupSoFar}
-use Rattle.fault_campaign.proofs.pairs.group_run.paired.Given as goal
+use Rattle.fault_campaign.proofs.pairs.group_run.carry_rows.Given as goal
 
 abbrev pub invariant-rows : goal.invariant-rows
 invariant-rows g l =
