@@ -7,7 +7,7 @@
 A promise stands beside its clause: in the `///` of a public function, method, type or trait, or at the head of a module of specs/. Marks say the rest:
 
 - an edit of must-fail/ or checks/edits/ has a line `# breaks: CRATE::CALL.clause, ..`;
-- a text of a crate's data/, as a session or a file of rows, has lines `# shows: CRATE::CALL, ..`.
+- a text of a crate's data/, as a session, has lines `# shows: CRATE::CALL, ..`.
 
 A call is named as lib.rt exports it, a method with its type, as `op_graph::Graph::len`; behind a dot may stand the name of a clause.
 Its status is 1 where something is printed but the sums. It reads the sources and proves nothing.
@@ -33,7 +33,7 @@ Of each public function, method, trait and type: what its comment says, then
   all that they name. If you accept them, you need not read code or proofs.
 - *broken by*: wrong lines of code that the proofs refuse: files of the crate's `must-fail/`, or, where marked *by hand*, of `checks/edits/`. The gate
   tries the first, TRIED of them, and not the others, BY_HAND of them, which `checks/edits.sh` tries (`docs/PROMISES.md`, 'What the gate shows').
-- *shown by*: texts of worked rows that a program plays, as `session NAME` or `rows NAME` (`docs/dev/SESSIONS.md`).
+- *shown by*: texts of worked rows that a program plays, as `session NAME` (`docs/dev/SESSIONS.md`).
 
 A dash says that there is none: the proof alone shows that promise. A method of a trait that says nothing of its own has the words of the trait. At the end of a
 crate are the modules of definitions that public contracts cite, with what is said of them.
@@ -72,7 +72,7 @@ class Marks:
                 text = file.read_text()
             except UnicodeDecodeError:
                 continue
-            word = {".session": "session ", ".rows": "rows "}.get(file.suffix, f"{crate}/")
+            word = {".session": "session "}.get(file.suffix, f"{crate}/")
             self.put(self.shown_by, marks(text, "# shows"), f"`{word}{file.stem}`", "", file)
 
     def put(self, where, names, what, how, file):

@@ -1,19 +1,18 @@
 #!/usr/bin/env python3
-"""How many worked rows there are in the files of rows and in the sessions that play_worked plays.
+"""How many worked rows there are in the sessions that play_worked plays.
 
     checks/count_rows.py [--write]
 
-Of a session: its calls, `$ plain,run ..` as two, and the lines that say what they have to give. Of a file of rows: its calls, and the lines
-that say what they tell.
+Of each: its calls, `$ plain,run ..` as two, and the lines that say what they have to give.
 
 It reads the texts alone. Run it before and after a change of them, to see that no row was lost. With `--write` it writes the files args and
-stdout of the program anew, by the texts that are there: their names, and how many rows or calls each has.
+stdout of the program anew, by the texts that are there: their names, and how many calls each has.
 """
 import sys
 from pathlib import Path
 
 CRATE = Path(__file__).resolve().parent.parent / "crates" / "play_worked"
-MARKS = ("#", "<", "+", "@", "%", "!", "$")
+MARKS = ("#", "<", "+", "~", "@", "%", "!", "$")
 
 
 def lines_of(file):
@@ -26,34 +25,21 @@ def commands_of(line):
     return words[2 if words[1] in ("vcp_study", "call") else 1].split(",")
 
 
-def counts_of_session(lines):
+def counts_of(lines):
     """The calls of a session, and the lines that say what they give."""
     calls = sum(len(commands_of(line)) for line in lines if line.startswith("$ "))
-    return calls, sum(1 for line in lines if line.split(" ")[0] not in MARKS)
-
-
-def counts_of_rows(lines):
-    """The rows of a file, and the lines that say what they tell."""
-    rows = sum(1 for line in lines if line and line.split(" ")[0] not in ("#", "<", "+", "|"))
-    return rows, sum(1 for line in lines if line.startswith("|") or " =>" in line and not line.endswith(" =>"))
-
-
-KINDS = (("rows", "rows", counts_of_rows), ("session", "calls", counts_of_session))
+    return calls, sum(1 for line in lines if line.split(" ")[0] not in MARKS or line.startswith("$ ") and " => " in line)
 
 
 def main():
-    args, stdout = "", ""
-    for suffix, what, counts_of in KINDS:
-        counts = {file.name: counts_of(lines_of(file)) for file in sorted((CRATE / "data").glob(f"*.{suffix}"))}
-        args += "".join(f"{name}\n" for name in counts)
-        stdout += "".join(f"{name}: {made} {what}\n" for name, (made, _) in counts.items())
-        print(f"files *.{suffix}: {what}, lines of what they give")
-        for name, (made, wanted) in counts.items():
-            print(f"  {name}: {made}, {wanted}")
-        print(f"all of *.{suffix}: {sum(made for made, _ in counts.values())}, {sum(wanted for _, wanted in counts.values())}")
+    counts = {file.name: counts_of(lines_of(file)) for file in sorted((CRATE / "data").glob("*.session"))}
+    print("sessions: calls, lines of what they give")
+    for name, (made, wanted) in counts.items():
+        print(f"  {name}: {made}, {wanted}")
+    print(f"all: {sum(made for made, _ in counts.values())}, {sum(wanted for _, wanted in counts.values())}")
     if "--write" in sys.argv[1:]:
-        (CRATE / "args").write_text(args)
-        (CRATE / "stdout").write_text(stdout)
+        (CRATE / "args").write_text("".join(f"{name}\n" for name in counts))
+        (CRATE / "stdout").write_text("".join(f"{name}: {made} calls\n" for name, (made, _) in counts.items()))
 
 
 main()

@@ -1,6 +1,6 @@
 //! The files of a session.
 
-use crate::texts::joined;
+use crate::texts::copy_of;
 use std::alloc::Global;
 use vcp_outside::MemFiles;
 
@@ -28,22 +28,22 @@ impl SessionFiles {
     }
 
     /// Sets the file of a name. Where there is no memory for it, it is lacking, and what it is wanted for comes otherwise.
-    pub fn put(&mut self, name: &str, text: Vec<u8>) {
+    pub fn set(&mut self, name: &str, text: Vec<u8>) {
         for file in self.files.iter_mut() {
             if file.name.as_slice() == name.as_bytes() {
                 file.text.clear();
             }
         }
-        let name = joined(self.alloc, &[name.as_bytes()]);
+        let name = copy_of(self.alloc, name.as_bytes());
         self.files.push(File { name, text }).ok();
     }
 
-    /// What the file of a name has; None where there is none.
-    pub fn text(&self, name: &str) -> Option<&[u8]> {
-        let mut text = None;
+    /// What the file of a name has; nothing where there is none.
+    pub fn text(&self, name: &str) -> &[u8] {
+        let mut text: &[u8] = b"";
         for file in &self.files {
             if file.name.as_slice() == name.as_bytes() {
-                text = Some(file.text.as_slice());
+                text = file.text.as_slice();
             }
         }
         text

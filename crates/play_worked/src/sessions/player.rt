@@ -1,307 +1,391 @@
 //! Playing a session.
 
-use crate::answers::answer_in;
-use crate::sessions::failing::{Counts, Failing, Outside};
+use crate::sessions::came::{Came, status_of, tell_difference};
 use crate::sessions::files::SessionFiles;
-use crate::sessions::program_call::{Called, Program, ProgramCall, Setting, Wanted};
-use crate::tally::Tally;
-use crate::texts::{Told, joined, put_repeated, spelled, word_off};
+use crate::sessions::setting::{Outside, Program, Setting, answer_in, fail};
+use crate::sessions::words::{STUDY_USAGE, USAGE};
+use crate::texts::{behind, copy_of, count, put, say, say_line, spelled, text_of, word, word_off};
+use coded_unit::BadUnit;
 use std::alloc::Global;
+use std::fmt::Write;
+use std::mem;
+use vcp_outside::MemSink;
 
 /// A session that is played.
-#[derive(Drop)]
-pub struct SessionPlayer {
+struct Session {
     alloc: Global,
-    tally: Tally,
+    /// The name of its file.
+    name: String,
+    /// The number of the line.
+    number: u32,
+    /// How many calls were made, and how many of them gave something else than the session says.
+    made: u32,
+    otherwise: u32,
+    /// What these gave, and each line that says nothing.
+    faults: String,
     files: SessionFiles,
     /// What the next call is made with.
     setting: Setting,
-    /// The calls of the last line of a call, until its end.
-    open: Vec<ProgramCall>,
+    /// The call whose end hasn't come, if one is open, and what it has to give so far. It is made at its end.
+    is_open: bool,
+    call: String,
+    /// The output, lines of texts that have to occur in it, each behind how often, and lines of calls of the unit.
+    output: Vec<u8>,
+    times: String,
+    asked: String,
 }
 
-impl SessionPlayer {
+impl Drop for Session {
+    fn drop(self) {
+        let Session {
+            alloc: _,
+            name: _,
+            number: _,
+            made: _,
+            otherwise: _,
+            faults: _,
+            files: _,
+            setting: _,
+            is_open: _,
+            call: _,
+            output: _,
+            times: _,
+            asked: _,
+        } = self;
+    }
+}
+
+/// Plays the session of a name, and tells how many calls it has, how many of them gave something else than it says, where some did or a line says
+/// nothing, and what these gave.
+pub fn play_session(alloc: Global, name: &str, text: &str, told: &mut String, faults: &mut String) {
+    let mut session = Session::new(alloc, name);
+    for line in text.lines() {
+        session.line(line);
+    }
+    if session.is_open {
+        session.note("no end of a call at the end of", name);
+    }
+    session.tell(told, faults);
+}
+
+impl Session {
     /// A session before its first line, which begins without files.
-    pub fn new(alloc: Global, name: &str) -> SessionPlayer {
-        SessionPlayer {
+    fn new(alloc: Global, name: &str) -> Session {
+        let mut copy = String::new(alloc);
+        say(&mut copy, name);
+        Session {
             alloc,
-            tally: Tally::new(alloc, name),
+            name: copy,
+            number: 0,
+            made: 0,
+            otherwise: 0,
+            faults: String::new(alloc),
             files: SessionFiles::new(alloc),
             setting: Setting::new(alloc),
-            open: Vec::new(alloc),
+            is_open: false,
+            call: String::new(alloc),
+            output: Vec::new(alloc),
+            times: String::new(alloc),
+            asked: String::new(alloc),
         }
     }
 
-    /// Plays the lines of a session to their end, and tells what came of them.
-    pub fn play(&mut self, session: &str, told: &mut Told, faults: &mut Told) {
-        for line in session.lines() {
-            self.tally.begin_line();
-            self.line(line);
+    /// Tells what came of it.
+    fn tell(&self, told: &mut String, faults: &mut String) {
+        let name = self.name.as_str();
+        let made = self.made;
+        let otherwise = self.otherwise;
+        if self.faults.is_empty() {
+            write!(told, "{name}: {made} calls\n").ok();
+        } else {
+            write!(told, "{name}: {otherwise} of {made} calls otherwise\n").ok();
         }
-        self.begin("the end of the text");
-        self.tally.tell(" calls", told, faults);
+        say(faults, &self.faults);
     }
 
-    /// Does what the next line says.
+    /// Notes what is said of a text in this line.
+    fn note(&mut self, said: &str, text: &str) {
+        let name = self.name.as_str();
+        let number = self.number;
+        write!(self.faults, "{name}, line {number}: {said} `{text}`\n").ok();
+    }
+
+    /// Does what the next line says. A line that sets something for a call, or begins one, has its place where none is open; each other where one is.
     fn line(&mut self, line: &str) {
+        self.number = self.number.saturating_add(1);
         let (mark, rest) = word_off(line);
-        match mark {
-            "#" => {}
-            "<" | "+" | "@" | "%" | "!" | "$" => {
-                self.begin(line);
-                self.before_a_call(mark, rest);
-            }
-            _ => self.after_a_call(line, mark, rest),
+        if mark == "#" {
+            return;
+        }
+        let is_before = mark.len() == 1 && "<+~@%!$".contains(mark);
+        if is_before == self.is_open {
+            self.note("not the place of", line);
+        } else if is_before {
+            self.before_a_call(mark, rest);
+        } else {
+            self.after_a_call(line, mark, rest);
         }
     }
 
-    /// Does what a line of this mark says, which wants something of the open calls, or is their end.
+    /// Does what a line of this mark says, which sets something for the next call, or begins it.
+    fn before_a_call(&mut self, mark: &str, rest: &str) {
+        let (first, more) = word_off(rest);
+        match mark {
+            "<" => self.files.set(first, spelled(self.alloc, more)),
+            "+" => self.add(first, more),
+            "~" => self.patch(first, more),
+            "@" => {
+                self.setting
+                    .answers
+                    .push((count(first), answer_in(more)))
+                    .ok();
+            }
+            "%" => self.set_room(rest),
+            "!" => self.fail(first, more),
+            _ => self.open(rest),
+        }
+    }
+
+    /// Does what a line of this mark says, which wants something of the open call, or is its end.
     fn after_a_call(&mut self, line: &str, mark: &str, rest: &str) {
         match mark {
-            "|" => self.want_line(line, &spelled(self.alloc, rest)),
-            "&" => self.want_file(line, rest),
-            "*" => self.want_times(line, rest),
-            "?" => self.want_of_unit(line, rest),
-            "=" => self.want_end(line, rest),
-            ">" => self.keep(line, rest),
-            _ => self.want_line(line, line.as_bytes()),
-        }
-    }
-
-    /// Notes what is said of this line.
-    fn note(&mut self, said: &str, line: &str) {
-        let number = self.tally.number;
-        self.tally.note(number, &[said, " `", line, "`"]);
-    }
-
-    /// The number that is written so; 0 where none is, which is noted.
-    fn number_in(&mut self, text: &str) -> u32 {
-        match text.parse() {
-            Ok(number) => number,
-            Err(_) => {
-                self.note("no number", text);
-                0
+            "|" => {
+                let text = spelled(self.alloc, rest);
+                self.want(&text);
             }
+            "&" => put(&mut self.output, self.files.text(rest)),
+            "*" => say_line(&mut self.times, rest),
+            "?" => say_line(&mut self.asked, rest),
+            "=" => self.end(line, rest),
+            ">" => self.keep(rest),
+            _ => self.want(line.as_bytes()),
         }
     }
 
-    /// Notes where a line that belongs to no call comes before the end of a call.
-    fn begin(&mut self, line: &str) {
-        if !self.open.is_empty() {
-            self.open.clear();
-            self.note("no end of a call before", line);
-        }
-    }
-
-    /// Does what a line of this mark says, which sets something for the next call, or is the call.
-    fn before_a_call(&mut self, mark: &str, rest: &str) {
-        let (first, behind) = word_off(rest);
-        match mark {
-            "<" => self.files.put(first, spelled(self.alloc, behind)),
-            "+" => self.add(first, behind),
-            "@" => self.replace(first, behind),
-            "%" => self.set_room(first, behind),
-            "!" => self.fail(first, behind),
-            _ => self.call_program(first, behind),
-        }
-    }
-
-    /// Sets the room for the output of the next call, and, where it is written, that for its errors.
-    fn set_room(&mut self, room: &str, error_room: &str) {
-        self.setting.room = self.number_in(room);
-        if !error_room.is_empty() {
-            self.setting.error_room = self.number_in(error_room);
-        }
+    /// Wants a line of the output.
+    fn want(&mut self, line: &[u8]) {
+        put(&mut self.output, line);
+        put(&mut self.output, b"\n");
     }
 
     /// Adds a text, which is spelled, so many times to the file of a name, or to none: `TIMES TEXT`.
     fn add(&mut self, name: &str, repeated: &str) {
-        let alloc = self.alloc;
         let (times, text) = word_off(repeated);
-        let times = self.number_in(times);
-        let mut whole = match self.files.text(name) {
-            Some(front) => joined(alloc, &[front]),
-            None => Vec::new(alloc),
-        };
-        put_repeated(&mut whole, &spelled(alloc, text), times);
-        self.files.put(name, whole);
+        let text = spelled(self.alloc, text);
+        let mut whole = copy_of(self.alloc, self.files.text(name));
+        for _i in 0..count(times) {
+            put(&mut whole, &text);
+        }
+        self.files.set(name, whole);
     }
 
-    /// Sets what the next call's unit answers to its call of a number.
-    fn replace(&mut self, number: &str, answer: &str) {
-        let number = self.number_in(number);
-        match answer_in(answer) {
-            Some(answer) => {
-                self.setting.answers.push((number, answer)).ok();
-            }
-            None => self.note("no answer", answer),
+    /// Makes a file of another with other bytes, which are spelled, from a place on: `OTHER PLACE BYTES`.
+    fn patch(&mut self, name: &str, patch: &str) {
+        let text = self.files.text(word(patch, 0));
+        let place = count(word(patch, 1)) as usize;
+        let bytes = spelled(self.alloc, behind(patch, 2));
+        let after = place.saturating_add(bytes.len());
+        let mut whole = copy_of(self.alloc, text.get(..place).unwrap_or(text));
+        put(&mut whole, &bytes);
+        put(&mut whole, text.get(after..).unwrap_or(b""));
+        self.files.set(name, whole);
+    }
+
+    /// Sets the room for the output of the next call, and, where they are written, that for its errors and that for the unit's calls.
+    fn set_room(&mut self, rooms: &str) {
+        self.setting.room = count(word(rooms, 0));
+        if !behind(rooms, 1).is_empty() {
+            self.setting.error_room = count(word(rooms, 1));
+        }
+        if !behind(rooms, 2).is_empty() {
+            self.setting.kept = count(word(rooms, 2));
         }
     }
 
     /// Has a call of the next call's objects fail, or `each`, with how many there are of each kind.
     fn fail(&mut self, which: &str, numbers: &str) {
-        let (first, rest) = word_off(numbers);
-        let number = self.number_in(first);
+        self.setting.number = count(word(numbers, 0));
         match which {
-            "files" => self.setting.failing = Some((Outside::Files, number)),
-            "output" => self.setting.failing = Some((Outside::Output, number)),
-            "errors" => self.setting.failing = Some((Outside::Errors, number)),
-            "each" => self.fail_each(number, rest),
-            _ => self.note("no object", which),
+            "files" => self.setting.outside = Outside::Files,
+            "output" => self.setting.outside = Outside::Output,
+            "errors" => self.setting.outside = Outside::Errors,
+            _ => {
+                self.setting.is_each = true;
+                self.setting.files = count(word(numbers, 0));
+                self.setting.output = count(word(numbers, 1));
+                self.setting.errors = count(word(numbers, 2));
+            }
         }
     }
 
-    /// Has each call of the next call's objects fail once, of which there are so many of files, and so many of output and of errors.
-    fn fail_each(&mut self, files: u32, numbers: &str) {
-        let (output, errors) = word_off(numbers);
-        self.setting.each = Some(Counts {
-            files,
-            output: self.number_in(output),
-            errors: self.number_in(errors),
-        });
-    }
-
-    /// Makes the calls of a program: the name of another than `vcp` stands before its commands.
-    fn call_program(&mut self, first: &str, behind: &str) {
-        let (commands, words) = word_off(behind);
-        match first {
-            "vcp_study" => self.call_each(Program::Study, commands, words),
-            "call" => self.call_each(Program::Single, commands, words),
-            _ => self.call_each(Program::Vcp, first, behind),
+    /// Begins a call, which is its end as well where its one line of output stands behind ` => `.
+    fn open(&mut self, line: &str) {
+        self.is_open = true;
+        let (call, output) = line.split_once(" => ").unwrap_or((line, ""));
+        say(&mut self.call, call);
+        if !output.is_empty() {
+            self.want(output.as_bytes());
+            self.make("= 0", "");
         }
     }
 
-    /// Makes a call for each of these commands, between which `,` stands.
-    fn call_each(&mut self, program: Program, commands: &str, behind: &str) {
+    /// The end of a call, with a status and a line of error, or the usage line.
+    fn end(&mut self, line: &str, rest: &str) {
+        if rest == "usage" {
+            let usage = if self.call.starts_with("vcp_study") {
+                STUDY_USAGE
+            } else {
+                USAGE
+            };
+            let mut end = String::new(self.alloc);
+            say(&mut end, "= 4 ");
+            say(&mut end, text_of(usage).trim_ascii_end());
+            self.make(&end, "");
+        } else {
+            self.make(line, "");
+        }
+    }
+
+    /// The end of a call whose output is the file of a name from now on, with the status that stands behind the name, or else 0.
+    fn keep(&mut self, rest: &str) {
+        let (name, status) = word_off(rest);
+        let mut end = String::new(self.alloc);
+        say(&mut end, "= ");
+        say(&mut end, if status.is_empty() { "0" } else { status });
+        self.make(&end, name);
+    }
+
+    /// Makes the open call, which ends so, and keeps its output as the file of a name where one is given. The name of another program than `vcp` stands
+    /// before its command.
+    fn make(&mut self, end: &str, kept: &str) {
+        let call = mem::replace(&mut self.call, String::new(self.alloc));
+        match word(&call, 0) {
+            "vcp_study" => self.make_each(Program::Study, behind(&call, 1), end, kept),
+            "call" => self.make_each(Program::Single, behind(&call, 1), end, kept),
+            _ => self.make_each(Program::Vcp, &call, end, kept),
+        }
+        self.is_open = false;
+        self.setting = Setting::new(self.alloc);
+        self.output.clear();
+        self.times.clear();
+        self.asked.clear();
+    }
+
+    /// Makes a call for each of the commands, between which `,` stands, with the words behind them.
+    fn make_each(&mut self, program: Program, words: &str, end: &str, kept: &str) {
+        let (commands, rest) = word_off(words);
         for command in commands.split(',') {
-            self.call(Called {
-                program,
-                command,
-                behind,
+            let mut call = String::new(self.alloc);
+            say(&mut call, command);
+            say(&mut call, " ");
+            say(&mut call, rest);
+            self.make_one(program, &call, end, kept);
+        }
+    }
+
+    /// Makes a call of these words, notes what came otherwise, and keeps its output as the file of a name where one is given.
+    fn make_one(&mut self, program: Program, words: &str, end: &str, kept: &str) {
+        self.made = self.made.saturating_add(1);
+        let mut told = String::new(self.alloc);
+        match self.came(program, words, self.setting.outside, self.setting.number) {
+            Some(came) => {
+                self.tell_otherwise(&came, end, kept, &mut told);
+                if self.setting.is_each {
+                    self.tell_broken(
+                        program,
+                        words,
+                        &came,
+                        Outside::Files,
+                        self.setting.files,
+                        &mut told,
+                    );
+                    self.tell_broken(
+                        program,
+                        words,
+                        &came,
+                        Outside::Output,
+                        self.setting.output,
+                        &mut told,
+                    );
+                    self.tell_broken(
+                        program,
+                        words,
+                        &came,
+                        Outside::Errors,
+                        self.setting.errors,
+                        &mut told,
+                    );
+                }
+                if !kept.is_empty() {
+                    self.files.set(kept, copy_of(self.alloc, came.out.bytes()));
+                }
+            }
+            None => say(&mut told, "no memory for "),
+        }
+        if !told.is_empty() {
+            self.otherwise = self.otherwise.saturating_add(1);
+            self.note(told.trim_ascii_end(), words);
+        }
+    }
+
+    /// Tells what of a call is otherwise than it has to be; where its output is kept, whatever that is.
+    fn tell_otherwise(&self, came: &Came, end: &str, kept: &str, told: &mut String) {
+        came.tell_calls(self.alloc, &self.asked, told);
+        came.tell_times(self.alloc, &self.times, told);
+        if kept.is_empty() {
+            tell_difference(came.out.bytes(), &self.output, told);
+        }
+        let mut ended = String::new(self.alloc);
+        came.tell_end(self.setting.error_room, &mut ended);
+        tell_difference(ended.as_bytes(), end.as_bytes(), told);
+    }
+
+    /// What comes of a call of these words in which the call of a number of an object fails. Nothing where there is no memory for it.
+    fn came(&self, program: Program, words: &str, outside: Outside, number: u32) -> Option<Came> {
+        let setting = &self.setting;
+        if let Ok(mut out) = MemSink::new(self.alloc, setting.room)
+            && let Ok(mut err) = MemSink::new(self.alloc, setting.error_room)
+            && let Ok(mut unit) = BadUnit::new(self.alloc, setting.kept)
+        {
+            let mut files = self.files.in_memory();
+            setting.replace(&mut unit);
+            fail(outside, number, &mut files, &mut out, &mut err).ok();
+            let status = status_of(
+                self.alloc, program, words, &mut files, &mut unit, &mut out, &mut err,
+            );
+            return Some(Came {
+                status,
+                out,
+                err,
+                unit,
             });
         }
-        self.setting = Setting::new(self.alloc);
+        None
     }
 
-    /// Makes a call.
-    fn call(&mut self, called: Called<'_>) {
-        self.tally.count();
-        match ProgramCall::new(self.alloc, &self.files, &self.setting, called) {
-            Some(made) => {
-                if let Some(counts) = self.setting.each {
-                    self.break_each(called, &made, counts);
+    /// Makes a call once for each call of an object, which is made to fail, and once where none does. Tells what came otherwise: a call that failed and
+    /// did not end as it has to, or another number of calls than is wanted: those of the numbers below that fail, and that of this number isn't made.
+    fn tell_broken(
+        &self,
+        program: Program,
+        words: &str,
+        whole: &Came,
+        outside: Outside,
+        wanted: u32,
+        told: &mut String,
+    ) {
+        for number in 0..=wanted {
+            let failed = if number < wanted {
+                outside
+            } else {
+                Outside::Nothing
+            };
+            match self.came(program, words, outside, number) {
+                Some(came) if came.is_broken_of(whole, failed) => {}
+                _ => {
+                    write!(told, "otherwise where call {number} of a kind fails, in ").ok();
                 }
-                self.open.push(made).ok();
             }
-            None => self.tally.lack_memory(),
         }
-    }
-
-    /// Makes a call once more for each call of its objects, which fails, and notes what came otherwise.
-    fn break_each(&mut self, called: Called<'_>, made: &ProgramCall, counts: Counts) {
-        let mut otherwise = Told::new(self.alloc);
-        let failing = Failing {
-            alloc: self.alloc,
-            files: &self.files,
-            called,
-            whole: made,
-        };
-        failing.tell_otherwise(&mut self.setting, counts, &mut otherwise);
-        self.setting.failing = None;
-        if !otherwise.as_str().is_empty() {
-            self.tally.count_otherwise();
-            self.note(otherwise.as_str(), called.command);
-        }
-    }
-
-    /// Notes what came of the open calls where it is not what a line wants.
-    fn want(&mut self, line: &str, wanted: Wanted<'_>) {
-        if self.open.is_empty() {
-            return self.note("no call before", line);
-        }
-        for i in 0..self.open.len() {
-            self.want_of(i, line, wanted);
-        }
-    }
-
-    /// Notes what came of the open call of a number where it is not what a line wants.
-    fn want_of(&mut self, i: usize, line: &str, wanted: Wanted<'_>) {
-        let mut came = Told::new(self.alloc);
-        if let Some(made) = self.open.get_mut(i) {
-            made.want(self.alloc, wanted, &mut came);
-        }
-        if !came.as_str().is_empty() {
-            self.note_otherwise(line, came.as_str());
-        }
-    }
-
-    /// Notes what came in the place of what a line wants.
-    fn note_otherwise(&mut self, line: &str, came: &str) {
-        let number = self.tally.number;
-        self.tally.count_otherwise();
-        self.tally
-            .note(number, &["wanted `", line, "`, came `", came, "`"]);
-    }
-
-    /// Wants all bytes of the file of a name.
-    fn want_file(&mut self, line: &str, name: &str) {
-        match self.files.text(name) {
-            Some(text) => {
-                let text = joined(self.alloc, &[text]);
-                self.want(line, Wanted::Bytes(&text));
-            }
-            None => self.note("no file for", line),
-        }
-    }
-
-    /// Wants a line of the output.
-    fn want_line(&mut self, line: &str, text: &[u8]) {
-        let text = joined(self.alloc, &[text, b"\n"]);
-        self.want(line, Wanted::Bytes(&text));
-    }
-
-    /// Wants a text, which is spelled, so many times in the whole output: `TIMES TEXT`.
-    fn want_times(&mut self, line: &str, repeated: &str) {
-        let (times, part) = word_off(repeated);
-        let times = self.number_in(times);
-        let part = spelled(self.alloc, part);
-        self.want(line, Wanted::Times(times, &part));
-    }
-
-    /// Wants a call of the unit, or how many of its answers were wrong.
-    fn want_of_unit(&mut self, line: &str, rest: &str) {
-        let (first, number) = word_off(rest);
-        if first == "wrong" {
-            let number = self.number_in(number);
-            self.want(line, Wanted::Wrong(number));
-        } else {
-            self.want(line, Wanted::Asked(rest));
-        }
-    }
-
-    /// Wants the end of the open calls: a status and a line of error, or the usage line.
-    fn want_end(&mut self, line: &str, rest: &str) {
-        if rest == "usage" {
-            self.want(line, Wanted::Usage);
-        } else {
-            let (status, error) = word_off(rest);
-            let status = self.number_in(status);
-            self.want(line, Wanted::End(status, error.as_bytes()));
-        }
-        self.open.clear();
-    }
-
-    /// Makes the output of the open call a file, which is its end, with the status that stands behind the file's name, or else 0.
-    fn keep(&mut self, line: &str, rest: &str) {
-        let alloc = self.alloc;
-        let (name, status) = word_off(rest);
-        let status = if status.is_empty() { "0" } else { status };
-        let status = self.number_in(status);
-        self.want(line, Wanted::Kept(status));
-        if let Some(made) = self.open.first() {
-            let text = made.output(alloc);
-            self.files.put(name, text);
-        }
-        self.open.clear();
     }
 }

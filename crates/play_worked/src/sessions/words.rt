@@ -16,20 +16,14 @@ pub const STUDY_USAGE: &[u8] =
       sites M ROWS late, sites M ROWS late FROM COUNT, sites M ROWS late --count, sum M SCRIPT VERDICTS .., \
       sum M SCRIPT VERDICTS .. ROWS, faults M SCRIPT VERDICTS, script M NAMED, image P CODE or text P\n";
 
-/// Adds a word, which is empty where it is written `''`; nothing where it isn't written at all.
-fn add_word(words: &mut Words, word: &str) {
-    if !word.is_empty() {
-        let word = if word == "''" { "" } else { word };
-        words.push(word.as_bytes()).ok();
-    }
-}
-
-/// A command and these words behind it, with a blank between them; `''` is an empty word.
-pub fn words_of(alloc: Global, command: &str, behind: &str) -> Words {
+/// The words of a text, with a blank between them; `''` is an empty word.
+pub fn words_of(alloc: Global, text: &str) -> Words {
     let mut words = Words::new(alloc);
-    add_word(&mut words, command);
-    for word in behind.split(' ') {
-        add_word(&mut words, word);
+    for word in text.split(' ') {
+        if !word.is_empty() {
+            let word = if word == "''" { "" } else { word };
+            words.push(word.as_bytes()).ok();
+        }
     }
     words
 }

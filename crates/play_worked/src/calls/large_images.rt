@@ -1,0 +1,66 @@
+//! Images that are too large to be written out.
+
+use crate::texts::{count, put, spelled};
+use signature_table::signature_of;
+use std::alloc::Global;
+use vcp_base::Profile;
+
+/// The first 16 bytes of images with the seed 0 and the step 1.
+fn begun(alloc: Global) -> Vec<u8> {
+    spelled(alloc, r"VCPANBD\n\h00010001 00000000")
+}
+
+/// One of 16 letters.
+fn letter(n: u32) -> u8 {
+    b'a' + (n % 16) as u8
+}
+
+/// An image of so many names of 2,000 bytes, which differ in their last three alone, up to 4,096.
+pub fn long_names(alloc: Global, number: &str) -> Vec<u8> {
+    let count = count(number);
+    let mut bytes = begun(alloc);
+    put(&mut bytes, &count.to_be_bytes());
+    put(&mut bytes, &[0; 20]);
+    for n in 0..count {
+        put(&mut bytes, &2000u32.to_be_bytes());
+        put(&mut bytes, &[b'a'; 1997]);
+        put(&mut bytes, &[letter(n), letter(n / 16), letter(n / 256)]);
+    }
+    bytes
+}
+
+/// A turn node in the one before, with its number.
+fn put_turn(bytes: &mut Vec<u8>, i: u32) {
+    put(bytes, &i.to_be_bytes());
+    put(bytes, &[0; 8]);
+    put(bytes, &i.to_be_bytes());
+}
+
+/// An operation CONST 0 of DINT in the turn node of its number.
+fn put_constant(bytes: &mut Vec<u8>, i: u32) {
+    let correction = (signature_of(Profile::Narrow, 0, i) & 4294967295) as u32;
+    put(bytes, &[1, 2, 2]);
+    put(bytes, &[0; 28]);
+    put(bytes, &i.saturating_add(1).to_be_bytes());
+    put(bytes, &correction.to_be_bytes());
+}
+
+/// An image of so many turn nodes, each in the one before and with its number from 0, and so many operations CONST 0, each in its node.
+pub fn chain(alloc: Global, number: &str) -> Vec<u8> {
+    let count = count(number);
+    let mut bytes = begun(alloc);
+    put(
+        &mut bytes,
+        &[0, 0, 0, 1, 0, 0, 0, 0, 0, 0, 0, 0, 0, 0, 0, 0],
+    );
+    put(&mut bytes, &count.to_be_bytes());
+    put(&mut bytes, &count.to_be_bytes());
+    put(&mut bytes, b"\0\0\0\x01x");
+    for i in 0..count {
+        put_turn(&mut bytes, i);
+    }
+    for i in 0..count {
+        put_constant(&mut bytes, i);
+    }
+    bytes
+}

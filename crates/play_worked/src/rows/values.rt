@@ -1,5 +1,0 @@
-//! Calls on types, kinds and numbers, on words, and on units.
-
-pub mod tables;
-pub mod units;
-pub mod words;
