@@ -1,14 +1,12 @@
 //! Where the faults of a class at an operation stand: in rows, mostly one for each operand, and columns, one for each value.
 
 ghost use Rattle.std.specs.Option.{option_to_list};
-ghost use Rattle.std.specs.Prelude.{◌≡◌, ◌<◌, ◌≤◌, ◌+◌, ◌^◌, ◌-◌, cond, Some, length, map, slice_get};
+ghost use Rattle.std.specs.Prelude.{◌≡◌, ◌<◌, ◌≤◌, ◌+◌, ◌^◌, ◌-◌, cond, length, map, slice_get};
 ghost use Rattle.op_graph.specs.Rules.{is_out as is_out_of};
 ghost use Rattle.fault_cover.specs.Candidates.{addition as addition_of, candidate as candidate_of, columns as columns_of, rows as rows_of};
 ghost use Rattle.fault_cover.specs.Classes.{late_one};
-ghost use Rattle.fault_cover.specs.Sited.{IsSited};
 ghost use Rattle.fault_cover.specs.Sources.{readings};
 ghost use Rattle.fault_cover.specs.Surveys.{IsMapped};
-ghost use Rattle.fault_cover.specs.declared.disturbance.Disturbance.{Disturbance as Amiss};
 ghost use Rattle.fault_cover.specs.declared.disturbance.Disturbance.TheVariants as disturbance;
 
 use crate::class::CoverClass;
@@ -109,8 +107,7 @@ pub(crate) fn candidate(
     requires there { k < length graph.now.operations }
     requires column { i < columns_of class graph.now k op.now }
     requires fits { i + 1 < 2 ^ 32 }
-    ensures is { candidate_of class graph.now k op.now j i ≡ option_to_list result }
-    ensures stands { (d : Amiss) → result ≡ Some d → IsSited graph.now k d }
+    ensures { candidate_of class graph.now k op.now j i ≡ option_to_list result }
 {
     match class {
         CoverClass::Add => Some(addition(j)),
