@@ -9,3 +9,5 @@ mod Outcomes
 mod Putting
 mod Steps
 mod ValueBounds
+mod Records
+mod Worked

@@ -1,3 +1,4 @@
 pub mod Intervals
 pub mod Known
 pub mod Walking
+pub mod RangeTable

@@ -1,9 +1,10 @@
 //! The ranges of the values that the operations of a cycle have, where each cell is in a range.
 //!
 //! A walk over the operations, in their order, tells the range of each from those of its operands, and why it may stop. The ranges are
-//! made narrower by one another: what an operation gives says what it read.
+//! made narrower by one another: what an operation gives says what it read. A table may say between which ends inputs are (`assumed`).
 #![tactic(auto)]
 
+mod assumed;
 mod choices;
 mod inputs;
 mod narrowing;
@@ -16,6 +17,7 @@ mod typed;
 mod values;
 mod walking;
 
+pub use assumed::ranges_of_table;
 pub use narrowing::{count_of, first_ranges, narrow, put};
 pub use range::{Range, Stops, both_hold, earlier_range, either_holds, range_at};
 pub use ranges::Ranges;

@@ -19,7 +19,7 @@ use Rattle.verdict_tables.specs.declared.parts.Part.{Part}
 use Rattle.verdict_tables.specs.Reading.{verdicts_in}
 use Rattle.verdict_tables.specs.Remark.{is_for}
 use Rattle.range_walk.specs.declared.range.Range.{Range}
-use Rattle.input_ranges.specs.RangeTable.{ranges_of_table}
+use Rattle.range_walk.specs.RangeTable.{ranges_of_table}
 use Rattle.vcp_inputs.specs.Forms.{Rows}
 use Rattle.vcp_inputs.specs.Tables.{rows_name}
 use Rattle.vcp_inputs.specs.declared.images.Image.{Image}

@@ -16,14 +16,13 @@ ghost use Rattle.vcp_study_core.specs.declared.fault.Fault.TheVariants as fault;
 
 use crate::fault::{Fault, told};
 use crate::loading::bytes_under;
-use input_ranges::ranges_of_table;
 use input_rows::RowFault;
 use op_graph::Graph;
 use range_audit::{
     all_rows_are_in_no_ranges, count_named, ranges_within, what_names_nothing_never_stops_within,
     write_ranges as write_ranges_text,
 };
-use range_walk::{Range, Ranges};
+use range_walk::{Range, Ranges, ranges_of_table};
 use std::alloc::Global;
 use vcp_base::{Columns, MOST_SOURCE_BYTES, Text};
 use vcp_inputs::{Image, NoInput, Refusal, graph_columns};

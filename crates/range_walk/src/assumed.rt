@@ -1,5 +1,4 @@
 //! The ranges in which inputs are assumed to be: a table with a record for each input of which it tells one.
-#![tactic(auto)]
 
 mod cells;
 mod so_far;

@@ -4,11 +4,11 @@ ghost use Rattle.std.specs.Prelude.{◌≡◌};
 ghost use Rattle.std.specs.Option.{option_map};
 ghost use Rattle.csv.specs.Records.{fields_of};
 ghost use Rattle.vcp_base.specs.Words.{words, only};
-ghost use Rattle.input_ranges.specs.RangeTable.{cells_of, is_same_word, is_head as is_head_of, end_of as end_in, range_between as between};
+ghost use Rattle.range_walk.specs.RangeTable.{cells_of, is_same_word, is_head as is_head_of, end_of as end_in, range_between as between};
 
+use crate::Range;
 use csv::ByteRecord;
 use input_rows::{RowFault, field};
-use range_walk::Range;
 use std::marker::Model;
 use vcp_base::{Ty, WordsLeft, is_same_name, number_in};
 
@@ -21,7 +21,7 @@ pub(crate) struct Cells<'a> {
 }
 
 impl<'a> Model for Cells<'a> {
-    ghost use Rattle.input_ranges.specs.RangeTable.{RangeCells};
+    ghost use Rattle.range_walk.specs.RangeTable.{RangeCells};
 
     ghost Value = { RangeCells };
 

@@ -2,13 +2,13 @@
 
 ghost use Rattle.std.specs.Prelude.{◌≡◌, ◌<◌, length, slice_get, slice_set, IfOk, IfSome, false};
 ghost use Rattle.csv.specs.Records.{fields_of};
-ghost use Rattle.input_ranges.specs.RangeTable.{at_first, cells_of, is_free_named as is_free_named_of, place_below, place_of as place_in};
-ghost use Rattle.input_ranges.specs.RangeTable.{range_of_type as range_of, with_place as with_place_of, with_cells as with_cells_of};
+ghost use Rattle.range_walk.specs.RangeTable.{at_first, cells_of, is_free_named as is_free_named_of, place_below, place_of as place_in};
+ghost use Rattle.range_walk.specs.RangeTable.{range_of_type as range_of, with_place as with_place_of, with_cells as with_cells_of};
 
-use crate::cells::{Cells, three_cells, word_of};
+use crate::Range;
+use crate::assumed::cells::{Cells, three_cells, word_of};
 use csv::ByteRecord;
 use input_rows::RowFault;
-use range_walk::Range;
 use std::alloc::Global;
 use std::marker::Model;
 use vcp_base::{Columns, Memory, Ty, greatest, is_same_name, least};
@@ -20,7 +20,7 @@ pub(crate) struct SoFar {
 }
 
 impl Model for SoFar {
-    ghost use Rattle.input_ranges.specs.RangeTable.{RangesSoFar};
+    ghost use Rattle.range_walk.specs.RangeTable.{RangesSoFar};
 
     ghost Value = { RangesSoFar };
 

@@ -3,13 +3,13 @@
 ghost use Rattle.std.specs.Prelude.{◌≡◌, ◌≢◌, ◌≤◌, Ok, Err, length, IfOk, IfErr, IfSome};
 ghost use Rattle.csv.specs.Records.{fields_of};
 ghost use Rattle.vcp_base.specs.Limits.{most_names};
-ghost use Rattle.input_ranges.specs.RangeTable.{at_first, cells_of, is_head as is_head_of, ranges_from, ranges_of_table as ranges_of};
+ghost use Rattle.range_walk.specs.RangeTable.{at_first, cells_of, is_head as is_head_of, ranges_from, ranges_of_table as ranges_of};
 
-use crate::cells::three_cells;
-use crate::so_far::SoFar;
+use crate::Range;
+use crate::assumed::cells::three_cells;
+use crate::assumed::so_far::SoFar;
 use csv::ByteRecord;
 use input_rows::{Records, RowFault};
-use range_walk::Range;
 use std::alloc::Global;
 use vcp_base::Columns;
 

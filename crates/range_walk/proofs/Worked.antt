@@ -5,7 +5,7 @@ use Rattle.vcp_base.specs.declared.columns.Column.{Column}
 use Rattle.input_rows.specs.declared.fault.RowFault.{RowFault}
 use Rattle.input_rows.specs.declared.fault.RowFault.TheVariants as fault
 use Rattle.range_walk.specs.declared.range.Range.{Range}
-use Rattle.input_ranges.specs.RangeTable.{ranges_of_records}
+use Rattle.range_walk.specs.RangeTable.{ranges_of_records}
 
 -- an INT and a BOOL
 abbrev inputs : List Column

@@ -7,7 +7,7 @@ use Rattle.input_rows.specs.declared.fault.RowFault.{RowFault}
 use Rattle.input_rows.specs.declared.fault.RowFault.TheVariants as fault
 use Rattle.range_walk.specs.declared.range.Range.{Range}
 use Rattle.input_rows.specs.RecordsLeft.{Takes}
-use Rattle.input_ranges.specs.RangeTable.{cells_of, RangesSoFar, with_cells, after_record, ranges_from}
+use Rattle.range_walk.specs.RangeTable.{cells_of, RangesSoFar, with_cells, after_record, ranges_from}
 
 -- ---- lists
 

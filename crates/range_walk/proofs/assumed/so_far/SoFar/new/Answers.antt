@@ -1,9 +1,9 @@
 use Rattle.std.proofs.Common.{◌≡◌, ◌+◌, ◌∷◌, [], ◌++◌, map, drop, ap, sym, subst, ◌∙◌}
 use Rattle.vcp_base.specs.declared.columns.Column.{Column}
 use Rattle.range_walk.specs.declared.range.Range.{Range}
-use Rattle.input_ranges.specs.RangeTable.{range_of_type}
-use Rattle.input_ranges.proofs.Records.{one_more}
-use Rattle.input_ranges.proofs.so_far.SoFar.new.Goals as goal
+use Rattle.range_walk.specs.RangeTable.{range_of_type}
+use Rattle.range_walk.proofs.Records.{one_more}
+use Rattle.range_walk.proofs.assumed.so_far.SoFar.new.Goals as goal
 
 pub columns-preserved : goal.columns-preserved
 columns-preserved c =

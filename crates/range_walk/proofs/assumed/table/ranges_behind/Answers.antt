@@ -1,9 +1,9 @@
 use Rattle.std.proofs.Common.{◌≡◌, ◌<◌, ◌≤◌, length, true, false, sym, subst, rules, arith}
 use Rattle.csv.specs.Records.{fields_of}
 use Rattle.input_rows.specs.RecordsLeft.{Takes}
-use Rattle.input_ranges.specs.RangeTable.{at_first}
-use Rattle.input_ranges.proofs.Records.{left_next, ends, refused, too_many}
-use Rattle.input_ranges.proofs.table.ranges_behind.Goals as goal
+use Rattle.range_walk.specs.RangeTable.{at_first}
+use Rattle.range_walk.proofs.Records.{left_next, ends, refused, too_many}
+use Rattle.range_walk.proofs.assumed.table.ranges_behind.Goals as goal
 
 pub returns-then-not-found-clause-ranges : goal.returns-then-not-found-clause-ranges
 returns-then-not-found-clause-ranges c =

@@ -1,7 +1,7 @@
 use Rattle.std.proofs.Common.{◌≡◌, ◌<◌, length}
 use Rattle.std.specs.Prelude.{IfSome}
-use Rattle.input_ranges.specs.RangeTable.{place_below}
-use Rattle.input_ranges.proofs.so_far.place_named.Given as goal
+use Rattle.range_walk.specs.RangeTable.{place_below}
+use Rattle.range_walk.proofs.assumed.so_far.place_named.Given as goal
 
 abbrev pub invariant-columns : goal.invariant-columns
 invariant-columns l = record {
