@@ -6,7 +6,8 @@ ghost use Rattle.std.specs.Prelude.{◌≡◌, ◌<◌, ◌++◌, length, slice_
 ghost use Rattle.vcp_outside.specs.Written.{WritesTo};
 ghost use Rattle.fault_injector.specs.Names.{Names};
 ghost use Rattle.vcp_outside.specs.Gathering.{GathersTo};
-ghost use Rattle.fault_injector.specs.FaultLines.{wrong_text, ran_on_text, stopped_at, stopped_text, what_shows, verdict_text, faults as faults_of, counted, no_verdicts, totals_front, totals_text};
+ghost use Rattle.fault_injector.specs.FaultLines.{wrong_text, ran_on_text, stopped_at, stopped_text, what_shows, verdict_text, faults as faults_of};
+ghost use Rattle.fault_injector.specs.FaultLines.{counted, no_verdicts, totals_front, totals_text};
 
 use crate::Verdict;
 use op_graph::Graph;

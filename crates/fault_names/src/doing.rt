@@ -2,7 +2,8 @@
 
 ghost use Rattle.std.specs.Prelude.{◌≡◌, ◌<◌, IfOk, length};
 ghost use Rattle.vcp_base.specs.Words.{words as words_of};
-ghost use Rattle.fault_names.specs.Lines.{with_rest, of_kind as of_kind_of, place_at as place_at_of, place_of, operand_of, target_of, add_of, as_of, read_of, operator_of, doing_of};
+ghost use Rattle.fault_names.specs.Lines.{with_rest, of_kind as of_kind_of, place_at as place_at_of, place_of, operand_of, target_of, add_of, as_of};
+ghost use Rattle.fault_names.specs.Lines.{read_of, operator_of, doing_of};
 
 use crate::cutting::is;
 use crate::operations::operation_named;

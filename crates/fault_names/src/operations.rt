@@ -1,7 +1,9 @@
 //! Which operation a name names.
 
 ghost use Rattle.std.specs.Prelude.{◌≡◌, ◌<◌, ℕ, List, IfOk, length};
-ghost use Rattle.fault_names.specs.Operations.{is_kind as is_kind_of, may_be_alone as may_be_alone_of, is_variable as is_variable_of, is_at as is_at_of, is_named as is_named_of, found_of, found_next, the_one as the_one_of, operation_named as operation_named_of};
+ghost use Rattle.fault_names.specs.Operations.{is_kind as is_kind_of, may_be_alone as may_be_alone_of, is_variable as is_variable_of, is_at as is_at_of};
+ghost use Rattle.fault_names.specs.Operations.{is_named as is_named_of, found_of, found_next, the_one as the_one_of};
+ghost use Rattle.fault_names.specs.Operations.{operation_named as operation_named_of};
 ghost use Rattle.fault_names.specs.Words.{spot_of};
 
 use crate::cutting::spot;

@@ -4,7 +4,8 @@ ghost use Rattle.std.specs.Prelude.{◌≡◌, ◌<◌, length, slice_get};
 ghost use Rattle.std.specs.Option.{option_to_list};
 ghost use Rattle.vcp_base.specs.Spellings.{kinds};
 ghost use Rattle.op_graph.specs.Reads.{named as named_of};
-ghost use Rattle.fault_sites.specs.Sites.{reads as reads_of, may_replace as may_replace_of, from_one, may_stand as may_stand_of, operator_one, has_acts as has_acts_of};
+ghost use Rattle.fault_sites.specs.Sites.{reads as reads_of, may_replace as may_replace_of, from_one, may_stand as may_stand_of, operator_one};
+ghost use Rattle.fault_sites.specs.Sites.{has_acts as has_acts_of};
 
 use crate::class::Class;
 use fault_script::Act;

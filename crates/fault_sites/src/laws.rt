@@ -1,6 +1,7 @@
 //! Laws of sites. Each function does nothing: it states a law.
 
-ghost use Rattle.fault_sites.specs.Laws.{EachFits, EachFlipOnce, EachOnce, EachReading, EachRunSiteFits, EachRunSiteOnce, IsLineRead, IsReadBack, IsShort, PartsAreWhole, RunIsReadBack, RunIsShort, TurnsOneBit};
+ghost use Rattle.fault_sites.specs.Laws.{EachFits, EachFlipOnce, EachOnce, EachReading, EachRunSiteFits, EachRunSiteOnce, IsLineRead, IsReadBack, IsShort};
+ghost use Rattle.fault_sites.specs.Laws.{PartsAreWhole, RunIsReadBack, RunIsShort, TurnsOneBit};
 ghost use Rattle.fault_sites.specs.Members.{HasEach};
 
 use coded_unit::words_split_in_one_way;

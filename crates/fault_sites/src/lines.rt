@@ -2,7 +2,8 @@
 
 ghost use Rattle.std.specs.Prelude.{◌≡◌, ◌++◌, bytes_eq, codes, decimal};
 ghost use Rattle.vcp_outside.specs.Gathering.{GathersTo};
-ghost use Rattle.fault_sites.specs.SiteText.{class_name as class_name_of, classes_name as classes_name_of, classes_of, verb as verb_of, rest as rest_of, site_line};
+ghost use Rattle.fault_sites.specs.SiteText.{class_name as class_name_of, classes_name as classes_name_of, classes_of, verb as verb_of, rest as rest_of};
+ghost use Rattle.fault_sites.specs.SiteText.{site_line};
 
 use crate::class::{Class, Classes};
 use crate::site::Site;

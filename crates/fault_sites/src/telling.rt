@@ -2,7 +2,8 @@
 
 ghost use Rattle.std.specs.Prelude.{◌≡◌, ◌<◌, ◌≤◌, ◌∷◌, [], Some, length, slice_get};
 ghost use Rattle.std.specs.Option.{option_to_list};
-ghost use Rattle.fault_sites.specs.Sites.{acts_of, bits as bits_of, bits_at, each_below, from as from_of_op, operator as operator_of_op, sited, sites_at, sites_in, stale as stale_of, from_one};
+ghost use Rattle.fault_sites.specs.Sites.{acts_of, bits as bits_of, bits_at, each_below, from as from_of_op, operator as operator_of_op, sited, sites_at};
+ghost use Rattle.fault_sites.specs.Sites.{sites_in, stale as stale_of, from_one};
 ghost use Rattle.fault_sites.specs.Telling.{Tells};
 
 use crate::acts::{KINDS, from_of, has_acts, operator_of};

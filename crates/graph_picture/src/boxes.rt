@@ -5,7 +5,8 @@ ghost use Rattle.vcp_outside.specs.Gathering.{GathersTo};
 ghost use Rattle.vcp_outside.specs.Characters.{piece_bytes};
 ghost use Rattle.vcp_outside.specs.Elements.{element_text};
 ghost use Rattle.graph_picture.specs.Drawn.{box_of, boxes_below};
-ghost use Rattle.graph_picture.specs.Elements.{colour_class as colour_class_of, worst_class as worst_class_of, class_of, outline, words, head, own, source, blindness, note, bar, cell_bar, body_elements, box_elements};
+ghost use Rattle.graph_picture.specs.Elements.{colour_class as colour_class_of, worst_class as worst_class_of, class_of, outline, words, head, own};
+ghost use Rattle.graph_picture.specs.Elements.{source, blindness, note, bar, cell_bar, body_elements, box_elements};
 
 use crate::colours::Colour;
 use crate::constants::then_constant_at;

@@ -2,7 +2,8 @@
 
 ghost use Rattle.std.specs.Prelude.{◌≡◌, ◌<◌, ◌≤◌, ◌^◌, max, cond, ℕ, false, length, slice_get, slice_index_or, IfOk};
 ghost use Rattle.graph_picture.specs.Constants.{is_constant as is_constant_of};
-ghost use Rattle.graph_picture.specs.Depths.{one_deeper, depth_of, depths_of as depths_of_all, AreBelowTheirNumber, deepest as deepest_of, column_of as column_by};
+ghost use Rattle.graph_picture.specs.Depths.{one_deeper, depth_of, depths_of as depths_of_all, AreBelowTheirNumber, deepest as deepest_of};
+ghost use Rattle.graph_picture.specs.Depths.{column_of as column_by};
 
 use op_graph::{Graph, Op, reads_operation};
 use std::alloc::Global;

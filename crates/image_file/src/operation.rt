@@ -2,7 +2,8 @@
 
 ghost use Rattle.std.specs.Prelude.{◌≡◌, ◌≤◌, ◌==◌, length, unsigned_abs};
 ghost use Rattle.vcp_base.specs.Limits.{most_step, most_operations};
-ghost use Rattle.op_graph.specs.Rules.{entry_of as entry_of_place, kind_fits as kind_fits_of, from_fits as from_fits_of, ty_fits as ty_fits_of, operand_fits as operand_fits_of, reads_as as reads_as_of, imm_fits as imm_fits_of, turn_fits as turn_fits_of};
+ghost use Rattle.op_graph.specs.Rules.{entry_of as entry_of_place, kind_fits as kind_fits_of, from_fits as from_fits_of, ty_fits as ty_fits_of};
+ghost use Rattle.op_graph.specs.Rules.{operand_fits as operand_fits_of, reads_as as reads_as_of, imm_fits as imm_fits_of, turn_fits as turn_fits_of};
 ghost use Rattle.signature_table.specs.Signatures.{store_of as store_of_cell};
 ghost use Rattle.image_file.specs.declared.fields.fault.FieldFault.TheVariants as fault;
 ghost use Rattle.image_file.specs.Pieces.{Gives, GivesExactly, listed};

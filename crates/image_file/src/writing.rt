@@ -9,7 +9,8 @@ ghost use Rattle.vcp_base.specs.Limits.{most_name_bytes};
 ghost use Rattle.image_file.specs.Pieces.{entries};
 ghost use Rattle.image_file.specs.Codes.{version_code};
 ghost use Rattle.image_file.specs.Views.{head as head_view};
-ghost use Rattle.image_file.specs.Written.{Writes, AddsInput, AddsOutput, AddsCell, AddsTurn, AddsOp, AddsInputs, AddsOutputs, AddsCells, AddsTurns, AddsOperations};
+ghost use Rattle.image_file.specs.Written.{Writes, AddsInput, AddsOutput, AddsCell, AddsTurn, AddsOp, AddsInputs, AddsOutputs, AddsCells, AddsTurns};
+ghost use Rattle.image_file.specs.Written.{AddsOperations};
 ghost use Rattle.image_file.specs.Entries.{name_piece};
 ghost use Rattle.image_file.specs.Image.{image_of, counts_piece, head_piece, head_of, parts_of};
 

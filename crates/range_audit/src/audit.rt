@@ -1,7 +1,8 @@
 //! What is found of all operations of a graph, in all runs.
 
 ghost use Rattle.std.specs.Prelude.{◌≡◌, length, IfOk};
-ghost use Rattle.range_audit.specs.Audit.{Holds, NamesStops, EndsNamed, named_below, NeverStops, HoldsWithin, NamesStopsWithin, EndsNamedWithin, NeverStopsWithin};
+ghost use Rattle.range_audit.specs.Audit.{Holds, NamesStops, EndsNamed, named_below, NeverStops, HoldsWithin, NamesStopsWithin, EndsNamedWithin};
+ghost use Rattle.range_audit.specs.Audit.{NeverStopsWithin};
 ghost use Rattle.range_walk.specs.Known.{NamesAble, LieInTypes};
 ghost use Rattle.range_audit.specs.Searching.{IsSound};
 

@@ -1,6 +1,7 @@
 //! Bounds of the values of each kind, where the operands are in ranges.
 
-ghost use Rattle.std.specs.Prelude.{FitsSigned, ◌≡◌, ◌≢◌, ℤ, Bool, true, false, not, ◌&&◌, ◌||◌, cond, pos, negsuc, ◌≤ℤ◌, ◌+ℤ◌, ◌-ℤ◌, ◌*ℤ◌, neg_ℤ, int_div, int_rem, int_lt};
+ghost use Rattle.std.specs.Prelude.{FitsSigned, ◌≡◌, ◌≢◌, ℤ, Bool, true, false, not, ◌&&◌, ◌||◌, cond, pos, negsuc, ◌≤ℤ◌, ◌+ℤ◌, ◌-ℤ◌, ◌*ℤ◌, neg_ℤ};
+ghost use Rattle.std.specs.Prelude.{int_div, int_rem, int_lt};
 ghost use Rattle.std.specs.Int.{w64};
 ghost use Rattle.vcp_base.specs.Kinds.{value as value_of, divides_by_zero, same, truth};
 ghost use Rattle.range_walk.specs.Intervals.{IsIn, IsWithin};

@@ -4,7 +4,9 @@ ghost use Rattle.std.specs.Prelude.{◌≡◌, ◌<◌, ◌≤◌, ◌∷◌, le
 ghost use Rattle.vcp_outside.specs.Gathering.{GathersTo};
 ghost use Rattle.vcp_outside.specs.Elements.{element_text};
 ghost use Rattle.vcp_base.specs.Limits.{most_cycles};
-ghost use Rattle.run_picture.specs.Elements.{style, begin_element, cycle_element, time_element, time_elements, mark_elements, page_elements, cycle_elements, cycles_elements, name_element, names_elements, base_element, base_elements, bases_elements, class_of as class_of_mark, mark_element, ending_element, ending_elements};
+ghost use Rattle.run_picture.specs.Elements.{style, begin_element, cycle_element, time_element, time_elements, mark_elements, page_elements};
+ghost use Rattle.run_picture.specs.Elements.{cycle_elements, cycles_elements, name_element, names_elements, base_element, base_elements, bases_elements};
+ghost use Rattle.run_picture.specs.Elements.{class_of as class_of_mark, mark_element, ending_element, ending_elements};
 
 use crate::ending::{Ending, Mark};
 use crate::layout::{Layout, start, top};

@@ -2,7 +2,8 @@
 
 ghost use Rattle.std.specs.Prelude.{◌≡◌, codes, option_map, option_and_then};
 ghost use Rattle.std.specs.Option.{is_some};
-ghost use Rattle.run_picture.specs.Ending.{rest_behind as rest_behind_of, rest_behind_number as rest_behind_number_of, is_end as is_end_of, mark_of as mark_of_text};
+ghost use Rattle.run_picture.specs.Ending.{rest_behind as rest_behind_of, rest_behind_number as rest_behind_number_of, is_end as is_end_of};
+ghost use Rattle.run_picture.specs.Ending.{mark_of as mark_of_text};
 
 use itoa::Buffer;
 use vcp_base::Text;

@@ -3,7 +3,8 @@
 ghost use Rattle.std.specs.Prelude.{◌≡◌, ◌<◌, ◌≤◌, ◌/◌, ◌^◌, IfSome, ℕ, length, decimal, option_map};
 ghost use Rattle.std.specs.List.{concat};
 ghost use Rattle.vcp_base.specs.Limits.{most_cycles};
-ghost use Rattle.run_picture.specs.Times.{scale_of, drawn_in as drawn_in_of, thousandths_at, time_pieces, front_before as front_before_of, numbered_in as numbered_in_of, period_of};
+ghost use Rattle.run_picture.specs.Times.{scale_of, drawn_in as drawn_in_of, thousandths_at, time_pieces, front_before as front_before_of};
+ghost use Rattle.run_picture.specs.Times.{numbered_in as numbered_in_of, period_of};
 
 use itoa::Buffer;
 use vcp_base::numeral;

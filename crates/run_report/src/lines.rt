@@ -6,7 +6,8 @@ ghost use Rattle.std.specs.Fmt.{signed_decimal};
 ghost use Rattle.vcp_base.specs.Stops.{told_stop, told_turn};
 ghost use Rattle.vcp_outside.specs.Written.{WritesTo};
 ghost use Rattle.vcp_outside.specs.Gathering.{IsGathered, GathersTo, EndsAt};
-ghost use Rattle.run_report.specs.Lines.{header_text, row_text, end_text, cause_text, stop_front, stop_text, refused_front, refused_text, place_text, turn_text, value_cell, AreNamed};
+ghost use Rattle.run_report.specs.Lines.{header_text, row_text, end_text, cause_text, stop_front, stop_text, refused_front, refused_text, place_text};
+ghost use Rattle.run_report.specs.Lines.{turn_text, value_cell, AreNamed};
 
 use vcp_base::{Columns, Residue, Row, Spot, StopKind, Text, Turns, Words, stop_name};
 use vcp_outside::{Failed, Line, ROOM, Sink, begin};

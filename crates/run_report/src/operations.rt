@@ -6,7 +6,8 @@ ghost use Rattle.std.specs.Fmt.{signed_decimal};
 ghost use Rattle.vcp_base.specs.Limits.{most_cycles};
 ghost use Rattle.vcp_outside.specs.Written.{WritesTo};
 ghost use Rattle.vcp_outside.specs.Gathering.{IsGathered, GathersTo};
-ghost use Rattle.run_report.specs.OperationLines.{shown_operands as shown_operands_of, number_cell, operands_text, own_text, operation_front, code_text, source_text, list_text, parts_text, trace_text};
+ghost use Rattle.run_report.specs.OperationLines.{shown_operands as shown_operands_of, number_cell, operands_text, own_text, operation_front, code_text};
+ghost use Rattle.run_report.specs.OperationLines.{source_text, list_text, parts_text, trace_text};
 
 use crate::graph_stop::then_turns_round;
 use crate::lines::then_place;

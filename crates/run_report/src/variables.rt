@@ -1,7 +1,8 @@
 //! The names of a graph's inputs, cells and outputs.
 
 ghost use Rattle.std.specs.Prelude.{◌≡◌, ◌<◌, [], length, slice_index_or};
-ghost use Rattle.run_report.specs.Variables.{input_name as input_name_of, cell_name as cell_name_of, output_name as output_name_of, variable_name as variable_name_of};
+ghost use Rattle.run_report.specs.Variables.{input_name as input_name_of, cell_name as cell_name_of, output_name as output_name_of};
+ghost use Rattle.run_report.specs.Variables.{variable_name as variable_name_of};
 
 use op_graph::{Graph, entries_keep_their_rules};
 use vcp_base::{Kind, Text};

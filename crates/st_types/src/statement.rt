@@ -15,7 +15,8 @@ ghost use Rattle.st_types.specs.Notes.{Notes};
 ghost use Rattle.st_types.specs.ExprTyping.{both};
 ghost use Rattle.st_types.specs.StmtTyping.{entry_type as entry_type_of, Narrows, NoTest, IsBool, assign_of, test_of, selector_of, begins as begins_of};
 ghost use Rattle.st_types.specs.StmtTyping.{turns_of as turns_of_bounds, case_of};
-ghost use Rattle.st_types.specs.StmtSteps.{Gives, TypesStmt, TypesStmts, TypesArms, TypesBranches, TypesOther, stmt_after, arm_after, branch_after, if_of, turning_of, for_with};
+ghost use Rattle.st_types.specs.StmtSteps.{Gives, TypesStmt, TypesStmts, TypesArms, TypesBranches, TypesOther, stmt_after, arm_after, branch_after, if_of};
+ghost use Rattle.st_types.specs.StmtSteps.{turning_of, for_with};
 
 use crate::environment::Environment;
 use crate::fault::{Fault, Rule};

@@ -2,7 +2,8 @@
 
 ghost use Rattle.std.specs.Prelude.{◌≡◌, [], ◌∷◌, ◌++◌, codes, decimal};
 ghost use Rattle.vcp_outside.specs.Written.{WritesTo};
-ghost use Rattle.vcp_inputs.specs.Lines.{at_spot, diagnostic, diagnostic_text, of_lexing, of_parsing, of_typing, refusal_text, input_text, input_status as status_of_input};
+ghost use Rattle.vcp_inputs.specs.Lines.{at_spot, diagnostic, diagnostic_text, of_lexing, of_parsing, of_typing, refusal_text, input_text};
+ghost use Rattle.vcp_inputs.specs.Lines.{input_status as status_of_input};
 ghost use Rattle.vcp_inputs.specs.declared.refusal.Refusal.TheVariants as refusal;
 
 use crate::refusal::{NoInput, Refusal};

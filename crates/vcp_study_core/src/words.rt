@@ -4,8 +4,12 @@ ghost use Rattle.std.specs.Prelude.{ℕ, List, ◌≡◌, ◌≤◌, IfSome, Som
 ghost use Rattle.std.specs.Option.{option_map};
 ghost use Rattle.vcp_base.specs.Limits.{most_cycles, most_horizon};
 ghost use Rattle.vcp_study_core.specs.Forms.{list_image, list_text};
-ghost use Rattle.vcp_study_core.specs.Forms.{form, form_of, named_form, waves, waves_form, last_name as last_name_of, last_period as last_period_of, study, study_of, fault_study_of, graph, dot, last_horizon as last_horizon_of, alone, as_ranges, ranges_form, all_form, inputs_form, cover_form, IsSound, IsSoundStudy};
-ghost use Rattle.vcp_study_core.specs.Forms.{last_class as last_class_of, faults_form, sites_form, behind_form, class_form, cycles_in as cycles_in_of, rest_form, run_sites, names_of, next_by, next_of, behind_of, sum_with, sum_form, script_form, chosen_of, number_word, part_of};
+ghost use Rattle.vcp_study_core.specs.Forms.{form, form_of, named_form, waves, waves_form, last_name as last_name_of, last_period as last_period_of};
+ghost use Rattle.vcp_study_core.specs.Forms.{study, study_of, fault_study_of, graph, dot, last_horizon as last_horizon_of, alone, as_ranges, ranges_form};
+ghost use Rattle.vcp_study_core.specs.Forms.{all_form, inputs_form, cover_form, IsSound, IsSoundStudy};
+ghost use Rattle.vcp_study_core.specs.Forms.{last_class as last_class_of, faults_form, sites_form, behind_form, class_form, cycles_in as cycles_in_of};
+ghost use Rattle.vcp_study_core.specs.Forms.{rest_form, run_sites, names_of, next_by, next_of, behind_of, sum_with, sum_form, script_form, chosen_of};
+ghost use Rattle.vcp_study_core.specs.Forms.{number_word, part_of};
 ghost use Rattle.vcp_study_core.specs.SumSteps.{as_next, as_behind, ended_of, IsFew, FewBehind};
 ghost use Rattle.verdict_tables.specs.Parts.{most_parts};
 ghost use Rattle.vcp_inputs.specs.Forms.{rows_of, AreFew, code_of, is_end};

@@ -5,7 +5,8 @@ ghost use Rattle.vcp_outside.specs.Gathering.{GathersTo};
 ghost use Rattle.fault_script.specs.ScriptOf.{most_faults};
 ghost use Rattle.verdict_tables.specs.Parts.{most_parts};
 ghost use Rattle.verdict_tables.specs.SumText.{row_text};
-ghost use Rattle.verdict_tables.specs.SameEndings.{ending_number as ending_number_of, is_ended as is_ended_of, one_if as one_if_of, ended_count, all_endings, ending_name as ending_name_of, same_only as same_only_of, ended_row, endings_text};
+ghost use Rattle.verdict_tables.specs.SameEndings.{ending_number as ending_number_of, is_ended as is_ended_of, one_if as one_if_of, ended_count};
+ghost use Rattle.verdict_tables.specs.SameEndings.{all_endings, ending_name as ending_name_of, same_only as same_only_of, ended_row, endings_text};
 
 use crate::SameEnding;
 use crate::endings::{Endings, EndingsOfParts};

@@ -7,7 +7,8 @@ ghost use Rattle.fault_script.specs.ScriptOf.{most_faults};
 ghost use Rattle.fault_injector.specs.Names.{Names};
 ghost use Rattle.fault_injector.specs.FaultLines.{verdict_text, totals_text, campaign_text};
 ghost use Rattle.verdict_tables.specs.Outcome.{meant as meant_of};
-ghost use Rattle.verdict_tables.specs.Reading.{is_line, ended, confirmed, verdict_or, verdict_on as verdict_on_of, next_of, behind_totals, totals_then, verdicts_in};
+ghost use Rattle.verdict_tables.specs.Reading.{is_line, ended, confirmed, verdict_or, verdict_on as verdict_on_of, next_of, behind_totals, totals_then};
+ghost use Rattle.verdict_tables.specs.Reading.{verdicts_in};
 ghost use Rattle.verdict_tables.specs.declared.fault.VerdictsFault.TheVariants as fault;
 
 use crate::fault::VerdictsFault;

@@ -4,7 +4,8 @@ ghost use Rattle.std.specs.Prelude.{◌≡◌, ◌<◌, ◌≤◌, ◌++◌, cod
 ghost use Rattle.vcp_outside.specs.Gathering.{GathersTo};
 ghost use Rattle.verdict_tables.specs.Parts.{most_parts, IsWhole};
 ghost use Rattle.verdict_tables.specs.Tables.{rows as rows_of};
-ghost use Rattle.verdict_tables.specs.SumText.{act_name as act_name_of, more_text, delay_text, row_name, row_text, table_text, blanks_before as blanks_before_of, column_text, columns_text, title as title_of, heading_of, heading_text};
+ghost use Rattle.verdict_tables.specs.SumText.{act_name as act_name_of, more_text, delay_text, row_name, row_text, table_text};
+ghost use Rattle.verdict_tables.specs.SumText.{blanks_before as blanks_before_of, column_text, columns_text, title as title_of, heading_of, heading_text};
 ghost use Rattle.verdict_tables.specs.declared.tables.Table.TheVariants as table;
 
 use crate::counts::totals_over;

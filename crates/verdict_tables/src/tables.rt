@@ -2,7 +2,9 @@
 
 ghost use Rattle.std.specs.Prelude.{◌≡◌, min};
 ghost use Rattle.std.specs.List.{list_any};
-ghost use Rattle.verdict_tables.specs.Tables.{act_number as act_number_of, is_fault_in as is_fault_in_of, shows_at as shows_at_of, shown_in as shown_in_of, first_cycle as first_cycle_of, is_delay as is_delay_of, is_late as is_late_of, is_in as is_in_of, rows as rows_of};
+ghost use Rattle.verdict_tables.specs.Tables.{act_number as act_number_of, is_fault_in as is_fault_in_of, shows_at as shows_at_of};
+ghost use Rattle.verdict_tables.specs.Tables.{shown_in as shown_in_of, first_cycle as first_cycle_of, is_delay as is_delay_of, is_late as is_late_of};
+ghost use Rattle.verdict_tables.specs.Tables.{is_in as is_in_of, rows as rows_of};
 
 use fault_injector::Verdict;
 use fault_script::{Act, Fault, Group};

@@ -3,7 +3,8 @@
 ghost use Rattle.std.specs.Prelude.{◌≡◌, ◌<◌, IfSome, bytes_eq, length, option_and_then, option_map};
 ghost use Rattle.fault_script.specs.Forms.{number_below};
 ghost use Rattle.fault_injector.specs.Names.{Names};
-ghost use Rattle.verdict_tables.specs.Outcome.{value_of, numbers, numbers_of, named_then, output_named, shown_of, as_wrong, as_refused, stop_of, stopped_by, stopped_of, ran_on_of, meant as meant_of};
+ghost use Rattle.verdict_tables.specs.Outcome.{value_of, numbers, numbers_of, named_then, output_named, shown_of, as_wrong, as_refused, stop_of};
+ghost use Rattle.verdict_tables.specs.Outcome.{stopped_by, stopped_of, ran_on_of, meant as meant_of};
 
 use fault_injector::Verdict;
 use fault_script::cycle_number;

@@ -1,6 +1,7 @@
 //! Laws of reruns.
 
-ghost use Rattle.fault_campaign.specs.Laws.{TouchedLaws, ReferencesStand, PassedOverLaws, OutputLaws, RerunsAreRight, VerdictsAreRead, AsksAtTouched, GroupLaws};
+ghost use Rattle.fault_campaign.specs.Laws.{TouchedLaws, ReferencesStand, PassedOverLaws, OutputLaws, RerunsAreRight, VerdictsAreRead, AsksAtTouched};
+ghost use Rattle.fault_campaign.specs.Laws.{GroupLaws};
 
 use coded_machine::right_answers_stand_for_values;
 use fault_injector::{ends_under_acts_are_read_off_the_answers, runs_under_acts_keep_the_run_law};

@@ -4,7 +4,8 @@ ghost use Rattle.std.specs.Prelude.{◌≡◌, ℕ, false, None, ◌<◌, ◌≤
 ghost use Rattle.fault_script.specs.Changes.{acts_of};
 ghost use Rattle.fault_campaign.specs.Begun.{answers_in};
 ghost use Rattle.fault_campaign.specs.Standing.{IsStanding};
-ghost use Rattle.fault_campaign.specs.Touched.{BeginMarks, cycle_marks, held_marks, mark as mark_of, operand_touched as operand_touched_of, past_touched_stop as past_touched_stop_of, touched_at};
+ghost use Rattle.fault_campaign.specs.Touched.{BeginMarks, cycle_marks, held_marks, mark as mark_of, operand_touched as operand_touched_of};
+ghost use Rattle.fault_campaign.specs.Touched.{past_touched_stop as past_touched_stop_of, touched_at};
 
 use crate::reruns::again::mark;
 use crate::reruns::passing::none_marked;

@@ -3,7 +3,8 @@
 ghost use Rattle.std.specs.Prelude.{◌≡◌, [], ◌++◌, Some, cond, codes, slice_get, unsigned_abs};
 ghost use Rattle.run_report.specs.Variables.{variable_of as name_of_variable};
 ghost use Rattle.vcp_outside.specs.Gathering.{GathersTo};
-ghost use Rattle.range_audit.specs.RangeText.{ends_text, range_text, there_text, spaced, short_text, operation_name, read_text, operand_text, operands_text, named_text, known_text};
+ghost use Rattle.range_audit.specs.RangeText.{ends_text, range_text, there_text, spaced, short_text, operation_name, read_text, operand_text};
+ghost use Rattle.range_audit.specs.RangeText.{operands_text, named_text, known_text};
 
 use op_graph::{Graph, Op};
 use range_walk::Range;

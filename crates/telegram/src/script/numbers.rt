@@ -1,7 +1,8 @@
 //! The numbers of a line.
 
 ghost use Rattle.std.specs.Prelude.{◌≡◌, ◌≢◌, ◌≤◌, ◌<◌, Some, None, IfOk, IfErr, IfSome};
-ghost use Rattle.telegram.specs.Forms.{integers_of, is_between as is_between_of, is_below as is_below_of, number_between as number_between_of, number_below as number_below_of};
+ghost use Rattle.telegram.specs.Forms.{integers_of, is_between as is_between_of, is_below as is_below_of, number_between as number_between_of};
+ghost use Rattle.telegram.specs.Forms.{number_below as number_below_of};
 ghost use Rattle.telegram.specs.declared.script.wire_fault.WireFault.TheVariants as refusal;
 
 use crate::script::wire_fault::WireFault;

@@ -3,7 +3,8 @@
 ghost use Rattle.std.specs.Prelude.{◌≡◌, ◌∷◌, ◌-◌, IfSome};
 ghost use Rattle.std.specs.Option.{option_map};
 ghost use Rattle.vcp_base.specs.Limits.{most_cycles, most_horizon, seeds};
-ghost use Rattle.vcp_inputs.specs.Forms.{check, format, plain, run, il, compile, list, exec, trace, widen, audit, inject, pair, pairs, wire, demo, name_then, rows_then};
+ghost use Rattle.vcp_inputs.specs.Forms.{check, format, plain, run, il, compile, list, exec, trace, widen, audit, inject, pair, pairs, wire, demo};
+ghost use Rattle.vcp_inputs.specs.Forms.{name_then, rows_then};
 ghost use Rattle.vcp_inputs.specs.Forms.{number_then, code_then, end_then, form, form_of, image_form, most_made, usage_text, IsSound};
 
 use crate::words::command::Command;
