@@ -1,4 +1,4 @@
-use Rattle.std.proofs.Common.{◌≡◌, ◌≤◌, length, arith}
+use Rattle.std.proofs.Common.{◌≤◌, length, arith}
 use Rattle.std.proofs.lemmas.Option.{slice_get_past}
 use Rattle.range_audit.proofs.Going.{unmoved}
 use Rattle.range_audit.proofs.report.lines.then_read.Goals as goal

@@ -1,4 +1,4 @@
-use Rattle.std.proofs.Common.{◌≡◌, ◌≤◌, length, pos, false, arith}
+use Rattle.std.proofs.Common.{◌≤◌, length, pos, false, arith}
 use Rattle.std.proofs.lemmas.Option.{slice_get_past, slice_get-get_or}
 use Rattle.range_walk.specs.declared.range.Range.{Range}
 use Rattle.range_audit.proofs.Going.{unmoved}
