@@ -27,6 +27,3 @@ pub returns-clause-fills : goal.returns-clause-fills
 returns-clause-fills c =
     refused_fills c.args.flat.now c.constant.new.self c.add.new.self 1 1 (alone_size c.args.label) c.add.result (omega (arith, c.in_ok-value.ensures.made.count))
     (omega (arith, one_size c.args.label c.requires.one)) c.add.ensures.refuses
-
-pub returns-in_err-value-clause-made : goal.returns-in_err-value-clause-made
-returns-in_err-value-clause-made c = rw (err_from_is_err_and c.from_residual.result c.from_residual.ensures.1).1 tt

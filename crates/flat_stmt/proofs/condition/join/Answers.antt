@@ -9,6 +9,3 @@ returns-in-None-clause-made c =
 pub returns-in-Some-clause-made : goal.returns-in-Some-clause-made
 returns-in-Some-clause-made c =
     IfOk-weaker c.add.result _ _ (λ j p. joined c.laws_of_states.ensures c.args.flat.now c.add.new.self c.args.outer c.in-Some.p c.args.k j c.args.spot c.in-Some.is c.requires.outer c.requires.k p) c.add.ensures.made
-
-pub returns-in-None-clause-fills : goal.returns-in-None-clause-fills
-returns-in-None-clause-fills c = tt

@@ -26,6 +26,3 @@ pub returns-clause-fills : goal.returns-clause-fills
 returns-clause-fills c =
     refused_fills c.args.flat.now c.label.new.flat c.add.new.self (alone_size c.args.next) 1 (label_size c.args.next) c.add.result c.in_ok-r.ensures.made.count
     (omega (arith, joined_size c.args.next)) c.add.ensures.refuses
-
-pub returns-in_err-r-clause-made : goal.returns-in_err-r-clause-made
-returns-in_err-r-clause-made c = rw (err_from_is_err_and c.from_residual.result c.from_residual.ensures.1).1 tt

@@ -26,15 +26,3 @@ rest-preserved c = record {
   made = next_label c.laws_of_states.ensures c.args.flat.now c.rest.flat c.label_too.new.flat c.args.ty c.args.k c.rest.so_far c.in_ok-so_far-2.so_far c.args.labels.now c.rest.i _ (omega (arith, c.rest-test.true)) c.requires.k c.rest.invariant.made c.in_ok-so_far-2.ensures.made;
   inside = omega (arith, c.rest-test.true);
 }
-
-pub returns-in_err-so_far-clause-made : goal.returns-in_err-so_far-clause-made
-returns-in_err-so_far-clause-made c = rw (err_from_is_err_and c.from_residual.result c.from_residual.ensures.1).1 tt
-
-pub offset_bounds-labels-i : goal.offset_bounds-labels-i
-offset_bounds-labels-i c = omega arith
-
-pub returns-in_err-so_far-2-clause-made : goal.returns-in_err-so_far-2-clause-made
-returns-in_err-so_far-2-clause-made c = rw (err_from_is_err_and c.from_residual-in_err-so_far-2.result c.from_residual-in_err-so_far-2.ensures.1).1 tt
-
-pub returns-clause-fills : goal.returns-clause-fills
-returns-clause-fills c = tt

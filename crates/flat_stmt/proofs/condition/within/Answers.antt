@@ -90,18 +90,3 @@ returns-in_err-first-clause-fills c =
     let q = err_from_is_err_and c.from_residual.result c.from_residual.ensures.1 in
     let h = refused_fills c.args.flat.now c.args.flat.now c.constant.new.self 0 1 (alone_size c.args.label) c.constant.result (omega arith) (omega (arith, range_size c.args.label c.requires.range)) c.constant.ensures.refuses in
     rw (q.1, q.2) (subst (λ r. IfErr r (λ e. Fills c.args.flat.now (alone_size c.args.label) e)) c.in_err-first.was h)
-
-pub returns-in_err-first-clause-made : goal.returns-in_err-first-clause-made
-returns-in_err-first-clause-made c = rw (err_from_is_err_and c.from_residual.result c.from_residual.ensures.1).1 tt
-
-pub returns-in_err-last-clause-made : goal.returns-in_err-last-clause-made
-returns-in_err-last-clause-made c = rw (err_from_is_err_and c.from_residual-in_err-last.result c.from_residual-in_err-last.ensures.1).1 tt
-
-pub returns-in_err-below-clause-made : goal.returns-in_err-below-clause-made
-returns-in_err-below-clause-made c = rw (err_from_is_err_and c.from_residual-in_err-below.result c.from_residual-in_err-below.ensures.1).1 tt
-
-pub returns-in_err-above-clause-made : goal.returns-in_err-above-clause-made
-returns-in_err-above-clause-made c = rw (err_from_is_err_and c.from_residual-in_err-above.result c.from_residual-in_err-above.ensures.1).1 tt
-
-pub returns-in_err-out-clause-made : goal.returns-in_err-out-clause-made
-returns-in_err-out-clause-made c = rw (err_from_is_err_and c.from_residual-in_err-out.result c.from_residual-in_err-out.ensures.1).1 tt

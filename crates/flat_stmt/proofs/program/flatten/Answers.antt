@@ -1,4 +1,3 @@
-use Rattle.std.proofs.lemmas.Result.{err_from_is_err_and}
 use Rattle.std.proofs.Common.{◌≤◌, [], ap, ◌∙◌, subst, arith}
 use Rattle.vcp_typed.specs.Meaning.{do_stmts}
 use Rattle.vcp_typed.specs.Size.{size, stmts_size}
@@ -32,9 +31,3 @@ returns-in-Ok-clause-few c =
     let within : whole_size c.add_stmts.new.flat ≤ size p = within_size c.laws_of_states.ensures p c.in_ok-flat.flat c.add_stmts.new.flat
     (stmts_size (tstmt_trees c.deref.result.now)) c.in_ok-flat.ensures moves.continues moves.count (ap stmts_size body) in
     omega (arith, within, c.in-Ok.ensures.made.size)
-
-pub returns-in_err-flat-clause-means : goal.returns-in_err-flat-clause-means
-returns-in_err-flat-clause-means c = rw (err_from_is_err_and c.from_residual.result c.from_residual.ensures.1).1 tt
-
-pub returns-in_err-flat-clause-few : goal.returns-in_err-flat-clause-few
-returns-in_err-flat-clause-few c = rw (err_from_is_err_and c.from_residual.result c.from_residual.ensures.1).1 tt

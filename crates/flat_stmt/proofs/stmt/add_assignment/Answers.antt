@@ -23,6 +23,3 @@ returns-in_err-k-clause-fills c =
 pub returns-clause-fills : goal.returns-clause-fills
 returns-clause-fills c =
     leaves_fills c.args.flat.now c.expr.new.self c.assign.new.self _ (expr_size (texpr_tree c.args.value.now)) 1 (1 + expr_size (texpr_tree c.args.value.now)) c.assign.result c.in_ok-k.ensures.made.count (omega arith) c.assign.ensures.refuses
-
-pub returns-in_err-k-clause-made : goal.returns-in_err-k-clause-made
-returns-in_err-k-clause-made c = rw (err_from_is_err_and c.from_residual.result c.from_residual.ensures.1).1 tt

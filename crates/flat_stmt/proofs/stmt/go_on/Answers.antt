@@ -24,12 +24,3 @@ returns-in_err-next-clause-fills c =
     let q = err_from_is_err_and c.from_residual-in_err-next.result c.from_residual-in_err-next.ensures.1 in
     let h = fills_later c.args.flat.now c.deny.new.flat 1 1 2 c.join.result c.in_ok-n.ensures.made.count (omega arith) c.join.ensures.fills in
     rw (q.1, q.2) (subst (λ r. IfErr r (λ e. Fills c.args.flat.now 2 e)) c.in_err-next.was h)
-
-pub returns-in_err-n-clause-made : goal.returns-in_err-n-clause-made
-returns-in_err-n-clause-made c = rw (err_from_is_err_and c.from_residual.result c.from_residual.ensures.1).1 tt
-
-pub returns-in_err-next-clause-made : goal.returns-in_err-next-clause-made
-returns-in_err-next-clause-made c = rw (err_from_is_err_and c.from_residual-in_err-next.result c.from_residual-in_err-next.ensures.1).1 tt
-
-pub returns-clause-fills : goal.returns-clause-fills
-returns-clause-fills c = tt
