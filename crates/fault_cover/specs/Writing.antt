@@ -39,8 +39,8 @@ pub record IsFound (s : Subject) (classes : List CoverClass) (counts : List Clas
 
 -- by a survey, whatever the operations that may stop by which it is one
 abbrev pub Finds : Lists → Numbers → Surveyed → List CoverClass → List ClassCount → Tally → List LeftLine → Type 0
-Finds g t v classes counts all lines = (stops : List Stops) → IsSurvey (subject g t v.horizon stops) v → IsFound (subject g t v.horizon stops) classes counts all
-    lines
+Finds g t v classes counts all lines =
+    (stops : List Stops) → IsSurvey (subject g t v.horizon stops) v → IsFound (subject g t v.horizon stops) classes counts all lines
 
 -- the cover without its remark and its last LF
 abbrev pub body_text : Lists → ℕ → List Covered → List ℕ
