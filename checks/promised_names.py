@@ -239,9 +239,9 @@ def faults_of_architecture(crates, names):
 
 
 def faults_of_rows():
-    """Whether each text of rows is given to the program that plays it, and has its line of what is wanted: files of rows, then sessions."""
+    """Whether each session is given to the program that plays it, and has its line of what is wanted."""
     crate = CRATES / "play_worked"
-    wanted = [file.name for suffix in ("rows", "session") for file in sorted((crate / "data").glob(f"*.{suffix}"))]
+    wanted = [file.name for file in sorted((crate / "data").glob("*.session"))]
     if (crate / "args").read_text().split("\n")[:-1] != wanted:
         yield "play_worked: args differs from the names of data/, in their order"
     if [line.partition(":")[0] for line in (crate / "stdout").read_text().split("\n")[:-1]] != wanted:
