@@ -10,23 +10,23 @@ use op_graph::{Build, Graph, GraphBuilder, Op};
 use signature_table::Table;
 use std::alloc::Global;
 use vcp_base::{
-    Kind, MOST_CYCLES, MOST_STEP, Memory, Profile, SEEDS, Spot, Ty, kind_name, ty_name,
+    Kind, MOST_CYCLES, MOST_STEP, Memory, Profile, SEEDS, Spot, Text, Ty, kind_name, ty_name,
 };
 use vcp_outside::{MemFiles, read_all};
 use weight_audit::Weights;
 use weight_audit::weigh::weights;
 
 /// What the file of a name has; nothing where it isn't read.
-pub fn text_in(alloc: Global, files: &mut MemFiles, name: &str) -> Vec<u8> {
+pub fn text_in(alloc: Global, files: &mut MemFiles, name: &str) -> Text {
     match read_all(alloc, files, name.as_bytes(), 1 << 24) {
-        Ok(text) => text.into_vec(),
-        Err(_) => Vec::new(alloc),
+        Ok(text) => text,
+        Err(_) => Text::from_vec(Vec::new(alloc)),
     }
 }
 
 /// The graph of the image of a name; None where it is none.
 pub fn graph_in(alloc: Global, files: &mut MemFiles, name: &str) -> Option<Graph> {
-    match read(alloc, &text_in(alloc, files, name)) {
+    match read(alloc, text_in(alloc, files, name).bytes()) {
         Ok((graph, _table)) => Some(graph),
         Err(_) => None,
     }

@@ -41,7 +41,7 @@ pub fn write_again(
     name: &str,
     out: &mut MemSink,
 ) -> Result<(), Failed> {
-    match written_again(alloc, &text_in(alloc, files, name)) {
+    match written_again(alloc, text_in(alloc, files, name).bytes()) {
         Ok(image) => write_all(out, image.bytes()),
         Err(_) => Err(Failed),
     }
@@ -49,10 +49,11 @@ pub fn write_again(
 
 /// Tells how many fronts of a file there are of which is told that they end there, up to the first of which something else is told.
 pub fn tell_fronts(alloc: Global, files: &mut MemFiles, name: &str, told: &mut String) {
-    let bytes = text_in(alloc, files, name);
+    let text = text_in(alloc, files, name);
+    let bytes = text.bytes();
     let mut short = 0u32;
     for n in 0..bytes.len() {
-        match read(alloc, bytes.get(..n).unwrap_or(&bytes)) {
+        match read(alloc, bytes.get(..n).unwrap_or(bytes)) {
             Err(ImageFault::Short { at }) if at == short => short = short.saturating_add(1),
             _ => break,
         }
@@ -92,10 +93,11 @@ pub fn tell_changes(
     words: &str,
     told: &mut String,
 ) {
-    let bytes = text_in(alloc, files, word(words, 0));
+    let text = text_in(alloc, files, word(words, 0));
+    let bytes = text.bytes();
     let mut places = 0u32;
     for at in u32_of(n[1])..u32_of(n[2]) {
-        if values(alloc, &bytes, at as usize) == 256 {
+        if values(alloc, bytes, at as usize) == 256 {
             places = places.saturating_add(1);
         }
     }

@@ -27,13 +27,18 @@ pub fn tell_units(
         "cpu" => tell_answers(
             alloc,
             &mut CpuUnit::new(),
-            text_of(&text_in(alloc, files, words)),
+            text_of(text_in(alloc, files, words).bytes()),
             told,
         ),
-        "unit" => tell_answers(alloc, unit, text_of(&text_in(alloc, files, words)), told),
+        "unit" => tell_answers(
+            alloc,
+            unit,
+            text_of(text_in(alloc, files, words).bytes()),
+            told,
+        ),
         "log" => tell_logged(
             alloc,
-            text_of(&text_in(alloc, files, word(words, 0))),
+            text_of(text_in(alloc, files, word(words, 0)).bytes()),
             u32_of(n[1]),
             told,
         ),
@@ -115,7 +120,7 @@ fn tell_acts(
             unit,
             fault,
             kept,
-            text_of(&text_in(alloc, files, word(words, 0))),
+            text_of(text_in(alloc, files, word(words, 0)).bytes()),
             told,
         );
     }
