@@ -151,7 +151,9 @@ def texts_of_sessions() -> list[bytes]:
                 continue
             name, _, rest = line[2:].partition(b" ")
             times, _, more = rest.partition(b" ") if line[:1] == b"+" else (b"1", b"", rest)
+            more, _, digits = more.partition(rb"\h")
             text = re.sub(rb"\\(x[0-9A-Fa-f]{2}|.)", lambda it: spelled[it[1]] if it[1] in spelled else bytes([int(it[1][1:], 16)]), more)
+            text += bytes.fromhex(digits.decode("ascii"))
             files[name] = (files.get(name, b"") if line[:1] == b"+" else b"") + text * int(times)
             found[files[name]] = None
     return [text for text in found if len(text) <= MOST_BYTES]

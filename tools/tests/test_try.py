@@ -1,4 +1,4 @@
-"""`./try --tests`: what a made-up `rt` prints in place of the player of worked rows is added up."""
+"""`./try --tests`: what a made-up `rt` prints in place of the player of sessions is added up."""
 from __future__ import annotations
 
 import os
@@ -8,18 +8,18 @@ import unittest
 from tests.support import InFolder
 from vcp_tools.program import TOP
 
-PLAYED = "some.rows: 7 rows\none.session: 12 calls\ntwo.session: 30 calls\n"
-OTHERWISE = "some.rows: 1 of 7 rows otherwise\none.session: 2 of 12 calls otherwise\ntwo.session: 30 calls\n"
+PLAYED = "one.session: 12 calls\nsome.session: 7 calls\ntwo.session: 30 calls\n"
+OTHERWISE = "one.session: 2 of 12 calls otherwise\nsome.session: 1 of 7 calls otherwise\ntwo.session: 30 calls\n"
 
 
 class Tests(InFolder):
-    """The worked rows and sessions, played before any proof."""
+    """The sessions, played before any proof."""
 
     def play(self, printed: str, *names: str, status: int = 0, said: str = "") -> subprocess.CompletedProcess[str]:
         """What `try` does where `rt` prints this, says this on standard error and ends so; the words that it got are in the file `words`."""
         top = self.folder / "top"
         (top / "crates/play_worked/data").mkdir(parents=True, exist_ok=True)
-        for name in ("some.rows", "one.session", "two.session", "failing_calls.session"):
+        for name in ("one.session", "some.session", "two.session", "failing_calls.session"):
             (top / f"crates/play_worked/data/{name}").touch()
         (top / "try").write_bytes((TOP / "try").read_bytes())
         (top / "try").chmod(0o755)
@@ -36,8 +36,8 @@ class Tests(InFolder):
         self.assertNotIn("proved=no", done.stderr)
         self.assertIn("without failing_calls.session", done.stderr)
         words = (self.folder / "words").read_text(encoding="utf-8")
-        self.assertTrue(words.endswith("--data some.rows=data/some.rows --data one.session=data/one.session --data two.session=data/two.session"
-                                       " -- some.rows one.session two.session\n"), words)
+        self.assertTrue(words.endswith("--data one.session=data/one.session --data some.session=data/some.session --data two.session=data/two.session"
+                                       " -- one.session some.session two.session\n"), words)
 
     def test_one_call_gives_something_else(self) -> None:
         done = self.play(OTHERWISE, status=1, said="one.session, line 7: wanted 0, got 1\n")
@@ -47,14 +47,14 @@ class Tests(InFolder):
     def test_a_run_that_breaks_off(self) -> None:
         for printed, passed, left in (("", 0, 3), ("one.session: 12 calls\n", 12, 2)):
             done = self.play(printed, status=6)
-            self.assertEqual((done.returncode, done.stdout), (1, f"{printed}{left} files were not played (status 6)\n{passed} passed, {left} failed\n"))
+            self.assertEqual((done.returncode, done.stdout), (1, f"{printed}{left} sessions were not played (status 6)\n{passed} passed, {left} failed\n"))
 
     def test_sessions_that_are_named(self) -> None:
         done = self.play("failing_calls.session: 5 calls\n", "failing_calls.session")
         self.assertEqual((done.returncode, done.stdout), (0, "failing_calls.session: 5 calls\n5 passed, 0 failed\n"))
         done = self.play("", "lacking.session")
         self.assertEqual((done.returncode, done.stdout), (2, ""))
-        self.assertIn("no rows and no session of this name: lacking.session", done.stderr)
+        self.assertIn("no session of this name: lacking.session", done.stderr)
 
 
 if __name__ == "__main__":
