@@ -18,6 +18,7 @@ mod host_sink;
 mod line;
 mod mem_files;
 mod mem_sink;
+mod pending;
 mod reading;
 mod sink;
 mod svg;

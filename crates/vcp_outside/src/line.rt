@@ -5,8 +5,8 @@ ghost use Rattle.std.specs.Fmt.{signed_decimal};
 ghost use Rattle.vcp_outside.specs.Written.{Writes};
 ghost use Rattle.vcp_outside.specs.Gathering.{IsGathered, GathersTo, EndsAt};
 
+use crate::pending::Pending;
 use crate::{Failed, Sink, write_all};
-use arrayvec::ArrayVec;
 use itoa::Buffer;
 use std::marker::Model;
 
@@ -21,7 +21,7 @@ pub const ROOM: usize = 256;
 /// What was written and what is pending are together what the line was given so far, in order.
 #[derive(Drop)]
 pub struct Line {
-    pending: ArrayVec<u8, ROOM>,
+    pending: Pending,
     so_far: Result<(), Failed>,
 }
 
@@ -30,7 +30,7 @@ impl Model for Line {
 
     ghost Value = { Gathered };
 
-    ghost view = { λ l. record { pending = l.pending.items; so_far = l.so_far } };
+    ghost view = { λ l. record { pending = l.pending; so_far = l.so_far } };
 }
 
 // Goes on with a piece, unless an earlier write failed.
@@ -53,7 +53,7 @@ impl Line {
         ensures begun { (written : Option (List ℕ)) (faults : ℕ) → IsGathered written written faults faults [] result }
     {
         Line {
-            pending: ArrayVec::new(),
+            pending: Pending::new(),
             so_far: Ok(()),
         }
     }
@@ -78,12 +78,12 @@ impl Line {
         ensures stays_failed { IsErr self.old.so_far → IsErr self.new.so_far }
     {
         let at = self.pending.len();
-        if self.pending.try_extend_from_slice(bytes).is_ok() {
+        if self.pending.append(bytes) {
             self.look_again(at, bytes);
             return;
         }
         self.flush(out);
-        if self.pending.try_extend_from_slice(bytes).is_err() {
+        if !self.pending.append(bytes) {
             self.so_far = then(out, self.so_far, bytes);
         }
     }

@@ -2,10 +2,10 @@ use Rattle.std.proofs.Common.{◌≡◌, rules}
 use Rattle.vcp_outside.proofs.Gathering.{written_at_once}
 use Rattle.vcp_outside.proofs.line.Line.text.Goals as goal
 
-pub returns-then-is_err-clause-gathers : goal.returns-then-is_err-clause-gathers
-returns-then-is_err-clause-gathers g c start before text is =
-    let unfit : c.try_extend_from_slice.new.self ≡ c.self.inside.pending = search rules in
-    let too_long : c.try_extend_from_slice-2.new.self ≡ c.self-2.inside.pending = search rules in
+pub returns-then-not-append-clause-gathers : goal.returns-then-not-append-clause-gathers
+returns-then-not-append-clause-gathers g c start before text is =
+    let unfit : c.append.new.self ≡ c.self.inside.pending = search rules in
+    let too_long : c.append-2.new.self ≡ c.self-2.inside.pending = search rules in
     let opened = rw (← c.self.view_is) at is in
     let kept = rw (← unfit) at opened in
     let flushed = rw (← c.self-2.view_is) at (c.flush.ensures.gathers start before text kept) in
