@@ -1,5 +1,5 @@
 -- Signatures: the numbers of which the residues of words are made.
-use Rattle.std.specs.Prelude.{◌≡◌, ℕ, ◌+◌, ◌*◌, ◌%◌, ◌^◌, ◌<◌, ◌≤◌, ℤ, pos, ◌-ℤ◌, ◌*ℤ◌, unsigned_abs, List, [], ◌∷◌, length, slice_get, Option, Some, None, All}
+use Rattle.std.specs.Prelude.{◌≡◌, ℕ, ◌+◌, ◌*◌, ◌%◌, ◌^◌, ◌<◌, ◌≤◌, ℤ, pos, negsuc, ◌-ℤ◌, ◌*ℤ◌, ◌≤ℤ◌, unsigned_abs, List, [], ◌∷◌, length, slice_get, Option, Some, None, All}
 use Rattle.vcp_base.specs.declared.code.Profile.{Profile}
 use Rattle.vcp_base.specs.declared.code.Profile.TheVariants as profile
 use Rattle.vcp_base.specs.Code.{modulus}
@@ -49,6 +49,10 @@ stored_signature p seed step (Some store) = pos (signature p seed store) -ℤ po
 abbrev pub read_signature : Profile → ℕ → ℕ → Option ℕ → Kind → ℕ → ℤ
 read_signature p seed step store kind.Load n = stored_signature p seed step store
 read_signature p seed step store _ n = pos (signature p seed n)
+
+-- in the range of what an operand reads: a signature, or one less the step
+abbrev pub IsReadSignature : ℤ → Type 0
+IsReadSignature s = (negsuc most_step ≤ℤ s) × (s ≤ℤ pos (2 ^ 60))
 
 -- The correction of operation k takes the signatures of its operands out of the answer's residue and puts its own in.
 -- An operand that isn't there has the multiplier 0. For a LOAD the STORE of its cell is given.

@@ -1,10 +1,11 @@
 //! Corrections.
 
-ghost use Rattle.std.specs.Prelude.{◌≡◌, ◌<◌, ◌≤◌, ◌^◌, pos, negsuc, ◌*ℤ◌, ◌-ℤ◌, ◌≤ℤ◌};
+ghost use Rattle.std.specs.Prelude.{◌≡◌, ◌<◌, ◌≤◌, pos, ◌*ℤ◌, ◌-ℤ◌};
 ghost use Rattle.vcp_base.specs.Code.{modulus};
+ghost use Rattle.vcp_base.specs.Kinds.{multiplier as multiplier_of};
 ghost use Rattle.vcp_base.specs.Limits.{most_step};
 ghost use Rattle.coded_unit.specs.Words.{Small as Moderate};
-ghost use Rattle.signature_table.specs.Signatures.{stored_signature as stored_signature_of, read_signature as read_signature_of, correction as correction_of};
+ghost use Rattle.signature_table.specs.Signatures.{IsReadSignature, stored_signature as stored_signature_of, read_signature as read_signature_of, correction as correction_of};
 
 use crate::signatures::signature_of;
 use coded_unit::remainder;
@@ -29,15 +30,18 @@ pub fn correction(
     ensures below { result < modulus profile }
 {
     let first = weighed(
-        multiplier(op.kind, 0),
+        op.kind,
+        0,
         read_signature(profile, seed, step, store, op.kind, op.a),
     );
     let second = weighed(
-        multiplier(op.kind, 1),
+        op.kind,
+        1,
         read_signature(profile, seed, step, store, op.kind, op.b),
     );
     let third = weighed(
-        multiplier(op.kind, 2),
+        op.kind,
+        2,
         read_signature(profile, seed, step, store, op.kind, op.c),
     );
     let own = signature_of(profile, seed, k);
@@ -55,8 +59,7 @@ fn read_signature(
 ) -> i64
     requires { step ≤ most_step }
     ensures value { result ≡ read_signature_of profile seed step store kind n }
-    ensures low { negsuc most_step ≤ℤ result }
-    ensures high { result ≤ℤ pos (2 ^ 60) }
+    ensures range { IsReadSignature result }
 {
     match kind {
         Kind::Load => stored_signature(profile, seed, step, store),
@@ -68,8 +71,7 @@ fn read_signature(
 fn stored_signature(profile: Profile, seed: u32, step: u16, store: Option<u32>) -> i64
     requires { step ≤ most_step }
     ensures value { result ≡ stored_signature_of profile seed step store }
-    ensures low { negsuc most_step ≤ℤ result }
-    ensures high { result ≤ℤ pos (2 ^ 60) }
+    ensures range { IsReadSignature result }
 {
     match store {
         Some(n) => signature_of(profile, seed, n) as i64 - step as i64,
@@ -77,16 +79,13 @@ fn stored_signature(profile: Profile, seed: u32, step: u16, store: Option<u32>) 
     }
 }
 
-/// A signature, weighed by a multiplier.
-fn weighed(factor: i32, signature: i64) -> i128
-    requires factor_low { negsuc 1 ≤ℤ factor }
-    requires factor_high { factor ≤ℤ pos 20 }
-    requires low { negsuc most_step ≤ℤ signature }
-    requires high { signature ≤ℤ pos (2 ^ 60) }
-    ensures value { result ≡ factor *ℤ signature }
+/// The signature of an operand of a kind of operation, counted from 0, weighed by its multiplier.
+fn weighed(kind: Kind, operand: u32, signature: i64) -> i128
+    requires { IsReadSignature signature }
+    ensures value { result ≡ multiplier_of kind operand *ℤ signature }
     ensures fits { Moderate result }
 {
-    factor as i128 * signature as i128
+    multiplier(kind, operand) as i128 * signature as i128
 }
 
 /// A signature, with three others taken out of it.

@@ -6,10 +6,16 @@ use Rattle.coded_unit.specs.Words.{Small}
 use Rattle.signature_table.proofs.Weighing.{small_product}
 use Rattle.signature_table.proofs.corrections.weighed.Goals as goal
 
+pub returns-clause-value : goal.returns-clause-value
+returns-clause-value c =
+    let fits : FitsSigned w128 (c.multiplier.result *ℤ c.args.signature) =
+    fits_signed_mul w128 c.multiplier.result c.args.signature 20 (2 ^ 60) (omega (arith, ints)) (omega (arith, ints)) (lit< tt) in
+    rw (← c.multiplier.ensures.value) grind (arith, to_z-of_z)
+
 pub returns-clause-fits : goal.returns-clause-fits
 returns-clause-fits c =
-    let fits : FitsSigned w128 (c.args.factor *ℤ c.args.signature) =
-    fits_signed_mul w128 c.args.factor c.args.signature 20 (2 ^ 60) (omega (arith, ints)) (omega (arith, ints)) (lit< tt) in
-    let small : Small (c.args.factor *ℤ c.args.signature) =
-    small_product c.args.factor c.args.signature (omega (arith, ints)) (omega (arith, ints)) in
+    let fits : FitsSigned w128 (c.multiplier.result *ℤ c.args.signature) =
+    fits_signed_mul w128 c.multiplier.result c.args.signature 20 (2 ^ 60) (omega (arith, ints)) (omega (arith, ints)) (lit< tt) in
+    let small : Small (c.multiplier.result *ℤ c.args.signature) =
+    small_product c.multiplier.result c.args.signature (omega (arith, ints)) (omega (arith, ints)) in
     grind (arith, to_z-of_z)
