@@ -11,7 +11,8 @@ use Rattle.op_graph.specs.Laws.{EntryLaws, WalkLaws}
 use Rattle.graph_passes.specs.Marking.{Takes, OfOneCell, Follows, Queues, Grows, AreNeeded}
 use Rattle.graph_passes.specs.Part.{below, part_of}
 use Rattle.graph_passes.specs.Pruning.{must_stay, MayBeKept, Needed, load_kept, numbering, IsPruned}
-use Rattle.graph_passes.specs.Tables.{marked, number_at, by_tables}
+use Rattle.graph_passes.specs.Tables.{IsNumbered, marked, number_at, by_tables}
+use Rattle.graph_passes.specs.declared.part.Places.{Places}
 use Rattle.graph_passes.proofs.ByTables.{part_same, map_index, below_same, place_by}
 use Rattle.graph_passes.proofs.Chosen.{get_there}
 use Rattle.graph_passes.proofs.Queueing.{marks_few}
@@ -134,20 +135,16 @@ needed_part entries walks g graph kept numbers cells cell_numbers t =
       });
     }
 
--- the same, from what is said of slices of the tables
-pub tables_needed : (g : Lists) (kept : List Bool) (numbers : List ℕ) (cells : List Bool) (cell_numbers : List ℕ) (k j : List Bool) (c : List Bool)
-    → AreNeeded g kept →
-    k ≡ kept → ((i : ℕ) → i < length k → number_at numbers i ≡ below (marked k) i) → j ≡ kept → cells ≡ map (λ (l : Loaded). marked j l.load) g.loads →
-    c ≡ cells → ((i : ℕ) → i < length c → number_at cell_numbers i ≡ below (marked c) i) → NeededTables g kept numbers cells cell_numbers
-tables_needed g kept numbers cells cell_numbers k j c are is_k numbers_are is_j cells_are is_c cell_numbers_are = record {
-  are = are;
-  numbers_are = subst (λ m. (i : ℕ) → i < length m → number_at numbers i ≡ below (marked m) i) is_k numbers_are;
-  cells_are = cells_are ∙ ap (λ m. map (λ (l : Loaded). marked m l.load) g.loads) is_j;
-  cell_numbers_are = subst (λ m. (i : ℕ) → i < length m → number_at cell_numbers i ≡ below (marked m) i) is_c cell_numbers_are;
-}
-
-pub by_slices : (P : List Bool → List ℕ → List Bool → List ℕ → Type 0) (a k : List Bool) (b n : List ℕ) (c l : List Bool) (d m : List ℕ) → a ≡ k → b ≡ n → c ≡ l
-    → d ≡ m →
-    P k n l m → P a b c d
-by_slices P a k b n c l d m is_a is_b is_c is_d h =
-    subst (λ x. P x b c d) (sym is_a) (subst (λ x. P k x c d) (sym is_b) (subst (λ x. P k n x d) (sym is_c) (subst (λ x. P k n l x) (sym is_d) h)))
+-- the same, by places
+pub tables_needed : (g : Lists) (operations cells : Places) (marks kept : List Bool) → AreNeeded g marks → IsNumbered marks operations → kept ≡ operations.kept.items
+    → IsNumbered (map (λ (l : Loaded). marked kept l.load) g.loads) cells
+    → NeededTables g operations.kept.items operations.numbers.items cells.kept.items cells.numbers.items
+tables_needed g operations cells marks kept are by_marks is_kept of_cells =
+    let same : map (λ (l : Loaded). marked kept l.load) g.loads ≡ map (λ (l : Loaded). marked operations.kept.items l.load) g.loads =
+    ap (λ m. map (λ (l : Loaded). marked m l.load) g.loads) is_kept in
+    record {
+      are = rw by_marks.kept are;
+      numbers_are = rw by_marks.kept by_marks.numbers;
+      cells_are = of_cells.kept ∙ same;
+      cell_numbers_are = rw of_cells.kept of_cells.numbers;
+    }

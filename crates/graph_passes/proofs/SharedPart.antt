@@ -7,7 +7,8 @@ use Rattle.op_graph.specs.Rules.{IsGraph}
 use Rattle.op_graph.specs.Laws.{EntryLaws, WalkLaws}
 use Rattle.graph_passes.specs.Part.{below, part_of}
 use Rattle.graph_passes.specs.Sharing.{IsShared}
-use Rattle.graph_passes.specs.Tables.{marked, number_at, by_tables}
+use Rattle.graph_passes.specs.Tables.{IsNumbered, marked, number_at, by_tables, by_places}
+use Rattle.graph_passes.specs.declared.part.Places.{Places}
 use Rattle.graph_passes.specs.Joining.{sharing, AreJoined}
 use Rattle.graph_passes.proofs.ByTables.{part_same, below_same}
 
@@ -42,3 +43,11 @@ shared_part entries walks g graph kept numbers cells cell_numbers are all cell_n
             ∙ below_same (marked cells) (λ n. true) k (λ i less. cell_kept i (omega (arith, less, lt)));
       });
     }
+
+-- the same by places: of the cells all are kept
+pub shared_by_places : (entries : EntryLaws) (walks : WalkLaws) (g : Lists) → IsGraph g → (operations cells : Places) (count : ℕ)
+    → AreJoined g (length g.operations) operations.kept.items operations.numbers.items → count ≡ length g.loads → IsNumbered (replicate count true) cells
+    → IsShared g (part_of (by_places operations cells) g)
+shared_by_places entries walks g graph operations cells count are is all =
+    shared_part entries walks g graph operations.kept.items operations.numbers.items cells.kept.items cells.numbers.items are
+    (all.kept ∙ ap (λ n. replicate n true) is) (rw all.kept all.numbers)

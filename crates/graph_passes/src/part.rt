@@ -4,27 +4,39 @@ ghost use Rattle.std.specs.Prelude.{◌≡◌, ◌≤◌, ◌<◌, ◌++◌, ◌
 ghost use Rattle.vcp_base.specs.Limits.{most_operations};
 ghost use Rattle.op_graph.specs.Rules.{IsGraph};
 ghost use Rattle.graph_passes.specs.Part.{below, chosen, moved as moved_of, moved_load, moved_output, own_number as own_number_of, part_of};
-ghost use Rattle.graph_passes.specs.Tables.{by_tables, marked as marked_of, number_at as number_at_of};
+ghost use Rattle.graph_passes.specs.Tables.{IsNumbered, by_places, by_tables, marked as marked_of, number_at as number_at_of};
 
 use op_graph::{Graph, Loaded, Op, Outlet};
 use std::alloc::Global;
 use vcp_base::{Kind, Memory};
 
-/// The part of a graph by four tables, where that is a graph: which operations are kept, the new
-/// number of each operation or of what takes its place, which cells are kept, and their new numbers. What
-/// it changes is made anew, and all other lists are the graph's own.
+/// Which places of a list are kept, and the new number of each or of what takes its place.
+pub(crate) struct Places {
+    pub(crate) kept: Vec<bool>,
+    pub(crate) numbers: Vec<u32>,
+}
+
+impl Drop for Places {
+    fn drop(self) {
+        let Places {
+            kept: _,
+            numbers: _,
+        } = self;
+    }
+}
+
+/// The part of a graph by its operations and cells that are kept, where that is a graph. What it changes
+/// is made anew, and all other lists are the graph's own.
 pub(crate) fn part(
     alloc: Global,
     graph: Graph,
-    kept: &[bool],
-    numbers: &[u32],
-    cells: &[bool],
-    cell_numbers: &[u32],
+    operations: &Places,
+    cells: &Places,
 ) -> Result<Graph, Memory>
-    requires { IsGraph (part_of (by_tables kept.now numbers.now cells.now cell_numbers.now) graph) }
-    ensures { IfOk result (λ g. g ≡ part_of (by_tables kept.now numbers.now cells.now cell_numbers.now) graph) }
+    requires { IsGraph (part_of (by_places operations.now cells.now) graph) }
+    ensures { IfOk result (λ g. g ≡ part_of (by_places operations.now cells.now) graph) }
 {
-    let left = kept_lists(alloc, &graph, kept, numbers, cells, cell_numbers)?;
+    let left = kept_lists(alloc, &graph, operations, cells)?;
     let mut lists = graph.into_lists();
     lists.outputs = left.outputs;
     lists.loads = left.loads;
@@ -46,21 +58,29 @@ struct KeptLists {
 fn kept_lists(
     alloc: Global,
     graph: &Graph,
-    kept: &[bool],
-    numbers: &[u32],
-    cells: &[bool],
-    cell_numbers: &[u32],
+    operations: &Places,
+    cells: &Places,
 ) -> Result<KeptLists, Memory>
-    ensures outputs { IfOk result (λ left. left.outputs.items ≡ map (moved_output (by_tables [] numbers.now [] [])) graph.now.outputs) }
-    ensures loads { IfOk result (λ left. left.loads.items ≡ chosen (marked_of cells.now) (moved_load (by_tables [] numbers.now [] [])) 0 graph.now.loads) }
-    ensures stores { IfOk result (λ left. left.stores.items ≡ chosen (marked_of cells.now) (number_at_of numbers.now) 0 graph.now.stores) }
+    ensures outputs { IfOk result (λ left. left.outputs.items ≡ map (moved_output (by_tables [] operations.now.numbers.items [] [])) graph.now.outputs) }
+    ensures loads { IfOk result (λ left. left.loads.items
+        ≡ chosen (marked_of cells.now.kept.items) (moved_load (by_tables [] operations.now.numbers.items [] [])) 0 graph.now.loads) }
+    ensures stores { IfOk result (λ left. left.stores.items
+        ≡ chosen (marked_of cells.now.kept.items) (number_at_of operations.now.numbers.items) 0 graph.now.stores) }
     ensures operations { IfOk result (λ left. left.operations.items
-        ≡ chosen (marked_of kept.now) (moved_of (by_tables [] numbers.now [] cell_numbers.now)) 0 graph.now.operations) }
+        ≡ chosen (marked_of operations.now.kept.items) (moved_of (by_tables [] operations.now.numbers.items [] cells.now.numbers.items)) 0 graph.now.operations) }
 {
+    let numbers: &[u32] = &operations.numbers;
+    let kept_cell: &[bool] = &cells.kept;
     let outputs = moved_outputs(alloc, graph.all_outputs(), numbers)?;
-    let loads = kept_loads(alloc, graph.loads(), numbers, cells)?;
-    let stores = kept_stores(alloc, graph.stores(), numbers, cells)?;
-    let operations = kept_operations(alloc, graph.operations(), kept, numbers, cell_numbers)?;
+    let loads = kept_loads(alloc, graph.loads(), numbers, kept_cell)?;
+    let stores = kept_stores(alloc, graph.stores(), numbers, kept_cell)?;
+    let operations = kept_operations(
+        alloc,
+        graph.operations(),
+        &operations.kept,
+        numbers,
+        &cells.numbers,
+    )?;
     Ok(KeptLists {
         outputs,
         loads,
@@ -83,15 +103,27 @@ pub(crate) fn number_at(numbers: &[u32], i: usize) -> u32
     if i < numbers.len() { numbers[i] } else { 0 }
 }
 
-/// So many marks.
-pub(crate) fn all_marked(alloc: Global, count: u32) -> Result<Vec<bool>, Memory>
-    ensures { IfOk result (λ marks. marks.items ≡ replicate count true) }
+/// So many places, all kept.
+pub(crate) fn all_kept(alloc: Global, count: u32) -> Result<Places, Memory>
+    requires few { count ≤ most_operations }
+    ensures { IfOk result (λ places. IsNumbered (replicate count true) places) }
 {
-    Ok(vec![in alloc; true; count as usize]?)
+    numbered(alloc, vec![in alloc; true; count as usize]?)
+}
+
+/// The places by these marks, each that is kept with the number of those before it.
+pub(crate) fn numbered(alloc: Global, kept: Vec<bool>) -> Result<Places, Memory>
+    requires few { length kept.items ≤ most_operations }
+    ensures { IfOk result (λ places. IsNumbered kept.items places) }
+{
+    match numbers_below(alloc, &kept) {
+        Ok(numbers) => Ok(Places { kept, numbers }),
+        Err(Memory) => Err(Memory),
+    }
 }
 
 /// For each place, how many places before it are marked.
-pub(crate) fn numbers_below(alloc: Global, marks: &[bool]) -> Result<Vec<u32>, Memory>
+fn numbers_below(alloc: Global, marks: &[bool]) -> Result<Vec<u32>, Memory>
     requires few { length marks.now ≤ most_operations }
     ensures { IfOk result (λ numbers. (i : ℕ) → i < length marks.now → number_at_of numbers.items i ≡ below (marked_of marks.now) i) }
 {

@@ -10,7 +10,7 @@ ghost use Rattle.graph_passes.specs.Tables.{marked as marked_of};
 
 use crate::laws::what_is_needed_means_the_same;
 use crate::needed::needed;
-use crate::part::{marked, numbers_below, part};
+use crate::part::{marked, numbered, part};
 use op_graph::{Graph, Loaded, entries_are_found_by_one_walk, entries_keep_their_rules};
 use std::alloc::Global;
 use vcp_base::Memory;
@@ -34,11 +34,11 @@ pub fn prune(alloc: Global, graph: Graph) -> Result<Graph, Memory>
     entries_are_found_by_one_walk();
     entries_keep_their_rules();
     let _operations = graph.len();
-    let kept = needed(alloc, &graph)?;
-    let numbers = numbers_below(alloc, &kept)?;
-    let cells = kept_cells(alloc, graph.loads(), &kept)?;
-    let cell_numbers = numbers_below(alloc, &cells)?;
-    part(alloc, graph, &kept, &numbers, &cells, &cell_numbers)
+    let marks = needed(alloc, &graph)?;
+    let operations = numbered(alloc, marks)?;
+    let of_cells = kept_cells(alloc, graph.loads(), &operations.kept)?;
+    let cells = numbered(alloc, of_cells)?;
+    part(alloc, graph, &operations, &cells)
 }
 
 /// For each cell, whether its LOAD is kept.

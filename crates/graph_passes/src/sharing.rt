@@ -7,7 +7,7 @@ ghost use Rattle.graph_passes.specs.SameRun.{MeansAs};
 ghost use Rattle.graph_passes.specs.Sharing.{IsShared, NoneShares, joins as joins_of};
 
 use crate::laws::what_is_shared_means_the_same;
-use crate::part::{all_marked, number_at, numbers_below, one_more, part};
+use crate::part::{Places, all_kept, number_at, one_more, part};
 use indexmap::IndexMap;
 use op_graph::{Graph, Op, entries_are_found_by_one_walk, entries_keep_their_rules};
 use std::alloc::Global;
@@ -45,10 +45,9 @@ pub fn share(alloc: Global, graph: Graph) -> Result<Graph, Memory>
     entries_are_found_by_one_walk();
     entries_keep_their_rules();
     let _operations = graph.len();
-    let (kept, numbers) = joined(alloc, &graph)?;
-    let cells = all_marked(alloc, graph.cells())?;
-    let cell_numbers = numbers_below(alloc, &cells)?;
-    part(alloc, graph, &kept, &numbers, &cells, &cell_numbers)
+    let operations = joined(alloc, &graph)?;
+    let cells = all_kept(alloc, graph.cells())?;
+    part(alloc, graph, &operations, &cells)
 }
 
 /// Whether operations of the kind are joined: all but those of inputs, cells and outputs.
@@ -145,8 +144,8 @@ fn placed(firsts: &mut Firsts, op: &Op, numbers: &[u32], count: u32) -> Result<(
 }
 
 /// Which operations are kept, and the new number of each or of what it is joined to.
-fn joined(alloc: Global, graph: &Graph) -> Result<(Vec<bool>, Vec<u32>), Memory>
-    ensures { IfOk result (λ r. AreJoined graph.now (length graph.now.operations) r.0.items r.1.items) }
+fn joined(alloc: Global, graph: &Graph) -> Result<Places, Memory>
+    ensures { IfOk result (λ r. AreJoined graph.now (length graph.now.operations) r.kept.items r.numbers.items) }
 {
     // What an operation reads is an earlier one.
     entries_keep_their_rules();
@@ -160,5 +159,5 @@ fn joined(alloc: Global, graph: &Graph) -> Result<(Vec<bool>, Vec<u32>), Memory>
         numbers.push(number)?;
         count = one_more(is_kept, count);
     }
-    Ok((kept, numbers))
+    Ok(Places { kept, numbers })
 }

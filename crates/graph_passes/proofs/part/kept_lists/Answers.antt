@@ -4,16 +4,21 @@ use Rattle.graph_passes.specs.Tables.{marked, number_at, by_tables}
 use Rattle.graph_passes.proofs.part.kept_lists.Goals as goal
 
 pub returns-clause-outputs : goal.returns-clause-outputs
-returns-clause-outputs c = c.in_ok-outputs.ensures ∙ ap (map (moved_output (by_tables [] c.args.numbers.now [] []))) c.all_outputs.ensures
+returns-clause-outputs c =
+    rw (← c.deref-numbers.ensures.value) (c.in_ok-outputs.ensures ∙ ap (map (moved_output (by_tables [] c.deref-numbers.result.now [] []))) c.all_outputs.ensures)
 
 pub returns-clause-loads : goal.returns-clause-loads
 returns-clause-loads c =
-    c.in_ok-loads.ensures ∙ ap (chosen (marked c.args.cells.now) (moved_load (by_tables [] c.args.numbers.now [] [])) 0) c.loads.ensures
+    rw (← c.deref-numbers.ensures.value, ← c.deref-kept_cell.ensures.value)
+    (c.in_ok-loads.ensures ∙ ap (chosen (marked c.deref-kept_cell.result.now) (moved_load (by_tables [] c.deref-numbers.result.now [] [])) 0) c.loads.ensures)
 
 pub returns-clause-stores : goal.returns-clause-stores
-returns-clause-stores c = c.in_ok-stores.ensures ∙ ap (chosen (marked c.args.cells.now) (number_at c.args.numbers.now) 0) c.stores.ensures
+returns-clause-stores c =
+    rw (← c.deref-numbers.ensures.value, ← c.deref-kept_cell.ensures.value)
+    (c.in_ok-stores.ensures ∙ ap (chosen (marked c.deref-kept_cell.result.now) (number_at c.deref-numbers.result.now) 0) c.stores.ensures)
 
 pub returns-clause-operations : goal.returns-clause-operations
 returns-clause-operations c =
-    c.in_ok-operations.ensures
-    ∙ ap (chosen (marked c.args.kept.now) (moved (by_tables [] c.args.numbers.now [] c.args.cell_numbers.now)) 0) c.operations.ensures.list
+    rw (← c.deref-numbers.ensures.value, ← c.deref.ensures.value, ← c.deref-2.ensures.value)
+    (c.in_ok-operations.ensures
+    ∙ ap (chosen (marked c.deref.result.now) (moved (by_tables [] c.deref-numbers.result.now [] c.deref-2.result.now)) 0) c.operations.ensures.list)

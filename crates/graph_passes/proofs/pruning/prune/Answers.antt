@@ -1,64 +1,41 @@
-use Rattle.std.proofs.Common.{length, map, ap, ◌∙◌, arith}
+use Rattle.std.proofs.Common.{map, ap, subst, ◌∙◌, arith, length}
 use Rattle.std.proofs.lemmas.List.{length-map}
 use Rattle.op_graph.specs.declared.op.Loaded.{Loaded}
-use Rattle.op_graph.specs.Rules.{IsGraph}
 use Rattle.graph_passes.specs.Folding.{NoneFolds}
-use Rattle.graph_passes.specs.Part.{part_of}
 use Rattle.graph_passes.specs.Pruning.{IsPruned, NonePrunes}
 use Rattle.graph_passes.specs.SameRun.{MeansAs}
 use Rattle.graph_passes.specs.Sharing.{NoneShares}
-use Rattle.graph_passes.specs.Tables.{marked, by_tables}
+use Rattle.graph_passes.specs.Tables.{IsNumbered, marked}
 use Rattle.graph_passes.proofs.InOrder.{holds}
-use Rattle.graph_passes.proofs.Needing.{needed_part, tables_needed, by_slices}
+use Rattle.graph_passes.proofs.Needing.{needed_part, tables_needed}
 use Rattle.graph_passes.proofs.pruning.prune.Goals as goal
 
-pub numbers_below-requires : goal.numbers_below-requires
-numbers_below-requires c =
-    let g = c.args.graph in
-    let graph = c.len-operations.ensures.rules in
-    let same = ap length c.deref.ensures.value in
-    let many = c.in_ok-kept.ensures.many in
-    let few = graph.part.few_operations in
-    omega (arith, same, many, few)
+pub numbered-requires : goal.numbered-requires
+numbered-requires c = omega (arith, c.in_ok-marks.ensures.many, c.len-operations.ensures.rules.part.few_operations)
 
-pub numbers_below-requires-2 : goal.numbers_below-requires-2
-numbers_below-requires-2 c =
-    let g = c.args.graph in
-    let graph = c.len-operations.ensures.rules in
-    let same = ap length c.deref-3.ensures.value in
-    let many = ap length c.in_ok-cells.ensures ∙ length-map c.loads.result.now (λ (l : Loaded). marked c.deref-2.result.now l.load) in
-    let loads = ap length c.loads.ensures in
-    let few = graph.part.few_cells in
-    omega (arith, same, many, loads, few)
+pub numbered-requires-2 : goal.numbered-requires-2
+numbered-requires-2 c =
+    let many = ap length c.in_ok-of_cells.ensures ∙ length-map c.loads.result.now (λ (l : Loaded). marked c.deref.result.now l.load) in
+    omega (arith, many, ap length c.loads.ensures, c.len-operations.ensures.rules.part.few_cells)
 
 pub part-requires : goal.part-requires
 part-requires c =
     let g = c.args.graph in
     let graph = c.len-operations.ensures.rules in
-    let kept = c.in_ok-kept.kept.items in
-    let numbers = c.in_ok-numbers.numbers.items in
-    let cells = c.in_ok-cells.cells.items in
-    let loads = c.in_ok-cells.ensures ∙ ap (map (λ (l : Loaded). marked c.deref-2.result.now l.load)) c.loads.ensures in
-    let tables = tables_needed g kept numbers cells c.in_ok-cell_numbers.cell_numbers.items _ _ _ c.in_ok-kept.ensures c.deref.ensures.value
-    c.in_ok-numbers.ensures c.deref-2.ensures.value loads c.deref-3.ensures.value c.in_ok-cell_numbers.ensures in
+    let loads = c.in_ok-of_cells.ensures ∙ ap (map (λ (l : Loaded). marked c.deref.result.now l.load)) c.loads.ensures in
+    let tables = tables_needed g c.in_ok-operations.operations c.in_ok-cells.cells _ _ c.in_ok-marks.ensures c.in_ok-operations.ensures c.deref.ensures.value
+    (subst (λ m. IsNumbered m c.in_ok-cells.cells) loads c.in_ok-cells.ensures) in
     let pruned = needed_part c.entries_keep_their_rules.ensures c.entries_are_found_by_one_walk.ensures g graph _ _ _ _ tables in
-    by_slices (λ k n l m. IsGraph (part_of (by_tables k n l m) g)) _ _ _ _ _ _ _ _
-    c.deref-4.ensures.value c.deref-5.ensures.value c.deref-6.ensures.value c.deref-7.ensures.value
-    (c.what_is_needed_means_the_same.ensures.graph g _ graph pruned)
+    c.what_is_needed_means_the_same.ensures.graph g _ graph pruned
 
 pub returns : goal.returns
 returns c =
     let g = c.args.graph in
     let graph = c.len-operations.ensures.rules in
-    let kept = c.in_ok-kept.kept.items in
-    let numbers = c.in_ok-numbers.numbers.items in
-    let cells = c.in_ok-cells.cells.items in
-    let loads = c.in_ok-cells.ensures ∙ ap (map (λ (l : Loaded). marked c.deref-2.result.now l.load)) c.loads.ensures in
-    let tables = tables_needed g kept numbers cells c.in_ok-cell_numbers.cell_numbers.items _ _ _ c.in_ok-kept.ensures c.deref.ensures.value
-    c.in_ok-numbers.ensures c.deref-2.ensures.value loads c.deref-3.ensures.value c.in_ok-cell_numbers.ensures in
-    let pruned = by_slices (λ k n l m. IsPruned g (part_of (by_tables k n l m) g)) _ _ _ _ _ _ _ _
-    c.deref-4.ensures.value c.deref-5.ensures.value c.deref-6.ensures.value c.deref-7.ensures.value
-    (needed_part c.entries_keep_their_rules.ensures c.entries_are_found_by_one_walk.ensures g graph _ _ _ _ tables) in
+    let loads = c.in_ok-of_cells.ensures ∙ ap (map (λ (l : Loaded). marked c.deref.result.now l.load)) c.loads.ensures in
+    let tables = tables_needed g c.in_ok-operations.operations c.in_ok-cells.cells _ _ c.in_ok-marks.ensures c.in_ok-operations.ensures c.deref.ensures.value
+    (subst (λ m. IsNumbered m c.in_ok-cells.cells) loads c.in_ok-cells.ensures) in
+    let pruned = needed_part c.entries_keep_their_rules.ensures c.entries_are_found_by_one_walk.ensures g graph _ _ _ _ tables in
     let law = c.what_is_needed_means_the_same.ensures in
     let r = c.part.result in
     let is = c.part.ensures in
