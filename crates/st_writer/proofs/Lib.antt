@@ -16,7 +16,7 @@ pub mod FitStmt
 pub mod Lexed
 pub mod ReadsBack
 pub mod SameText
-pub mod Extends
+pub mod Added
 pub mod Lists
 pub mod Exprs
 pub mod Stmts

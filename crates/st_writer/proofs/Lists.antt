@@ -1,9 +1,10 @@
 -- The lexemes of a list of items, each by its place, and what a loop over the items has written.
 use Rattle.std.proofs.Common.{◌≡◌, ℕ, zero, suc, ◌+◌, ◌<◌, ◌≤◌, List, [], ◌∷◌, ◌++◌, length, get_or, take, arith, sym, ap, ◌∙◌}
 use Rattle.std.proofs.lemmas.List.{append_assoc, append-nil, take_all}
+use Rattle.st_writer.specs.Adds.{Adds}
 use Rattle.st_writer.specs.Lexemes.{Lexeme}
-use Rattle.st_writer.specs.Extended.{extended}
-use Rattle.st_writer.proofs.Extends.{extended-append}
+use Rattle.st_writer.specs.declared.writer.Writer.{Writer}
+use Rattle.st_writer.proofs.Added.{and_then, same}
 
 -- the lexemes that f gives for each item and its place, in order
 abbrev pub all : {X : Type 0} → (ℕ → X → List Lexeme) → List X → List Lexeme
@@ -19,15 +20,13 @@ all-more f (x ∷ xs) (suc i) d h =
     ap (λ (t : List Lexeme). f 0 x ++ t) (all-more (λ i. f (suc i)) xs i d (omega arith)) ∙ sym (append_assoc (f 0 x) _ _)
 
 -- the turn of a loop for item i
-pub turn : {X : Type 0} (f : ℕ → X → List Lexeme) (xs : List X) (i : ℕ) (x : X) (old now new : List ℕ) → i < length xs → get_or xs i x ≡ x
-    → now ≡ extended old (all f (take i xs)) → new ≡ extended now (f i x) → new ≡ extended old (all f (take (i + 1) xs))
-turn f xs i x old now new h e m n =
+pub turn : {X : Type 0} {a b c : Writer} (f : ℕ → X → List Lexeme) (xs : List X) (i : ℕ) (x : X) → i < length xs → get_or xs i x ≡ x
+    → Adds a b (all f (take i xs)) → Adds b c (f i x) → Adds a c (all f (take (i + 1) xs))
+turn f xs i x h e so_far one =
     let more : i + 1 ≡ suc i = omega arith in
-    n ∙ ap (λ (t : List ℕ). extended t (f i x)) m ∙ ap (λ t. extended (extended old (all f (take i xs))) (f i t)) (sym e)
-    ∙ sym (extended-append old (all f (take i xs)) (f i (get_or xs i x)))
-    ∙ ap (λ (t : List Lexeme). extended old t) (sym (all-more f xs i x h)) ∙ ap (λ t. extended old (all f (take t xs))) (sym more)
+    same (ap (λ y. all f (take i xs) ++ f i y) (sym e) ∙ sym (all-more f xs i x h) ∙ ap (λ k. all f (take k xs)) (sym more)) (and_then so_far one)
 
 -- the end of a loop
-pub ends : {X : Type 0} (f : ℕ → X → List Lexeme) (xs : List X) (i : ℕ) (old now : List ℕ) → length xs ≤ i
-    → now ≡ extended old (all f (take i xs)) → now ≡ extended old (all f xs)
-ends f xs i old now h e = e ∙ ap (λ t. extended old (all f t)) (take_all i xs h)
+pub ends : {X : Type 0} {a b : Writer} (f : ℕ → X → List Lexeme) (xs : List X) (i : ℕ) (ys : List Lexeme) → all f xs ≡ ys → length xs ≤ i
+    → Adds a b (all f (take i xs)) → Adds a b ys
+ends f xs i ys e h so_far = same (ap (all f) (take_all i xs h) ∙ e) so_far

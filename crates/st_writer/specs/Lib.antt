@@ -2,5 +2,5 @@ pub mod Lexemes
 pub mod CanonicalExpr
 pub mod CanonicalStmt
 pub mod CanonicalProgram
-pub mod Extended
+pub mod Adds
 pub mod ReadsAs

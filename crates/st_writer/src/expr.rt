@@ -1,16 +1,15 @@
 //! Expressions.
 
-ghost use Rattle.std.specs.Prelude.{◌≡◌, ◌++◌, ◌∷◌, ◌≤◌, [], OnOk};
+ghost use Rattle.std.specs.Prelude.{◌≡◌, ◌++◌, ◌∷◌, ◌≤◌, []};
 ghost use Rattle.st_lexer.specs.declared.token.Sym.TheVariants as sym;
 ghost use Rattle.st_tree.specs.ExprViews.{expr_tree, expr_trees};
+ghost use Rattle.st_writer.specs.Adds.{Adds, where_needed};
 ghost use Rattle.st_writer.specs.CanonicalExpr as canonical;
-ghost use Rattle.st_writer.specs.Extended.{extended, where_needed};
 ghost use Rattle.st_writer.specs.Lexemes as lexeme;
 
 use crate::writer::Writer;
-use st_lexer::Sym;
 use st_tree::{BinOp, Expr, UnOp, level_of, trees_of_nodes};
-use vcp_base::{Memory, Text};
+use vcp_base::Text;
 
 /// The level at which no expression has brackets.
 pub const ANY: u8 = 1;
@@ -18,8 +17,8 @@ pub const ANY: u8 = 1;
 /// The level of the operand of a sign.
 const UNARY: u8 = 8;
 
-// The spelling of an operator between its operands, with a space on both sides.
-fn operator_text(op: BinOp) -> &'static [u8]
+/// The spelling of an operator between its operands, with a space on both sides.
+pub fn operator_text(op: BinOp) -> &'static [u8]
     ensures { result.now ≡ lexeme.text_of (lexeme.blank ∷ canonical.operator op ∷ lexeme.blank ∷ []) }
 {
     match op {
@@ -51,39 +50,35 @@ fn sign_text(op: UnOp) -> &'static [u8]
 }
 
 impl Writer {
-    // Writes an operator between its operands, with a space on both sides.
-    fn operator(&mut self, op: BinOp) -> Result<(), Memory>
-        ensures text { OnOk result (self.new ≡ extended self.old (lexeme.blank ∷ canonical.operator op ∷ lexeme.blank ∷ [])) }
+    // Writes an opening bracket where brackets are needed.
+    fn opening(&mut self, needed: bool)
+        ensures { Adds self.old self.new (where_needed needed sym.LParen) }
     {
-        self.put(operator_text(op))
+        if needed {
+            self.put(b"(");
+        }
     }
 
-    // Writes a bracket where brackets are needed.
-    fn bracket(&mut self, needed: bool, bracket: Sym) -> Result<(), Memory>
-        ensures text { OnOk result (self.new ≡ extended self.old (where_needed needed bracket)) }
+    // Writes a closing bracket where brackets are needed.
+    fn closing(&mut self, needed: bool)
+        ensures { Adds self.old self.new (where_needed needed sym.RParen) }
     {
-        if needed { self.symbol(bracket) } else { Ok(()) }
-    }
-
-    // Writes an operator before its operand.
-    fn sign(&mut self, op: UnOp) -> Result<(), Memory>
-        ensures text { OnOk result (self.new ≡ extended self.old (canonical.sign op)) }
-    {
-        self.put(sign_text(op))
+        if needed {
+            self.put(b")");
+        }
     }
 
     /// Writes an expression where an operator of the level `wanted` or more is wanted.
     #[cycle(expr)]
-    #[tactic(auto, using(crate::proofs::Extends::writing))]
-    pub fn expr(&mut self, wanted: u8, e: &Expr) -> Result<(), Memory>
-        ensures text { OnOk result (self.new ≡ extended self.old (canonical.expr wanted (expr_tree e.now))) }
+    pub fn expr(&mut self, wanted: u8, e: &Expr)
+        ensures { Adds self.old self.new (canonical.expr wanted (expr_tree e.now)) }
     {
         match e {
             Expr::Lit { ty, value, .. } => self.literal(*ty, *value),
             Expr::Name { name, .. } => self.name(name),
             Expr::Unary { op, arg, .. } => {
-                self.sign(*op)?;
-                self.expr(UNARY, arg)
+                self.put(sign_text(*op));
+                self.expr(UNARY, arg);
             }
             Expr::Binary {
                 op,
@@ -93,40 +88,37 @@ impl Writer {
             } => {
                 let strength = level_of(*op);
                 let weak = strength < wanted;
-                self.bracket(weak, Sym::LParen)?;
-                self.expr(strength, left)?;
-                self.operator(*op)?;
-                self.expr(strength + 1, right)?;
-                self.bracket(weak, Sym::RParen)
+                self.opening(weak);
+                self.expr(strength, left);
+                self.put(operator_text(*op));
+                self.expr(strength + 1, right);
+                self.closing(weak);
             }
             Expr::Call { name, args, .. } => {
                 trees_of_nodes();
-                self.call(name, &args.items)
+                self.call(name, &args.items);
             }
         }
     }
 
     #[cycle(expr)]
-    #[tactic(auto, using(crate::proofs::Extends::writing))]
-    fn call(&mut self, name: &Text, args: &[Expr]) -> Result<(), Memory>
-        ensures text { OnOk result (self.new ≡ extended self.old
-            (lexeme.name name.now ∷ lexeme.symbol sym.LParen ∷ (canonical.args (expr_trees args.now) ++ lexeme.symbol sym.RParen ∷ []))) }
+    fn call(&mut self, name: &Text, args: &[Expr])
+        ensures { Adds self.old self.new
+            (lexeme.name name.now ∷ lexeme.symbol sym.LParen ∷ (canonical.args (expr_trees args.now) ++ lexeme.symbol sym.RParen ∷ [])) }
     {
-        self.name(name)?;
-        self.symbol(Sym::LParen)?;
-        self.args(args)?;
-        self.symbol(Sym::RParen)
+        self.name(name);
+        self.put(b"(");
+        self.args(args);
+        self.put(b")");
     }
 
     #[cycle(expr)]
-    #[tactic(auto, using(crate::proofs::Extends::writing))]
-    fn args(&mut self, args: &[Expr]) -> Result<(), Memory>
-        ensures text { OnOk result (self.new ≡ extended self.old (canonical.args (expr_trees args.now))) }
+    fn args(&mut self, args: &[Expr])
+        ensures { Adds self.old self.new (canonical.args (expr_trees args.now)) }
     {
         for i in 0..args.len() {
-            self.separator(i)?;
-            self.expr(ANY, &args[i])?;
+            self.separator(i);
+            self.expr(ANY, &args[i]);
         }
-        Ok(())
     }
 }

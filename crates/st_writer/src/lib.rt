@@ -5,9 +5,9 @@
 #![tactic(auto)]
 
 mod expr;
-mod indent;
 mod program;
 mod stmt;
 mod writer;
 
+pub use expr::operator_text;
 pub use program::write_program;

@@ -1,9 +1,8 @@
 //! Programs and their declarations.
 
-ghost use Rattle.std.specs.Prelude.{◌≡◌, ◌++◌, ◌∷◌, [], ℕ, List, IfOk, OnOk, flat_map, map};
+ghost use Rattle.std.specs.Prelude.{◌≡◌, ◌∷◌, [], ℕ, List, IfOk, flat_map, map};
 ghost use Rattle.st_lexer.specs.Reading.{Reads};
 ghost use Rattle.st_lexer.specs.declared.token.Token.{Token};
-ghost use Rattle.st_lexer.specs.declared.token.Key.TheVariants as keys;
 ghost use Rattle.st_lexer.specs.declared.token.Sym.TheVariants as sym;
 ghost use Rattle.st_tree.specs.Programs as programs;
 ghost use Rattle.st_tree.specs.ProgramTree.{ProgramTree};
@@ -11,14 +10,13 @@ ghost use Rattle.st_tree.specs.ExprViews.{expr_tree_or_none};
 ghost use Rattle.st_tree.specs.ProgramViews.{declared_tree, decl_tree, block_tree, program_tree};
 ghost use Rattle.st_tree.specs.Spelling.{SpellsWithin};
 ghost use Rattle.st_tree.specs.Bare.{bare};
+ghost use Rattle.st_writer.specs.Adds.{Adds};
 ghost use Rattle.st_writer.specs.ReadsAs.{ReadsAs};
 ghost use Rattle.st_writer.specs.CanonicalProgram as spec;
-ghost use Rattle.st_writer.specs.Extended.{extended};
 ghost use Rattle.st_writer.specs.Lexemes as lexeme;
 
 use crate::expr::ANY;
 use crate::writer::Writer;
-use st_lexer::Key;
 use st_tree::{Block, Decl, Declared, Expr, Program, Section};
 use std::alloc::Global;
 use vcp_base::{Memory, Text, Ty};
@@ -51,116 +49,74 @@ fn head_text(section: Section) -> &'static [u8]
 
 impl Writer {
     // Writes the names of a declaration.
-    fn names(&mut self, names: &[Declared]) -> Result<(), Memory>
-        ensures text { OnOk result (self.new ≡ extended self.old (spec.names (map declared_tree names.now))) }
+    fn names(&mut self, names: &[Declared])
+        ensures { Adds self.old self.new (spec.names (map declared_tree names.now)) }
     {
         for i in 0..names.len() {
-            self.separator(i)?;
+            self.separator(i);
             let declared = &names[i];
-            self.name(&declared.name)?;
+            self.name(&declared.name);
         }
-        Ok(())
     }
 
     // Writes the initial value, where one is given.
-    #[tactic(auto, using(crate::proofs::Extends::writing))]
-    fn init(&mut self, init: &Option<Expr>) -> Result<(), Memory>
-        ensures text { OnOk result (self.new ≡ extended self.old (spec.init (expr_tree_or_none init.now))) }
+    fn init(&mut self, init: &Option<Expr>)
+        ensures { Adds self.old self.new (spec.init (expr_tree_or_none init.now)) }
     {
         match init {
-            None => Ok(()),
+            None => {}
             Some(e) => {
-                self.assign_sign()?;
-                self.expr(ANY, e)
+                self.put(b" := ");
+                self.expr(ANY, e);
             }
         }
     }
 
-    // Writes `:` with a space on both sides, and the word of a type.
-    fn of_type(&mut self, ty: Ty) -> Result<(), Memory>
-        ensures text { OnOk result (self.new ≡ extended self.old
-            (lexeme.blank ∷ lexeme.symbol sym.Colon ∷ lexeme.blank ∷ lexeme.word (programs.type_key ty) ∷ [])) }
-    {
-        self.put(type_text(ty))
-    }
-
     // Writes the line of a declaration.
-    #[tactic(auto, using(crate::proofs::Extends::writing))]
-    fn decl(&mut self, decl: &Decl) -> Result<(), Memory>
-        ensures text { OnOk result (self.new ≡ extended self.old (spec.decl (decl_tree decl.now))) }
+    fn decl(&mut self, decl: &Decl)
+        ensures { Adds self.old self.new (spec.decl (decl_tree decl.now)) }
     {
-        self.blank()?;
-        self.blank()?;
-        self.names(&decl.names.items)?;
-        self.of_type(decl.ty)?;
-        self.init(&decl.init)?;
-        self.semicolon_end()
+        self.put(b"  ");
+        self.names(&decl.names.items);
+        self.put(type_text(decl.ty));
+        self.init(&decl.init);
+        self.put(b";\n");
     }
 
-    fn decls(&mut self, decls: &[Decl]) -> Result<(), Memory>
-        ensures text { OnOk result (self.new ≡ extended self.old (flat_map spec.decl (map decl_tree decls.now))) }
+    fn decls(&mut self, decls: &[Decl])
+        ensures { Adds self.old self.new (flat_map spec.decl (map decl_tree decls.now)) }
     {
         for i in 0..decls.len() {
-            self.decl(&decls[i])?;
+            self.decl(&decls[i]);
         }
-        Ok(())
     }
 
-    // Writes the line with which a block begins.
-    fn section(&mut self, section: Section) -> Result<(), Memory>
-        ensures text { OnOk result (self.new ≡ extended self.old (lexeme.line 0 (spec.head section))) }
+    fn block(&mut self, block: &Block)
+        ensures { Adds self.old self.new (spec.block (block_tree block.now)) }
     {
-        self.put(head_text(section))
+        self.put(head_text(block.section));
+        self.decls(&block.decls.items);
+        self.put(b"END_VAR\n");
     }
 
-    #[tactic(auto, using(crate::proofs::Extends::writing))]
-    fn block(&mut self, block: &Block) -> Result<(), Memory>
-        ensures text { OnOk result (self.new ≡ extended self.old (spec.block (block_tree block.now))) }
-    {
-        self.section(block.section)?;
-        self.decls(&block.decls.items)?;
-        self.keyword_line(Key::EndVar)
-    }
-
-    fn blocks(&mut self, blocks: &[Block]) -> Result<(), Memory>
-        ensures text { OnOk result (self.new ≡ extended self.old (flat_map spec.block (map block_tree blocks.now))) }
+    fn blocks(&mut self, blocks: &[Block])
+        ensures { Adds self.old self.new (flat_map spec.block (map block_tree blocks.now)) }
     {
         for i in 0..blocks.len() {
-            self.block(&blocks[i])?;
+            self.block(&blocks[i]);
         }
-        Ok(())
     }
 
-    // Writes the first line of a program.
-    #[tactic(auto, using(crate::proofs::Extends::writing))]
-    fn heading(&mut self, name: &Text) -> Result<(), Memory>
-        ensures text { OnOk result (self.new ≡ extended self.old (lexeme.line 0 (lexeme.word keys.Program ∷ lexeme.blank ∷ lexeme.name name.now ∷ []))) }
+    fn program(&mut self, program: &Program)
+        ensures { Adds self.old self.new (spec.program (program_tree program.now)) }
     {
-        self.word(Key::Program)?;
-        self.blank()?;
-        self.name(name)?;
-        self.line_end()
+        self.put(b"PROGRAM ");
+        self.name(&program.name);
+        self.put(b"\n");
+        self.blocks(&program.blocks.items);
+        self.stmts(0, &program.body.items);
+        self.put(b"END_PROGRAM\n");
     }
-
-    #[tactic(auto, using(crate::proofs::Extends::writing))]
-    fn program(&mut self, program: &Program) -> Result<(), Memory>
-        ensures text { OnOk result (self.new ≡ extended self.old (spec.program (program_tree program.now))) }
-    {
-        self.heading(&program.name)?;
-        self.blocks(&program.blocks.items)?;
-        let indent = self.first_indent()?;
-        self.stmts(&indent, &program.body.items)?;
-        self.keyword_line(Key::EndProgram)
-    }
-}
-
-/// The canonical text of a program, as a text of its own.
-fn canonical_text(alloc: Global, program: &Program) -> Result<Text, Memory>
-    ensures text { IfOk result (λ t. t ≡ spec.canonical (program_tree program.now)) }
-{
-    let mut writer = Writer::new(alloc);
-    writer.program(program)?;
-    Ok(writer.into_text())
 }
 
 /// The canonical text of a program; `Memory` where there is no room for it.
@@ -174,5 +130,7 @@ pub fn write_program(alloc: Global, program: &Program) -> Result<Text, Memory>
     ensures reads_back { (limit : ℕ) (text : List ℕ) (ts : List Token) → Reads text ts
         → SpellsWithin limit (program_tree program.now) text ts → IfOk result (ReadsAs limit (program_tree program.now)) }
 {
-    canonical_text(alloc, program)
+    let mut writer = Writer::new(alloc);
+    writer.program(program);
+    writer.into_text()
 }

@@ -1,0 +1,11 @@
+use Rattle.std.proofs.Common.{List, ℕ, ◌++◌, ap, sym, ◌∙◌}
+use Rattle.st_writer.proofs.writer.Writer.put.Goals as goal
+
+pub returns-in-Ok : goal.returns-in-Ok
+returns-in-Ok c = λ xs e. record {
+  so_far = λ sound. sound;
+  text = λ sound. c.in-Ok.ensures.items ∙ ap (λ (t : List ℕ). c.args.self.now.text.items ++ t) (sym e);
+}
+
+pub returns-in-Err : goal.returns-in-Err
+returns-in-Err c = λ xs e. record { so_far = λ failed. absurd cc; text = λ failed. absurd cc }
