@@ -1,5 +1,4 @@
 -- The values of inputs and outputs, slot by slot.
-use Rattle.vcp_base.specs.Limits.{most_size}
 use Rattle.std.proofs.Common.{◌≡◌, ℕ, zero, suc, ◌+◌, ◌-◌, ◌≤◌, ◌<◌, add-one, drop-cons, length-drop, ℤ, Bool, true, false, cond, List, [], ◌∷◌, ◌++◌, length}
 use Rattle.std.proofs.Common.{take, drop, get_or, slice_get, slice_set, Option, Some, None, ◌⊎◌, inl, inr, length-set, refl, sym, ap, ◌∙◌, subst, arith}
 use Rattle.vcp_base.specs.declared.turns.Turn.{Turn}
@@ -9,8 +8,8 @@ use Rattle.vcp_typed.specs.declared.slot.Slot.{Slot}
 use Rattle.vcp_typed.specs.Fitting.{AreFit, input_types, output_types}
 use Rattle.vcp_typed.specs.SourceRun.{Program, is_input, is_output, with_inputs, outputs}
 use Rattle.st_plain.specs.declared.stop.Stop.{Stop as Cause}
-use Rattle.vcp_typed.specs.Size.{stmts_size}
-use Rattle.st_plain.specs.Depth.{cut, stmts_depth}
+use Rattle.vcp_typed.specs.Size.{size}
+use Rattle.st_plain.specs.Depth.{stmts_depth}
 use Rattle.st_plain.specs.Standing.{Standing}
 use Rattle.st_plain.proofs.Depths.{depth-of-stmts}
 
@@ -227,9 +226,8 @@ cells-next slots i s out next_out n next v lt is put more left same cells = elim
       omega (arith, cells_left, long, h, cells))
 ]
 
-pub starts : (p : Program) (values zeros : List ℤ) (turns rest : List Turn) (d cap : ℕ) → AreFit p.slots values → length zeros ≡ length p.slots → turns ≡ []
-    → rest ≡ [] → d ≡ cut (stmts_depth p.body)
-    → stmts_size p.body ≤ most_size → d ≤ cap → Standing p values zeros None turns rest cap
-starts p values zeros turns rest d cap fit long none empty depth few room =
-    let low : stmts_depth p.body ≤ stmts_size p.body = depth-of-stmts p.body in
-    record { fit = fit; told = none; cause = tt; room = (empty, omega (arith, low, depth, few, room), long ∙ sym (fit-length p.slots values fit)) }
+pub starts : (p : Program) (values zeros : List ℤ) (turns rest : List Turn) (cap : ℕ) → AreFit p.slots values → length zeros ≡ length p.slots → turns ≡ []
+    → rest ≡ [] → size p ≤ cap → Standing p values zeros None turns rest cap
+starts p values zeros turns rest cap fit long none empty room =
+    let low : stmts_depth p.body ≤ cap = omega (arith, depth-of-stmts p.body, room) in
+    record { fit = fit; told = none; cause = tt; room = (empty, low, long ∙ sym (fit-length p.slots values fit)) }

@@ -1,12 +1,14 @@
 -- Values of 64 bits, and what the operators make of them in 128 bits.
 use Rattle.std.proofs.Common.{◌≡◌, ℕ, zero, suc, ◌≤◌, ◌<◌, ◌^◌, ◌/◌, ℤ, pos, negsuc, ◌*ℤ◌, div-le_self, w64, SFits, to_z, of_z, refl, sym, ap, ◌∙◌, arith, []}
-use Rattle.std.proofs.Common.{Result}
-use Rattle.std.specs.Prelude.{int_div, int_rem, unsigned_abs, neg_ℤ, false, cond}
-use Rattle.std.proofs.Math.Facts.{sfits_widen}
-use Rattle.std.proofs.lemmas.Int.{to_z-of_z, fits_signed_mul, fits_signed_from_abs}
+use Rattle.std.proofs.Common.{Result, ◌+ℤ◌, ◌-ℤ◌, subst}
+use Rattle.std.specs.Prelude.{int_div, int_rem, unsigned_abs, neg_ℤ, true, false, cond}
+use Rattle.std.proofs.Math.Facts.{sfits_widen, sfits_lit}
+use Rattle.std.proofs.lemmas.Int.{ints, to_z-of_z, fits_signed_mul, fits_signed_from_abs}
 use mir.Syntax.{w128}
 use Rattle.vcp_base.specs.Kinds.{same}
 use Rattle.vcp_base.specs.declared.ty.Ty.{Ty}
+use Rattle.vcp_base.specs.declared.ty.Ty.TheVariants as ty
+use Rattle.vcp_base.specs.Types.{fits}
 use Rattle.vcp_base.specs.declared.spot.Spot.{Spot}
 use Rattle.vcp_typed.specs.Meaning.{in_range, unless_zero}
 use Rattle.st_plain.specs.declared.stop.Stop.{Stop as Cause}
@@ -22,14 +24,58 @@ wide a = to_z w128 (of_z w128 (to_z w64 (of_z w64 a)))
 wide-is : (a : ℤ) → SFits w64 a → wide a ≡ a
 wide-is a f = ap (λ x. to_z w128 (of_z w128 x)) (to_z-of_z w64 a f) ∙ to_z-of_z w128 a (sfits_widen tt f)
 
+pub widens : (a : ℤ) → SFits w64 a → SFits w128 (to_z w64 (of_z w64 a))
+widens a f = subst (SFits w128) (sym (to_z-of_z w64 a f)) (sfits_widen tt f)
+
 abs-below : (a : ℤ) → SFits w64 a → unsigned_abs a ≤ 9223372036854775808
 abs-below (pos n) f = omega (arith, f.sfits)
 abs-below (negsuc n) f = omega (arith, f.sfits)
 
+product-fits : (a b : ℤ) → SFits w64 a → SFits w64 b → SFits w128 (a *ℤ b)
+product-fits a b f g = fits_signed_mul w128 a b 9223372036854775808 9223372036854775808 (abs-below a f) (abs-below b g) (omega arith)
+
+sum-fits : (a b : ℤ) → SFits w64 a → SFits w64 b → SFits w128 (a +ℤ b)
+sum-fits a b f g = grind (arith, ints)
+
+difference-fits : (a b : ℤ) → SFits w64 a → SFits w64 b → SFits w128 (a -ℤ b)
+difference-fits a b f g = grind (arith, ints)
+
+-- what is so of the values themselves is so of them in 128 bits
+pub product-within : (a b : ℤ) → SFits w64 a → SFits w64 b → SFits w128 (wide a *ℤ wide b)
+product-within a b f g = subst (SFits w128) (sym (λ i. wide-is a f i *ℤ wide-is b g i)) (product-fits a b f g)
+
+pub sum-within : (a b : ℤ) → SFits w64 a → SFits w64 b → SFits w128 (wide a +ℤ wide b)
+sum-within a b f g = subst (SFits w128) (sym (λ i. wide-is a f i +ℤ wide-is b g i)) (sum-fits a b f g)
+
+pub difference-within : (a b : ℤ) → SFits w64 a → SFits w64 b → SFits w128 (wide a -ℤ wide b)
+difference-within a b f g = subst (SFits w128) (sym (λ i. wide-is a f i -ℤ wide-is b g i)) (difference-fits a b f g)
+
 pub product-is : (a b : ℤ) → SFits w64 a → SFits w64 b → to_z w128 (of_z w128 (wide a *ℤ wide b)) ≡ a *ℤ b
-product-is a b f g =
-    ap (λ x. to_z w128 (of_z w128 x)) (λ i. wide-is a f i *ℤ wide-is b g i)
-    ∙ to_z-of_z w128 (a *ℤ b) (fits_signed_mul w128 a b 9223372036854775808 9223372036854775808 (abs-below a f) (abs-below b g) (omega arith))
+product-is a b f g = to_z-of_z w128 (wide a *ℤ wide b) (product-within a b f g) ∙ (λ i. wide-is a f i *ℤ wide-is b g i)
+
+pub sum-is : (a b : ℤ) → SFits w64 a → SFits w64 b → to_z w128 (of_z w128 (wide a +ℤ wide b)) ≡ a +ℤ b
+sum-is a b f g = to_z-of_z w128 (wide a +ℤ wide b) (sum-within a b f g) ∙ (λ i. wide-is a f i +ℤ wide-is b g i)
+
+pub difference-is : (a b : ℤ) → SFits w64 a → SFits w64 b → to_z w128 (of_z w128 (wide a -ℤ wide b)) ≡ a -ℤ b
+difference-is a b f g = to_z-of_z w128 (wide a -ℤ wide b) (difference-within a b f g) ∙ (λ i. wide-is a f i -ℤ wide-is b g i)
+
+zero-less : (a : ℤ) → pos 0 -ℤ a ≡ neg_ℤ a
+zero-less a = grind (arith, ints)
+
+pub negated-within : (a : ℤ) → SFits w64 a → SFits w128 (pos 0 -ℤ wide a)
+negated-within a f = subst (λ x. SFits w128 (pos 0 -ℤ x)) (sym (wide-is a f)) (difference-fits (pos 0) a (sfits_lit tt) f)
+
+pub negated-is : (a : ℤ) → SFits w64 a → to_z w128 (of_z w128 (pos 0 -ℤ wide a)) ≡ neg_ℤ a
+negated-is a f = to_z-of_z w128 (pos 0 -ℤ wide a) (negated-within a f) ∙ ap (λ x. pos 0 -ℤ x) (wide-is a f) ∙ zero-less a
+
+inverted-fits : (a : ℤ) → fits ty.Bool a ≡ true → SFits w64 (pos 1 -ℤ a)
+inverted-fits a e = grind (arith, ints)
+
+pub inverted-within : (a : ℤ) → SFits w64 a → fits ty.Bool a ≡ true → SFits w64 (pos 1 -ℤ to_z w64 (of_z w64 a))
+inverted-within a f e = subst (λ x. SFits w64 (pos 1 -ℤ x)) (sym (to_z-of_z w64 a f)) (inverted-fits a e)
+
+pub inverted-is : (a : ℤ) → SFits w64 a → fits ty.Bool a ≡ true → to_z w64 (of_z w64 (pos 1 -ℤ to_z w64 (of_z w64 a))) ≡ pos 1 -ℤ a
+inverted-is a f e = to_z-of_z w64 (pos 1 -ℤ to_z w64 (of_z w64 a)) (inverted-within a f e) ∙ ap (λ x. pos 1 -ℤ x) (to_z-of_z w64 a f)
 
 abs-neg : (n : ℕ) → unsigned_abs (neg_ℤ (pos n)) ≡ n
 abs-neg zero = refl

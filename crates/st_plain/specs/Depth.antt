@@ -1,5 +1,5 @@
 -- Depth: how deep statements nest FORs that make a turn, which is how many turns can be round a place at most.
-use Rattle.std.specs.Prelude.{ℕ, zero, suc, ◌+◌, min, max}
+use Rattle.std.specs.Prelude.{ℕ, zero, suc, ◌+◌, max}
 use Rattle.vcp_typed.specs.TStmtTree.{TStmtTree, TStmtTrees, TArmTrees, TBranchTrees, TOtherTree, assign, if_, case, for_, no_tstmts, and_tstmt, no_tarms}
 use Rattle.vcp_typed.specs.TStmtTree.{and_tarm, no_tbranches, and_tbranch, no_tother, tother}
 
@@ -26,7 +26,3 @@ abbrev mutual
   pub other_depth : TOtherTree → ℕ
   other_depth no_tother = 0
   other_depth (tother body) = stmts_depth body
-
--- a depth up to the first that no checked program has
-abbrev pub cut : ℕ → ℕ
-cut n = min n 65537

@@ -1,7 +1,6 @@
 //! The plain evaluator: what a checked program means, cycle by cycle, on plain values.
 #![tactic(auto)]
 
-mod depth;
 mod expr;
 mod laws;
 mod operators;

@@ -82,12 +82,14 @@ fn rest(a: i64, b: i64) -> i128
 pub fn operate(op: BinOp, ty: Ty, spot: Spot, a: i64, b: i64) -> Result<i64, Stop>
     ensures { outside result ≡ operate_of op ty spot [] a b }
 {
+    let x = a as i128;
+    let y = b as i128;
     match op {
-        BinOp::Mul => in_range(ty, spot, a as i128 * b as i128),
+        BinOp::Mul => in_range(ty, spot, x * y),
         BinOp::Div => quotient(ty, spot, a, b),
         BinOp::Mod => remainder(ty, spot, a, b),
-        BinOp::Add => in_range(ty, spot, a as i128 + b as i128),
-        BinOp::Sub => in_range(ty, spot, a as i128 - b as i128),
+        BinOp::Add => in_range(ty, spot, x + y),
+        BinOp::Sub => in_range(ty, spot, x - y),
         BinOp::Lt => Ok(truth(a < b)),
         BinOp::Gt => Ok(truth(b < a)),
         BinOp::Le => Ok(truth(a <= b)),

@@ -9,7 +9,6 @@ ghost use Rattle.st_plain.specs.Depth.{stmts_depth as stmts_depth_of};
 ghost use Rattle.st_plain.specs.Evaluator.{started, comes_to, turns_of, within_turns};
 ghost use Rattle.st_plain.specs.Outcomes.{left};
 
-use crate::depth::stmts_depth;
 use crate::slots::{initial_values, set_inputs, set_outputs};
 use crate::stmt::{Working, do_stmts};
 use crate::stop::Stop;
@@ -68,11 +67,11 @@ impl<'p> Plain<'p> {
     {
         let slots = program.slots();
         values_fit();
-        let depth = stmts_depth(&program.body().items);
         let values = initial_values(alloc, &slots.items)?;
         let working = Working {
             values: Row::zeros(alloc, slots.len() as u32)?,
-            turns: Vec::with_capacity(alloc, depth as usize)?,
+            // no FOR is deeper than the Size
+            turns: Vec::with_capacity(alloc, program.size() as usize)?,
         };
         Ok(Plain {
             program,
