@@ -1,34 +1,47 @@
--- Turns: pieces behind a text, one text more, and one draw more.
-use Rattle.std.proofs.Common.{◌≡◌, ℕ, suc, ◌%◌, List, [], ◌∷◌, ◌++◌, Result, Ok, Err, refl, sym, ap, subst, ◌∙◌}
-use Rattle.std.specs.Prelude.{OnOk}
-use Rattle.std.proofs.lemmas.List.{append_assoc, append-nil}
-use Rattle.vcp_base.specs.declared.memory.Memory.{Memory}
+-- Turns: one piece after another, and one draw more.
+use Rattle.std.proofs.Common.{◌≡◌, ℕ, suc, ◌+◌, ◌*◌, ◌%◌, List, [], ◌∷◌, ◌++◌, length, get_or, ◌<◌, take, take-suc, refl, sym, ap, subst, ◌∙◌, append_assoc, arith}
+use Rattle.std.proofs.lemmas.List.{append-nil}
+use Rattle.std.proofs.lemmas.Grind.{flat_map-append}
+use Rattle.std.specs.List.{flat_map}
+use Rattle.program_maker.specs.declared.writer.Writer.{Writer}
 use Rattle.program_maker.specs.Draws.{states, state, next, chosen, draw}
-use Rattle.program_maker.specs.Pieces.{whole, extended, joined}
-use Rattle.program_maker.specs.MadeSource.{line}
+use Rattle.program_maker.specs.Written.{Writes}
+use Rattle.program_maker.specs.MadeSource.{variables, filled, form_line, statement, joined}
 
--- first some, then the others
-pub extended-append : (text : List ℕ) (some others : List (List ℕ)) → extended text (some ++ others) ≡ extended (extended text some) others
-extended-append text [] others = refl
-extended-append text (piece ∷ some) others = extended-append (text ++ piece) some others
+pub and_then : {a b c : Writer} {x y : List ℕ} → Writes a b x → Writes b c y → Writes a c (x ++ y)
+and_then {a} {b} {c} {x} {y} first second = record {
+  so_far = λ sound. first.so_far (second.so_far sound);
+  adds = λ sound. second.adds sound ∙ ap (λ t. t ++ y) (first.adds (second.so_far sound)) ∙ append_assoc a.text.items x y;
+}
 
--- behind a text stand the pieces
-pub extended-is : (text : List ℕ) (pieces : List (List ℕ)) → extended text pieces ≡ text ++ whole pieces
-extended-is text [] = sym (append-nil text)
-extended-is text (piece ∷ pieces) = extended-is (text ++ piece) pieces ∙ append_assoc text piece (whole pieces)
+pub nothing : {a : Writer} → Writes a a []
+nothing {a} = record {
+  so_far = λ sound. sound;
+  adds = λ sound. sym (append-nil a.text.items);
+}
 
 -- no text
-pub none-joined : (pieces : ℕ → List (List ℕ)) (text : List ℕ) → text ≡ extended text (joined pieces 0)
+pub none : {a : Writer} (text : ℕ → List ℕ) → Writes a a (joined text 0)
 unfolding joined
-none-joined pieces text = refl
+none text = nothing
 
 -- one text more
-pub joined-further : (pieces : ℕ → List (List ℕ)) (k m : ℕ) (front old new : List ℕ) →
-    m ≡ suc k → old ≡ extended front (joined pieces k) → new ≡ extended old (pieces k) → new ≡ extended front (joined pieces m)
+pub one_more : {a b c : Writer} (text : ℕ → List ℕ) (k : ℕ) → Writes a b (joined text k) → Writes b c (text k) → Writes a c (joined text (k + 1))
 unfolding joined
-joined-further pieces k m front old new e h n =
-    n ∙ ap (λ (t : List ℕ). extended t (pieces k)) h ∙ sym (extended-append front (joined pieces k) (pieces k))
-    ∙ ap (λ i. extended front (joined pieces i)) (sym e)
+one_more {a} {b} {c} text k so_far one =
+    let next : suc k ≡ k + 1 = omega arith in
+    subst (λ n. Writes a c (joined text n)) next (and_then so_far one)
+
+-- one byte of a line more
+pub byte_more : {a b c : Writer} (text : ℕ → List ℕ) (line : List ℕ) (k : ℕ) → k < length line → Writes a b (flat_map text (take k line))
+    → Writes b c (text (get_or line k 0)) → Writes a c (flat_map text (take (k + 1) line))
+byte_more {a} {b} {c} text line k there so_far one =
+    let next : suc k ≡ k + 1 = omega arith in
+    subst (λ n. Writes a c (flat_map text (take n line))) next
+    (subst (Writes a c)
+    (ap (λ t. flat_map text (take k line) ++ t) (sym (append-nil (text (get_or line k 0)))) ∙ sym (flat_map-append text (take k line) (get_or line k 0 ∷ []))
+    ∙ ap (flat_map text) (sym (take-suc line k 0 there)))
+    (and_then so_far one))
 
 -- one draw more
 pub further : (number k m s : ℕ) → m ≡ suc k → s ≡ state number k → next s ≡ state number m
@@ -39,49 +52,15 @@ further number k m s e h = ap next h ∙ ap (state number) (sym e)
 pub drawn : (number k choices s r : ℕ) → s ≡ state number k → r ≡ chosen choices (next s) → r ≡ draw number k choices
 drawn number k choices s r h d = d ∙ ap (chosen choices) (further number k (suc k) s refl h)
 
-pub same-line : (f p q r g x y z : ℕ) → f ≡ g → p ≡ x → q ≡ y → r ≡ z → line f p q r ≡ line g x y z
-same-line f p q r g x y z form first second third =
-    ap (λ a. line a p q r) form ∙ ap (λ a. line g a q r) first ∙ ap (λ a. line g x a r) second ∙ ap (λ a. line g x y a) third
-
--- the same pieces
-pub as-pieces : (r : Result (Unit {0}) Memory) (new old : List ℕ) (some others : List (List ℕ)) →
-    some ≡ others → OnOk r (new ≡ extended old some) → OnOk r (new ≡ extended old others)
-as-pieces r new old some others e h = subst (λ (pieces : List (List ℕ)). OnOk r (new ≡ extended old pieces)) e h
-
--- the last pieces behind what was written before
-pub then-last : (r : Result (Unit {0}) Memory) (new old front : List ℕ) (some last : List (List ℕ)) →
-    old ≡ extended front some → OnOk r (new ≡ extended old last) → OnOk r (new ≡ extended front (some ++ last))
-then-last (Ok done) new old front some last e h = h ∙ ap (λ (t : List ℕ). extended t last) e ∙ sym (extended-append front some last)
-then-last (Err why) new old front some last e h = tt
-
--- a piece that is written in two
-pub in-two : (r : Result (Unit {0}) Memory) (new old front a b c : List ℕ) → old ≡ front ++ a → c ≡ b → OnOk r (new ≡ old ++ c)
-    → OnOk r (new ≡ front ++ (a ++ b))
-in-two (Ok done) new old front a b c e f h =
-    h ∙ ap (λ (t : List ℕ). t ++ c) e ∙ append_assoc front a c ∙ ap (λ (t : List ℕ). front ++ (a ++ t)) f
-in-two (Err why) new old front a b c e f h = tt
-
--- four parts, one behind the other
-pub four-parts : (r : Result (Unit {0}) Memory) (new third second first front : List ℕ) (a b c d : List (List ℕ)) →
-    first ≡ extended front a → second ≡ extended first b → third ≡ extended second c → OnOk r (new ≡ extended third d) →
-    OnOk r (new ≡ extended front (a ++ (b ++ (c ++ d))))
-four-parts (Ok done) new third second first front a b c d e f g h =
-    h ∙ ap (λ (t : List ℕ). extended t d) g ∙ sym (extended-append second c d) ∙ ap (λ (t : List ℕ). extended t (c ++ d)) f
-    ∙ sym (extended-append first b (c ++ d)) ∙ ap (λ (t : List ℕ). extended t (b ++ (c ++ d))) e ∙ sym (extended-append front a (b ++ (c ++ d)))
-four-parts (Err why) new third second first front a b c d e f g h = tt
-
--- what holds in any case holds after success
-pub on-success : (r : Result (Unit {0}) Memory) (P : Type 0) → P → OnOk r P
-on-success (Ok done) P h = h
-on-success (Err why) P h = tt
-
--- pieces behind no text
-pub from-nothing : (new old : List ℕ) (pieces : List (List ℕ)) → old ≡ [] → new ≡ extended old pieces → new ≡ whole pieces
-from-nothing new old pieces e h = h ∙ ap (λ (t : List ℕ). extended t pieces) e ∙ extended-is [] pieces
+-- the statement of four draws
+pub of_draws : (number i p q r form : ℕ) → p ≡ draw number (4 * i) variables → q ≡ draw number (4 * i + 1) variables → r ≡ draw number (4 * i + 2) variables
+    → form ≡ draw number (4 * i + 3) 6 → filled p q r (form_line form) ≡ statement number i
+of_draws number i p q r form e f g h =
+    ap (λ x. filled x q r (form_line form)) e ∙ ap (λ x. filled (draw number (4 * i) variables) x r (form_line form)) f
+    ∙ ap (λ x. filled (draw number (4 * i) variables) (draw number (4 * i + 1) variables) x (form_line form)) g
+    ∙ ap (λ x. filled (draw number (4 * i) variables) (draw number (4 * i + 1) variables) (draw number (4 * i + 2) variables) (form_line x)) h
 
 -- before the first draw
 pub begun : (number s : ℕ) → s ≡ number % states → s ≡ state number 0
 unfolding state
 begun number s h = h
-
-pub ruleset writing = (extended-append)

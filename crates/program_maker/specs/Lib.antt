@@ -1,4 +1,4 @@
 pub mod Draws
-pub mod Pieces
+pub mod Written
 pub mod MadeSource
 pub mod MadeRows

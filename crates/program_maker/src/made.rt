@@ -28,11 +28,11 @@ pub fn make(alloc: Global, number: u32) -> Result<Made, Memory>
 {
     let mut draws = Draws::new(number);
     let mut source = Writer::new(alloc);
-    source.source(&mut draws)?;
+    source.source(&mut draws);
     let mut rows = Writer::new(alloc);
-    rows.rows(&mut draws)?;
+    rows.rows(&mut draws);
     Ok(Made {
-        source: source.into_text(),
-        rows: rows.into_text(),
+        source: source.into_text()?,
+        rows: rows.into_text()?,
     })
 }

@@ -1,13 +1,12 @@
 //! The source of a made program.
 
-ghost use Rattle.std.specs.Prelude.{◌≡◌, ◌+◌, ◌*◌, OnOk, ℕ};
+ghost use Rattle.std.specs.Prelude.{◌≡◌, ◌+◌, ◌*◌, ℕ};
 ghost use Rattle.program_maker.specs.Draws.{state};
-ghost use Rattle.program_maker.specs.Pieces.{joined, extended};
+ghost use Rattle.program_maker.specs.Written.{Writes};
 ghost use Rattle.program_maker.specs.MadeSource as spec;
 
 use crate::draws::Draws;
 use crate::writer::Writer;
-use vcp_base::Memory;
 
 const VARIABLES: u32 = 100;
 
@@ -15,158 +14,94 @@ const STATEMENTS: u32 = 1000;
 
 const FORMS: u32 = 6;
 
+// The line of a form, 0 to 5, whose letters p, q and r stand for variables.
+fn form_line(form: u32) -> &'static [u8]
+    ensures { result.now ≡ spec.form_line form }
+{
+    match form {
+        0 => b"p := (q + a) MOD 1000;\n",
+        1 => b"p := (q - b) MOD 1010;\n",
+        2 => b"p := (q * r) MOD 1020;\n",
+        3 => b"IF q < r THEN p := (p + 1) MOD 1000; END_IF;\n",
+        4 => b"p := SEL(q = r, q, a MOD 1030);\n",
+        _ => b"p := LIMIT(-500, q, 500);\n",
+    }
+}
+
 impl Writer {
     // Writes name `i` of a list of variables.
-    #[tactic(auto, using(crate::proofs::Turns::writing))]
-    fn listed(&mut self, i: u32) -> Result<(), Memory>
-        ensures text { OnOk result (self.new ≡ extended self.old (spec.listed i)) }
+    fn listed(&mut self, i: u32)
+        ensures { Writes self.old self.new (spec.listed i) }
     {
         if i > 0 {
-            self.text(b", ")?;
+            self.put(b", ");
         }
-        self.variable(i)
+        self.variable(i);
     }
 
     // Writes the names of all variables.
-    fn all_listed(&mut self) -> Result<(), Memory>
-        ensures text { OnOk result (self.new ≡ extended self.old (joined spec.listed spec.variables)) }
+    fn names(&mut self)
+        ensures { Writes self.old self.new (spec.joined spec.listed spec.variables) }
     {
         'names: for i in 0..VARIABLES {
-            self.listed(i)?;
+            self.listed(i);
         }
-        Ok(())
     }
 
-    // Writes the line of the variables.
-    #[tactic(auto, using(crate::proofs::Turns::writing))]
-    fn declaration(&mut self) -> Result<(), Memory>
-        ensures text { OnOk result (self.new ≡ extended self.old (spec.declaration)) }
+    // Writes a byte of a line, or the variable that it stands for.
+    fn part(&mut self, p: u32, q: u32, r: u32, byte: u8)
+        ensures { Writes self.old self.new (spec.part p q r byte) }
     {
-        self.text(b"VAR ")?;
-        self.all_listed()?;
-        self.text(b" : DINT; END_VAR\n")
+        match byte {
+            b'p' => self.variable(p),
+            b'q' => self.variable(q),
+            b'r' => self.variable(r),
+            _ => self.put(&[byte]),
+        }
     }
 
-    // The lines of the six forms of a statement.
-
-    #[tactic(auto, using(crate::proofs::Turns::writing))]
-    fn sum_line(&mut self, p: u32, q: u32) -> Result<(), Memory>
-        ensures text { OnOk result (self.new ≡ extended self.old (spec.sum_line p q)) }
+    // Writes a line whose letters p, q and r stand for variables.
+    fn filled(&mut self, p: u32, q: u32, r: u32, line: &[u8])
+        ensures { Writes self.old self.new (spec.filled p q r line.now) }
     {
-        self.variable(p)?;
-        self.text(b" := (")?;
-        self.variable(q)?;
-        self.text(b" + a) MOD 1000;\n")
-    }
-
-    #[tactic(auto, using(crate::proofs::Turns::writing))]
-    fn difference_line(&mut self, p: u32, q: u32) -> Result<(), Memory>
-        ensures text { OnOk result (self.new ≡ extended self.old (spec.difference_line p q)) }
-    {
-        self.variable(p)?;
-        self.text(b" := (")?;
-        self.variable(q)?;
-        self.text(b" - b) MOD 1010;\n")
-    }
-
-    #[tactic(auto, using(crate::proofs::Turns::writing))]
-    fn product_line(&mut self, p: u32, q: u32, r: u32) -> Result<(), Memory>
-        ensures text { OnOk result (self.new ≡ extended self.old (spec.product_line p q r)) }
-    {
-        self.variable(p)?;
-        self.text(b" := (")?;
-        self.variable(q)?;
-        self.text(b" * ")?;
-        self.variable(r)?;
-        self.text(b") MOD 1020;\n")
-    }
-
-    #[tactic(auto, using(crate::proofs::Turns::writing))]
-    fn branch_line(&mut self, p: u32, q: u32, r: u32) -> Result<(), Memory>
-        ensures text { OnOk result (self.new ≡ extended self.old (spec.branch_line p q r)) }
-    {
-        self.text(b"IF ")?;
-        self.variable(q)?;
-        self.text(b" < ")?;
-        self.variable(r)?;
-        self.text(b" THEN ")?;
-        self.variable(p)?;
-        self.text(b" := (")?;
-        self.variable(p)?;
-        self.text(b" + 1) MOD 1000; END_IF;\n")
-    }
-
-    #[tactic(auto, using(crate::proofs::Turns::writing))]
-    fn choice_line(&mut self, p: u32, q: u32, r: u32) -> Result<(), Memory>
-        ensures text { OnOk result (self.new ≡ extended self.old (spec.choice_line p q r)) }
-    {
-        self.variable(p)?;
-        self.text(b" := SEL(")?;
-        self.variable(q)?;
-        self.text(b" = ")?;
-        self.variable(r)?;
-        self.text(b", ")?;
-        self.variable(q)?;
-        self.text(b", a MOD 1030);\n")
-    }
-
-    #[tactic(auto, using(crate::proofs::Turns::writing))]
-    fn limit_line(&mut self, p: u32, q: u32) -> Result<(), Memory>
-        ensures text { OnOk result (self.new ≡ extended self.old (spec.limit_line p q)) }
-    {
-        self.variable(p)?;
-        self.text(b" := LIMIT(-500, ")?;
-        self.variable(q)?;
-        self.text(b", 500);\n")
-    }
-
-    // Writes the line of a form, 0 to 5.
-    fn line(&mut self, form: u32, p: u32, q: u32, r: u32) -> Result<(), Memory>
-        ensures text { OnOk result (self.new ≡ extended self.old (spec.line form p q r)) }
-    {
-        match form {
-            0 => self.sum_line(p, q),
-            1 => self.difference_line(p, q),
-            2 => self.product_line(p, q, r),
-            3 => self.branch_line(p, q, r),
-            4 => self.choice_line(p, q, r),
-            _ => self.limit_line(p, q),
+        'bytes: for byte in line {
+            self.part(p, q, r, *byte);
         }
     }
 
     // Draws a statement and writes it.
-    fn statement(&mut self, draws: &mut Draws) -> Result<(), Memory>
+    fn statement(&mut self, draws: &mut Draws)
         ensures draws { (number i : ℕ) → draws.old ≡ state number (4 * i) → draws.new ≡ state number (4 * (i + 1)) }
-        ensures text { (number i : ℕ) → draws.old ≡ state number (4 * i) → OnOk result (self.new ≡ extended self.old (spec.statement number i)) }
+        ensures text { (number i : ℕ) → draws.old ≡ state number (4 * i) → Writes self.old self.new (spec.statement number i) }
     {
         let p = draws.draw(VARIABLES);
         let q = draws.draw(VARIABLES);
         let r = draws.draw(VARIABLES);
         let form = draws.draw(FORMS);
-        self.line(form, p, q, r)
+        self.filled(p, q, r, form_line(form));
     }
 
     // Draws the statements and writes them.
-    fn statements(&mut self, draws: &mut Draws) -> Result<(), Memory>
-        ensures draws { (number : ℕ) → draws.old ≡ state number 0 → OnOk result (draws.new ≡ state number (4 * spec.statements)) }
-        ensures text { (number : ℕ) → draws.old ≡ state number 0
-            → OnOk result (self.new ≡ extended self.old (joined (spec.statement number) spec.statements)) }
+    fn statements(&mut self, draws: &mut Draws)
+        ensures draws { (number : ℕ) → draws.old ≡ state number 0 → draws.new ≡ state number (4 * spec.statements) }
+        ensures text { (number : ℕ) → draws.old ≡ state number 0 → Writes self.old self.new (spec.joined (spec.statement number) spec.statements) }
     {
         'statements: for _ in 0..STATEMENTS {
-            self.statement(draws)?;
+            self.statement(draws);
         }
-        Ok(())
     }
 
     /// Draws the source of a program and writes it.
-    #[tactic(auto, using(crate::proofs::Turns::writing))]
-    pub fn source(&mut self, draws: &mut Draws) -> Result<(), Memory>
-        ensures draws { (number : ℕ) → draws.old ≡ state number 0 → OnOk result (draws.new ≡ state number (4 * spec.statements)) }
-        ensures text { (number : ℕ) → draws.old ≡ state number 0 → OnOk result (self.new ≡ extended self.old (spec.source number)) }
+    pub fn source(&mut self, draws: &mut Draws)
+        ensures draws { (number : ℕ) → draws.old ≡ state number 0 → draws.new ≡ state number (4 * spec.statements) }
+        ensures text { (number : ℕ) → draws.old ≡ state number 0 → Writes self.old self.new (spec.made_source number) }
     {
-        self.text(b"PROGRAM demo\nVAR_INPUT a, b : DINT; END_VAR\nVAR_OUTPUT y : DINT; END_VAR\n")?;
-        self.declaration()?;
-        self.statements(draws)?;
-        self.text(b"y := v0 + v1 + v2 + v3;\nEND_PROGRAM\n")
+        self.put(
+            b"PROGRAM demo\nVAR_INPUT a, b : DINT; END_VAR\nVAR_OUTPUT y : DINT; END_VAR\nVAR ",
+        );
+        self.names();
+        self.put(b" : DINT; END_VAR\n");
+        self.statements(draws);
+        self.put(b"y := v0 + v1 + v2 + v3;\nEND_PROGRAM\n");
     }
 }

@@ -1,67 +1,67 @@
 //! The text while it is written: pieces go to its end, one by one.
 
-ghost use Rattle.std.specs.Prelude.{◌≡◌, ◌∷◌, [], OnOk};
+ghost use Rattle.std.specs.Prelude.{◌≡◌, [], false, IfOk};
 ghost use Rattle.std.specs.Fmt.{signed_decimal};
 ghost use Rattle.program_maker.specs.MadeSource.{variable};
-ghost use Rattle.program_maker.specs.Pieces.{extended};
+ghost use Rattle.program_maker.specs.Written.{Writes};
 
 use itoa::Buffer;
 use std::alloc::Global;
-use std::marker::Model;
 use vcp_base::{Memory, Text};
 
-/// A text that is written to its end, seen as the list of its bytes. After `Memory` nothing is known of
-/// it, and it is given up.
+/// A text that is written to its end. Where memory runs out it has failed, from then on, and lacks a piece.
 #[derive(Drop)]
 pub struct Writer {
     text: Vec<u8>,
-}
-
-impl Model for Writer {
-    ghost use Rattle.std.specs.Prelude.{List, ℕ};
-
-    ghost Value = { List ℕ };
-
-    ghost view = { λ w. w.text.items };
+    has_failed: bool,
 }
 
 impl Writer {
     /// A text without bytes. It takes no memory.
     pub fn new(alloc: Global) -> Writer
-        ensures { result ≡ [] }
+        ensures text { result.text.items ≡ [] }
+        ensures sound { result.has_failed ≡ false }
     {
         Writer {
             text: Vec::new(alloc),
+            has_failed: false,
         }
     }
 
-    /// The text that was written. It takes no memory.
-    pub fn into_text(self) -> Text
-        ensures { result ≡ self }
+    /// The text that was written; `Memory` where it lacks a piece. It takes no memory.
+    pub fn into_text(self) -> Result<Text, Memory>
+        ensures sound { IfOk result (λ text. self.has_failed ≡ false) }
+        ensures text { IfOk result (λ text. text ≡ self.text.items) }
     {
-        Text::from_vec(self.text)
+        if self.has_failed {
+            Err(Memory)
+        } else {
+            Ok(Text::from_vec(self.text))
+        }
     }
 
     /// Writes these bytes.
-    pub fn text(&mut self, bytes: &[u8]) -> Result<(), Memory>
-        ensures text { OnOk result (self.new ≡ extended self.old (bytes.now ∷ [])) }
+    pub fn put(&mut self, bytes: &[u8])
+        ensures { Writes self.old self.new bytes.now }
     {
-        self.text.extend_from_slice(bytes)?;
-        Ok(())
+        match self.text.extend_from_slice(bytes) {
+            Ok(()) => {}
+            Err(_) => self.has_failed = true,
+        }
     }
 
     /// Writes the name of a variable.
-    pub fn variable(&mut self, i: u32) -> Result<(), Memory>
-        ensures text { OnOk result (self.new ≡ extended self.old (variable i ∷ [])) }
+    pub fn variable(&mut self, i: u32)
+        ensures { Writes self.old self.new (variable i) }
     {
-        self.text(b"v")?;
-        self.text(Buffer::new().format(i).as_bytes())
+        self.put(b"v");
+        self.number(i as i64);
     }
 
     /// Writes a number in decimal digits, after `-` where it is negative.
-    pub fn number(&mut self, value: i64) -> Result<(), Memory>
-        ensures text { OnOk result (self.new ≡ extended self.old (signed_decimal value ∷ [])) }
+    pub fn number(&mut self, value: i64)
+        ensures { Writes self.old self.new (signed_decimal value) }
     {
-        self.text(Buffer::new().format(value).as_bytes())
+        self.put(Buffer::new().format(value).as_bytes());
     }
 }

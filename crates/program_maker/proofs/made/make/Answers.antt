@@ -1,18 +1,18 @@
-use Rattle.std.proofs.Common.{◌∙◌}
-use Rattle.program_maker.specs.MadeSource.{source}
-use Rattle.program_maker.specs.MadeRows.{rows}
-use Rattle.program_maker.proofs.Turns.{begun, from-nothing}
+use Rattle.std.proofs.Common.{◌++◌, ◌∙◌, ap}
+use Rattle.program_maker.specs.MadeSource.{made_source}
+use Rattle.program_maker.specs.MadeRows.{made_rows}
+use Rattle.program_maker.proofs.Turns.{begun}
 use Rattle.program_maker.proofs.made.make.Goals as goal
 
 pub returns-clause-source : goal.returns-clause-source
 returns-clause-source c =
-    c.into_text.ensures
-    ∙ from-nothing c.source.new.self c.new-source.result (source c.args.number) c.new-source.ensures
-    (c.in_ok-source.ensures.text c.args.number (begun c.args.number c.new-draws.result c.new-draws.ensures))
+    c.in_ok-into_text.ensures.text
+    ∙ (c.source.ensures.text c.args.number (begun c.args.number c.new-draws.result c.new-draws.ensures)).adds c.in_ok-into_text.ensures.sound
+    ∙ ap (λ t. t ++ made_source c.args.number) c.new-source.ensures.text
 
 pub returns-clause-rows : goal.returns-clause-rows
 returns-clause-rows c =
-    c.into_text-2.ensures
-    ∙ from-nothing c.rows.new.self c.new-rows.result (rows c.args.number) c.new-rows.ensures
-    (c.in_ok-rows.ensures.text c.args.number
-    (c.in_ok-source.ensures.draws c.args.number (begun c.args.number c.new-draws.result c.new-draws.ensures)))
+    c.in_ok-into_text-2.ensures.text
+    ∙ (c.rows.ensures c.args.number (c.source.ensures.draws c.args.number (begun c.args.number c.new-draws.result c.new-draws.ensures))).adds
+    c.in_ok-into_text-2.ensures.sound
+    ∙ ap (λ t. t ++ made_rows c.args.number) c.new-rows.ensures.text

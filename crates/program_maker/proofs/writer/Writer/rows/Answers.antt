@@ -1,25 +1,21 @@
-use Rattle.std.proofs.Common.{◌≡◌, ℕ, List, ap, ◌∙◌, arith}
-use Rattle.program_maker.specs.Pieces.{joined, extended}
+use Rattle.std.proofs.Common.{◌≡◌, subst, arith}
+use Rattle.program_maker.specs.Written.{Writes}
+use Rattle.program_maker.specs.MadeSource.{joined}
 use Rattle.program_maker.specs.MadeRows.{row, cycles}
-use Rattle.program_maker.proofs.Turns.{none-joined, joined-further}
+use Rattle.program_maker.proofs.Turns.{none, one_more, and_then}
 use Rattle.program_maker.proofs.writer.Writer.rows.Goals as goal
 
 pub rows-init : goal.rows-init
-rows-init c = λ number h. (h, none-joined (row number) c.text.new.self)
+rows-init c = λ number h. (h, none (row number))
 
 pub rows-preserved : goal.rows-preserved
 rows-preserved c = λ number h.
     let before = c.rows.invariant number h in (
-      c.in_ok-row.ensures.draws number c.rows.counter before.0,
-      joined-further (row number) c.rows.counter _ c.text.new.self c.rows.self c.row.new.self (omega arith) before.1
-          (c.in_ok-row.ensures.text number c.rows.counter before.0),
+      c.row.ensures.draws number c.rows.counter before.0,
+      one_more (row number) c.rows.counter before.1 (c.row.ensures.text number c.rows.counter before.0),
     )
 
 pub returns : goal.returns
 returns c =
     let all : c.rows.counter ≡ cycles = omega arith in
-    record {
-      text = λ number h.
-          (c.rows.invariant number h).1 ∙ ap (λ n. extended c.text.new.self (joined (row number) n)) all
-          ∙ ap (λ (t : List ℕ). extended t (joined (row number) cycles)) c.in_ok-text.ensures.text;
-    }
+    λ number h. and_then c.put.ensures (subst (λ n. Writes c.put.new.self c.rows.self (joined (row number) n)) all (c.rows.invariant number h).1)
