@@ -1,13 +1,13 @@
 -- Records: what a loop over the columns and over the records of a table keeps.
 use Rattle.std.specs.Prelude.{IfSome}
 use Rattle.std.proofs.Common.{◌≡◌, ℕ, zero, suc, ◌+◌, ◌-◌, ◌<◌, ◌≤◌, true, false, List, [], ◌∷◌, ◌++◌, length, map, drop, slice_get, Option, Some, None, Ok}
-use Rattle.std.proofs.Common.{Err, refl, sym, ap, subst, ◌∙◌, append_assoc, arith}
+use Rattle.std.proofs.Common.{Result, Err, slice_set, length-set, refl, sym, ap, subst, ◌∙◌, append_assoc, arith}
 use Rattle.vcp_base.specs.declared.columns.Column.{Column}
 use Rattle.input_rows.specs.declared.fault.RowFault.{RowFault}
 use Rattle.input_rows.specs.declared.fault.RowFault.TheVariants as fault
 use Rattle.range_walk.specs.declared.range.Range.{Range}
 use Rattle.input_rows.specs.RecordsLeft.{Takes}
-use Rattle.range_walk.specs.RangeTable.{cells_of, RangesSoFar, with_cells, after_record, ranges_from}
+use Rattle.range_walk.specs.RangeTable.{cells_of, RangeCells, RangesSoFar, place_of, range_in, with_range, with_place, with_cells, after_record, ranges_from}
 
 -- ---- lists
 
@@ -93,3 +93,24 @@ too_many columns first now k number (Some records) None new cells all is before 
 too_many columns first now k number (Some records) (Some left) new cells all is before (more, here, after) =
     let same : left ≡ cells ∷ more = cc in
     before 0 (omega (arith, all)) ∙ (no_input_left columns now (k + 2) left more cells same ∙ ap (λ n. Err (fault.Cell n 1)) (sym is))
+
+-- ---- lengths
+
+abbrev AsLong : RangesSoFar → RangesSoFar → Type 0
+AsLong now next = (length next.ranges ≡ length now.ranges) × (length next.free ≡ length now.free)
+
+with_range_as_long : (now next : RangesSoFar) (i : ℕ) (r : Result Range RowFault) → with_range now i r ≡ Ok next → AsLong now next
+with_range_as_long now next i (Ok r) e =
+    let is : next ≡ record { ranges = slice_set now.ranges i r; free = slice_set now.free i false } = cc in
+    subst (AsLong now) (sym is) (length-set now.ranges i r, length-set now.free i false)
+with_range_as_long now next i (Err why) e = absurd cc
+
+with_place_as_long : (columns : List Column) (now next : RangesSoFar) (number : ℕ) (c : RangeCells) (place : Option ℕ)
+    → with_place columns now number c place ≡ Ok next → AsLong now next
+with_place_as_long columns now next number c None e = absurd cc
+with_place_as_long columns now next number c (Some i) e = with_range_as_long now next i (range_in number (slice_get columns i) c) e
+
+pub with_cells_as_long : (columns : List Column) (now next : RangesSoFar) (number : ℕ) (cells : Option RangeCells)
+    → with_cells columns now number cells ≡ Ok next → AsLong now next
+with_cells_as_long columns now next number None e = absurd cc
+with_cells_as_long columns now next number (Some c) e = with_place_as_long columns now next number c (place_of columns now.free c.name) e

@@ -95,6 +95,11 @@ abbrev pub with_cells : List Column → RangesSoFar → ℕ → Option RangeCell
 with_cells columns a number None = Err (fault.Width number)
 with_cells columns a number (Some c) = with_place columns a number c (place_of columns a.free c.name)
 
+-- what is told by a call that was refused or not
+abbrev pub after : Result (Unit {0}) RowFault → RangesSoFar → Result RangesSoFar RowFault
+after (Ok done) told = Ok told
+after (Err why) told = Err why
+
 -- what comes after a record, where it isn't refused
 abbrev pub after_record : Result RangesSoFar RowFault → (RangesSoFar → Result (List Range) RowFault) → Result (List Range) RowFault
 after_record (Ok a) more = more a

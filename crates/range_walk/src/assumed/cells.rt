@@ -1,16 +1,17 @@
 //! The cells of a record, and what they spell.
 
-ghost use Rattle.std.specs.Prelude.{◌≡◌};
+ghost use Rattle.std.specs.Prelude.{◌≡◌, ◌<◌, length, IfSome};
 ghost use Rattle.std.specs.Option.{option_map};
 ghost use Rattle.csv.specs.Records.{fields_of};
 ghost use Rattle.vcp_base.specs.Words.{words, only};
-ghost use Rattle.range_walk.specs.RangeTable.{cells_of, is_same_word, is_head as is_head_of, end_of as end_in, range_between as between};
+ghost use Rattle.range_walk.specs.RangeTable.{cells_of, is_same_word, is_head as is_head_of, end_of as end_in, range_between, place_of};
 
 use crate::Range;
+use crate::assumed::so_far::place_named;
 use csv::ByteRecord;
 use input_rows::{RowFault, field};
 use std::marker::Model;
-use vcp_base::{Ty, WordsLeft, is_same_name, number_in};
+use vcp_base::{Columns, Ty, WordsLeft, is_same_name, number_in};
 
 /// The three cells of a record, seen as texts.
 #[derive(Drop)]
@@ -46,7 +47,7 @@ pub(crate) fn three_cells(cells: &ByteRecord) -> Option<Cells<'_>>
 }
 
 /// The one word of a cell.
-pub(crate) fn word_of(cell: &[u8]) -> Option<&[u8]>
+fn word_of(cell: &[u8]) -> Option<&[u8]>
     ensures { option_map (λ w. w.now) result ≡ only (words cell.now) }
 {
     let mut left = WordsLeft::new(cell);
@@ -71,29 +72,6 @@ fn end_of(ty: Ty, cell: &[u8]) -> Option<i64>
     number_in(ty, word)
 }
 
-/// The range between two ends, of which the second is no less than the first.
-fn range_between(number: u32, low: Option<i64>, high: Option<i64>) -> Result<Range, RowFault>
-    ensures { result ≡ between number low high }
-{
-    match low {
-        Some(low) => match high {
-            Some(high) if low <= high => Ok(Range {
-                low,
-                high,
-                nonzero: false,
-            }),
-            _ => Err(RowFault::Cell {
-                row: number,
-                column: 3,
-            }),
-        },
-        None => Err(RowFault::Cell {
-            row: number,
-            column: 2,
-        }),
-    }
-}
-
 impl Cells<'_> {
     /// Whether they are the words of the head.
     pub(crate) fn are_head(&self) -> bool
@@ -104,19 +82,36 @@ impl Cells<'_> {
             && is_word(self.greatest, b"greatest")
     }
 
-    /// The cell that names an input.
-    pub(crate) fn name(&self) -> &[u8]
-        ensures { result.now ≡ self.now.name }
+    /// The place of the input that they name, if no record has named it.
+    pub(crate) fn place(&self, columns: &Columns, free: &[bool]) -> Option<usize>
+        requires { length free.now ≡ length columns.now }
+        ensures place { result ≡ place_of columns.now free.now self.now.name }
+        ensures within { IfSome result (λ i. i < length columns.now) }
     {
-        self.name
+        let name = word_of(self.name)?;
+        place_named(columns, free, name)
     }
 
     /// The range of an input of the type.
     pub(crate) fn range(&self, number: u32, ty: Ty) -> Result<Range, RowFault>
-        ensures { result ≡ between number (end_in ty self.now.least) (end_in ty self.now.greatest) }
+        ensures { result ≡ range_between number (end_in ty self.now.least) (end_in ty self.now.greatest) }
     {
-        let low = end_of(ty, self.least);
-        let high = end_of(ty, self.greatest);
-        range_between(number, low, high)
+        let column = match end_of(ty, self.least) {
+            Some(low) => match end_of(ty, self.greatest) {
+                Some(high) if low <= high => {
+                    return Ok(Range {
+                        low,
+                        high,
+                        nonzero: false,
+                    });
+                }
+                _ => 3,
+            },
+            None => 2,
+        };
+        Err(RowFault::Cell {
+            row: number,
+            column,
+        })
     }
 }

@@ -1,12 +1,12 @@
 //! What records have said so far.
 
-ghost use Rattle.std.specs.Prelude.{◌≡◌, ◌<◌, length, slice_get, slice_set, IfOk, IfSome, false};
+ghost use Rattle.std.specs.Prelude.{◌≡◌, ◌<◌, length, slice_get, IfOk, IfSome};
 ghost use Rattle.csv.specs.Records.{fields_of};
-ghost use Rattle.range_walk.specs.RangeTable.{at_first, cells_of, is_free_named as is_free_named_of, place_below, place_of as place_in};
-ghost use Rattle.range_walk.specs.RangeTable.{range_of_type as range_of, with_place as with_place_of, with_cells as with_cells_of};
+ghost use Rattle.range_walk.specs.RangeTable.{after, at_first, cells_of, is_free_named as is_free_named_of, place_below};
+ghost use Rattle.range_walk.specs.RangeTable.{range_of_type as range_of, with_place, with_cells};
 
 use crate::Range;
-use crate::assumed::cells::{Cells, three_cells, word_of};
+use crate::assumed::cells::{Cells, three_cells};
 use csv::ByteRecord;
 use input_rows::RowFault;
 use std::alloc::Global;
@@ -55,7 +55,7 @@ fn is_free_named(columns: &Columns, free: &[bool], i: usize, name: &[u8]) -> boo
 }
 
 /// The place of such an input.
-fn place_named(columns: &Columns, free: &[bool], name: &[u8]) -> Option<usize>
+pub(crate) fn place_named(columns: &Columns, free: &[bool], name: &[u8]) -> Option<usize>
     requires { length free.now ≡ length columns.now }
     ensures place { result ≡ place_below columns.now free.now name.now (length columns.now) }
     ensures within { IfSome result (λ i. i < length columns.now) }
@@ -67,16 +67,6 @@ fn place_named(columns: &Columns, free: &[bool], name: &[u8]) -> Option<usize>
         }
     }
     found
-}
-
-/// The place of the input that a cell names.
-fn place_of(columns: &Columns, free: &[bool], cell: &[u8]) -> Option<usize>
-    requires { length free.now ≡ length columns.now }
-    ensures place { result ≡ place_in columns.now free.now cell.now }
-    ensures within { IfSome result (λ i. i < length columns.now) }
-{
-    let name = word_of(cell)?;
-    place_named(columns, free, name)
 }
 
 impl SoFar {
@@ -101,64 +91,48 @@ impl SoFar {
         ranges
     }
 
-    /// What is known with a range of the input at place `i`, which is named then.
-    fn with_range(self, i: usize, range: Range) -> SoFar
-        requires ranges { i < length self.ranges }
-        requires free { i < length self.free }
-        ensures { result ≡ record { ranges = slice_set self.ranges i range; free = slice_set self.free i false } }
-    {
-        let SoFar {
-            mut ranges,
-            mut free,
-        } = self;
-        ranges[i] = range;
-        free[i] = false;
-        SoFar { ranges, free }
-    }
-
-    /// What is known with the range of the input at a place, where there is one.
-    fn with_place(
-        self,
+    /// Takes the range that cells give to the input at a place, where there is one.
+    fn take(
+        &mut self,
         columns: &Columns,
         number: u32,
         cells: &Cells<'_>,
         place: Option<usize>,
-    ) -> Result<SoFar, RowFault>
+    ) -> Result<(), RowFault>
         requires place { IfSome place (λ i. i < length columns.now) }
-        requires ranges { length self.ranges ≡ length columns.now }
-        requires free { length self.free ≡ length columns.now }
-        ensures { result ≡ with_place_of columns.now self number cells.now place }
+        requires ranges { length self.old.ranges ≡ length columns.now }
+        requires free { length self.old.free ≡ length columns.now }
+        ensures { after result self.new ≡ with_place columns.now self.old number cells.now place }
     {
-        match place {
-            Some(i) => {
-                let column = columns.at(i);
-                let range = cells.range(number, column.ty)?;
-                Ok(self.with_range(i, range))
+        let i = match place {
+            Some(i) => i,
+            None => {
+                return Err(RowFault::Cell {
+                    row: number,
+                    column: 1,
+                });
             }
-            None => Err(RowFault::Cell {
-                row: number,
-                column: 1,
-            }),
-        }
+        };
+        self.ranges[i] = cells.range(number, columns.at(i).ty)?;
+        self.free[i] = false;
+        Ok(())
     }
 
-    /// What is known with the record of this number.
-    pub(crate) fn with_record(
-        self,
+    /// Takes the record of this number.
+    pub(crate) fn take_record(
+        &mut self,
         columns: &Columns,
         number: u32,
         cells: &ByteRecord,
-    ) -> Result<SoFar, RowFault>
-        requires ranges { length self.ranges ≡ length columns.now }
-        requires free { length self.free ≡ length columns.now }
-        ensures record { result ≡ with_cells_of columns.now self number (cells_of (fields_of cells.now)) }
-        ensures ranges { IfOk result (λ next. length next.ranges ≡ length columns.now) }
-        ensures free { IfOk result (λ next. length next.free ≡ length columns.now) }
+    ) -> Result<(), RowFault>
+        requires ranges { length self.old.ranges ≡ length columns.now }
+        requires free { length self.old.free ≡ length columns.now }
+        ensures { after result self.new ≡ with_cells columns.now self.old number (cells_of (fields_of cells.now)) }
     {
         match three_cells(cells) {
             Some(cells) => {
-                let place = place_of(columns, &self.free, cells.name());
-                self.with_place(columns, number, &cells, place)
+                let place = cells.place(columns, &self.free);
+                self.take(columns, number, &cells, place)
             }
             None => Err(RowFault::Width { row: number }),
         }

@@ -3,7 +3,7 @@
 ghost use Rattle.std.specs.Prelude.{◌≡◌, ◌≢◌, ◌≤◌, Ok, Err, length, IfOk, IfErr, IfSome};
 ghost use Rattle.csv.specs.Records.{fields_of};
 ghost use Rattle.vcp_base.specs.Limits.{most_names};
-ghost use Rattle.range_walk.specs.RangeTable.{at_first, cells_of, is_head as is_head_of, ranges_from, ranges_of_table as ranges_of};
+ghost use Rattle.range_walk.specs.RangeTable.{at_first, cells_of, is_head as is_head_of, ranges_from, ranges_of_records, ranges_of_table as ranges_of};
 
 use crate::Range;
 use crate::assumed::cells::three_cells;
@@ -23,28 +23,28 @@ fn is_head(cells: &ByteRecord) -> bool
     }
 }
 
-/// The ranges that the records behind the head tell.
-fn ranges_behind(
-    alloc: Global,
+/// Takes the records behind the head.
+fn take_ranges(
     columns: &Columns,
     records: &mut Records<'_>,
     cells: &mut ByteRecord,
-) -> Result<Vec<Range>, RowFault>
+    told: &mut SoFar,
+) -> Result<(), RowFault>
     requires few { length columns.now ≤ most_names }
-    ensures ranges { IfOk result (λ made. IfSome records.old.left (λ left.
-        ranges_from columns.now (at_first columns.now) (length columns.now) 2 left ≡ Ok made.items)) }
+    requires first { told.old ≡ at_first columns.now }
+    ensures ranges { IfOk result (λ _. IfSome records.old.left (λ left.
+        ranges_from columns.now (at_first columns.now) (length columns.now) 2 left ≡ Ok told.new.ranges)) }
     ensures refusal { IfErr result (λ f. f ≢ RowFault.Memory → IfSome records.old.left (λ left.
         ranges_from columns.now (at_first columns.now) (length columns.now) 2 left ≡ Err f)) }
 {
-    let mut told = SoFar::new(alloc, columns)?;
     let count = columns.len() as u32;
     'records: for k in 0..count {
         let found = records.next(cells)?;
         if !found {
-            return Ok(told.into_ranges());
+            return Ok(());
         }
-        match told.with_record(columns, k + 2, cells) {
-            Ok(next) => told = next,
+        match told.take_record(columns, k + 2, cells) {
+            Ok(()) => {}
             Err(why) => return Err(why),
         }
     }
@@ -55,7 +55,44 @@ fn ranges_behind(
             column: 1,
         });
     }
-    Ok(told.into_ranges())
+    Ok(())
+}
+
+/// Takes the records of a table.
+fn take_records(
+    columns: &Columns,
+    records: &mut Records<'_>,
+    cells: &mut ByteRecord,
+    told: &mut SoFar,
+) -> Result<(), RowFault>
+    requires few { length columns.now ≤ most_names }
+    requires first { told.old ≡ at_first columns.now }
+    ensures ranges { IfOk result (λ _. IfSome records.old.left (λ left. ranges_of_records columns.now left ≡ Ok told.new.ranges)) }
+    ensures refusal { IfErr result (λ f. f ≢ RowFault.Memory → IfSome records.old.left (λ left. ranges_of_records columns.now left ≡ Err f)) }
+{
+    let found = records.next(cells)?;
+    if found && is_head(cells) {
+        take_ranges(columns, records, cells, told)
+    } else {
+        Err(RowFault::Header)
+    }
+}
+
+/// Takes a table.
+fn take_table(
+    alloc: Global,
+    text: &[u8],
+    columns: &Columns,
+    told: &mut SoFar,
+) -> Result<(), RowFault>
+    requires few { length columns.now ≤ most_names }
+    requires first { told.old ≡ at_first columns.now }
+    ensures ranges { IfOk result (λ _. ranges_of columns.now text.now ≡ Ok told.new.ranges) }
+    ensures refusal { IfErr result (λ f. f ≢ RowFault.Memory → ranges_of columns.now text.now ≡ Err f) }
+{
+    let mut records = Records::new(alloc, text);
+    let mut cells = ByteRecord::new(alloc);
+    take_records(columns, &mut records, &mut cells, told)
 }
 
 /// The ranges of inputs that a table's bytes tell, one for each column, in their order: a column that no record names has all values of its
@@ -73,14 +110,7 @@ pub fn ranges_of_table(
     ensures ranges { IfOk result (λ made. ranges_of columns.now text.now ≡ Ok made.items) }
     ensures refusal { IfErr result (λ f. f ≢ RowFault.Memory → ranges_of columns.now text.now ≡ Err f) }
 {
-    let mut records = Records::new(alloc, text);
-    let mut cells = ByteRecord::new(alloc);
-    let found = records.next(&mut cells)?;
-    if !found {
-        return Err(RowFault::Header);
-    }
-    if !is_head(&cells) {
-        return Err(RowFault::Header);
-    }
-    ranges_behind(alloc, columns, &mut records, &mut cells)
+    let mut told = SoFar::new(alloc, columns)?;
+    take_table(alloc, text, columns, &mut told)?;
+    Ok(told.into_ranges())
 }

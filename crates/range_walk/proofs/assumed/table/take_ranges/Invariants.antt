@@ -1,7 +1,7 @@
 use Rattle.std.proofs.Common.{◌≡◌, length}
 use Rattle.range_walk.specs.RangeTable.{at_first}
 use Rattle.range_walk.proofs.Records.{IsLeft}
-use Rattle.range_walk.proofs.assumed.table.ranges_behind.Given as goal
+use Rattle.range_walk.proofs.assumed.table.take_ranges.Given as goal
 
 abbrev pub invariant-records : goal.invariant-records
 invariant-records l = record {
