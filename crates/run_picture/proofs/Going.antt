@@ -1,5 +1,5 @@
 -- Going: one piece of a text behind another.
-use Rattle.std.proofs.Common.{◌≡◌, ℕ, suc, ◌+◌, List, [], ◌∷◌, ◌++◌, Option, refl, append_assoc, flat_map, ◌∙◌, ap, add-one}
+use Rattle.std.proofs.Common.{◌≡◌, ℕ, suc, ◌+◌, Bool, true, false, cond, List, [], ◌∷◌, ◌++◌, Option, refl, append_assoc, flat_map, ◌∙◌, ap, add-one}
 use Rattle.std.proofs.lemmas.Grind.{flat_map-append}
 use Rattle.std.proofs.lemmas.List.{append-nil}
 use Rattle.vcp_outside.specs.Gathering.{Gathered, Gathers}
@@ -36,6 +36,19 @@ one_text e = append-nil (element_text e)
 
 pub two_texts : (d e : Element) → flat_map element_text (d ∷ e ∷ []) ≡ element_text d ++ element_text e
 two_texts d e = ap (λ t. element_text d ++ t) (append-nil (element_text e))
+
+-- elements that are drawn where a test says so
+pub drawn_if : {a b : Option (List ℕ)} {f g : ℕ} {l m : Gathered} (es : List Element) (test : Bool) → test ≡ true
+    → Gathers a b f g l m (flat_map element_text es) → Gathers a b f g l m (flat_map element_text (cond test es []))
+drawn_if es test is gathers = same gathers (ap (λ t. flat_map element_text (cond t es [])) is)
+
+pub drawn_unless : {a b : Option (List ℕ)} {f g : ℕ} {l m : Gathered} (es : List Element) (test : Bool) → test ≡ false
+    → Gathers a b f g l m (flat_map element_text es) → Gathers a b f g l m (flat_map element_text (cond test [] es))
+drawn_unless es test is gathers = same gathers (ap (λ t. flat_map element_text (cond t [] es)) is)
+
+pub one_drawn : {a b : Option (List ℕ)} {f g : ℕ} {l m : Gathered} (e : Element) → Gathers a b f g l m (element_text e)
+    → Gathers a b f g l m (flat_map element_text (e ∷ []))
+one_drawn e gathers = same gathers (one_text e)
 
 pub text_more : (f : ℕ → List Element) (n : ℕ)
     → flat_map element_text (each_below f (n + 1)) ≡ flat_map element_text (each_below f n) ++ flat_map element_text (f n)

@@ -24,7 +24,31 @@ start_of l cycle = l.left + cycle * l.cell
 abbrev pub top_of : ℕ → ℕ
 top_of column = 48 + column * 44
 
+-- ---- lines and texts
+
+-- a line of a class between two places
+abbrev pub line_element : List ℕ → ℕ → ℕ → ℕ → ℕ → Element
+line_element class x1 y1 x2 y2 = element tag.Line
+    (attribute name.Class class ∷ attribute name.X1 (decimal x1) ∷ attribute name.Y1 (decimal y1)
+    ∷ attribute name.X2 (decimal x2) ∷ attribute name.Y2 (decimal y2) ∷ []) []
+
+-- a text of a class at a place
+abbrev pub text_element : List ℕ → ℕ → ℕ → List (List ℕ) → Element
+text_element class x y content = element tag.Text
+    (attribute name.Class class ∷ attribute name.X (decimal x) ∷ attribute name.Y (decimal y) ∷ []) content
+
 -- ---- a stretch
+
+-- words at a place
+abbrev pub words_element : ℕ → ℕ → List ℕ → Element
+words_element x y words = element tag.Text (attribute name.X (decimal x) ∷ attribute name.Y (decimal y) ∷ []) (words ∷ [])
+
+-- a line from the begin of the first cycle to the end of the last one, from one height to another
+abbrev pub slope_element : Layout → Stretch → List ℕ → ℕ → ℕ → List (List ℕ) → Element
+slope_element l s class from to content = element tag.Line
+    (attribute name.Column (decimal s.column) ∷ attribute name.Cycle (decimal s.start) ∷ attribute name.Class class
+    ∷ attribute name.X1 (decimal (start_of l s.start)) ∷ attribute name.Y1 (decimal from)
+    ∷ attribute name.X2 (decimal (start_of l s.end)) ∷ attribute name.Y2 (decimal to) ∷ []) content
 
 -- the height at which a level is drawn, below the upper side of its column: 0 is low
 abbrev pub level_of : ℤ → ℕ
@@ -32,10 +56,7 @@ level_of v = cond (int_eq v (pos 0)) 30 8
 
 -- a level: a line from the begin of the first cycle to the end of the last one
 abbrev pub level_element : Layout → Stretch → Element
-level_element l s = element tag.Line
-    (attribute name.Column (decimal s.column) ∷ attribute name.Cycle (decimal s.start) ∷ attribute name.Class (codes "level")
-    ∷ attribute name.X1 (decimal (start_of l s.start)) ∷ attribute name.Y1 (decimal (top_of s.column + level_of s.first))
-    ∷ attribute name.X2 (decimal (start_of l s.end)) ∷ attribute name.Y2 (decimal (top_of s.column + level_of s.first)) ∷ [])
+level_element l s = slope_element l s (codes "level") (top_of s.column + level_of s.first) (top_of s.column + level_of s.first)
     (signed_decimal s.first ∷ [])
 
 -- a number that holds: a rectangle from the begin of the first cycle to the end of the last one
@@ -51,10 +72,7 @@ rises s = int_lt s.first s.last
 
 -- a number that changes by the same amount with each cycle: a slope from the begin of the first cycle to the end of the last one
 abbrev pub ramp_element : Layout → Stretch → Element
-ramp_element l s = element tag.Line
-    (attribute name.Column (decimal s.column) ∷ attribute name.Cycle (decimal s.start) ∷ attribute name.Class (codes "ramp")
-    ∷ attribute name.X1 (decimal (start_of l s.start)) ∷ attribute name.Y1 (decimal (top_of s.column + cond (rises s) 30 8))
-    ∷ attribute name.X2 (decimal (start_of l s.end)) ∷ attribute name.Y2 (decimal (top_of s.column + cond (rises s) 8 30)) ∷ [])
+ramp_element l s = slope_element l s (codes "ramp") (top_of s.column + cond (rises s) 30 8) (top_of s.column + cond (rises s) 8 30)
     (signed_decimal s.first ∷ codes " to " ∷ signed_decimal s.last ∷ [])
 
 -- the value holds
@@ -66,24 +84,19 @@ value_element l s = cond s.is_level (level_element l s) (cond (holds s) (number_
 
 -- an edge, where a stretch begins behind another
 abbrev pub edge_element : Layout → Stretch → Element
-edge_element l s = element tag.Line
-    (attribute name.Class (codes "edge") ∷ attribute name.X1 (decimal (start_of l s.start)) ∷ attribute name.Y1 (decimal (top_of s.column + 8))
-    ∷ attribute name.X2 (decimal (start_of l s.start)) ∷ attribute name.Y2 (decimal (top_of s.column + 30)) ∷ []) []
+edge_element l s = line_element (codes "edge") (start_of l s.start) (top_of s.column + 8) (start_of l s.start) (top_of s.column + 30)
 
 abbrev pub edge_elements : Layout → Stretch → List Element
 edge_elements l s = cond (nat_lt 0 s.start) (edge_element l s ∷ []) []
 
 -- a number is written at the begin of its stretch, in a ramp above the slope where that rises, and below it where it falls
 abbrev pub first_element : Layout → Stretch → Element
-first_element l s = element tag.Text
-    (attribute name.Class (codes "first") ∷ attribute name.X (decimal (start_of l s.start + 4))
-    ∷ attribute name.Y (decimal (top_of s.column + cond (holds s) 23 (cond (rises s) 17 30))) ∷ []) (signed_decimal s.first ∷ [])
+first_element l s = text_element (codes "first") (start_of l s.start + 4)
+    (top_of s.column + cond (holds s) 23 (cond (rises s) 17 30)) (signed_decimal s.first ∷ [])
 
 -- of a ramp the last value is written at the end, on the other side of the slope
 abbrev pub last_element : Layout → Stretch → Element
-last_element l s = element tag.Text
-    (attribute name.Class (codes "last") ∷ attribute name.X (decimal (start_of l s.end - 4))
-    ∷ attribute name.Y (decimal (top_of s.column + cond (rises s) 30 17)) ∷ []) (signed_decimal s.last ∷ [])
+last_element l s = text_element (codes "last") (start_of l s.end - 4) (top_of s.column + cond (rises s) 30 17) (signed_decimal s.last ∷ [])
 
 abbrev pub label_elements : Layout → Stretch → List Element
 label_elements l s = cond s.is_level [] (first_element l s ∷ cond (holds s) [] (last_element l s ∷ []))
@@ -107,9 +120,7 @@ names_elements run class x y columns = each_below (λ column. name_element run c
 
 -- a level is drawn over a base line, which is the height of 0
 abbrev pub base_element : Layout → ℕ → ℕ → Element
-base_element l cycles column = element tag.Line
-    (attribute name.Class (codes "base") ∷ attribute name.X1 (decimal (start_of l 0)) ∷ attribute name.Y1 (decimal (top_of column + 30))
-    ∷ attribute name.X2 (decimal (start_of l cycles)) ∷ attribute name.Y2 (decimal (top_of column + 30)) ∷ []) []
+base_element l cycles column = line_element (codes "base") (start_of l 0) (top_of column + 30) (start_of l cycles) (top_of column + 30)
 
 abbrev pub base_elements : Layout → Recorded → ℕ → List Element
 base_elements l run column = cond (is_level run column) (base_element l (length run.rows) column ∷ []) []
@@ -122,19 +133,14 @@ bases_elements l run columns = each_below (base_elements l run) columns
 
 -- the begin of a cycle, from above the first column to below the last one, and the cycle's number
 abbrev pub begin_element : Layout → ℕ → ℕ → Element
-begin_element l columns cycle = element tag.Line
-    (attribute name.Class (codes "cycle") ∷ attribute name.X1 (decimal (start_of l cycle)) ∷ attribute name.Y1 (decimal 48)
-    ∷ attribute name.X2 (decimal (start_of l cycle)) ∷ attribute name.Y2 (decimal (top_of columns)) ∷ []) []
+begin_element l columns cycle = line_element (codes "cycle") (start_of l cycle) 48 (start_of l cycle) (top_of columns)
 
 abbrev pub cycle_element : Layout → ℕ → ℕ → Element
-cycle_element l columns cycle = element tag.Text
-    (attribute name.X (decimal (start_of l cycle + 4)) ∷ attribute name.Y (decimal (top_of columns + 14)) ∷ []) (decimal cycle ∷ [])
+cycle_element l columns cycle = words_element (start_of l cycle + 4) (top_of columns + 14) (decimal cycle)
 
 -- below its number, when the cycle begins
 abbrev pub time_element : Layout → ℕ → Period → ℕ → Element
-time_element l columns period cycle = element tag.Text
-    (attribute name.Class (codes "time") ∷ attribute name.X (decimal (start_of l cycle + 4)) ∷ attribute name.Y (decimal (top_of columns + 28)) ∷ [])
-    (time_pieces period cycle)
+time_element l columns period cycle = text_element (codes "time") (start_of l cycle + 4) (top_of columns + 28) (time_pieces period cycle)
 
 -- where it is known how long a cycle takes
 abbrev pub time_elements : Layout → ℕ → Option Period → ℕ → List Element
@@ -167,13 +173,10 @@ class_of mark.Refused = codes "refused"
 
 -- the end of the run, behind its rows: a line and the words of the last line
 abbrev pub mark_element : Layout → ℕ → ℕ → Ending → Element
-mark_element l columns cycles ending = element tag.Line
-    (attribute name.Class (class_of ending.mark) ∷ attribute name.X1 (decimal (start_of l cycles)) ∷ attribute name.Y1 (decimal 24)
-    ∷ attribute name.X2 (decimal (start_of l cycles)) ∷ attribute name.Y2 (decimal (top_of columns)) ∷ []) []
+mark_element l columns cycles ending = line_element (class_of ending.mark) (start_of l cycles) 24 (start_of l cycles) (top_of columns)
 
 abbrev pub ending_element : Layout → ℕ → Ending → Element
-ending_element l cycles ending = element tag.Text
-    (attribute name.X (decimal (start_of l cycles + 4)) ∷ attribute name.Y (decimal 34) ∷ []) (ending.text ∷ [])
+ending_element l cycles ending = words_element (start_of l cycles + 4) 34 ending.text
 
 abbrev pub ending_elements : Layout → ℕ → ℕ → Ending → List Element
 ending_elements l columns cycles ending = mark_element l columns cycles ending ∷ ending_element l cycles ending ∷ []

@@ -8,9 +8,10 @@ ghost use Rattle.run_picture.specs.Elements.{style, begin_element, cycle_element
 ghost use Rattle.run_picture.specs.Elements.{cycle_elements, cycles_elements, name_element, names_elements, base_element, base_elements, bases_elements};
 ghost use Rattle.run_picture.specs.Elements.{class_of as class_of_mark, mark_element, ending_element, ending_elements};
 
-use crate::ending::{Ending, Mark};
+use crate::ending::Mark;
 use crate::layout::{Layout, start, top};
 use crate::run::Run;
+use crate::shapes::{then_line, then_text, then_words};
 use crate::stretches::is_level;
 use crate::times::{Period, drawn_in, thousandths};
 use vcp_outside::{Line, Name, Piece, Sink, Tag, then_element};
@@ -26,88 +27,8 @@ pub(crate) fn then_style<O: Sink>(line: &mut Line, out: &mut O)
     then_element(line, out, Tag::Style, &[], &[Piece::Bytes(STYLE)]);
 }
 
-// Draws the begin of a cycle.
-fn then_begin<O: Sink>(line: &mut Line, out: &mut O, layout: Layout, columns: u32, cycle: u32)
-    requires { cycle < most_cycles }
-    ensures { GathersTo (O.seen out.old) (O.seen out.new) line.old line.new
-        (element_text (begin_element layout columns cycle)) }
-{
-    let x = start(layout, cycle);
-    then_element(
-        line,
-        out,
-        Tag::Line,
-        &[
-            (Name::Class, Piece::Bytes(b"cycle")),
-            (Name::X1, Piece::Count(x)),
-            (Name::Y1, Piece::Count(48)),
-            (Name::X2, Piece::Count(x)),
-            (Name::Y2, Piece::Count(top(columns))),
-        ],
-        &[],
-    );
-}
-
-// Writes the number of a cycle.
-fn then_number_of_cycle<O: Sink>(
-    line: &mut Line,
-    out: &mut O,
-    layout: Layout,
-    columns: u32,
-    cycle: u32,
-)
-    requires { cycle < most_cycles }
-    ensures { GathersTo (O.seen out.old) (O.seen out.new) line.old line.new
-        (element_text (cycle_element layout columns cycle)) }
-{
-    then_element(
-        line,
-        out,
-        Tag::Text,
-        &[
-            (Name::X, Piece::Count(start(layout, cycle) + 4)),
-            (Name::Y, Piece::Count(top(columns) + 14)),
-        ],
-        &[Piece::Count(cycle as u64)],
-    );
-}
-
-// Writes when a cycle begins.
-fn then_time<O: Sink>(
-    line: &mut Line,
-    out: &mut O,
-    layout: Layout,
-    columns: u32,
-    period: Period,
-    cycle: u32,
-)
-    requires { cycle < most_cycles }
-    ensures { GathersTo (O.seen out.old) (O.seen out.new) line.old line.new
-        (element_text (time_element layout columns period cycle)) }
-{
-    let time = thousandths(period, cycle);
-    then_element(
-        line,
-        out,
-        Tag::Text,
-        &[
-            (Name::Class, Piece::Bytes(b"time")),
-            (Name::X, Piece::Count(start(layout, cycle) + 4)),
-            (Name::Y, Piece::Count(top(columns) + 28)),
-        ],
-        &[
-            Piece::Count(time / 1000),
-            Piece::Bytes(b"."),
-            Piece::Count(time % 1000 / 100),
-            Piece::Count(time % 100 / 10),
-            Piece::Count(time % 10),
-            Piece::Bytes(drawn_in(period.unit)),
-        ],
-    );
-}
-
 // Writes when a cycle begins, where it is known how long one takes.
-fn then_times<O: Sink>(
+fn then_time<O: Sink>(
     line: &mut Line,
     out: &mut O,
     layout: Layout,
@@ -120,26 +41,23 @@ fn then_times<O: Sink>(
         (flat_map element_text (time_elements layout columns period cycle)) }
 {
     if let Some(period) = period {
-        then_time(line, out, layout, columns, period, cycle);
+        let time = thousandths(period, cycle);
+        then_text(
+            line,
+            out,
+            b"time",
+            start(layout, cycle) + 4,
+            top(columns) + 28,
+            &[
+                Piece::Count(time / 1000),
+                Piece::Bytes(b"."),
+                Piece::Count(time % 1000 / 100),
+                Piece::Count(time % 100 / 10),
+                Piece::Count(time % 10),
+                Piece::Bytes(drawn_in(period.unit)),
+            ],
+        );
     }
-}
-
-// Draws the begin of a cycle and writes its number and its time.
-fn then_begun<O: Sink>(
-    line: &mut Line,
-    out: &mut O,
-    layout: Layout,
-    columns: u32,
-    period: Option<Period>,
-    cycle: u32,
-)
-    requires { cycle < most_cycles }
-    ensures { GathersTo (O.seen out.old) (O.seen out.new) line.old line.new
-        (flat_map element_text (begin_element layout columns cycle ∷ cycle_element layout columns cycle ∷ time_elements layout columns period cycle)) }
-{
-    then_begin(line, out, layout, columns, cycle);
-    then_number_of_cycle(line, out, layout, columns, cycle);
-    then_times(line, out, layout, columns, period, cycle);
 }
 
 // Marks a cycle by its begin, its number and its time, where it is the first of as many as stand between two marks.
@@ -157,23 +75,15 @@ fn then_marked<O: Sink>(
         (flat_map element_text (mark_elements layout columns period cycle)) }
 {
     if cycle % layout.every == 0 {
-        then_begun(line, out, layout, columns, period, cycle);
+        let x = start(layout, cycle);
+        let y = top(columns);
+        then_line(line, out, b"cycle", x, 48, x, y);
+        then_words(line, out, x + 4, y + 14, Piece::Count(cycle as u64));
+        then_time(line, out, layout, columns, period, cycle);
     }
 }
 
-// Writes the names where a page begins behind the first one.
-fn then_page<O: Sink>(line: &mut Line, out: &mut O, layout: Layout, run: &Run, cycle: u32)
-    requires page { 0 < layout.page }
-    requires cycle { cycle < most_cycles }
-    ensures { GathersTo (O.seen out.old) (O.seen out.new) line.old line.new
-        (flat_map element_text (page_elements layout run.now cycle)) }
-{
-    if 0 < cycle && cycle % layout.page == 0 {
-        then_names(line, out, run, b"again", start(layout, cycle) + 4, 4);
-    }
-}
-
-// Draws what stands at a cycle.
+// Draws what stands at a cycle; where a page begins behind the first one, the names again.
 fn then_cycle<O: Sink>(
     line: &mut Line,
     out: &mut O,
@@ -189,7 +99,9 @@ fn then_cycle<O: Sink>(
         (flat_map element_text (cycle_elements layout run.now period cycle)) }
 {
     then_marked(line, out, layout, run.columns(), period, cycle);
-    then_page(line, out, layout, run, cycle);
+    if 0 < cycle && cycle % layout.page == 0 {
+        then_names(line, out, run, b"again", start(layout, cycle) + 4, 4);
+    }
 }
 
 /// Draws the cycles of a run, with their times where it is known how long a cycle takes.
@@ -257,36 +169,16 @@ pub(crate) fn then_names<O: Sink>(
     }
 }
 
-// Draws a base line over so many cycles.
-fn then_base<O: Sink>(line: &mut Line, out: &mut O, layout: Layout, cycles: u32, column: u32)
-    requires { cycles ≤ most_cycles }
-    ensures { GathersTo (O.seen out.old) (O.seen out.new) line.old line.new
-        (element_text (base_element layout cycles column)) }
-{
-    let y = top(column) + 30;
-    then_element(
-        line,
-        out,
-        Tag::Line,
-        &[
-            (Name::Class, Piece::Bytes(b"base")),
-            (Name::X1, Piece::Count(start(layout, 0))),
-            (Name::Y1, Piece::Count(y)),
-            (Name::X2, Piece::Count(start(layout, cycles))),
-            (Name::Y2, Piece::Count(y)),
-        ],
-        &[],
-    );
-}
-
 // Draws the base line of a column of levels.
-fn then_base_of<O: Sink>(line: &mut Line, out: &mut O, layout: Layout, run: &Run, column: u32)
+fn then_base<O: Sink>(line: &mut Line, out: &mut O, layout: Layout, run: &Run, column: u32)
     requires { column < length run.now.names }
     ensures { GathersTo (O.seen out.old) (O.seen out.new) line.old line.new
         (flat_map element_text (base_elements layout run.now column)) }
 {
     if is_level(run, column) {
-        then_base(line, out, layout, run.cycles(), column);
+        let y = top(column) + 30;
+        let end = start(layout, run.cycles());
+        then_line(line, out, b"base", start(layout, 0), y, end, y);
     }
 }
 
@@ -296,7 +188,7 @@ pub(crate) fn then_bases<O: Sink>(line: &mut Line, out: &mut O, layout: Layout, 
         (flat_map element_text (bases_elements layout run.now (length run.now.names))) }
 {
     'columns: for column in 0..run.columns() {
-        then_base_of(line, out, layout, run, column);
+        then_base(line, out, layout, run, column);
     }
 }
 
@@ -311,64 +203,14 @@ fn class_of(mark: Mark) -> &'static [u8]
     }
 }
 
-// Draws the line at the end of a run of so many cycles.
-fn then_mark<O: Sink>(
-    line: &mut Line,
-    out: &mut O,
-    layout: Layout,
-    columns: u32,
-    cycles: u32,
-    ending: &Ending,
-)
-    requires { cycles ≤ most_cycles }
-    ensures { GathersTo (O.seen out.old) (O.seen out.new) line.old line.new
-        (element_text (mark_element layout columns cycles ending.now)) }
-{
-    let x = start(layout, cycles);
-    then_element(
-        line,
-        out,
-        Tag::Line,
-        &[
-            (Name::Class, Piece::Bytes(class_of(ending.mark))),
-            (Name::X1, Piece::Count(x)),
-            (Name::Y1, Piece::Count(24)),
-            (Name::X2, Piece::Count(x)),
-            (Name::Y2, Piece::Count(top(columns))),
-        ],
-        &[],
-    );
-}
-
-// Writes the words of the last line.
-fn then_last_line<O: Sink>(
-    line: &mut Line,
-    out: &mut O,
-    layout: Layout,
-    cycles: u32,
-    ending: &Ending,
-)
-    requires { cycles ≤ most_cycles }
-    ensures { GathersTo (O.seen out.old) (O.seen out.new) line.old line.new
-        (element_text (ending_element layout cycles ending.now)) }
-{
-    then_element(
-        line,
-        out,
-        Tag::Text,
-        &[
-            (Name::X, Piece::Count(start(layout, cycles) + 4)),
-            (Name::Y, Piece::Count(34)),
-        ],
-        &[Piece::Bytes(ending.text.bytes())],
-    );
-}
-
-/// Draws the end of a run.
+/// Draws the end of a run: a line, and the words of the last line.
 pub(crate) fn then_ending<O: Sink>(line: &mut Line, out: &mut O, layout: Layout, run: &Run)
     ensures { GathersTo (O.seen out.old) (O.seen out.new) line.old line.new
         (flat_map element_text (ending_elements layout (length run.now.names) (length run.now.rows) run.now.ending)) }
 {
-    then_mark(line, out, layout, run.columns(), run.cycles(), run.ending());
-    then_last_line(line, out, layout, run.cycles(), run.ending());
+    let x = start(layout, run.cycles());
+    let y = top(run.columns());
+    let ending = run.ending();
+    then_line(line, out, class_of(ending.mark), x, 24, x, y);
+    then_words(line, out, x + 4, 34, Piece::Bytes(ending.text.bytes()));
 }

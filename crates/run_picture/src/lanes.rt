@@ -10,6 +10,7 @@ ghost use Rattle.run_picture.specs.Elements.{value_element, edge_element, edge_e
 
 use crate::layout::{Layout, start, top};
 use crate::run::Run;
+use crate::shapes::{then_line, then_slope, then_text};
 use crate::stretches::{Stretch, is_level, stretch_from};
 use vcp_outside::{Line, Name, Piece, Sink, Tag, then_element};
 
@@ -36,19 +37,14 @@ fn then_level<O: Sink>(line: &mut Line, out: &mut O, layout: Layout, stretch: St
         (element_text (level_element layout stretch)) }
 {
     let height = height(stretch);
-    then_element(
+    then_slope(
         line,
         out,
-        Tag::Line,
-        &[
-            (Name::Column, Piece::Count(stretch.column as u64)),
-            (Name::Cycle, Piece::Count(stretch.start as u64)),
-            (Name::Class, Piece::Bytes(b"level")),
-            (Name::X1, Piece::Count(start(layout, stretch.start))),
-            (Name::Y1, Piece::Count(height)),
-            (Name::X2, Piece::Count(start(layout, stretch.end))),
-            (Name::Y2, Piece::Count(height)),
-        ],
+        layout,
+        stretch,
+        b"level",
+        height,
+        height,
         &[Piece::Value(stretch.first)],
     );
 }
@@ -114,19 +110,14 @@ fn then_ramp<O: Sink>(line: &mut Line, out: &mut O, layout: Layout, stretch: Str
 {
     let from = height_by(stretch, 30, 8);
     let to = height_by(stretch, 8, 30);
-    then_element(
+    then_slope(
         line,
         out,
-        Tag::Line,
-        &[
-            (Name::Column, Piece::Count(stretch.column as u64)),
-            (Name::Cycle, Piece::Count(stretch.start as u64)),
-            (Name::Class, Piece::Bytes(b"ramp")),
-            (Name::X1, Piece::Count(start(layout, stretch.start))),
-            (Name::Y1, Piece::Count(from)),
-            (Name::X2, Piece::Count(start(layout, stretch.end))),
-            (Name::Y2, Piece::Count(to)),
-        ],
+        layout,
+        stretch,
+        b"ramp",
+        from,
+        to,
         &[
             Piece::Value(stretch.first),
             Piece::Bytes(b" to "),
@@ -151,38 +142,17 @@ fn then_value<O: Sink>(line: &mut Line, out: &mut O, layout: Layout, stretch: St
     }
 }
 
-// Draws the edge before a stretch.
-fn then_edge<O: Sink>(line: &mut Line, out: &mut O, layout: Layout, stretch: Stretch)
-    requires some { stretch.start < stretch.end }
-    requires within { stretch.end ≤ most_cycles }
-    ensures { GathersTo (O.seen out.old) (O.seen out.new) line.old line.new
-        (element_text (edge_element layout stretch)) }
-{
-    let x = start(layout, stretch.start);
-    then_element(
-        line,
-        out,
-        Tag::Line,
-        &[
-            (Name::Class, Piece::Bytes(b"edge")),
-            (Name::X1, Piece::Count(x)),
-            (Name::Y1, Piece::Count(top(stretch.column) + 8)),
-            (Name::X2, Piece::Count(x)),
-            (Name::Y2, Piece::Count(top(stretch.column) + 30)),
-        ],
-        &[],
-    );
-}
-
 // Draws the edge before a stretch, where it stands behind another one.
-fn then_edges<O: Sink>(line: &mut Line, out: &mut O, layout: Layout, stretch: Stretch)
+fn then_edge<O: Sink>(line: &mut Line, out: &mut O, layout: Layout, stretch: Stretch)
     requires some { stretch.start < stretch.end }
     requires within { stretch.end ≤ most_cycles }
     ensures { GathersTo (O.seen out.old) (O.seen out.new) line.old line.new
         (flat_map element_text (edge_elements layout stretch)) }
 {
     if 0 < stretch.start {
-        then_edge(line, out, layout, stretch);
+        let x = start(layout, stretch.start);
+        let y = top(stretch.column);
+        then_line(line, out, b"edge", x, y + 8, x, y + 30);
     }
 }
 
@@ -197,75 +167,21 @@ fn first_height(stretch: Stretch) -> u64
     }
 }
 
-// Writes the first value of a stretch.
-fn then_first<O: Sink>(line: &mut Line, out: &mut O, layout: Layout, stretch: Stretch)
-    requires some { stretch.start < stretch.end }
-    requires within { stretch.end ≤ most_cycles }
-    ensures { GathersTo (O.seen out.old) (O.seen out.new) line.old line.new
-        (element_text (first_element layout stretch)) }
-{
-    let y = first_height(stretch);
-    then_element(
-        line,
-        out,
-        Tag::Text,
-        &[
-            (Name::Class, Piece::Bytes(b"first")),
-            (Name::X, Piece::Count(start(layout, stretch.start) + 4)),
-            (Name::Y, Piece::Count(y)),
-        ],
-        &[Piece::Value(stretch.first)],
-    );
-}
-
-// Writes the last value of a ramp.
+// Writes the last value of a stretch, where the value doesn't hold.
 fn then_last<O: Sink>(line: &mut Line, out: &mut O, layout: Layout, stretch: Stretch)
-    requires some { stretch.start < stretch.end }
-    requires within { stretch.end ≤ most_cycles }
-    ensures { GathersTo (O.seen out.old) (O.seen out.new) line.old line.new
-        (element_text (last_element layout stretch)) }
-{
-    let y = height_by(stretch, 30, 17);
-    then_element(
-        line,
-        out,
-        Tag::Text,
-        &[
-            (Name::Class, Piece::Bytes(b"last")),
-            (
-                Name::X,
-                Piece::Count(start(layout, stretch.end).saturating_sub(4)),
-            ),
-            (Name::Y, Piece::Count(y)),
-        ],
-        &[Piece::Value(stretch.last)],
-    );
-}
-
-// Writes the last value, where the value doesn't hold.
-fn then_other<O: Sink>(line: &mut Line, out: &mut O, layout: Layout, stretch: Stretch)
     requires some { stretch.start < stretch.end }
     requires within { stretch.end ≤ most_cycles }
     ensures { GathersTo (O.seen out.old) (O.seen out.new) line.old line.new
         (flat_map element_text (cond (holds_of stretch) [] (last_element layout stretch ∷ []))) }
 {
     if !holds(stretch) {
-        then_last(line, out, layout, stretch);
+        let x = start(layout, stretch.end).saturating_sub(4);
+        let y = height_by(stretch, 30, 17);
+        then_text(line, out, b"last", x, y, &[Piece::Value(stretch.last)]);
     }
 }
 
-// Writes the values at the ends of a stretch.
-fn then_ends<O: Sink>(line: &mut Line, out: &mut O, layout: Layout, stretch: Stretch)
-    requires some { stretch.start < stretch.end }
-    requires within { stretch.end ≤ most_cycles }
-    ensures { GathersTo (O.seen out.old) (O.seen out.new) line.old line.new
-        (flat_map element_text (first_element layout stretch ∷ cond (holds_of stretch) [] (last_element layout stretch ∷ []))) }
-{
-    then_first(line, out, layout, stretch);
-    then_other(line, out, layout, stretch);
-}
-
-// Writes the values of a stretch that is no level.
+// Writes the values at the ends of a stretch that is no level.
 fn then_labels<O: Sink>(line: &mut Line, out: &mut O, layout: Layout, stretch: Stretch)
     requires some { stretch.start < stretch.end }
     requires within { stretch.end ≤ most_cycles }
@@ -273,7 +189,10 @@ fn then_labels<O: Sink>(line: &mut Line, out: &mut O, layout: Layout, stretch: S
         (flat_map element_text (label_elements layout stretch)) }
 {
     if !stretch.is_level {
-        then_ends(line, out, layout, stretch);
+        let x = start(layout, stretch.start) + 4;
+        let y = first_height(stretch);
+        then_text(line, out, b"first", x, y, &[Piece::Value(stretch.first)]);
+        then_last(line, out, layout, stretch);
     }
 }
 
@@ -285,7 +204,7 @@ fn then_stretch<O: Sink>(line: &mut Line, out: &mut O, layout: Layout, stretch: 
         (flat_map element_text (stretch_elements layout stretch)) }
 {
     then_value(line, out, layout, stretch);
-    then_edges(line, out, layout, stretch);
+    then_edge(line, out, layout, stretch);
     then_labels(line, out, layout, stretch);
 }
 

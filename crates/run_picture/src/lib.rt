@@ -16,6 +16,7 @@ mod lines;
 mod picture;
 mod row_table;
 mod run;
+mod shapes;
 mod stretches;
 mod times;
 mod values;

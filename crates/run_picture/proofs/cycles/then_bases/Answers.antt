@@ -7,7 +7,7 @@ pub columns-init : goal.columns-init
 columns-init g c = unmoved
 
 pub columns-preserved : goal.columns-preserved
-columns-preserved g c = same (and_then c.columns.invariant c.then_base_of.ensures) (text_more (base_elements c.args.layout c.args.run.now) c.columns.column)
+columns-preserved g c = same (and_then c.columns.invariant c.then_base.ensures) (text_more (base_elements c.args.layout c.args.run.now) c.columns.column)
 
 pub returns : goal.returns
 returns g c =

@@ -6,7 +6,8 @@ use Rattle.run_picture.proofs.cycles.then_ending.Goals as goal
 pub returns : goal.returns
 returns g c =
     let run = c.args.run.now in
-    let marked = rw (c.columns.ensures.count, c.cycles.ensures.count, c.ending.ensures) at c.then_mark.ensures in
-    let told = rw (c.cycles-2.ensures.count, c.ending-2.ensures) at c.then_last_line.ensures in
+    let marked =
+    rw (c.start-x.ensures.begin, c.cycles.ensures.count, c.top-y.ensures, c.columns.ensures.count, c.class_of.ensures, c.ending-ending.ensures) at c.then_line.ensures in
+    let told = rw (c.start-x.ensures.begin, c.cycles.ensures.count, c.bytes.ensures, c.ending-ending.ensures) at c.then_words.ensures in
     same (and_then marked told)
     (two_texts (mark_element c.args.layout (length run.names) (length run.rows) run.ending) (ending_element c.args.layout (length run.rows) run.ending))

@@ -6,6 +6,6 @@ pub returns : goal.returns
 returns g c =
     let first : SFits w64 c.args.stretch.first = search rules in
     let last : SFits w64 c.args.stretch.last = search rules in
-    let drawn = rw (c.height_by-from.ensures, c.height_by-to.ensures, c.start.ensures.begin, c.start-2.ensures.begin) at c.then_element.ensures in
+    let drawn = rw (c.height_by-from.ensures, c.height_by-to.ensures) at c.then_slope.ensures in
     let begun = rw (to_z-of_z w64 c.args.stretch.first first) at drawn in
     rw (to_z-of_z w64 c.args.stretch.last last) at begun
