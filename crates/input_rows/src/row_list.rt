@@ -4,6 +4,7 @@ ghost use Rattle.std.specs.Prelude.{◌≡◌, ◌≢◌, ◌<◌, ◌≤◌, �
 ghost use Rattle.vcp_base.specs.Limits.{most_cycles};
 
 use crate::fault::RowFault;
+use crate::row_reader::RowReader;
 use crate::rows::Rows;
 use std::alloc::Global;
 use std::marker::Model;

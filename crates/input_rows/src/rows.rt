@@ -7,6 +7,7 @@ ghost use Rattle.input_rows.specs.RowsOf.{IsOfRecord, rows_of, rows_of_cycles, t
 
 use crate::all_rows::AllRows;
 use crate::fault::RowFault;
+use crate::row_reader::RowReader;
 use crate::wanted::Wanted;
 use std::alloc::Global;
 use std::marker::Model;
@@ -101,32 +102,27 @@ impl<'a> Rows<'a> {
         }
     }
 
-    /// How many values a row has.
-    pub fn width(&self) -> u32
-        ensures { result ≡ length self.now.types }
+    // Keeps that the end was given, with this behind the rows, and gives it.
+    fn end(&mut self, behind: Option<RowFault>) -> Result<bool, RowFault>
+        ensures answer { result ≡ end_answer behind }
+        ensures ended { self.new ≡ ended_with self.old.types behind }
     {
+        self.wanted = Wanted::Ended(behind);
+        answer(behind)
+    }
+}
+
+impl RowReader for Rows<'_> {
+    ghost left = { λ r. r };
+
+    fn width(&self) -> u32 {
         self.rows.width()
     }
 
-    /// Sets `out` to the next row and answers `true`, or answers `false` at the end. `out` has as many
-    /// values as there are columns; it keeps its length, and stays as it is at the end and after a
-    /// refusal.
-    ///
     /// At a record that is refused: `Cycles` at the record of cycle 1,000,000, then `Width` where it
     /// has another number of fields than there are columns, then `Cell` at its first cell that spells
-    /// no value. `Cycle` where a row is wanted and there is none. After the end, and after a refusal,
-    /// `Memory` included, each later call gives the same again and changes nothing.
-    pub fn next(&mut self, _alloc: Global, out: &mut Row) -> Result<bool, RowFault>
-        requires { length out.old ≡ length self.old.types }
-        ensures row { IfOk result (λ found. found ≡ true → self.old ≡ record self.new { rows = out.new ∷ self.new.rows }) }
-        ensures end { IfOk result (λ found. found ≡ false → (self.old.rows ≡ []) × (self.old.refusal ≡ None)) }
-        ensures stays { IfOk result (λ found. found ≡ false → (self.new ≡ ended_with self.old.types None) × (out.new ≡ out.old)) }
-        ensures refusal { IfErr result (λ f. f ≢ RowFault.Memory → (self.old.rows ≡ []) × (self.old.refusal ≡ Some f)) }
-        ensures refused { IfErr result (λ f. self.new ≡ ended_with self.old.types (Some f)) }
-        ensures again { self.old.ended ≡ true → (result ≡ end_answer self.old.refusal) × (self.new ≡ self.old) × (out.new ≡ out.old) }
-        ensures out { OnErr result (out.new ≡ out.old) }
-        ensures width { length out.new ≡ length out.old }
-    {
+    /// no value. `Cycle` where a row is wanted and there is none.
+    fn next(&mut self, _alloc: Global, out: &mut Row) -> Result<bool, RowFault> {
         match self.wanted {
             Wanted::All => match self.rows.next(out) {
                 Ok(true) => Ok(true),
@@ -147,15 +143,6 @@ impl<'a> Rows<'a> {
             },
             Wanted::Ended(behind) => answer(behind),
         }
-    }
-
-    // Keeps that the end was given, with this behind the rows, and gives it.
-    fn end(&mut self, behind: Option<RowFault>) -> Result<bool, RowFault>
-        ensures answer { result ≡ end_answer behind }
-        ensures ended { self.new ≡ ended_with self.old.types behind }
-    {
-        self.wanted = Wanted::Ended(behind);
-        answer(behind)
     }
 }
 

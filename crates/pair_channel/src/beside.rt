@@ -15,7 +15,7 @@ use crate::run::run_pair;
 use crate::{PairEnd, one_honest_channel_holds_the_pair};
 use coded_machine::RunFault;
 use coded_unit::{CpuUnit, Unit};
-use input_rows::Rows;
+use input_rows::RowReader;
 use op_graph::Graph;
 use signature_table::Table;
 use std::alloc::Global;
@@ -29,21 +29,21 @@ use vcp_outside::Sink;
 /// count rose; and where no answer was wrong, the outcome is the graph's run, and what was written of a run
 /// that was cut off is a part of what is printed of that. A stop is answered only where a kept log ends in
 /// that stop, and its line is the last that was written.
-pub fn run_beside<U: Unit, O: Sink>(
+pub fn run_beside<S: RowReader, U: Unit, O: Sink>(
     alloc: Global,
     graph: &Graph,
     table: &Table,
     other: &Table,
-    rows: &mut Rows<'_>,
+    rows: &mut S,
     unit: &mut U,
     out: &mut O,
 ) -> Result<PairEnd, RunFault>
     requires table { IsTableOf table.now graph.now }
     requires other { IsTableOf other.now graph.now }
     requires seeds { table.now.seed ≢ other.now.seed }
-    requires few { length rows.old.rows ≤ most_cycles }
-    requires width { length rows.old.types ≡ length graph.now.inputs }
-    ensures ran { BesideRunsTo graph.now table.now rows.old (moment (U.seen unit.old) (O.seen out.old)) (moment (U.seen unit.new) (O.seen out.new)) result }
+    requires few { length (S.left rows.old).rows ≤ most_cycles }
+    requires width { length (S.left rows.old).types ≡ length graph.now.inputs }
+    ensures ran { BesideRunsTo graph.now table.now (S.left rows.old) (moment (U.seen unit.old) (O.seen out.old)) (moment (U.seen unit.new) (O.seen out.new)) result }
     ensures stayed { result ≢ Err fault.Write → (O.seen out.new).faults ≡ (O.seen out.old).faults }
     ensures stopped { (op : ℕ) (why : StopKind) → result ≡ Ok (ends.Stopped op why)
         → TellsStop stop_text (moment (U.seen unit.old) (O.seen out.old)) (moment (U.seen unit.new) (O.seen out.new)) op why }

@@ -27,7 +27,6 @@ use vcp_base::{Memory, Row};
 /// no call is made any more.
 ///
 /// All memory that it ever takes is taken by `new`.
-#[derive(Drop)]
 pub struct Pair<'a> {
     first: Machine<'a>,
     second: Machine<'a>,
@@ -46,6 +45,20 @@ impl<'a> Model for Pair<'a> {
     ghost view = { λ p. record { first = p.first; second = p.second; cycles = p.cycles; ended = p.ended } };
 
     ghost invariant = { λ p. SoundPair (record { first = p.first; second = p.second; cycles = p.cycles; ended = p.ended }) p.ours p.theirs };
+}
+
+// Written out, so that the parts of a pair are given up here alone, and not wherever one goes out of scope.
+impl Drop for Pair<'_> {
+    fn drop(self) {
+        let Pair {
+            first: _,
+            second: _,
+            ours: _,
+            theirs: _,
+            cycles: _,
+            ended: _,
+        } = self;
+    }
 }
 
 impl<'a> Pair<'a> {

@@ -25,7 +25,7 @@ use crate::lines::{differ_line, parted_line};
 use crate::{Pair, PairEnd, counts_bound_a_pair, pairs_follow_their_answers};
 use coded_machine::RunFault;
 use coded_unit::Unit;
-use input_rows::Rows;
+use input_rows::RowReader;
 use op_graph::{Graph, entries_keep_their_rules};
 use run_report::{end_line, graph_stop_line, header_line, output_name, row_line};
 use signature_table::Table;
@@ -67,19 +67,19 @@ fn run_cycle<U: Unit, V: Unit, O: Sink>(
 /// Runs a pair that made no cycle yet over the rows that are left, one cycle a row, up to the first cycle that isn't released or the first
 /// row that is refused. The row of outputs of each released cycle is written before the next row is taken. It answers how the last cycle
 /// ended; where the rows ended, `Released`.
-fn run_rows<U: Unit, V: Unit, O: Sink>(
+fn run_rows<S: RowReader, U: Unit, V: Unit, O: Sink>(
     alloc: Global,
     graph: &Graph,
     pair: &mut Pair<'_>,
-    rows: &mut Rows<'_>,
+    rows: &mut S,
     first: &mut U,
     second: &mut V,
     out: &mut O,
 ) -> Result<PairEnd, RunFault>
     requires fresh { pair.old ≡ fresh_pair graph.now pair.old.first.table pair.old.second.table }
-    requires few { length rows.old.rows ≤ most_cycles }
-    requires width { length rows.old.types ≡ length graph.now.inputs }
-    ensures rows { PairRows graph.now pair.old.first.table pair.old.second.table rows.old
+    requires few { length (S.left rows.old).rows ≤ most_cycles }
+    requires width { length (S.left rows.old).types ≡ length graph.now.inputs }
+    ensures rows { PairRows graph.now pair.old.first.table pair.old.second.table (S.left rows.old)
         (pair_moment (U.seen first.old) (V.seen second.old) (O.seen out.old))
         (pair_moment (U.seen first.new) (V.seen second.new) (O.seen out.new)) pair.new.cycles result }
     ensures there { (e : PairEndOf) → result ≡ Ok e → PairIsThere graph.now e }
@@ -120,11 +120,11 @@ fn print_end<O: Sink>(out: &mut O, graph: &Graph, cycles: u32, end: &PairEnd) ->
 
 /// Runs a pair that made no cycle yet over the rows that are left, and prints its run, as `run_pair` does. The pair is lent: a function that
 /// owned it would give up its parts at each of its ends.
-fn print_run<U: Unit, V: Unit, O: Sink>(
+fn print_run<S: RowReader, U: Unit, V: Unit, O: Sink>(
     alloc: Global,
     graph: &Graph,
     pair: &mut Pair<'_>,
-    rows: &mut Rows<'_>,
+    rows: &mut S,
     first: &mut U,
     second: &mut V,
     out: &mut O,
@@ -132,9 +132,9 @@ fn print_run<U: Unit, V: Unit, O: Sink>(
     requires fresh { pair.old ≡ fresh_pair graph.now pair.old.first.table pair.old.second.table }
     requires table { IsTable pair.old.first.table }
     requires other { IsTable pair.old.second.table }
-    requires few { length rows.old.rows ≤ most_cycles }
-    requires width { length rows.old.types ≡ length graph.now.inputs }
-    ensures ran { PairRunsTo graph.now pair.old.first.table pair.old.second.table rows.old
+    requires few { length (S.left rows.old).rows ≤ most_cycles }
+    requires width { length (S.left rows.old).types ≡ length graph.now.inputs }
+    ensures ran { PairRunsTo graph.now pair.old.first.table pair.old.second.table (S.left rows.old)
         (pair_moment (U.seen first.old) (V.seen second.old) (O.seen out.old))
         (pair_moment (U.seen first.new) (V.seen second.new) (O.seen out.new)) result }
     ensures stayed { result ≢ Err fault.Write → (O.seen out.new).faults ≡ (O.seen out.old).faults }
@@ -167,12 +167,12 @@ fn print_run<U: Unit, V: Unit, O: Sink>(
 /// of all that may be printed was written, with the lines of all cycles before the last one; else that count
 /// is as it was. A stop is answered only where a kept log of the first unit ends in that stop, and its line is
 /// the last that was written.
-pub fn run_pair<U: Unit, V: Unit, O: Sink>(
+pub fn run_pair<S: RowReader, U: Unit, V: Unit, O: Sink>(
     alloc: Global,
     graph: &Graph,
     table: &Table,
     other: &Table,
-    rows: &mut Rows<'_>,
+    rows: &mut S,
     first: &mut U,
     second: &mut V,
     out: &mut O,
@@ -180,9 +180,9 @@ pub fn run_pair<U: Unit, V: Unit, O: Sink>(
     requires table { IsTableOf table.now graph.now }
     requires other { IsTableOf other.now graph.now }
     requires seeds { table.now.seed ≢ other.now.seed }
-    requires few { length rows.old.rows ≤ most_cycles }
-    requires width { length rows.old.types ≡ length graph.now.inputs }
-    ensures ran { PairRunsTo graph.now table.now other.now rows.old
+    requires few { length (S.left rows.old).rows ≤ most_cycles }
+    requires width { length (S.left rows.old).types ≡ length graph.now.inputs }
+    ensures ran { PairRunsTo graph.now table.now other.now (S.left rows.old)
         (pair_moment (U.seen first.old) (V.seen second.old) (O.seen out.old))
         (pair_moment (U.seen first.new) (V.seen second.new) (O.seen out.new)) result }
     ensures stayed { result ≢ Err fault.Write → (O.seen out.new).faults ≡ (O.seen out.old).faults }

@@ -16,7 +16,7 @@ ghost use Rattle.coded_machine.specs.declared.rows.fault.RunFault.TheVariants as
 
 use crate::ending::Ending;
 use coded_machine::RunFault;
-use input_rows::Rows;
+use input_rows::{RowReader, Rows};
 use run_report::{end_line, header_line, row_line, stop_line};
 use st_plain::Plain;
 use std::alloc::Global;

@@ -20,7 +20,7 @@ use crate::rows::fault::RunFault;
 use crate::rows::released::ReleasedRows;
 use crate::{CycleEnd, Machine, honest_runs_follow_the_graph, runs_follow_their_answers};
 use coded_unit::Unit;
-use input_rows::Rows;
+use input_rows::RowReader;
 use op_graph::entries_keep_their_rules;
 use std::alloc::Global;
 use vcp_base::Row;
@@ -88,21 +88,21 @@ fn run_cycle<U: Unit, O: Sink, R: ReleasedRows>(
 /// that were released, is between two cycles, and its answers are those of the last one. A stop is answered
 /// only where a kept log ends in that stop, in the cycle after those that the machine counts; a refused
 /// output only where the unit's count of wrong answers rose.
-pub fn run_rows<U: Unit, O: Sink, R: ReleasedRows>(
+pub fn run_rows<S: RowReader, U: Unit, O: Sink, R: ReleasedRows>(
     alloc: Global,
     machine: &mut Machine<'_>,
-    rows: &mut Rows<'_>,
+    rows: &mut S,
     unit: &mut U,
     out: &mut O,
     released: &mut R,
 ) -> Result<CycleEnd, RunFault>
     requires fresh { machine.old ≡ fresh machine.old.graph machine.old.table }
-    requires few { length rows.old.rows ≤ most_cycles }
-    requires width { length rows.old.types ≡ length machine.old.graph.inputs }
-    ensures runs { RunsRows machine.old.graph machine.old.table rows.old R.text
+    requires few { length (S.left rows.old).rows ≤ most_cycles }
+    requires width { length (S.left rows.old).types ≡ length machine.old.graph.inputs }
+    ensures runs { RunsRows machine.old.graph machine.old.table (S.left rows.old) R.text
         (moment (U.seen unit.old) (O.seen out.old))
         (moment (U.seen unit.new) (O.seen out.new)) result }
-    ensures leaves { Leaves machine.old.graph machine.old.table rows.old R.text
+    ensures leaves { Leaves machine.old.graph machine.old.table (S.left rows.old) R.text
         (moment (U.seen unit.old) (O.seen out.old))
         (moment (U.seen unit.new) (O.seen out.new))
         (R.Keeps released.old) (R.Keeps released.new) machine.new result }

@@ -18,7 +18,7 @@ returns-in_err-names-clause-ran g c =
     let t = c.args.pair.now.first.table in
     let u = c.args.pair.now.second.table in
     let p = err_from_is_err_and c.from_residual.result c.from_residual.ensures.1 in
-    rw (p.1, p.2) (nothing_done c.pairs_follow_their_answers.ensures c.args.graph.now t u c.args.rows.now _)
+    rw (p.1, p.2) (nothing_done c.pairs_follow_their_answers.ensures c.args.graph.now t u (g.S.RowReader.left c.args.rows.now) _)
 
 pub returns-in_err-header_line-clause-ran : goal.returns-in_err-header_line-clause-ran
 returns-in_err-header_line-clause-ran g c =
@@ -27,7 +27,7 @@ returns-in_err-header_line-clause-ran g c =
     let p = err_from_is_err_and c.from_residual-in_err-header_line.result c.from_residual-in_err-header_line.ensures.1 in
     let w = c.in_err-header_line.ensures in
     rw (p.1, p.2)
-    (header_cut c.pairs_follow_their_answers.ensures c.args.graph.now t u c.args.rows.now
+    (header_cut c.pairs_follow_their_answers.ensures c.args.graph.now t u (g.S.RowReader.left c.args.rows.now)
     (pair_moment (g.U.Unit.seen c.args.first.now) (g.V.Unit.seen c.args.second.now) (g.O.Sink.seen c.args.out.now))
     (pair_moment (g.U.Unit.seen c.args.first.now) (g.V.Unit.seen c.args.second.now) (g.O.Sink.seen c.header_line.new.out)) refl refl
     (subst (λ ns. AppendsPart (g.O.Sink.seen c.args.out.now).written (g.O.Sink.seen c.header_line.new.out).written
@@ -38,7 +38,7 @@ returns-in_err-end-clause-ran g c =
     let t = c.args.pair.now.first.table in
     let u = c.args.pair.now.second.table in
     let graph = c.args.graph.now in
-    let fair : Fair graph t u c.args.rows.now = record {
+    let fair : Fair graph t u (g.S.RowReader.left c.args.rows.now) = record {
       graph = c.len-rules.ensures.rules;
       first = c.requires.table;
       second = c.requires.other;
@@ -56,7 +56,7 @@ returns-in_err-end-clause-ran g c =
     let p = err_from_is_err_and c.from_residual-in_err-end.result c.from_residual-in_err-end.ensures.1 in
     let e = c.in_err-end.field-0.0 in
     rw (p.1, p.2)
-    (rows_cut c.counts_bound_a_pair.ensures graph t u c.args.rows.now fair b h a n refl refl header
+    (rows_cut c.counts_bound_a_pair.ensures graph t u (g.S.RowReader.left c.args.rows.now) fair b h a n refl refl header
     c.in_ok-header_line.ensures.cause.later e
     c.in_err-end.ensures.rows)
 
@@ -65,7 +65,7 @@ returns-in_err-print_end-clause-ran g c =
     let t = c.args.pair.now.first.table in
     let u = c.args.pair.now.second.table in
     let graph = c.args.graph.now in
-    let fair : Fair graph t u c.args.rows.now = record {
+    let fair : Fair graph t u (g.S.RowReader.left c.args.rows.now) = record {
       graph = c.len-rules.ensures.rules;
       first = c.requires.table;
       second = c.requires.other;
@@ -86,7 +86,7 @@ returns-in_err-print_end-clause-ran g c =
     let part = subst (λ k. AppendsPart (g.O.Sink.seen c.run_rows.new.out).written (g.O.Sink.seen c.print_end.new.out).written (pair_last graph k e None))
     c.cycles.ensures.value w.part in
     rw (p.1, p.2)
-    (last_cut c.counts_bound_a_pair.ensures graph t u c.args.rows.now fair b h a n refl refl header
+    (last_cut c.counts_bound_a_pair.ensures graph t u (g.S.RowReader.left c.args.rows.now) fair b h a n refl refl header
     c.in_ok-header_line.ensures.cause.later e c.in_ok-end.ensures.rows (g.O.Sink.seen c.print_end.new.out) part w.cause.failed)
 
 pub returns-clause-ran : goal.returns-clause-ran
@@ -94,7 +94,7 @@ returns-clause-ran g c =
     let t = c.args.pair.now.first.table in
     let u = c.args.pair.now.second.table in
     let graph = c.args.graph.now in
-    let fair : Fair graph t u c.args.rows.now = record {
+    let fair : Fair graph t u (g.S.RowReader.left c.args.rows.now) = record {
       graph = c.len-rules.ensures.rules;
       first = c.requires.table;
       second = c.requires.other;
@@ -112,7 +112,7 @@ returns-clause-ran g c =
     let e = c.in_ok-end.end in
     let whole = subst (λ k. Appends (g.O.Sink.seen c.run_rows.new.out).written (g.O.Sink.seen c.print_end.new.out).written (pair_last graph k e None))
     c.cycles.ensures.value c.in_ok-print_end.ensures.whole in
-    ended c.counts_bound_a_pair.ensures graph t u c.args.rows.now fair b h a n refl refl header
+    ended c.counts_bound_a_pair.ensures graph t u (g.S.RowReader.left c.args.rows.now) fair b h a n refl refl header
     c.in_ok-header_line.ensures.cause.later e c.in_ok-end.ensures.rows (g.O.Sink.seen c.print_end.new.out) whole
 
 -- ---- the sink's count of faults

@@ -21,8 +21,8 @@ pub returns-in-Ok-clause-ran : goal.returns-in-Ok-clause-ran
 returns-in-Ok-clause-ran g c =
     let before = pair_moment (g.U.Unit.seen c.args.first.now) (g.V.Unit.seen c.args.second.now) (g.O.Sink.seen c.args.out.now) in
     let after = pair_moment (g.U.Unit.seen c.print_run.new.first) (g.V.Unit.seen c.print_run.new.second) (g.O.Sink.seen c.print_run.new.out) in
-    subst (λ (q : PairState). PairRunsTo c.args.graph.now q.first.table q.second.table c.args.rows.now before after c.print_run.result)
+    subst (λ (q : PairState). PairRunsTo c.args.graph.now q.first.table q.second.table (g.S.RowReader.left c.args.rows.now) before after c.print_run.result)
     c.in-Ok.ensures.fresh c.print_run.ensures.ran
 
 pub returns-in-Err-clause-ran : goal.returns-in-Err-clause-ran
-returns-in-Err-clause-ran g c = nothing_done c.pairs_follow_their_answers.ensures c.args.graph.now c.args.table.now c.args.other.now c.args.rows.now _
+returns-in-Err-clause-ran g c = nothing_done c.pairs_follow_their_answers.ensures c.args.graph.now c.args.table.now c.args.other.now (g.S.RowReader.left c.args.rows.now) _

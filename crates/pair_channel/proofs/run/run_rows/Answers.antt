@@ -16,8 +16,8 @@ returns-in_err-inputs-clause-rows g c =
     let laws = c.pairs_follow_their_answers.ensures in
     let old = c.args.pair.now in
     rw (p.1, p.2)
-    (memory_exit laws c.args.graph.now old.first.table old.second.table c.args.rows.now c.args.rows.now _ _ old
-    (up_to_first laws c.args.graph.now old.first.table old.second.table c.args.rows.now _ old c.requires.fresh))
+    (memory_exit laws c.args.graph.now old.first.table old.second.table (g.S.RowReader.left c.args.rows.now) (g.S.RowReader.left c.args.rows.now) _ _ old
+    (up_to_first laws c.args.graph.now old.first.table old.second.table (g.S.RowReader.left c.args.rows.now) _ old c.requires.fresh))
 
 pub returns-in_err-outputs-clause-rows : goal.returns-in_err-outputs-clause-rows
 returns-in_err-outputs-clause-rows g c =
@@ -25,8 +25,8 @@ returns-in_err-outputs-clause-rows g c =
     let laws = c.pairs_follow_their_answers.ensures in
     let old = c.args.pair.now in
     rw (p.1, p.2)
-    (memory_exit laws c.args.graph.now old.first.table old.second.table c.args.rows.now c.args.rows.now _ _ old
-    (up_to_first laws c.args.graph.now old.first.table old.second.table c.args.rows.now _ old c.requires.fresh))
+    (memory_exit laws c.args.graph.now old.first.table old.second.table (g.S.RowReader.left c.args.rows.now) (g.S.RowReader.left c.args.rows.now) _ _ old
+    (up_to_first laws c.args.graph.now old.first.table old.second.table (g.S.RowReader.left c.args.rows.now) _ old c.requires.fresh))
 
 pub cycles-init : goal.cycles-init
 cycles-init g c =
@@ -36,7 +36,7 @@ cycles-init g c =
       laws = laws;
       inputs = ap length c.in_ok-inputs.ensures ∙ length-replicate _ _ ∙ c.inputs.ensures ∙ sym c.requires.width;
       outputs = ap length c.in_ok-outputs.ensures ∙ length-replicate _ _ ∙ c.outputs.ensures;
-      so_far = up_to_first laws c.args.graph.now old.first.table old.second.table c.args.rows.now _ old c.requires.fresh;
+      so_far = up_to_first laws c.args.graph.now old.first.table old.second.table (g.S.RowReader.left c.args.rows.now) _ old c.requires.fresh;
     }
 
 pub next-requires : goal.next-requires
@@ -48,7 +48,7 @@ returns-in_err-next-clause-rows g c =
     let old = c.args.pair.now in
     let so_far = c.cycles.invariant in
     rw (p.1, p.2)
-    (row_exit so_far.laws c.args.graph.now old.first.table old.second.table c.args.rows.now c.cycles.rows _ _ c.cycles.pair c.in_err-next.field-0.0
+    (row_exit so_far.laws c.args.graph.now old.first.table old.second.table (g.S.RowReader.left c.args.rows.now) (g.S.RowReader.left c.cycles.rows) _ _ c.cycles.pair c.in_err-next.field-0.0
     so_far.so_far c.in_err-next.ensures.refusal)
 
 pub run_cycle-requires-clause-going : goal.run_cycle-requires-clause-going
@@ -61,7 +61,7 @@ pub run_cycle-requires-clause-few : goal.run_cycle-requires-clause-few
 run_cycle-requires-clause-few g c =
     let old = c.args.pair.now in
     let one = c.in_ok-next.ensures.row c.if-branch.true in
-    cycles_left c.args.graph.now old.first.table old.second.table c.args.rows.now c.cycles.rows c.next.new.self _ _ c.cycles.pair c.next.new.out
+    cycles_left c.args.graph.now old.first.table old.second.table (g.S.RowReader.left c.args.rows.now) (g.S.RowReader.left c.cycles.rows) (g.S.RowReader.left c.next.new.self) _ _ c.cycles.pair c.next.new.out
     c.cycles.invariant.so_far c.requires.few one
 
 pub run_cycle-requires-clause-width : goal.run_cycle-requires-clause-width
@@ -75,7 +75,7 @@ returns-in_err-end-clause-rows g c =
     let one = c.in_ok-next.ensures.row c.if-branch.true in
     let cycle = c.in_err-end.ensures in
     rw (p.1, p.2)
-    (write_exit so_far.laws c.args.graph.now old.first.table old.second.table c.args.rows.now c.cycles.rows c.next.new.self _ _ _ c.cycles.pair
+    (write_exit so_far.laws c.args.graph.now old.first.table old.second.table (g.S.RowReader.left c.args.rows.now) (g.S.RowReader.left c.cycles.rows) (g.S.RowReader.left c.next.new.self) _ _ _ c.cycles.pair
     c.run_cycle.new.pair c.next.new.out _ _ so_far.so_far one cycle.turn cycle.written.part cycle.written.cause.failed cycle.written.cause.later)
 
 pub cycles-smaller : goal.cycles-smaller
@@ -91,7 +91,7 @@ cycles-preserved g c =
       laws = so_far.laws;
       inputs = c.next.ensures.width ∙ so_far.inputs ∙ ap (λ (x : RowsLeft). length x.types) one;
       outputs = cycle.width ∙ so_far.outputs;
-      so_far = up_to_next so_far.laws c.args.graph.now old.first.table old.second.table c.args.rows.now c.cycles.rows c.next.new.self _ _ _ c.cycles.pair
+      so_far = up_to_next so_far.laws c.args.graph.now old.first.table old.second.table (g.S.RowReader.left c.args.rows.now) (g.S.RowReader.left c.cycles.rows) (g.S.RowReader.left c.next.new.self) _ _ _ c.cycles.pair
           c.run_cycle.new.pair c.next.new.out _ _ c.in_ok-end.end so_far.so_far c.in-Released.is one cycle.turn cycle.between cycle.written.whole
           cycle.written.cause.stayed;
     }
@@ -102,7 +102,7 @@ returns-in_default-clause-rows g c =
     let so_far = c.cycles.invariant in
     let one = c.in_ok-next.ensures.row c.if-branch.true in
     let cycle = c.in_ok-end.ensures in
-    cycle_exit so_far.laws c.args.graph.now old.first.table old.second.table c.args.rows.now c.cycles.rows c.next.new.self _ _ _ c.cycles.pair
+    cycle_exit so_far.laws c.args.graph.now old.first.table old.second.table (g.S.RowReader.left c.args.rows.now) (g.S.RowReader.left c.cycles.rows) (g.S.RowReader.left c.next.new.self) _ _ _ c.cycles.pair
     c.run_cycle.new.pair c.next.new.out _ _ c.in_ok-end.end so_far.so_far c.in_default.not-Released one cycle.turn cycle.written.whole
     cycle.written.cause.stayed
 
@@ -126,4 +126,4 @@ returns-clause-rows g c =
     let old = c.args.pair.now in
     let so_far = c.cycles.invariant in
     let none = c.in_ok-next.ensures.end c.if-branch.false in
-    last_exit so_far.laws c.args.graph.now old.first.table old.second.table c.args.rows.now c.cycles.rows _ _ c.cycles.pair so_far.so_far none.0 none.1
+    last_exit so_far.laws c.args.graph.now old.first.table old.second.table (g.S.RowReader.left c.args.rows.now) (g.S.RowReader.left c.cycles.rows) _ _ c.cycles.pair so_far.so_far none.0 none.1

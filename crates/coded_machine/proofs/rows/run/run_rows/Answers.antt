@@ -17,16 +17,16 @@ returns-in_err-inputs-clause-leaves g c =
     let runs = c.runs_follow_their_answers.ensures in
     let honest = c.honest_runs_follow_the_graph.ensures in
     let m = c.args.machine.now in
-    let fair : Fair m.graph m.table c.args.rows.now.rows =
+    let fair : Fair m.graph m.table (g.S.RowReader.left c.args.rows.now).rows =
     record {
       graph = subst IsGraph c.graph-graph.ensures c.len-operations.ensures.rules;
       table = subst IsTable c.table.ensures c.step-step.ensures.ranges;
       few = c.requires.few;
     } in
     rw (p.1, p.2)
-    (memory_exit runs honest m.graph m.table c.args.rows.now c.args.rows.now g.R.ReleasedRows.text _ _ (g.R.ReleasedRows.Keeps c.args.released.now)
+    (memory_exit runs honest m.graph m.table (g.S.RowReader.left c.args.rows.now) (g.S.RowReader.left c.args.rows.now) g.R.ReleasedRows.text _ _ (g.R.ReleasedRows.Keeps c.args.released.now)
     (g.R.ReleasedRows.Keeps c.args.released.now) m fair
-    (up_to_first runs c.args.rows.now g.R.ReleasedRows.text _ (g.R.ReleasedRows.Keeps c.args.released.now) m c.requires.fresh))
+    (up_to_first runs (g.S.RowReader.left c.args.rows.now) g.R.ReleasedRows.text _ (g.R.ReleasedRows.Keeps c.args.released.now) m c.requires.fresh))
 
 pub cycles-init : goal.cycles-init
 cycles-init g c =
@@ -44,7 +44,7 @@ cycles-init g c =
       inputs = ap length c.in_ok-inputs.ensures ∙ length-replicate _ _ ∙ c.inputs.ensures ∙ ap (λ (x : Lists). length x.inputs) c.graph-graph.ensures
           ∙ sym c.requires.width;
       outputs = ap length c.in_ok-outputs.ensures ∙ length-replicate _ _ ∙ c.outputs.ensures ∙ ap (λ (x : Lists). length x.outputs) c.graph-graph.ensures;
-      so_far = up_to_first runs c.args.rows.now g.R.ReleasedRows.text _ (g.R.ReleasedRows.Keeps c.args.released.now) m c.requires.fresh;
+      so_far = up_to_first runs (g.S.RowReader.left c.args.rows.now) g.R.ReleasedRows.text _ (g.R.ReleasedRows.Keeps c.args.released.now) m c.requires.fresh;
     }
 
 pub next-requires : goal.next-requires
@@ -56,7 +56,7 @@ returns-in_err-next-clause-leaves g c =
     let m = c.args.machine.now in
     let so_far = c.cycles.invariant in
     rw (p.1, p.2)
-    (row_exit so_far.runs so_far.honest m.graph m.table c.args.rows.now c.cycles.rows g.R.ReleasedRows.text _ _ (g.R.ReleasedRows.Keeps c.args.released.now)
+    (row_exit so_far.runs so_far.honest m.graph m.table (g.S.RowReader.left c.args.rows.now) (g.S.RowReader.left c.cycles.rows) g.R.ReleasedRows.text _ _ (g.R.ReleasedRows.Keeps c.args.released.now)
     (g.R.ReleasedRows.Keeps c.cycles.released) c.cycles.machine c.in_err-next.field-0.0 so_far.fair so_far.so_far c.in_err-next.ensures.refusal)
 
 pub run_cycle-requires-clause-going : goal.run_cycle-requires-clause-going
@@ -70,7 +70,7 @@ run_cycle-requires-clause-few g c =
     let m = c.args.machine.now in
     let so_far = c.cycles.invariant in
     let one = c.in_ok-next.ensures.row c.if-branch.true in
-    cycles_left m.graph m.table c.args.rows.now c.cycles.rows c.next.new.self g.R.ReleasedRows.text _ _ (g.R.ReleasedRows.Keeps c.args.released.now)
+    cycles_left m.graph m.table (g.S.RowReader.left c.args.rows.now) (g.S.RowReader.left c.cycles.rows) (g.S.RowReader.left c.next.new.self) g.R.ReleasedRows.text _ _ (g.R.ReleasedRows.Keeps c.args.released.now)
     (g.R.ReleasedRows.Keeps c.cycles.released) c.cycles.machine c.next.new.out so_far.so_far c.requires.few one
 
 pub run_cycle-requires-clause-width : goal.run_cycle-requires-clause-width
@@ -84,7 +84,7 @@ returns-in_err-end-clause-leaves g c =
     let one = c.in_ok-next.ensures.row c.if-branch.true in
     let cycle = c.in_err-end.ensures in
     rw (p.1, p.2)
-    (write_exit so_far.runs so_far.honest m.graph m.table c.args.rows.now c.cycles.rows c.next.new.self g.R.ReleasedRows.text _ _ _
+    (write_exit so_far.runs so_far.honest m.graph m.table (g.S.RowReader.left c.args.rows.now) (g.S.RowReader.left c.cycles.rows) (g.S.RowReader.left c.next.new.self) g.R.ReleasedRows.text _ _ _
     (g.R.ReleasedRows.Keeps c.args.released.now) (g.R.ReleasedRows.Keeps c.cycles.released) (g.R.ReleasedRows.Keeps c.run_cycle.new.released) c.cycles.machine
     c.run_cycle.new.machine c.next.new.out so_far.fair so_far.so_far one cycle.turn cycle.between cycle.written.part cycle.written.cause.failed)
 
@@ -104,7 +104,7 @@ cycles-preserved g c =
       inputs = c.next.ensures.width ∙ so_far.inputs ∙ ap (λ (x : RowsLeft). length x.types) one;
       outputs = cycle.width ∙ so_far.outputs;
       so_far =
-          up_to_next so_far.runs m.graph m.table c.args.rows.now c.cycles.rows c.next.new.self g.R.ReleasedRows.text _ _ _
+          up_to_next so_far.runs m.graph m.table (g.S.RowReader.left c.args.rows.now) (g.S.RowReader.left c.cycles.rows) (g.S.RowReader.left c.next.new.self) g.R.ReleasedRows.text _ _ _
           (g.R.ReleasedRows.Keeps c.args.released.now) (g.R.ReleasedRows.Keeps c.cycles.released) (g.R.ReleasedRows.Keeps c.run_cycle.new.released) c.cycles.machine
           c.run_cycle.new.machine c.next.new.out c.in_ok-end.end so_far.so_far c.in-Released.is one cycle.turn cycle.between cycle.written.whole
           cycle.written.cause.stayed cycle.kept;
@@ -116,7 +116,7 @@ returns-in_default-clause-leaves g c =
     let so_far = c.cycles.invariant in
     let one = c.in_ok-next.ensures.row c.if-branch.true in
     let cycle = c.in_ok-end.ensures in
-    cycle_exit so_far.runs so_far.honest m.graph m.table c.args.rows.now c.cycles.rows c.next.new.self g.R.ReleasedRows.text _ _ _
+    cycle_exit so_far.runs so_far.honest m.graph m.table (g.S.RowReader.left c.args.rows.now) (g.S.RowReader.left c.cycles.rows) (g.S.RowReader.left c.next.new.self) g.R.ReleasedRows.text _ _ _
     (g.R.ReleasedRows.Keeps c.args.released.now) (g.R.ReleasedRows.Keeps c.cycles.released) (g.R.ReleasedRows.Keeps c.run_cycle.new.released) c.cycles.machine
     c.run_cycle.new.machine c.next.new.out c.in_ok-end.end so_far.fair so_far.so_far c.in_default.not-Released one cycle.turn cycle.between
     cycle.written.whole cycle.kept
@@ -126,7 +126,7 @@ returns-clause-leaves g c =
     let m = c.args.machine.now in
     let so_far = c.cycles.invariant in
     let none = c.in_ok-next.ensures.end c.if-branch.false in
-    last_exit so_far.runs so_far.honest m.graph m.table c.args.rows.now c.cycles.rows g.R.ReleasedRows.text _ _ (g.R.ReleasedRows.Keeps c.args.released.now)
+    last_exit so_far.runs so_far.honest m.graph m.table (g.S.RowReader.left c.args.rows.now) (g.S.RowReader.left c.cycles.rows) g.R.ReleasedRows.text _ _ (g.R.ReleasedRows.Keeps c.args.released.now)
     (g.R.ReleasedRows.Keeps c.cycles.released) c.cycles.machine so_far.fair so_far.so_far none.0 none.1
 
 pub returns-in_default-clause-stopped : goal.returns-in_default-clause-stopped
@@ -141,7 +141,7 @@ returns-in_default-clause-stopped g c = λ k why is.
 pub returns-in_default-clause-refused : goal.returns-in_default-clause-refused
 returns-in_default-clause-refused g c = λ i found wanted is.
     let m = c.args.machine.now in
-    refused_rose m.graph m.table c.args.rows.now g.R.ReleasedRows.text _ _ _ i found wanted is (returns-in_default-clause-leaves g c).run
+    refused_rose m.graph m.table (g.S.RowReader.left c.args.rows.now) g.R.ReleasedRows.text _ _ _ i found wanted is (returns-in_default-clause-leaves g c).run
 
 pub returns-in_default-clause-placed : goal.returns-in_default-clause-placed
 returns-in_default-clause-placed g c = λ k why is.
@@ -166,16 +166,16 @@ returns-in_err-outputs-clause-leaves g c =
     let runs = c.runs_follow_their_answers.ensures in
     let honest = c.honest_runs_follow_the_graph.ensures in
     let m = c.args.machine.now in
-    let fair : Fair m.graph m.table c.args.rows.now.rows =
+    let fair : Fair m.graph m.table (g.S.RowReader.left c.args.rows.now).rows =
     record {
       graph = subst IsGraph c.graph-graph.ensures c.len-operations.ensures.rules;
       table = subst IsTable c.table.ensures c.step-step.ensures.ranges;
       few = c.requires.few;
     } in
     rw (p.1, p.2)
-    (memory_exit runs honest m.graph m.table c.args.rows.now c.args.rows.now g.R.ReleasedRows.text _ _ (g.R.ReleasedRows.Keeps c.args.released.now)
+    (memory_exit runs honest m.graph m.table (g.S.RowReader.left c.args.rows.now) (g.S.RowReader.left c.args.rows.now) g.R.ReleasedRows.text _ _ (g.R.ReleasedRows.Keeps c.args.released.now)
     (g.R.ReleasedRows.Keeps c.args.released.now) m fair
-    (up_to_first runs c.args.rows.now g.R.ReleasedRows.text _ (g.R.ReleasedRows.Keeps c.args.released.now) m c.requires.fresh))
+    (up_to_first runs (g.S.RowReader.left c.args.rows.now) g.R.ReleasedRows.text _ (g.R.ReleasedRows.Keeps c.args.released.now) m c.requires.fresh))
 
 -- ---- the sink's count of faults
 

@@ -12,18 +12,19 @@ invariant-cycles g l =
     let unit = g.U.Unit in
     let sink = g.O.Sink in
     let released = g.R.ReleasedRows in
+    let left = g.S.RowReader.left in
     record {
       runs : RunLaws;
       honest : HonestLaws;
-      fair : Fair first.graph first.table l.fn.rows.rows;
-      inputs : length l.inputs ≡ length l.rows.types;
+      fair : Fair first.graph first.table (left l.fn.rows).rows;
+      inputs : length l.inputs ≡ length (left l.rows).types;
       outputs : length l.outputs ≡ length first.graph.outputs;
       so_far :
-          UpTo first.graph first.table l.fn.rows l.rows released.text
+          UpTo first.graph first.table (left l.fn.rows) (left l.rows) released.text
           (moment (unit.seen l.fn.unit) (sink.seen l.fn.out))
           (moment (unit.seen l.unit) (sink.seen l.out)) (released.Keeps l.fn.released)
           (released.Keeps l.released) l.machine;
     }
 
 abbrev pub decreases-cycles : goal.decreases-cycles
-decreases-cycles g l = length l.rows.rows
+decreases-cycles g l = length (g.S.RowReader.left l.rows).rows

@@ -3,7 +3,7 @@ use Rattle.input_rows.specs.declared.wanted.Wanted.{Wanted}
 use Rattle.input_rows.specs.declared.wanted.Wanted.TheVariants.{All, First, Ended}
 use Rattle.input_rows.specs.RowsOf.{RowsLeft}
 use Rattle.input_rows.specs.WantedRows.{wanted_rows}
-use Rattle.input_rows.proofs.rows.Rows.width.Goals as goal
+use Rattle.input_rows.proofs.rows.RowsRowReader.width.Goals as goal
 
 types : (w : Wanted) (left : RowsLeft) → (wanted_rows w left).types ≡ left.types
 types All left = refl
