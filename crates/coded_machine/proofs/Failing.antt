@@ -1,9 +1,10 @@
 -- Failing: what is written where the outputs of a released cycle couldn't all be written.
-use Rattle.std.proofs.Common.{ℕ, ◌≡◌, ◌∙◌, sym, subst, List, [], ◌∷◌, ℤ, append-nil, Option, Result, Ok, Err}
+use Rattle.std.proofs.Common.{ℕ, ◌≡◌, ◌∙◌, sym, subst, List, [], ◌∷◌, ℤ, append-nil, Option, Result, Ok, Err, OnOk, refl}
 use Rattle.std.specs.Result.{IsErr}
 use Rattle.vcp_outside.specs.declared.failed.Failed.{Failed}
 use Rattle.vcp_outside.specs.Written.{Writes}
 use Rattle.coded_machine.specs.declared.cycle_end.CycleEnd.{CycleEnd}
+use Rattle.coded_machine.specs.declared.cycle_end.CycleEnd.TheVariants as end
 use Rattle.coded_machine.specs.Runs.{row_if}
 use Rattle.coded_machine.specs.Cycles.{cycle_end}
 use Rattle.coded_machine.specs.RowRuns.{texts_from}
@@ -17,3 +18,11 @@ failed_row text n row old new before now bytes e (Err f) failed is h =
     let k : Writes {T = Unit {0}} {E = Failed} old new before now (texts_from text n (row ∷ [])) (Err e) =
     subst (λ b. Writes {T = Unit {0}} {E = Failed} old new before now b (Err e)) (is ∙ sym (append-nil (text n row))) h in
     record { whole = tt; part = k.part; cause = record { later = k.cause.later; capped = k.cause.capped; stayed = tt; failed = k.cause.failed } }
+
+pub failed_released : (q : Result CycleEnd Failed) → IsErr q → cycle_end q ≡ end.Released
+failed_released (Ok e) failed = absurd cc
+failed_released (Err f) failed = refl
+
+pub failed_keeps : (q : Result CycleEnd Failed) → IsErr q → (P : Type 0) → OnOk q P
+failed_keeps (Ok e) failed P = absurd cc
+failed_keeps (Err f) failed P = tt

@@ -1,5 +1,5 @@
 -- Turns: what a machine's state says of the call to come.
-use Rattle.std.proofs.Common.{ℕ, ℤ, ◌<◌, ◌≤◌, ◌≡◌, sym, ap, subst, ◌∙◌, List, [], ◌∷◌, ◌++◌, length, length-append, Option, None, Bool, true, false, not, cond}
+use Rattle.std.proofs.Common.{ℕ, ℤ, ◌<◌, ◌≤◌, ◌-◌, ◌≡◌, sym, ap, subst, ◌∙◌, List, [], ◌∷◌, ◌++◌, length, length-append, Option, None, Bool, true, false, not, cond}
 use Rattle.std.proofs.Common.{arith, inl, inr}
 use Rattle.coded_unit.specs.declared.call.Call.{Call}
 use Rattle.coded_unit.specs.declared.call.Answer.{Answer}
@@ -9,7 +9,7 @@ use Rattle.op_graph.specs.declared.op.Op.{Op}
 use Rattle.coded_machine.specs.Calls.{Setting, CallsOf, Next, Carried, is_word, AllWords, Whole}
 use Rattle.coded_machine.specs.State.{State, given, setting, Awaits, Finished, with_answer}
 use Rattle.coded_machine.specs.Sound.{Sound}
-use Rattle.coded_machine.proofs.Growth.{whole_words, whole_end, whole_stop, words_more, carried_on, one_carried}
+use Rattle.coded_machine.proofs.Growth.{whole_words, whole_end, whole_stop, words_more, carried_on, nothing_carried, one_carried}
 
 pub finished_not_awaits : (m : State) → Finished m → Awaits m → ⊥
 finished_not_awaits m (inl h) w = h w.going
@@ -53,6 +53,25 @@ finished_whole m e (inl h) = absurd (h e)
 finished_whole m e (inr h) = h
 
 -- ---- one turn of carrying a cycle
+
+-- a cycle that was begun has changed nothing but the answers
+pub begun_same : (m first : State) → m ≡ record first { answers = []; under_way = true } → m ≡ record first { answers = m.answers; under_way = m.under_way }
+begun_same m first e = e ∙ ap (λ (k : State). record first { answers = k.answers; under_way = k.under_way }) (sym e)
+
+-- and made no call
+pub begun_carried : (m first : State) (row : List ℤ) (x : Option (List Entry)) (i : ℕ) → m ≡ record first { answers = []; under_way = true } →
+    Carried (CallsOf (setting first row) (given m)) x x i i
+begun_carried m first row x i e = subst (λ (k : State). Carried (CallsOf (setting first row) (given k)) x x i i) (sym e) (nothing_carried x i)
+
+-- with each answer fewer operations are left
+pub turn_smaller : (m n : State) (a : Answer) → n ≡ with_answer m a → Awaits m →
+    length n.graph.operations - length (given n) < length m.graph.operations - length (given m)
+turn_smaller m n a e w = rw e (simp length-append (omega (arith, w.left)))
+
+-- the answers of a whole cycle are so by the graph that it began with
+pub whole_kept : (first m : State) → m ≡ record first { answers = m.answers; under_way = m.under_way } → given m ≡ m.answers →
+    Whole m.graph.operations (given m) → Whole first.graph.operations m.answers
+whole_kept first m same e w = subst (Whole first.graph.operations) e (subst (λ (k : State). Whole k.graph.operations (given m)) same w)
 
 -- nothing of the machine has changed but its answers
 pub only_answers : (first m n : State) (a : Answer) → m ≡ record first { answers = m.answers; under_way = m.under_way } → n ≡ with_answer m a →

@@ -1,8 +1,10 @@
-use Rattle.std.proofs.Common.{◌≡◌, ◌∙◌, ◌+◌, ap, subst, sym}
+use Rattle.std.proofs.Common.{◌≡◌, ◌∙◌, ◌+◌, ◌<◌, ap, subst, sym, true≢false}
+use Rattle.vcp_base.specs.Limits.{most_cycles}
 use Rattle.vcp_outside.specs.Written.{WritesTo}
-use Rattle.coded_machine.specs.CycleEnds.{outputs_of}
+use Rattle.coded_machine.specs.CycleEnds.{outputs_of, Cause}
+use Rattle.coded_machine.specs.Runs.{Turn}
 use Rattle.coded_machine.specs.State.{State, with_answers, after_end, row_after}
-use Rattle.coded_machine.proofs.Failing.{failed_row}
+use Rattle.coded_machine.proofs.Failing.{failed_row, failed_released, failed_keeps}
 use Rattle.coded_machine.proofs.rows.run.run_cycle.Goals as goal
 
 pub returns-in_err-take-in-Released-clause-written : goal.returns-in_err-take-in-Released-clause-written
@@ -26,3 +28,55 @@ is_next-requires-clause-next g c =
     let counted : c.cycle.new.self.cycles ≡ m.cycles + 1 =
     ap (λ (s : State). s.cycles) (c.cycle.ensures.machine c.requires.going ∙ ap (after_end (with_answers m answers)) c.in-Released.is) in
     c.cycles.ensures.value ∙ counted ∙ ap (λ n. n + 1) (sym c.cycles-cycle.ensures.value)
+
+pub cycle-requires-clause-cycle : goal.cycle-requires-clause-cycle
+cycle-requires-clause-cycle g c = c.requires.few
+
+pub cycle-requires-clause-between : goal.cycle-requires-clause-between
+cycle-requires-clause-between g c = c.requires.between
+
+pub cycle-requires-clause-out : goal.cycle-requires-clause-out
+cycle-requires-clause-out g c = c.requires.width
+
+pub is_next-requires-clause-few : goal.is_next-requires-clause-few
+is_next-requires-clause-few g c = subst (λ n. n < most_cycles) (sym c.cycles-cycle.ensures.value) c.requires.few
+
+pub returns-then-not-is_next : goal.returns-then-not-is_next
+returns-then-not-is_next g c = absurd (true≢false (sym c.is_next.ensures ∙ c.if-not-is_next.true))
+
+pub returns-in_err-take-in-Released-clause-turn : goal.returns-in_err-take-in-Released-clause-turn
+returns-in_err-take-in-Released-clause-turn g c =
+    subst (λ e. Turn c.args.machine.now c.cycle.new.self c.args.inputs.now e (g.U.Unit.seen c.args.unit.now).log (g.U.Unit.seen c.cycle.new.unit).log
+    (g.U.Unit.seen c.args.unit.now).wrong (g.U.Unit.seen c.cycle.new.unit).wrong)
+    (c.in-Released.is ∙ sym (failed_released c.from_residual.result c.from_residual.ensures.0)) (c.cycle.ensures.turn c.requires.going)
+
+pub returns-in_err-take-in-Released-clause-cause : goal.returns-in_err-take-in-Released-clause-cause
+returns-in_err-take-in-Released-clause-cause g c =
+    let m = c.args.machine.now in
+    subst (Cause m.graph m.table m.cycles c.cycle.new.self.answers)
+    (c.in-Released.is ∙ sym (failed_released c.from_residual.result c.from_residual.ensures.0)) (c.cycle.ensures.cause c.requires.going)
+
+pub returns-in_err-take-in-Released-clause-between : goal.returns-in_err-take-in-Released-clause-between
+returns-in_err-take-in-Released-clause-between g c = c.cycle.ensures.between
+
+pub returns-in_err-take-in-Released-clause-kept : goal.returns-in_err-take-in-Released-clause-kept
+returns-in_err-take-in-Released-clause-kept g c = λ rows kept. failed_keeps c.from_residual.result c.from_residual.ensures.0 _
+
+pub returns-in_err-take-in-Released-clause-width : goal.returns-in_err-take-in-Released-clause-width
+returns-in_err-take-in-Released-clause-width g c = c.cycle.ensures.width
+
+pub returns-in_ok-take-in-Released-clause-turn : goal.returns-in_ok-take-in-Released-clause-turn
+returns-in_ok-take-in-Released-clause-turn g c =
+    subst (λ e. Turn c.args.machine.now c.cycle.new.self c.args.inputs.now e (g.U.Unit.seen c.args.unit.now).log (g.U.Unit.seen c.cycle.new.unit).log
+    (g.U.Unit.seen c.args.unit.now).wrong (g.U.Unit.seen c.cycle.new.unit).wrong) c.in-Released.is (c.cycle.ensures.turn c.requires.going)
+
+pub returns-in_ok-take-in-Released-clause-cause : goal.returns-in_ok-take-in-Released-clause-cause
+returns-in_ok-take-in-Released-clause-cause g c =
+    let m = c.args.machine.now in
+    subst (Cause m.graph m.table m.cycles c.cycle.new.self.answers) c.in-Released.is (c.cycle.ensures.cause c.requires.going)
+
+pub returns-in_ok-take-in-Released-clause-between : goal.returns-in_ok-take-in-Released-clause-between
+returns-in_ok-take-in-Released-clause-between g c = c.cycle.ensures.between
+
+pub returns-in_ok-take-in-Released-clause-width : goal.returns-in_ok-take-in-Released-clause-width
+returns-in_ok-take-in-Released-clause-width g c = c.cycle.ensures.width
