@@ -53,11 +53,7 @@ pub fn is_alike(kind: Kind, act: &Act) -> bool
 
 /// The fault that a line says at this operation.
 fn fault_at(line: u32, change: &Change, op: &Op) -> Result<Fault, ScriptFault>
-    ensures fault { result ≡ fault_at_of line change.now (Some op.now) }
-    ensures sited { IfOk result (λ f. is_sited_of op.now.kind f.op f.act ≡ true) }
-    ensures timely { IfOk result (λ f. is_timely_of f.cycle f.act ≡ true) }
-    ensures alike { IfOk result (λ f. is_alike_of op.now.kind f.act ≡ true) }
-    ensures same { IfOk result (λ f. (f.cycle ≡ change.now.cycle) × (f.op ≡ change.now.op) × (f.act ≡ change.now.act)) }
+    ensures { result ≡ fault_at_of line change.now (Some op.now) }
 {
     if !is_sited(op.kind, change.op, &change.act) {
         return Err(ScriptFault::Site { line });
