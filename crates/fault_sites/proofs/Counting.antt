@@ -1,5 +1,5 @@
 -- Counting: how many sites there are.
-use Rattle.std.proofs.Common.{◌≡◌, ℕ, zero, suc, ◌+◌, ◌*◌, ◌≤◌, Bool, true, false, cond, List, [], ◌∷◌, length, slice_get, Option, Some, None, refl, sym, ap, ◌∙◌, arith, add-one, length-append}
+use Rattle.std.proofs.Common.{◌≡◌, ℕ, zero, suc, ◌+◌, ◌*◌, ◌<◌, ◌≤◌, Bool, true, false, cond, List, [], ◌∷◌, length, slice_get, Option, Some, None, refl, sym, ap, ◌∙◌, arith, add-one, length-append}
 use Rattle.vcp_base.specs.declared.kind.Kind.{Kind}
 use Rattle.vcp_base.specs.Kinds.{operands}
 use Rattle.op_graph.specs.declared.op.Op.{Op}
@@ -69,3 +69,8 @@ below_many c g n (suc k) false e =
 
 pub in_many : (c : Class) (g : Lists) (n size : ℕ) → size ≡ length (sites_in c g 1) → cond (has_acts c n) size 0 ≡ length (sites_in c g n)
 in_many c g n size e = ap (λ (m : ℕ). cond (has_acts c n) m 0) e ∙ sym (below_many c g n (length g.operations) (has_acts c n) refl)
+
+-- a class with sites in a cycle has acts there
+pub has_some : (b : Bool) (size : ℕ) → 0 < cond b size 0 → b ≡ true
+has_some true size some = refl
+has_some false size some = absurd (omega (arith, some))

@@ -15,6 +15,7 @@ mod OneBit
 mod Parts
 mod ReadBack
 mod Rising
+mod Rows
 mod RunFit
 mod RunGoing
 mod RunOnce

@@ -1,3 +1,4 @@
+pub mod Acts
 pub mod Counted
 pub mod Digest
 pub mod Flips
@@ -9,6 +10,7 @@ pub mod Readings
 pub mod RestScript
 pub mod Rests
 pub mod Run
+pub mod RunActs
 pub mod RunCycle
 pub mod RunSites
 pub mod Script

@@ -5,9 +5,11 @@ ghost use Rattle.std.specs.Option.{option_to_list};
 ghost use Rattle.vcp_base.specs.Spellings.{kinds};
 ghost use Rattle.op_graph.specs.Reads.{named as named_of};
 ghost use Rattle.fault_sites.specs.Sites.{reads as reads_of, may_replace as may_replace_of, from_one, may_stand as may_stand_of, operator_one};
-ghost use Rattle.fault_sites.specs.Sites.{has_acts as has_acts_of};
+ghost use Rattle.fault_sites.specs.Acts.{act_at, columns as columns_of_class, rows as rows_of_class};
 
 use crate::class::Class;
+use crate::telling::Acts;
+use crate::values::{ADDENDS, bit};
 use fault_script::Act;
 use op_graph::{Graph, Op};
 use vcp_base::{Kind, kind_code, kind_of_code, operand_type, operands, within};
@@ -75,12 +77,39 @@ pub fn operator_of(kind: Kind, code: u8) -> Option<Act>
     }
 }
 
-/// Whether the class has acts in cycle `n`.
-pub(crate) fn has_acts(class: Class, n: u32) -> bool
-    ensures { result ≡ has_acts_of class n }
-{
-    match class {
-        Class::Stale | Class::Skip => 0 < n,
-        Class::Bits | Class::From | Class::Operator => true,
+impl Acts for Class {
+    ghost AreIn = { λ _ _. Unit {0} };
+
+    ghost rows_of = { rows_of_class };
+
+    ghost columns_of = { λ c _. columns_of_class c };
+
+    ghost act_of = { λ c g _. act_at c g };
+
+    fn rows(&self, op: &Op) -> u32 {
+        match *self {
+            Class::Bits => operands(op.kind) + 1,
+            Class::Stale | Class::From => operands(op.kind),
+            Class::Skip | Class::Operator => 1,
+        }
+    }
+
+    fn columns(&self, _graph: &Graph, k: u32) -> u32 {
+        match *self {
+            Class::Bits => ADDENDS,
+            Class::Stale | Class::Skip => 1,
+            Class::From => k,
+            Class::Operator => KINDS as u32,
+        }
+    }
+
+    fn act(&self, graph: &Graph, _k: u32, op: &Op, j: u32, i: u32) -> Option<Act> {
+        match *self {
+            Class::Bits => Some(bit(j, i)),
+            Class::Stale => Some(Act::OperandStale { j }),
+            Class::Skip => Some(Act::Skip),
+            Class::From => from_of(graph, op, j, i),
+            Class::Operator => operator_of(op.kind, i as u8),
+        }
     }
 }

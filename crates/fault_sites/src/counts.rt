@@ -2,13 +2,12 @@
 
 ghost use Rattle.std.specs.Prelude.{◌≡◌, ◌≤◌, cond, length};
 ghost use Rattle.vcp_base.specs.Limits.{most_cycles};
-ghost use Rattle.fault_sites.specs.Sites.{has_acts as has_acts_of, sites, sites_in};
+ghost use Rattle.fault_sites.specs.Sites.{has_acts, sites, sites_in};
 
-use crate::acts::has_acts;
 use crate::class::{Class, Classes};
 use crate::nowhere::Nowhere;
 use crate::part::Part;
-use crate::telling::then_cycle;
+use crate::telling::then_acts;
 use crate::writing::then_sites;
 use op_graph::Graph;
 use vcp_outside::Line;
@@ -27,15 +26,18 @@ pub(crate) fn count_in(graph: &Graph, class: Class) -> u64
     let _operations = graph.len();
     let mut line = Line::new();
     let mut nowhere = Nowhere {};
-    let behind = then_cycle(&mut line, &mut nowhere, BEHIND_ALL, graph, class, 1);
+    let behind = then_acts(&mut line, &mut nowhere, BEHIND_ALL, &class, graph, 1);
     u64::MAX - behind.skip
 }
 
-/// How many sites a class has in cycle `n`, where it has so many in the second one.
+/// How many sites a class has in cycle `n`, where it has so many in the second one: none in the first, where it takes a word of the cycle before.
 pub(crate) fn count_cycle(class: Class, n: u32, size: u64) -> u64
-    ensures { result ≡ cond (has_acts_of class n) size 0 }
+    ensures { result ≡ cond (has_acts class n) size 0 }
 {
-    if has_acts(class, n) { size } else { 0 }
+    match class {
+        Class::Stale | Class::Skip => if 0 < n { size } else { 0 },
+        Class::Bits | Class::From | Class::Operator => size,
+    }
 }
 
 /// How many sites there are in the first cycles, at most 1,000,000. It takes no memory. It is known before any

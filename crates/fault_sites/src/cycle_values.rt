@@ -1,11 +1,14 @@
 //! A cycle of a run, with what stood before it.
 
+use crate::run_class::RunClass;
 use op_graph::Graph;
 use signature_table::Table;
 
-/// A cycle of a run without faults, in a code.
+/// A cycle of a run without faults, in a code, with a class of faults in it.
 #[derive(Clone, Copy)]
 pub(crate) struct CycleValues<'a> {
+    /// The class.
+    pub(crate) class: RunClass,
     /// The graph.
     pub(crate) graph: &'a Graph,
     /// The numbers of its code.

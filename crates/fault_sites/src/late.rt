@@ -1,28 +1,23 @@
 //! Words of the cycle before, as operands: what has to be added for each is taken from a run without faults.
 
-ghost use Rattle.std.specs.Prelude.{◌≡◌, ◌<◌, ◌≤◌, ◌+◌, length, slice_get, unsigned_abs};
+ghost use Rattle.std.specs.Prelude.{◌≡◌, ◌<◌, ◌≤◌, ◌+◌, ◌-◌, length, slice_get, unsigned_abs};
 ghost use Rattle.std.specs.Option.{option_to_list};
 ghost use Rattle.vcp_base.specs.Limits.{most_cycles};
 ghost use Rattle.op_graph.specs.Lists.{cells};
 ghost use Rattle.signature_table.specs.Signatures.{store_of as store_of_cell};
-ghost use Rattle.fault_sites.specs.Late.{late_add, late_addend, late_one, lates_at, lates_in, lates_of, loads_from as loads_from_of};
+ghost use Rattle.fault_sites.specs.Late.{late_add, late_addend, late_one, loads_from as loads_from_of};
 ghost use Rattle.fault_sites.specs.Late.{may_be_late as may_be_late_of, past_word as past_word_of, read_word as read_word_of};
 ghost use Rattle.fault_sites.specs.Late.{stored_word as stored_word_of};
 ghost use Rattle.fault_sites.specs.RunCycle.{as_cycle};
-ghost use Rattle.fault_sites.specs.Sites.{sited};
-ghost use Rattle.fault_sites.specs.Telling.{Tells};
 
 use crate::acts::named;
 use crate::cycle_values::CycleValues;
 use crate::flips::expected_word;
 use crate::graph_values::{at, operand};
-use crate::part::Part;
-use crate::telling::then_any;
 use coded_unit::Word;
 use fault_script::Act;
 use op_graph::{Graph, Op};
-use vcp_base::{Kind, operand_type, operands, within};
-use vcp_outside::{Line, Sink};
+use vcp_base::{Kind, operand_type, within};
 
 /// The number of the STORE of the cell that a LOAD reads, which its `imm` names; `None` where there is no such cell.
 pub fn store_of(graph: &Graph, op: &Op) -> Option<u32>
@@ -109,81 +104,20 @@ fn added(j: u32, e: i128) -> Option<Act>
     }
 }
 
-/// Operand `j` as the word of the cycle before of operation `r`, where that may stand for it and a line may have it.
-fn late_of(c: &CycleValues<'_>, op: &Op, j: u32, r: u32) -> Option<Act>
+/// Operand `j` as the word of the cycle before of operation `k` or the `i`th behind it, where that may stand for it and a line may have it.
+pub(crate) fn late_of(c: &CycleValues<'_>, op: &Op, j: u32, k: u32, i: u32) -> Option<Act>
     requires later { 0 < c.now.cycle }
     requires few { c.now.cycle < most_cycles }
-    requires there { r < length c.now.graph.now.operations }
-    ensures { late_one (as_cycle c.now) op.now j r (slice_get c.now.graph.now.operations r) ≡ option_to_list result }
+    requires there { i < length c.now.graph.now.operations - k }
+    ensures { late_one (as_cycle c.now) op.now j (k + i) (slice_get c.now.graph.now.operations (k + i)) ≡ option_to_list result }
 {
+    // Operations are numbered in 32 bits.
+    let _operations = c.graph.len();
+    let r = k + i;
     let source = c.graph.operation(r);
     if may_be_late(c.graph, op, j, r, &source) {
         added(j, addend(c, op, j, r))
     } else {
         None
     }
-}
-
-/// Goes on with operand `j` as the word of the cycle before of operation `k` and of each behind it.
-fn then_lates_at<O: Sink>(
-    line: &mut Line,
-    out: &mut O,
-    mut part: Part,
-    c: &CycleValues<'_>,
-    k: u32,
-    op: &Op,
-    j: u32,
-) -> Part
-    requires later { 0 < c.now.cycle }
-    requires few { c.now.cycle < most_cycles }
-    requires there { k < length c.now.graph.now.operations }
-    ensures { Tells (O.seen out.old) (O.seen out.new) line.old line.new part result (sited c.now.cycle k (lates_at (as_cycle c.now) k op.now j)) }
-{
-    if part.left == 0 {
-        return part;
-    }
-    'sources: for i in 0..c.graph.len() - k {
-        part = then_any(line, out, part, c.cycle, k, late_of(c, op, j, k + i));
-    }
-    part
-}
-
-/// Goes on with the operands of operation `k`.
-fn then_lates_of<O: Sink>(
-    line: &mut Line,
-    out: &mut O,
-    mut part: Part,
-    c: &CycleValues<'_>,
-    k: u32,
-) -> Part
-    requires later { 0 < c.now.cycle }
-    requires few { c.now.cycle < most_cycles }
-    requires there { k < length c.now.graph.now.operations }
-    ensures { Tells (O.seen out.old) (O.seen out.new) line.old line.new part result
-        (sited c.now.cycle k (lates_of (as_cycle c.now) k (slice_get c.now.graph.now.operations k))) }
-{
-    let op = c.graph.operation(k);
-    'operands: for j in 0..operands(op.kind) {
-        part = then_lates_at(line, out, part, c, k, &op, j);
-    }
-    part
-}
-
-/// Goes on with the words of the cycle before in a cycle.
-pub(crate) fn then_lates_in<O: Sink>(
-    line: &mut Line,
-    out: &mut O,
-    mut part: Part,
-    c: &CycleValues<'_>,
-) -> Part
-    requires { c.now.cycle < most_cycles }
-    ensures { Tells (O.seen out.old) (O.seen out.new) line.old line.new part result (lates_in (as_cycle c.now)) }
-{
-    if c.cycle == 0 {
-        return part;
-    }
-    'operations: for k in 0..c.graph.len() {
-        part = then_lates_of(line, out, part, c, k);
-    }
-    part
 }

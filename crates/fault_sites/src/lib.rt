@@ -19,6 +19,7 @@ mod nowhere;
 mod part;
 mod reading;
 mod rests;
+mod run_acts;
 mod run_class;
 mod run_sites;
 mod scripts;

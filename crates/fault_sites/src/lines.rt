@@ -1,6 +1,7 @@
 //! The line of a site.
 
 ghost use Rattle.std.specs.Prelude.{◌≡◌, ◌++◌, bytes_eq, codes, decimal};
+ghost use Rattle.std.specs.Fmt.{signed_decimal};
 ghost use Rattle.vcp_outside.specs.Gathering.{GathersTo};
 ghost use Rattle.fault_sites.specs.SiteText.{class_name as class_name_of, classes_name as classes_name_of, classes_of, verb as verb_of, rest as rest_of};
 ghost use Rattle.fault_sites.specs.SiteText.{site_line};
@@ -80,21 +81,21 @@ pub fn verb(act: &Act) -> &'static [u8]
     }
 }
 
-/// Goes on with the number of an operand.
-fn then_operand<O: Sink>(line: &mut Line, out: &mut O, j: u32)
-    ensures { GathersTo (O.seen out.old) (O.seen out.new) line.old line.new (codes " " ++ decimal j) }
+/// Goes on with the number of an operand, and a word behind it.
+fn then_operand<O: Sink>(line: &mut Line, out: &mut O, j: u32, word: &[u8])
+    ensures { GathersTo (O.seen out.old) (O.seen out.new) line.old line.new (codes " " ++ (decimal j ++ word.now)) }
 {
     line.text(out, b" ");
     line.count(out, j as u64);
+    line.text(out, word);
 }
 
-/// Goes on with a number that is added to operand `j`.
-fn then_operand_add<O: Sink>(line: &mut Line, out: &mut O, j: u32, e: i64)
-    ensures { GathersTo (O.seen out.old) (O.seen out.new) line.old line.new (rest_of (Act.OperandAdd j e)) }
+/// Goes on with what operand `j` is: a number that is added to it, or an operation whose word it is.
+fn then_operand_value<O: Sink>(line: &mut Line, out: &mut O, j: u32, word: &[u8], v: i64)
+    ensures { GathersTo (O.seen out.old) (O.seen out.new) line.old line.new (codes " " ++ (decimal j ++ (word.now ++ signed_decimal v))) }
 {
-    then_operand(line, out, j);
-    line.text(out, b" add ");
-    line.value(out, e);
+    then_operand(line, out, j, word);
+    line.value(out, v);
 }
 
 /// Goes on with a number that is added to the result.
@@ -103,23 +104,6 @@ fn then_result_add<O: Sink>(line: &mut Line, out: &mut O, e: i64)
 {
     line.text(out, b" add ");
     line.value(out, e);
-}
-
-/// Goes on with the operation whose word operand `j` is.
-fn then_operand_from<O: Sink>(line: &mut Line, out: &mut O, j: u32, r: u32)
-    ensures { GathersTo (O.seen out.old) (O.seen out.new) line.old line.new (rest_of (Act.OperandFrom j r)) }
-{
-    then_operand(line, out, j);
-    line.text(out, b" from ");
-    line.count(out, r as u64);
-}
-
-/// Goes on with operand `j`, which is the word of the cycle before.
-fn then_operand_stale<O: Sink>(line: &mut Line, out: &mut O, j: u32)
-    ensures { GathersTo (O.seen out.old) (O.seen out.new) line.old line.new (rest_of (Act.OperandStale j)) }
-{
-    then_operand(line, out, j);
-    line.text(out, b" stale");
 }
 
 /// Goes on with the name of another kind.
@@ -135,9 +119,9 @@ pub fn then_rest<O: Sink>(line: &mut Line, out: &mut O, act: &Act)
     ensures { GathersTo (O.seen out.old) (O.seen out.new) line.old line.new (rest_of act.now) }
 {
     match *act {
-        Act::OperandAdd { j, e } => then_operand_add(line, out, j, e),
-        Act::OperandFrom { j, r } => then_operand_from(line, out, j, r),
-        Act::OperandStale { j } => then_operand_stale(line, out, j),
+        Act::OperandAdd { j, e } => then_operand_value(line, out, j, b" add ", e),
+        Act::OperandFrom { j, r } => then_operand_value(line, out, j, b" from ", r as i64),
+        Act::OperandStale { j } => then_operand(line, out, j, b" stale"),
         Act::ResultAdd { e } => then_result_add(line, out, e),
         Act::Operator { kind } => then_kind(line, out, kind),
         Act::Skip => {}

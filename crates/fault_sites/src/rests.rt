@@ -3,6 +3,7 @@
 ghost use Rattle.std.specs.Prelude.{◌≡◌, ◌<◌, ◌≤◌, ◌+◌, ◌*◌, ◌∷◌, [], ℕ, true, false, nat_lt, nat_le, drop, length, slice_get, Some, IfOk};
 ghost use Rattle.vcp_base.specs.Limits.{most_cycles};
 ghost use Rattle.vcp_outside.specs.Gathering.{GathersTo};
+ghost use Rattle.op_graph.specs.Lists.{Lists};
 ghost use Rattle.op_graph.specs.Rules.{is_out as is_out_of};
 ghost use Rattle.fault_sites.specs.Readings.{AreReadings};
 ghost use Rattle.fault_sites.specs.Counted.{AreCounted, IsCounted};
@@ -333,25 +334,14 @@ pub(crate) fn run_readings(alloc: Global, graph: &Graph) -> Result<RunReadings, 
     Ok(RunReadings { going, last })
 }
 
-/// Goes on with the groups of cycle `n` of so many.
-fn then_cycle_of<O: Sink>(
-    line: &mut Line,
-    out: &mut O,
-    budget: Budget,
-    n: u32,
-    graph: &Graph,
-    readings: &RunReadings,
-    cycles: u32,
-) -> Budget
-    requires few { cycles ≤ most_cycles }
-    requires within { n < cycles }
-    requires readings { AreCounted graph.now readings.now }
-    ensures { Spends (O.seen out.old) (O.seen out.new) line.old line.new budget result (groups_in graph.now (nat_lt (n + 1) cycles) n) }
+/// The readings of a cycle behind which there is another one or none.
+fn readings_of(readings: &RunReadings, more: bool) -> &CycleReadings
+    ensures { (g : Lists) → AreCounted g readings.now → IsCounted g more result.now }
 {
-    if n + 1 < cycles {
-        then_cycle_or_pass(line, out, budget, n, graph, true, &readings.going)
+    if more {
+        &readings.going
     } else {
-        then_cycle_or_pass(line, out, budget, n, graph, false, &readings.last)
+        &readings.last
     }
 }
 
@@ -369,7 +359,9 @@ pub(crate) fn then_rests<O: Sink>(
     ensures { Spends (O.seen out.old) (O.seen out.new) line.old line.new budget result (groups_of_run graph.now cycles) }
 {
     'cycles: for n in 0..cycles {
-        budget = then_cycle_of(line, out, budget, n, graph, readings, cycles);
+        let more = n + 1 < cycles;
+        let here = readings_of(readings, more);
+        budget = then_cycle_or_pass(line, out, budget, n, graph, more, here);
     }
     budget
 }

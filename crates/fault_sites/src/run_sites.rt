@@ -3,6 +3,8 @@
 ghost use Rattle.std.specs.Prelude.{◌≡◌, ◌<◌, ◌≤◌, All, length};
 ghost use Rattle.vcp_base.specs.Limits.{most_cycles};
 ghost use Rattle.vcp_outside.specs.Written.{WritesTo};
+ghost use Rattle.fault_sites.specs.Flips.{flips_in};
+ghost use Rattle.fault_sites.specs.Late.{lates_in};
 ghost use Rattle.fault_sites.specs.Run.{begun};
 ghost use Rattle.fault_sites.specs.RunCycle.{as_cycle};
 ghost use Rattle.fault_sites.specs.RunSites.{cycle_of, in_cycle, run_class_name as run_class_name_of, run_class_of, run_sites, run_text};
@@ -11,12 +13,12 @@ ghost use Rattle.fault_sites.specs.Telling.{Tells};
 use crate::GraphValues;
 use crate::counts::BEHIND_ALL;
 use crate::cycle_values::CycleValues;
-use crate::flips::then_flips_in;
-use crate::late::then_lates_in;
+use crate::flips::count_flips_in;
 use crate::lines::is;
 use crate::nowhere::Nowhere;
 use crate::part::Part;
 use crate::run_class::RunClass;
+use crate::telling::then_acts;
 use crate::writing::then_remark;
 use input_rows::RowList;
 use signature_table::Table;
@@ -46,25 +48,37 @@ pub fn run_class_named(word: &[u8]) -> Option<RunClass>
     None
 }
 
-/// Goes on with the sites of a class in a cycle.
-fn then_cycle<O: Sink>(
-    line: &mut Line,
-    out: &mut O,
-    part: Part,
-    class: RunClass,
-    c: &CycleValues<'_>,
-) -> Part
-    requires { c.now.cycle < most_cycles }
-    ensures { Tells (O.seen out.old) (O.seen out.new) line.old line.new part result (in_cycle class (as_cycle c.now)) }
+/// Goes on with the flips of a cycle, and passes over them at once where they all stand before the part.
+fn then_flips<O: Sink>(line: &mut Line, out: &mut O, part: Part, c: &CycleValues<'_>) -> Part
+    requires flips { c.now.class ≡ RunClass.Flips }
+    requires few { c.now.cycle < most_cycles }
+    requires going { 0 < part.left }
+    ensures { Tells (O.seen out.old) (O.seen out.new) line.old line.new part result (flips_in (as_cycle c.now)) }
 {
-    match class {
-        RunClass::Flips => then_flips_in(line, out, part, c),
-        RunClass::Late => then_lates_in(line, out, part, c),
+    let count = count_flips_in(c);
+    if count <= part.skip {
+        return Part {
+            skip: part.skip - count,
+            left: part.left,
+        };
     }
+    then_acts(line, out, part, c, c.graph, c.cycle)
 }
 
-/// The same in cycle `n`, which is the last one of the first run. The second one is before it.
-fn then_released<O: Sink>(
+/// Goes on with the words of the cycle before in a cycle.
+fn then_lates<O: Sink>(line: &mut Line, out: &mut O, part: Part, c: &CycleValues<'_>) -> Part
+    requires late { c.now.class ≡ RunClass.Late }
+    requires few { c.now.cycle < most_cycles }
+    ensures { Tells (O.seen out.old) (O.seen out.new) line.old line.new part result (lates_in (as_cycle c.now)) }
+{
+    if c.cycle == 0 {
+        return part;
+    }
+    then_acts(line, out, part, c, c.graph, c.cycle)
+}
+
+/// Goes on with the sites of a class in cycle `n`, which is the last one of the first run. The second one is before it.
+fn then_cycle<O: Sink>(
     line: &mut Line,
     out: &mut O,
     part: Part,
@@ -74,10 +88,12 @@ fn then_released<O: Sink>(
     past: &GraphValues<'_>,
     table: &Table,
 ) -> Part
-    requires { n < most_cycles }
+    requires few { n < most_cycles }
+    requires going { 0 < part.left }
     ensures { Tells (O.seen out.old) (O.seen out.new) line.old line.new part result (in_cycle class (cycle_of table.now n past.now run.now.values)) }
 {
     let cycle = CycleValues {
+        class,
         graph: past.graph(),
         table,
         cycle: n,
@@ -85,7 +101,10 @@ fn then_released<O: Sink>(
         past: past.values(),
         values: run.values(),
     };
-    then_cycle(line, out, part, class, &cycle)
+    match class {
+        RunClass::Flips => then_flips(line, out, part, &cycle),
+        RunClass::Late => then_lates(line, out, part, &cycle),
+    }
 }
 
 /// Goes on with the sites of a class in the run over all rows, or up to its stop. The second run goes a cycle behind.
@@ -115,7 +134,7 @@ fn then_run<O: Sink>(
         rows.get(n, row);
         match run.cycle(row) {
             Some(_) => return part,
-            None => part = then_released(line, out, part, class, n, run, past, table),
+            None => part = then_cycle(line, out, part, class, n, run, past, table),
         }
         past.cycle(row);
     }

@@ -1,31 +1,55 @@
-//! The lines of the sites of an operation, of a cycle and of a class.
+//! The lines of the acts that may be at an operation, and at all operations of a cycle.
 
-ghost use Rattle.std.specs.Prelude.{◌≡◌, ◌<◌, ◌≤◌, ◌∷◌, [], Some, length, slice_get};
+ghost use Rattle.std.specs.Prelude.{◌≡◌, ◌<◌, ◌∷◌, [], ℕ, List, length};
 ghost use Rattle.std.specs.Option.{option_to_list};
-ghost use Rattle.fault_sites.specs.Sites.{acts_of, bits as bits_of, bits_at, each_below, from as from_of_op, operator as operator_of_op, sited, sites_at};
-ghost use Rattle.fault_sites.specs.Sites.{sites_in, stale as stale_of, from_one};
+ghost use Rattle.op_graph.specs.Lists.{Lists};
+ghost use Rattle.op_graph.specs.declared.op.Op.{Op as Operation};
+ghost use Rattle.fault_script.specs.declared.act.Act.{Act as ActOf};
+ghost use Rattle.fault_sites.specs.Acts.{acts_in, row_at, sites_by};
+ghost use Rattle.fault_sites.specs.Sites.{sited};
 ghost use Rattle.fault_sites.specs.Telling.{Tells};
 
-use crate::acts::{KINDS, from_of, has_acts, operator_of};
-use crate::class::Class;
 use crate::lines::then_site;
 use crate::part::Part;
 use crate::site::Site;
-use crate::values::{ADDENDS, bit};
 use fault_script::Act;
 use op_graph::{Graph, Op};
-use vcp_base::operands;
 use vcp_outside::{Line, Sink};
 
+/// The acts that may be at the operations of a graph in a cycle: at each of them in rows, mostly one for each operand, and columns, one for each value.
+pub(crate) trait Acts {
+    /// They are acts at this graph's operations.
+    ghost AreIn: { Lists → Self → Type 0 };
+
+    /// How many rows an operation has.
+    ghost rows_of: { Self → Operation → ℕ };
+
+    /// How many columns operation `k` has.
+    ghost columns_of: { Self → Lists → ℕ → ℕ };
+
+    /// The act at operation `k` in row `j` and column `i`, or none.
+    ghost act_of: { Self → Lists → ℕ → Operation → ℕ → ℕ → List ActOf };
+
+    /// How many rows an operation has.
+    fn rows(&self, op: &Op) -> u32
+        ensures { result ≡ rows_of self.now op.now };
+
+    /// How many columns operation `k` has.
+    fn columns(&self, graph: &Graph, k: u32) -> u32
+        requires acts { AreIn graph.now self.now }
+        requires there { k < length graph.now.operations }
+        ensures { result ≡ columns_of self.now graph.now k };
+
+    /// The act at operation `k` in row `j` and column `i`, where there is one.
+    fn act(&self, graph: &Graph, k: u32, op: &Op, j: u32, i: u32) -> Option<Act>
+        requires acts { AreIn graph.now self.now }
+        requires there { k < length graph.now.operations }
+        requires column { i < columns_of self.now graph.now k }
+        ensures { act_of self.now graph.now k op.now j i ≡ option_to_list result };
+}
+
 /// Goes on with the line of an act at operation `k` in cycle `n`, where it is in the part, and gives what is left of the part.
-pub(crate) fn then_one<O: Sink>(
-    line: &mut Line,
-    out: &mut O,
-    part: Part,
-    n: u32,
-    k: u32,
-    act: Act,
-) -> Part
+fn then_one<O: Sink>(line: &mut Line, out: &mut O, part: Part, n: u32, k: u32, act: Act) -> Part
     ensures { Tells (O.seen out.old) (O.seen out.new) line.old line.new part result (sited n k (act ∷ [])) }
 {
     if part.left == 0 {
@@ -51,7 +75,7 @@ pub(crate) fn then_one<O: Sink>(
 }
 
 /// The same of an act that may be there.
-pub(crate) fn then_any<O: Sink>(
+fn then_any<O: Sink>(
     line: &mut Line,
     out: &mut O,
     part: Part,
@@ -67,179 +91,70 @@ pub(crate) fn then_any<O: Sink>(
     }
 }
 
-/// Goes on with each number that is added to the result or to an operand.
-fn then_bits_at<O: Sink>(
+/// Goes on with the acts of row `j` at operation `k` in cycle `n`.
+fn then_row<O: Sink, A: Acts>(
     line: &mut Line,
     out: &mut O,
     mut part: Part,
-    n: u32,
-    k: u32,
-    place: Option<u32>,
-) -> Part
-    ensures { Tells (O.seen out.old) (O.seen out.new) line.old line.new part result (sited n k (bits_at place)) }
-{
-    'values: for v in 0..ADDENDS {
-        part = then_one(line, out, part, n, k, bit(place, v));
-    }
-    part
-}
-
-/// Goes on with the numbers that are added to each of so many operands.
-fn then_operand_bits<O: Sink>(
-    line: &mut Line,
-    out: &mut O,
-    mut part: Part,
-    n: u32,
-    k: u32,
-    count: u32,
-) -> Part
-    ensures { Tells (O.seen out.old) (O.seen out.new) line.old line.new part result (sited n k (each_below (λ j. bits_at (Some j)) count)) }
-{
-    'operands: for j in 0..count {
-        part = then_bits_at(line, out, part, n, k, Some(j));
-    }
-    part
-}
-
-/// Goes on with the class of bits.
-fn then_bits<O: Sink>(line: &mut Line, out: &mut O, part: Part, n: u32, k: u32, op: &Op) -> Part
-    ensures { Tells (O.seen out.old) (O.seen out.new) line.old line.new part result (sited n k (bits_of op.now)) }
-{
-    let left = then_bits_at(line, out, part, n, k, None);
-    then_operand_bits(line, out, left, n, k, operands(op.kind))
-}
-
-/// Goes on with the class of operands of the cycle before.
-fn then_stale<O: Sink>(
-    line: &mut Line,
-    out: &mut O,
-    mut part: Part,
-    n: u32,
-    k: u32,
-    op: &Op,
-) -> Part
-    ensures { Tells (O.seen out.old) (O.seen out.new) line.old line.new part result (sited n k (stale_of op.now)) }
-{
-    'operands: for j in 0..operands(op.kind) {
-        part = then_one(line, out, part, n, k, Act::OperandStale { j });
-    }
-    part
-}
-
-/// Goes on with operand `j` as the word of each other operation before operation `k`.
-fn then_sources<O: Sink>(
-    line: &mut Line,
-    out: &mut O,
-    mut part: Part,
-    n: u32,
-    k: u32,
+    acts: &A,
     graph: &Graph,
+    n: u32,
+    k: u32,
     op: &Op,
     j: u32,
 ) -> Part
-    requires { k ≤ length graph.now.operations }
+    requires acts { A.AreIn graph.now acts.now }
+    requires there { k < length graph.now.operations }
     ensures { Tells (O.seen out.old) (O.seen out.new) line.old line.new part result
-        (sited n k (each_below (λ r. from_one op.now j r (slice_get graph.now.operations r)) k)) }
+        (sited n k (row_at (A.act_of acts.now graph.now k op.now) (A.columns_of acts.now graph.now k) j)) }
 {
-    'sources: for r in 0..k {
-        part = then_any(line, out, part, n, k, from_of(graph, op, j, r));
+    'columns: for i in 0..acts.columns(graph, k) {
+        let act = acts.act(graph, k, op, j, i);
+        part = then_any(line, out, part, n, k, act);
     }
     part
 }
 
-/// Goes on with the class of exchanged operands.
-fn then_from<O: Sink>(
+/// Goes on with the acts at operation `k` in cycle `n`.
+fn then_operation<O: Sink, A: Acts>(
     line: &mut Line,
     out: &mut O,
     mut part: Part,
-    n: u32,
-    k: u32,
+    acts: &A,
     graph: &Graph,
-    op: &Op,
-) -> Part
-    requires { k ≤ length graph.now.operations }
-    ensures { Tells (O.seen out.old) (O.seen out.new) line.old line.new part result (sited n k (from_of_op graph.now k op.now)) }
-{
-    'operands: for j in 0..operands(op.kind) {
-        part = then_sources(line, out, part, n, k, graph, op, j);
-    }
-    part
-}
-
-/// Goes on with the class of other kinds.
-fn then_operators<O: Sink>(
-    line: &mut Line,
-    out: &mut O,
-    mut part: Part,
-    n: u32,
-    k: u32,
-    op: &Op,
-) -> Part
-    ensures { Tells (O.seen out.old) (O.seen out.new) line.old line.new part result (sited n k (operator_of_op op.now)) }
-{
-    'kinds: for code in 0..KINDS {
-        part = then_any(line, out, part, n, k, operator_of(op.kind, code));
-    }
-    part
-}
-
-/// Goes on with the acts of a class at operation `k` in cycle `n`, where it has acts.
-fn then_acts<O: Sink>(
-    line: &mut Line,
-    out: &mut O,
-    part: Part,
-    graph: &Graph,
-    class: Class,
-    n: u32,
-    k: u32,
-    op: &Op,
-) -> Part
-    requires { k ≤ length graph.now.operations }
-    ensures { Tells (O.seen out.old) (O.seen out.new) line.old line.new part result (sited n k (acts_of class graph.now k op.now)) }
-{
-    match class {
-        Class::Bits => then_bits(line, out, part, n, k, op),
-        Class::Stale => then_stale(line, out, part, n, k, op),
-        Class::Skip => then_one(line, out, part, n, k, Act::Skip),
-        Class::From => then_from(line, out, part, n, k, graph, op),
-        Class::Operator => then_operators(line, out, part, n, k, op),
-    }
-}
-
-/// Goes on with the sites of a class at operation `k` in cycle `n`.
-fn then_operation<O: Sink>(
-    line: &mut Line,
-    out: &mut O,
-    part: Part,
-    graph: &Graph,
-    class: Class,
     n: u32,
     k: u32,
 ) -> Part
-    requires { k < length graph.now.operations }
+    requires acts { A.AreIn graph.now acts.now }
+    requires there { k < length graph.now.operations }
     ensures { Tells (O.seen out.old) (O.seen out.new) line.old line.new part result
-        (sites_at class graph.now n k (slice_get graph.now.operations k)) }
+        (sited n k (acts_in (A.rows_of acts.now) (A.columns_of acts.now graph.now) (A.act_of acts.now graph.now) graph.now k)) }
 {
-    if part.left == 0 || !has_acts(class, n) {
+    if part.left == 0 {
         return part;
     }
     let op = graph.operation(k);
-    then_acts(line, out, part, graph, class, n, k, &op)
+    'rows: for j in 0..acts.rows(&op) {
+        part = then_row(line, out, part, acts, graph, n, k, &op, j);
+    }
+    part
 }
 
-/// Goes on with the sites of a class in cycle `n`.
-pub(crate) fn then_cycle<O: Sink>(
+/// Goes on with the acts at all operations in cycle `n`.
+pub(crate) fn then_acts<O: Sink, A: Acts>(
     line: &mut Line,
     out: &mut O,
     mut part: Part,
+    acts: &A,
     graph: &Graph,
-    class: Class,
     n: u32,
 ) -> Part
-    ensures { Tells (O.seen out.old) (O.seen out.new) line.old line.new part result (sites_in class graph.now n) }
+    requires { A.AreIn graph.now acts.now }
+    ensures { Tells (O.seen out.old) (O.seen out.new) line.old line.new part result
+        (sites_by (A.rows_of acts.now) (A.columns_of acts.now graph.now) (A.act_of acts.now graph.now) graph.now n) }
 {
     'operations: for k in 0..graph.len() {
-        part = then_operation(line, out, part, graph, class, n, k);
+        part = then_operation(line, out, part, acts, graph, n, k);
     }
     part
 }

@@ -1,7 +1,8 @@
 //! The numbers that are added.
 
 ghost use Rattle.std.specs.Prelude.{◌≡◌, ◌<◌, ◌^◌, pos};
-ghost use Rattle.fault_sites.specs.Sites.{addend as addend_of, addend_count, adding as adding_of};
+ghost use Rattle.fault_sites.specs.Sites.{addend as addend_of, addend_count};
+ghost use Rattle.fault_sites.specs.Acts.{addition};
 
 use fault_script::Act;
 
@@ -28,14 +29,15 @@ pub(crate) fn addend(v: u32) -> i64
     }
 }
 
-/// Number `v` is added to an operand, or else to the result.
-pub(crate) fn bit(place: Option<u32>, v: u32) -> Act
+/// Number `v` is added to the result in the first row, and to an operand in each further one.
+pub(crate) fn bit(row: u32, v: u32) -> Act
     requires { v < addend_count }
-    ensures { result ≡ adding_of place (addend_of v) }
+    ensures { result ≡ addition row (addend_of v) }
 {
     let e = addend(v);
-    match place {
-        Some(j) => Act::OperandAdd { j, e },
-        None => Act::ResultAdd { e },
+    if row == 0 {
+        Act::ResultAdd { e }
+    } else {
+        Act::OperandAdd { j: row - 1, e }
     }
 }

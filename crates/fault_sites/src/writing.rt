@@ -11,7 +11,7 @@ use crate::class::{Class, Classes};
 use crate::counts::{count_cycle, count_in};
 use crate::lines::classes_name;
 use crate::part::Part;
-use crate::telling::then_cycle;
+use crate::telling::then_acts;
 use op_graph::Graph;
 use vcp_outside::{Failed, Line, Sink};
 
@@ -39,7 +39,7 @@ fn then_cycle_or_pass<O: Sink>(
             left: part.left,
         };
     }
-    then_cycle(line, out, part, graph, class, n)
+    then_acts(line, out, part, &class, graph, n)
 }
 
 /// Goes on with the sites of a class in the first cycles.

@@ -1,20 +1,22 @@
-use Rattle.std.proofs.Common.{rules, w64}
+use Rattle.std.proofs.Common.{arith, rules, w64}
 use mir.Val.{SFits}
-use Rattle.std.proofs.Math.Facts.{to_z-of_z}
+use Rattle.std.proofs.Math.Facts.{to_z-of_z, to_z_pos}
 use Rattle.fault_sites.proofs.Going.{unmoved}
 use Rattle.fault_sites.proofs.lines.then_rest.Goals as goal
 
 pub returns-in-OperandAdd : goal.returns-in-OperandAdd
 returns-in-OperandAdd g c =
     let fits : SFits w64 c.in-OperandAdd.e = search rules in
-    let told = rw (to_z-of_z {w = w64} {z = c.in-OperandAdd.e} fits) at c.then_operand_add.ensures in
+    let told = rw (to_z-of_z {w = w64} {z = c.in-OperandAdd.e} fits) at c.then_operand_value.ensures in
     rw c.in-OperandAdd.is told
 
 pub returns-in-OperandFrom : goal.returns-in-OperandFrom
-returns-in-OperandFrom g c = rw c.in-OperandFrom.is c.then_operand_from.ensures
+returns-in-OperandFrom g c =
+    let told = rw (to_z_pos w64 {n = c.in-OperandFrom.r} (omega arith)) at c.then_operand_value-in-OperandFrom.ensures in
+    rw c.in-OperandFrom.is told
 
 pub returns-in-OperandStale : goal.returns-in-OperandStale
-returns-in-OperandStale g c = rw c.in-OperandStale.is c.then_operand_stale.ensures
+returns-in-OperandStale g c = rw c.in-OperandStale.is c.then_operand.ensures
 
 pub returns-in-ResultAdd : goal.returns-in-ResultAdd
 returns-in-ResultAdd g c =

@@ -1,16 +1,21 @@
+use Rattle.std.proofs.Common.{◌≡◌, length, arith}
+use Rattle.fault_sites.specs.Acts.{acts_in}
+use Rattle.fault_sites.specs.Sites.{sited}
+use Rattle.fault_sites.proofs.Going.{tells_none, sites_more}
 use Rattle.fault_sites.proofs.telling.then_acts.Goals as goal
 
-pub returns-in-Bits : goal.returns-in-Bits
-returns-in-Bits g c = rw c.in-Bits.is c.then_bits.ensures
+pub operations-init : goal.operations-init
+operations-init g c = tells_none
 
-pub returns-in-Stale : goal.returns-in-Stale
-returns-in-Stale g c = rw c.in-Stale.is c.then_stale.ensures
+pub operations-preserved : goal.operations-preserved
+operations-preserved g c =
+    let acts = c.args.acts.now in
+    let graph = c.args.graph.now in
+    sites_more (λ k. sited c.args.n k (acts_in (g.A.Acts.rows_of acts) (g.A.Acts.columns_of acts graph) (g.A.Acts.act_of acts graph) graph k))
+    c.operations.k c.operations.invariant c.then_operation-part.ensures
 
-pub returns-in-Skip : goal.returns-in-Skip
-returns-in-Skip g c = rw c.in-Skip.is c.then_one.ensures
-
-pub returns-in-From : goal.returns-in-From
-returns-in-From g c = rw c.in-From.is c.then_from.ensures
-
-pub returns-in-Operator : goal.returns-in-Operator
-returns-in-Operator g c = rw c.in-Operator.is c.then_operators.ensures
+pub returns : goal.returns
+returns g c =
+    let all : c.operations.k ≡ length c.args.graph.now.operations =
+    omega (arith, c.operations-test.false, c.operations.auto.k-end, c.len-k-end.ensures.count) in
+    rw all at c.operations.invariant
