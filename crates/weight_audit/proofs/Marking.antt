@@ -1,18 +1,20 @@
 -- Marking: which operations are marked, and from which a path leads.
-use Rattle.std.proofs.Common.{◌≡◌, ◌≢◌, ◌⊎◌, ⊎_elim, inl, inr, ℕ, zero, suc, ◌<◌, ◌≤◌, ◌==◌}
-use Rattle.std.proofs.Common.{Bool, true, false, cond, nat_lt, List, [], ◌∷◌, replicate, Some, None, sym, subst, refl, arith}
+use Rattle.std.proofs.Common.{◌≡◌, ◌≢◌, ◌⊎◌, ⊎_elim, inl, inr, ℕ, zero, suc, ◌+◌, ◌<◌, ◌≤◌, ◌==◌}
+use Rattle.std.proofs.Common.{Bool, true, false, cond, nat_lt, List, [], ◌∷◌, replicate, Some, None, slice_get, ap, sym, subst, refl, ◌∙◌, arith}
+use Rattle.std.proofs.lemmas.Bool.{cases_lt}
 use Rattle.std.proofs.lemmas.Bool.Decides.{eqb_tells, nat_tests}
 use Rattle.std.specs.Option.{is_some}
 use Rattle.vcp_base.specs.Kinds.{operands, operand_type}
 use Rattle.vcp_base.specs.declared.kind.Kind.{Kind}
 use Rattle.vcp_base.specs.declared.kind.Kind.TheVariants as kind
 use Rattle.vcp_base.specs.declared.ty.Ty.{Ty}
+use Rattle.op_graph.specs.declared.op.Cell.{Cell}
 use Rattle.op_graph.specs.declared.op.Op.{Op}
 use Rattle.op_graph.specs.Lists.{Lists, cells}
 use Rattle.op_graph.specs.Reads.{named, Reads}
 use Rattle.op_graph.specs.Rules.{reads_as}
 use Rattle.weight_audit.specs.Paths.{Step, Crosses, Leads, Reached}
-use Rattle.weight_audit.specs.Sweeping.{mark, MarksRead, CrossesMarked}
+use Rattle.weight_audit.specs.Sweeping.{mark, MarksRead, MarksStore, CrossesMarked}
 
 -- each operation that a marked one from n on reads is marked
 abbrev pub ClosedFrom : List Op → ℕ → List Bool → Type 0
@@ -54,6 +56,33 @@ pub sound_more : (g : Lists) (out borders m : ℕ) (old new : List Bool) → ((k
 sound_more g out borders m old new sound are k now = ⊎_elim
     (λ (h : mark old k ≡ true). are k h)
     (λ (r : MarksRead g.operations old m k). let path = are m r.marked in (Step.Read m r.place ∷ path.0, (r.reads, path.1)))
+    (sound k now)
+
+-- the STORE of one cell more is marked, where its LOAD is
+pub store_marked : (held : List Cell) (i : ℕ) (cell : Cell) (later old new : List Bool) → slice_get held i ≡ Some cell → Keeps old new
+    → (mark later cell.load ≡ true → mark new cell.store ≡ true)
+    → ((n : ℕ) (c : Cell) → n < i → slice_get held n ≡ Some c → mark later c.load ≡ true → mark old c.store ≡ true)
+    → (n : ℕ) (c : Cell) → n < i + 1 → slice_get held n ≡ Some c → mark later c.load ≡ true → mark new c.store ≡ true
+store_marked held i cell later old new here kept marked before n c below there loaded = elim (cases_lt n i) [
+  | inl lt ↦ kept c.store (before n c lt there loaded)
+  | inr past ↦
+      let at : n ≡ i = omega arith in
+      let both : Some c ≡ Some cell = sym there ∙ (ap (slice_get held) at ∙ here) in
+      let same : c ≡ cell = cc in
+      subst (λ d. mark new d.store ≡ true) (sym same) (marked (subst (λ d. mark later d.load ≡ true) same loaded))
+]
+
+pub store_sound : (held : List Cell) (i : ℕ) (cell : Cell) (later old new : List Bool) → slice_get held i ≡ Some cell
+    → ((k : ℕ) → mark new k ≡ true → (mark old k ≡ true) ⊎ MarksStore later cell k) → ((k : ℕ) → mark old k ≡ true → CrossesMarked held later k)
+    → (k : ℕ) → mark new k ≡ true → CrossesMarked held later k
+store_sound held i cell later old new here sound before k now = ⊎_elim
+    (λ (h : mark old k ≡ true). before k h)
+    (λ (m : MarksStore later cell k).
+    record {
+      load = cell.load;
+      crosses = record { number = i; cell = cell; there = here; store = sym m.store; load = refl };
+      marked = m.marked;
+    })
     (sound k now)
 
 -- ---- the first distance

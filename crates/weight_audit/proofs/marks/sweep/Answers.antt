@@ -1,4 +1,4 @@
-use Rattle.std.proofs.Common.{◌≡◌, ℕ, suc, ◌-◌, ◌≤◌, ◌∙◌, subst, refl, arith}
+use Rattle.std.proofs.Common.{◌≡◌, ℕ, suc, ◌-◌, ◌≤◌, ◌∙◌, subst, sym, refl, arith}
 use Rattle.weight_audit.proofs.Marking.{ClosedFrom, closed_more, sound_more}
 use Rattle.weight_audit.proofs.marks.sweep.Goals as goal
 
@@ -24,3 +24,12 @@ pub returns-clause-closed : goal.returns-clause-closed
 returns-clause-closed c = λ q k j reads marked.
     let low : 0 ≤ q = omega arith in
     c.operations.invariant.closed 0 (omega (arith, c.operations-test.false, c.operations.auto.done-end, c.len-count.ensures.count)) q k j low reads marked
+
+pub returns-clause-many : goal.returns-clause-many
+returns-clause-many c = c.operations.invariant.many ∙ sym c.requires.count
+
+pub returns-clause-kept : goal.returns-clause-kept
+returns-clause-kept c = c.operations.invariant.kept
+
+pub returns-clause-sound : goal.returns-clause-sound
+returns-clause-sound c = c.operations.invariant.sound
