@@ -1,5 +1,5 @@
 -- Rows: the acts of a class at an operation, row by row and column by column.
-use Rattle.std.proofs.Common.{◌≡◌, ◌≢◌, ℕ, zero, suc, ◌+◌, ◌-◌, ◌<◌, ◌≤◌, ℤ, Bool, true, cond, nat_lt, List, [], ◌∷◌, ◌++◌, length, slice_get, Option, Some, None, refl, sym, ap, ap₂, ◌∙◌, append_assoc, arith}
+use Rattle.std.proofs.Common.{◌≡◌, ◌≢◌, ℕ, zero, suc, ◌-◌, ◌<◌, ℤ, Bool, true, cond, nat_lt, List, [], ◌++◌, length, slice_get, Option, Some, None, refl, sym, ap, ap₂, ◌∙◌, append_assoc, arith}
 use Rattle.std.proofs.lemmas.List.{append-nil}
 use Rattle.std.proofs.lemmas.Bool.Decides.{nat_tests}
 use Rattle.vcp_base.specs.Kinds.{operands}
@@ -11,13 +11,12 @@ use Rattle.fault_script.specs.declared.act.Act.TheVariants as act
 use Rattle.fault_sites.specs.declared.class.Class.{Class}
 use Rattle.fault_sites.specs.declared.class.Class.TheVariants as class
 use Rattle.fault_sites.specs.declared.run_class.RunClass.TheVariants as run
-use Rattle.fault_sites.specs.declared.site.Site.{Site}
 use Rattle.fault_sites.specs.Acts.{act_at, acts_at, acts_in, addition, columns, row_at, rows, sites_by}
 use Rattle.fault_sites.specs.Flips.{flips_in, flips_of}
 use Rattle.fault_sites.specs.Late.{lates_in, lates_of}
 use Rattle.fault_sites.specs.RunActs.{act_at as run_act_at, columns as run_columns, rows as run_rows}
 use Rattle.fault_sites.specs.RunCycle.{RunCycle, expected_word}
-use Rattle.fault_sites.specs.Sites.{acts_of, bits_at, each_below, has_acts, sited, sites_at, sites_in}
+use Rattle.fault_sites.specs.Sites.{acts_of, each_below, has_acts, sited, sites_at, sites_in}
 use Rattle.fault_sites.proofs.RunFit.{there_is}
 
 pub addition_past : (j : ℕ) (e : ℤ) → j ≢ 0 → act.OperandAdd (j - 1) e ≡ addition j e

@@ -42,6 +42,7 @@ pub use laws::{
     parts_are_the_whole,
 };
 pub use lines::{classes_name, classes_named, then_rest, then_site, verb};
+pub use nowhere::Nowhere;
 pub use part::Part;
 pub use reading::Reading;
 pub use rests::is_out;

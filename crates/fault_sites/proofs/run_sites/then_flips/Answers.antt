@@ -1,4 +1,4 @@
-use Rattle.std.proofs.Common.{◌≡◌, refl, sym, ap, ◌∙◌, arith}
+use Rattle.std.proofs.Common.{refl, sym, ap, ◌∙◌, arith}
 use Rattle.fault_sites.specs.declared.run_class.RunClass.{RunClass}
 use Rattle.fault_sites.specs.Acts.{sites_by}
 use Rattle.fault_sites.specs.Flips.{flips_in}
