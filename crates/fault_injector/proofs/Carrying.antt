@@ -19,7 +19,7 @@ use Rattle.fault_injector.specs.Scripts.{passed_by, handed_by, skips_by, right_b
 
 -- ---- the call that is passed on may be asked
 
-with_operand_asked : (call : Call) (j : ℕ) (w : ℤ) → Asked call → Asked (with_operand call j w)
+pub with_operand_asked : (call : Call) (j : ℕ) (w : ℤ) → Asked call → Asked (with_operand call j w)
 with_operand_asked call zero w h = record { corr = h.corr; stamp = h.stamp; from = h.from; ty = h.ty }
 with_operand_asked call (suc zero) w h = record { corr = h.corr; stamp = h.stamp; from = h.from; ty = h.ty }
 with_operand_asked call (suc (suc j)) w h = record { corr = h.corr; stamp = h.stamp; from = h.from; ty = h.ty }

@@ -1,4 +1,5 @@
 use Rattle.std.proofs.Common.{◌∙◌, arith}
+use Rattle.std.proofs.lemmas.List.{take_all}
 use Rattle.fault_injector.proofs.Keeping.{none_more, none_all}
 use Rattle.fault_injector.proofs.runs.scripted.carried_of.Goals as goal
 
@@ -13,3 +14,10 @@ pub returns-clause-kept : goal.returns-clause-kept
 returns-clause-kept c =
     c.faults.invariant.kept
     ∙ none_all c.args.group.now c.faults.i (omega (arith, c.faults-test.false, c.faults.auto.i-end, c.len-i-end.ensures))
+
+pub at-requires : goal.at-requires
+at-requires c = omega (arith, c.faults-test.true, c.len-i-end.ensures)
+
+pub returns-clause-faults : goal.returns-clause-faults
+returns-clause-faults c =
+    c.faults.invariant.faults ∙ take_all c.faults.i c.args.group.now (omega (arith, c.faults-test.false, c.faults.auto.i-end, c.len-i-end.ensures))
