@@ -1,7 +1,7 @@
 use Rattle.std.proofs.Common.{ap, ◌≡◌, ◌<◌, ◌∙◌, sym, subst, cond, [], true≢false}
 use Rattle.vcp_base.specs.Limits.{most_cycles}
 use Rattle.op_graph.specs.Lists.{Lists}
-use Rattle.coded_machine.specs.Calls.{HasOwnNumber, CallsOf, Carried, Whole}
+use Rattle.coded_machine.specs.Calls.{HasOwnNumber, CallsOf, Carried}
 use Rattle.coded_machine.specs.Common.{IsBegun}
 use Rattle.coded_machine.specs.State.{State, given, setting}
 use Rattle.coded_machine.proofs.Turns.{begun_same, begun_carried, only_answers, carried_turn, turn_smaller, finished_whole, whole_kept}
