@@ -75,7 +75,7 @@ fn with_operand(
     ensures { (slots : List SlotOf) → Tells names.now slots
         → Judges result (meant_line before (line_in text.now line) (meant_of slots (written_in text.now line.operand))) }
 {
-    let Some(meant) = meaning(text, names, line.operand)? else {
+    let Some(meant) = meaning(text, names, line.operand) else {
         return Err(IlFault::Operand { spot: line.at });
     };
     if sets(line.operator) && !meant.set {

@@ -44,18 +44,18 @@ pub fn table_of(alloc: Global, slots: &Slots) -> Result<Names, Memory>
 }
 
 // The variable of a name.
-fn variable(names: &Names, name: &[u8]) -> Result<Option<Meant>, Memory>
-    ensures { (slots : List SlotOf) → Tells names.now slots → IfOk result (λ m. m ≡ option_map meant_variable (variable_from 0 slots name.now)) }
+fn variable(names: &Names, name: &[u8]) -> Option<Meant>
+    ensures { (slots : List SlotOf) → Tells names.now slots → result ≡ option_map meant_variable (variable_from 0 slots name.now) }
 {
-    match names.find(name)? {
-        None => Ok(None),
-        Some(x) => Ok(Some(Meant {
+    match names.find(name) {
+        None => None,
+        Some(x) => Some(Meant {
             operand: Operand::Variable {
                 slot: x.slot,
                 ty: x.ty,
             },
             set: is_set(x.section),
-        })),
+        }),
     }
 }
 
@@ -80,20 +80,20 @@ fn negative(value: i64) -> Option<Meant>
 }
 
 /// What a written operand means; none where its name is no variable, or its literal isn't in its type.
-pub fn meaning(text: &[u8], names: &Names, operand: Writing) -> Result<Option<Meant>, Memory>
+pub fn meaning(text: &[u8], names: &Names, operand: Writing) -> Option<Meant>
     requires { InsideWriting text.now operand }
-    ensures { (slots : List SlotOf) → Tells names.now slots → IfOk result (λ m. m ≡ meant_of slots (written_in text.now operand)) }
+    ensures { (slots : List SlotOf) → Tells names.now slots → result ≡ meant_of slots (written_in text.now operand) }
 {
     match operand {
-        Writing::Nothing => Ok(Some(Meant {
+        Writing::Nothing => Some(Meant {
             operand: Operand::Number {
                 ty: Ty::Bool,
                 value: 0,
             },
             set: false,
-        })),
+        }),
         Writing::Name(t) => variable(names, &text[t.from as usize..t.to as usize]),
-        Writing::Number { ty, value } => Ok(number(ty, value)),
-        Writing::Negative { value } => Ok(negative(value)),
+        Writing::Number { ty, value } => number(ty, value),
+        Writing::Negative { value } => negative(value),
     }
 }

@@ -16,7 +16,7 @@ pub mod NoteLaws
 pub mod DeclNodes
 pub mod PlaceLaws
 pub mod ExprNodes
-pub mod Keys
+pub mod Finding
 pub mod Wanted
 pub mod WholeLaws
 pub mod StmtNodes

@@ -71,12 +71,12 @@ fn form_of_entry(e: &Entry) -> Option<Form>
 }
 
 // The form of a name.
-fn form_of_name(names: &Names, name: &[u8]) -> Result<Option<Form>, Memory>
-    ensures { IfOk result (λ r. r ≡ option_and_then entry_form (find names.now name.now)) }
+fn form_of_name(names: &Names, name: &[u8]) -> Option<Form>
+    ensures { result ≡ option_and_then entry_form (find names.now name.now) }
 {
-    match names.find(name)? {
-        None => Ok(None),
-        Some(e) => Ok(form_of_entry(e)),
+    match names.find(name) {
+        None => None,
+        Some(e) => form_of_entry(e),
     }
 }
 
@@ -92,17 +92,17 @@ fn form_of_negated(l: Option<Untyped>) -> Option<Form>
 }
 
 // The constant form that an expression is.
-fn form_of(names: &Names, e: &Expr) -> Result<Option<Form>, Memory>
-    ensures { IfOk result (λ r. r ≡ form_of_tree names.now (expr_tree e.now)) }
+fn form_of(names: &Names, e: &Expr) -> Option<Form>
+    ensures { result ≡ form_of_tree names.now (expr_tree e.now) }
 {
     match e {
-        Expr::Lit { ty, value, .. } => Ok(Some(Form {
+        Expr::Lit { ty, value, .. } => Some(Form {
             ty: *ty,
             value: i128::from(*value),
-        })),
+        }),
         Expr::Name { name, .. } => form_of_name(names, name.bytes()),
-        Expr::Unary { op, arg, .. } => Ok(form_of_negated(negated(*op, arg))),
-        Expr::Binary { .. } | Expr::Call { .. } => Ok(None),
+        Expr::Unary { op, arg, .. } => form_of_negated(negated(*op, arg)),
+        Expr::Binary { .. } | Expr::Call { .. } => None,
     }
 }
 
@@ -196,7 +196,7 @@ impl Environment<'_> {
         let x = self.type_expression(e, first)?;
         let found = type_of(&x);
         discard_some(x);
-        let form = form_of(self.names, e)?;
+        let form = form_of(self.names, e);
         Ok(Number {
             form: form_number(ty, form),
             value: number_in(ty, found, form),

@@ -135,11 +135,11 @@ fn initial_or_none(
     made: &Declarations,
     init: &Option<Expr>,
     first: &mut Option<Fault>,
-) -> Result<Option<Known>, Memory>
-    ensures { IfOk result (λ r. JudgesInit (made_by made.now) (expr_tree_or_none init.now) first.old first.new r) }
+) -> Option<Known>
+    ensures { JudgesInit (made_by made.now) (expr_tree_or_none init.now) first.old first.new result }
 {
     match init {
-        None => Ok(None),
+        None => None,
         Some(e) => initial(&made.names, e, first),
     }
 }
@@ -156,7 +156,7 @@ fn add_declaration(
         (after_decl section (made_by made.old) (decl_tree d.now))
         (DeclForm section (made_by made.old) (decl_tree d.now))) }
 {
-    let init = initial_or_none(made, &d.init, first)?;
+    let init = initial_or_none(made, &d.init, first);
     let kind = Kind {
         section,
         ty: d.ty,

@@ -213,20 +213,15 @@ fn apply(
 
 impl Environment<'_> {
     // A name: a variable, or a constant.
-    fn known(
-        &self,
-        name: &[u8],
-        spot: Spot,
-        first: &mut Option<Fault>,
-    ) -> Result<Option<TExpr>, Memory>
-        ensures { IfOk result (λ r. Types self.now.names.now (name_tree name.now spot) first.old first.new (option_map texpr_tree r)) }
+    fn known(&self, name: &[u8], spot: Spot, first: &mut Option<Fault>) -> Option<TExpr>
+        ensures { Types self.now.names.now (name_tree name.now spot) first.old first.new (option_map texpr_tree result) }
     {
-        match self.names.find(name)? {
+        match self.names.find(name) {
             None => {
                 note(first, Rule::Unknown, spot);
-                Ok(None)
+                None
             }
-            Some(e) => Ok(Some(got(spot, e))),
+            Some(e) => Some(got(spot, e)),
         }
     }
 
@@ -241,7 +236,7 @@ impl Environment<'_> {
     {
         match e {
             Expr::Lit { ty, value, spot } => Ok(literal(*ty, *value, *spot, first)),
-            Expr::Name { name, spot } => self.known(name.bytes(), *spot, first),
+            Expr::Name { name, spot } => Ok(self.known(name.bytes(), *spot, first)),
             Expr::Unary { op, arg, spot } => match negated(*op, arg) {
                 Some(l) => Ok(negative(l, first)),
                 None => match self.type_expression(arg, first) {

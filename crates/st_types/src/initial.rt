@@ -63,12 +63,12 @@ fn of_entry(e: &Entry) -> Option<Known>
 }
 
 // The constant that a name is, by what was declared before.
-fn of_name(names: &Names, name: &[u8]) -> Result<Option<Known>, Memory>
-    ensures { IfOk result (λ r. r ≡ option_and_then (λ e. both known_form (form_of_entry e) (Some e.ty)) (find names.now name.now)) }
+fn of_name(names: &Names, name: &[u8]) -> Option<Known>
+    ensures { result ≡ option_and_then (λ e. both known_form (form_of_entry e) (Some e.ty)) (find names.now name.now) }
 {
-    match names.find(name)? {
-        None => Ok(None),
-        Some(e) => Ok(of_entry(e)),
+    match names.find(name) {
+        None => None,
+        Some(e) => of_entry(e),
     }
 }
 
@@ -87,39 +87,30 @@ fn negative(l: Option<Untyped>, spot: Spot, first: &mut Option<Fault>) -> Option
 }
 
 // A name as an initial value.
-fn name(
-    names: &Names,
-    name: &[u8],
-    spot: Spot,
-    first: &mut Option<Fault>,
-) -> Result<Option<Known>, Memory>
-    ensures { IfOk result (λ r. Judges names.now (name_tree name.now spot) first.old first.new r) }
+fn name(names: &Names, name: &[u8], spot: Spot, first: &mut Option<Fault>) -> Option<Known>
+    ensures { Judges names.now (name_tree name.now spot) first.old first.new result }
 {
-    let known = of_name(names, name)?;
+    let known = of_name(names, name);
     note_unless(known, spot, first);
-    Ok(known)
+    known
 }
 
 /// Judges an initial value by the names declared before it: notes that it is no constant form, and gives the constant
 /// that it is, none where it is none. The faults inside it are not noted here.
-pub(crate) fn initial(
-    names: &Names,
-    e: &Expr,
-    first: &mut Option<Fault>,
-) -> Result<Option<Known>, Memory>
-    ensures { IfOk result (λ r. Judges names.now (expr_tree e.now) first.old first.new r) }
+pub(crate) fn initial(names: &Names, e: &Expr, first: &mut Option<Fault>) -> Option<Known>
+    ensures { Judges names.now (expr_tree e.now) first.old first.new result }
 {
     match e {
-        Expr::Lit { ty, value, .. } => Ok(of_literal(*ty, *value)),
+        Expr::Lit { ty, value, .. } => of_literal(*ty, *value),
         Expr::Name { name: n, spot } => name(names, n.bytes(), *spot, first),
-        Expr::Unary { op, arg, spot } => Ok(negative(negated(*op, arg), *spot, first)),
+        Expr::Unary { op, arg, spot } => negative(negated(*op, arg), *spot, first),
         Expr::Binary { spot, .. } => {
             note(first, Rule::Bound, *spot);
-            Ok(None)
+            None
         }
         Expr::Call { spot, .. } => {
             note(first, Rule::Bound, *spot);
-            Ok(None)
+            None
         }
     }
 }

@@ -3,11 +3,10 @@
 ghost use Rattle.std.specs.Prelude.{◌≡◌, [], ◌∷◌, ◌++◌, length, is_none, cond, option_map, IfOk, OnOk, OnErr};
 ghost use Rattle.st_types.specs.Scope.{find};
 
-use indexmap::IndexMap;
 use st_tree::Section;
 use std::alloc::Global;
 use std::marker::Model;
-use vcp_base::{Memory, Text, Ty};
+use vcp_base::{Memory, Text, Ty, is_same_name};
 
 /// A declared name, as it is written: its section and type; a constant's value, and a variable's slot.
 pub struct Entry {
@@ -30,32 +29,38 @@ impl Drop for Entry {
     }
 }
 
-/// The declared names, in order of declaration; none is there twice.
+/// The declared names, in order of declaration; none is there twice. There are some 1,024 at most, so that they are looked
+/// through one by one.
 pub struct Names {
-    alloc: Global,
-    // By the name in lower case.
-    entries: IndexMap<Vec<u8>, Entry>,
+    entries: Vec<Entry>,
 }
 
 impl Drop for Names {
     fn drop(self) {
-        let Names {
-            alloc: _,
-            entries: _,
-        } = self;
+        let Names { entries: _ } = self;
     }
 }
 
 impl Model for Names {
-    ghost use Rattle.std.specs.Prelude.{◌≡◌, List, map};
-    ghost use Rattle.std.specs.Char.{to_ascii_lowercase};
+    ghost use Rattle.std.specs.Prelude.{List};
     ghost use Rattle.st_types.specs.declared.names.Entry.{Entry};
 
     ghost Value = { List Entry };
 
-    ghost view = { λ t. map (λ p. p.1) t.entries.entries };
+    ghost view = { λ t. t.entries.items };
+}
 
-    ghost invariant = { λ t. map (λ p. p.0.items) t.entries.entries ≡ map (λ p. map to_ascii_lowercase p.1.name) t.entries.entries };
+// The first of these entries with a name.
+fn first_of<'a>(entries: &'a [Entry], name: &[u8]) -> Option<&'a Entry>
+    ensures { option_map (λ e. e.now) result ≡ find entries.now name.now }
+{
+    'entries: for i in 0..entries.len() {
+        let entry = &entries[i];
+        if is_same_name(entry.name.bytes(), name) {
+            return Some(entry);
+        }
+    }
+    None
 }
 
 impl Names {
@@ -64,8 +69,7 @@ impl Names {
         ensures { result ≡ [] }
     {
         Names {
-            alloc,
-            entries: IndexMap::new(alloc),
+            entries: Vec::new(alloc),
         }
     }
 
@@ -76,13 +80,11 @@ impl Names {
         self.entries.len()
     }
 
-    /// What was declared by a name, without regard to case; `Memory` where there is no room to look.
-    pub fn find(&self, name: &[u8]) -> Result<Option<&Entry>, Memory>
-        ensures { IfOk result (λ r. option_map (λ e. e.now) r ≡ find self.now name.now) }
+    /// What was declared by a name, without regard to case.
+    pub fn find(&self, name: &[u8]) -> Option<&Entry>
+        ensures { option_map (λ e. e.now) result ≡ find self.now name.now }
     {
-        let entries = &self.entries;
-        let key = name.to_ascii_lowercase(self.alloc)?;
-        Ok(entries.get(key.as_slice()))
+        first_of(&self.entries, name)
     }
 
     /// Appends a name, unless it is there, and says whether it did. After `Memory` nothing is changed.
@@ -91,11 +93,10 @@ impl Names {
         ensures declared { OnOk result (self.new ≡ cond (is_none (find self.old entry.name)) (self.old ++ entry ∷ []) self.old) }
         ensures unchanged { OnErr result (self.new ≡ self.old) }
     {
-        let key = entry.name.bytes().to_ascii_lowercase(self.alloc)?;
-        if self.entries.contains_key(key.as_slice()) {
+        if self.find(entry.name.bytes()).is_some() {
             return Ok(false);
         }
-        self.entries.insert(key, entry)?;
+        self.entries.push(entry)?;
         Ok(true)
     }
 }

@@ -326,7 +326,7 @@ impl Environment<'_> {
             (assign_tree name.now (expr_tree value.now) spot)
             first.old first.new (option_map tstmt_tree r)) }
     {
-        let x = self.names.find(name)?;
+        let x = self.names.find(name);
         name_fault(self.held, x, spot, first);
         let e = self.type_expression(value, first)?;
         assign_of(self.alloc, self.held, x, e, spot, first)
@@ -431,7 +431,7 @@ impl Environment<'_> {
             (for_tree name.now name_spot (expr_tree from.now) (expr_tree last.now) (expr_tree_or_none by.now) (stmt_trees body.now) spot)
             first.old first.new (option_map tstmt_tree r)) }
     {
-        let x = self.names.find(name)?;
+        let x = self.names.find(name);
         let ty = entry_type(x);
         name_fault(self.held, x, name_spot, first);
         bool_fault(ty, name_spot, first);

@@ -8,6 +8,6 @@ use Rattle.st_types.proofs.declaration.add_declaration.Goals as goal
 pub returns : goal.returns
 returns c = on_ok_weaker c.add_names.result (λ h.
     one-init c.args.section (decl_tree c.args.d.now) (made_by c.args.made.now)
-    (made_by c.add_names.new.made) c.args.first.now c.initial_or_none.new.first c.add_names.new.first c.in_ok-init.init c.in_ok-init.ensures
-    (subst (λ xs. MakesNames c.args.section c.args.d.now.ty c.in_ok-init.init (map declared_tree xs) (made_by c.args.made.now)
-    (made_by c.add_names.new.made) c.initial_or_none.new.first c.add_names.new.first) c.deref.ensures.value h)) c.add_names.ensures
+    (made_by c.add_names.new.made) c.args.first.now c.initial_or_none-init.new.first c.add_names.new.first c.initial_or_none-init.result c.initial_or_none-init.ensures
+    (subst (λ xs. MakesNames c.args.section c.args.d.now.ty c.initial_or_none-init.result (map declared_tree xs) (made_by c.args.made.now)
+    (made_by c.add_names.new.made) c.initial_or_none-init.new.first c.add_names.new.first) c.deref.ensures.value h)) c.add_names.ensures

@@ -104,7 +104,7 @@ type_for-returns t c = λ spot.
     let body = subst
     (λ h. TypesStmts c.args.self.now.names.now h (stmt_trees c.args.body.now) c.step.new.first c.type_stmts.new.first
     (option_map (λ b. tstmt_trees b.items.items) c.in_ok-made.made)) c.deref.ensures.value c.in_ok-made.ensures in
-    for-types _ _ _ _ spot _ _ _ _ _ _ _ _ _ _ _ _ _ _ _ _ _ _ _ _ c.in_ok-x.ensures c.entry_type-ty.ensures c.in_ok-held.ensures c.name_fault.ensures c.bool_fault.ensures c.in_ok-low.ensures c.in_ok-high.ensures c.in_ok-step_by.ensures.is body c.turning_of-turning.ensures c.for_of.ensures
+    for-types _ _ _ _ spot _ _ _ _ _ _ _ _ _ _ _ _ _ _ _ _ _ _ _ _ c.find-x.ensures c.entry_type-ty.ensures c.in_ok-held.ensures c.name_fault.ensures c.bool_fault.ensures c.in_ok-low.ensures c.in_ok-high.ensures c.in_ok-step_by.ensures.is body c.turning_of-turning.ensures c.for_of.ensures
 
 pub type_stmts-type_stmt-requires : goal.type_stmts-type_stmt-requires
 type_stmts-type_stmt-requires t c =

@@ -5,4 +5,4 @@ use Rattle.st_types.proofs.environment.Environment.assign.Goals as goal
 pub returns : goal.returns
 returns c =
     IfOk-weaker c.assign_of.result _ _
-    (λ r p. assign-types _ _ _ _ _ _ _ _ _ _ _ _ c.in_ok-x.ensures c.name_fault.ensures c.in_ok-e.ensures p) c.assign_of.ensures
+    (λ r p. assign-types _ _ _ _ _ _ _ _ _ _ _ _ c.find-x.ensures c.name_fault.ensures c.in_ok-e.ensures p) c.assign_of.ensures
