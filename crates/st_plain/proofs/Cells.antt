@@ -8,10 +8,8 @@ use Rattle.vcp_typed.specs.declared.slot.Slot.{Slot}
 use Rattle.vcp_typed.specs.Fitting.{AreFit, input_types, output_types}
 use Rattle.vcp_typed.specs.SourceRun.{Program, is_input, is_output, with_inputs, outputs}
 use Rattle.st_plain.specs.declared.stop.Stop.{Stop as Cause}
-use Rattle.vcp_typed.specs.Size.{size}
-use Rattle.st_plain.specs.Depth.{stmts_depth}
+use Rattle.vcp_typed.specs.Size.{size, stmts_size}
 use Rattle.st_plain.specs.Standing.{Standing}
-use Rattle.st_plain.proofs.Depths.{depth-of-stmts}
 
 pub fit-length : (slots : List Slot) (m : List ℤ) → AreFit slots m → length m ≡ length slots
 fit-length [] [] h = refl
@@ -229,5 +227,5 @@ cells-next slots i s out next_out n next v lt is put more left same cells = elim
 pub starts : (p : Program) (values zeros : List ℤ) (turns rest : List Turn) (cap : ℕ) → AreFit p.slots values → length zeros ≡ length p.slots → turns ≡ []
     → rest ≡ [] → size p ≤ cap → Standing p values zeros None turns rest cap
 starts p values zeros turns rest cap fit long none empty room =
-    let low : stmts_depth p.body ≤ cap = omega (arith, depth-of-stmts p.body, room) in
+    let low : stmts_size p.body ≤ cap = omega (arith, room) in
     record { fit = fit; told = none; cause = tt; room = (empty, low, long ∙ sym (fit-length p.slots values fit)) }

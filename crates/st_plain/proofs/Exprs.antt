@@ -24,7 +24,7 @@ use Rattle.vcp_typed.specs.Meaning.{Stop, and_then, apply, value, values}
 use Rattle.vcp_base.specs.Values.{at}
 use Rattle.st_plain.specs.Arguments.{argument_at}
 use Rattle.st_plain.specs.Sound.{SoundExpr, SoundExprs}
-use Rattle.st_plain.proofs.Weight.{expr_weight, exprs_weight}
+use Rattle.st_plain.specs.Weight.{expr_weight, exprs_weight}
 
 -- the law that values are in their types
 abbrev pub ValuesFit : Type 0

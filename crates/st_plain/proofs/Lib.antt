@@ -1,8 +1,6 @@
 pub mod Wide
 pub mod Exprs
-pub mod Depths
 pub mod Stmts
 pub mod Runs
 pub mod Cells
 pub mod Worked
-pub mod Weight

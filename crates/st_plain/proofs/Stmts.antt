@@ -1,5 +1,5 @@
 -- What statements do, part by part.
-use Rattle.std.proofs.Common.{◌≡◌, ℕ, zero, suc, ◌+◌, ◌<◌, add-one, drop-cons, w64, SFits, of_z, ℤ, pos, negsuc, ◌+ℤ◌, true, false, cond, List, [], ◌∷◌, ◌++◌}
+use Rattle.std.proofs.Common.{Bool, ◌≤◌, ◌*◌, ◌≡◌, ℕ, zero, suc, ◌+◌, ◌<◌, add-one, drop-cons, w64, SFits, of_z, ℤ, pos, negsuc, ◌+ℤ◌, true, false, cond, List, [], ◌∷◌, ◌++◌}
 use Rattle.std.proofs.Common.{length, drop, get_or, slice_get, slice_set, Some, Result, Ok, Err, refl, sym, ap, ◌∙◌, subst, arith}
 use Rattle.std.specs.Prelude.{IfOk}
 use Rattle.vcp_base.specs.declared.spot.Spot.{Spot}
@@ -16,13 +16,15 @@ use Rattle.vcp_typed.specs.declared.stmt.TBranch.{TBranch}
 use Rattle.vcp_typed.specs.declared.stmt.TStmt.{TStmt}
 use Rattle.vcp_typed.specs.TExprTree.{TExprTree, TExprTrees, literal, get, widen, unary, binary, call, no_texprs, and_texpr}
 use Rattle.vcp_typed.specs.TExprViews.{texpr_tree}
-use Rattle.vcp_typed.specs.TStmtTree.{TStmtTree, TStmtTrees, TArmTrees, TBranchTrees, TOtherTree, assign, if_, case, for_, no_tstmts, and_tstmt, no_tarms}
-use Rattle.vcp_typed.specs.TStmtTree.{and_tarm, no_tbranches, and_tbranch}
+use Rattle.vcp_typed.specs.TStmtTree.{TStmtTree, TStmtTrees, TArmTrees, TBranchTrees, TOtherTree, assign, if_, case, for_, no_tstmts, and_tstmt}
+use Rattle.vcp_typed.specs.TStmtTree.{and_tarm, and_tbranch, no_tother, tother}
 use Rattle.vcp_typed.specs.TStmtViews.{tstmt_tree, tstmt_trees, tarm_trees, tbranch_trees}
 use Rattle.vcp_typed.specs.Checked.{ty_of, AreTurns, IsStmt, AreStmts, AreArms, AreBranches}
 use Rattle.vcp_typed.specs.Fitting.{AreFit}
 use Rattle.vcp_typed.specs.Meaning.{Stop, and_then, stop, in_range, unless_zero, operate, sign, apply, value, values, turns_from, all_turns, do_stmt, do_stmts}
-use Rattle.vcp_typed.specs.Meaning.{do_arms, do_branches, do_other}
+use Rattle.vcp_typed.specs.Meaning.{do_arms, do_branches, do_other, is_labelled}
+use Rattle.std.specs.List.{list_any}
+use Rattle.vcp_typed.specs.Size.{stmt_size, stmts_size, arms_size, branches_size, other_size}
 use Rattle.vcp_base.specs.Values.{at}
 use Rattle.st_tree.specs.declared.expr.UnOp.{UnOp}
 use Rattle.st_tree.specs.declared.expr.UnOp.TheVariants as un
@@ -32,9 +34,10 @@ use Rattle.vcp_typed.specs.declared.expr.Fun.{Fun}
 use Rattle.vcp_typed.specs.declared.expr.Fun.TheVariants as fun
 use Rattle.st_plain.specs.declared.stop.Stop.{Stop as Cause}
 use Rattle.st_plain.specs.Evaluator.{within_turns}
+use Rattle.st_plain.specs.Bodies.{IsBody, statements_of}
 use Rattle.st_plain.specs.Outcomes.{Doing}
-use Rattle.st_plain.specs.Sound.{SoundStmt, SoundStmts, SoundArms, SoundBranches, SoundOther, SoundTurns}
-use Rattle.st_plain.proofs.Weight.{stmt_weight, stmts_weight, arms_weight, branches_weight}
+use Rattle.st_plain.specs.Sound.{SoundExpr, SoundStmt, SoundStmts, SoundArms, SoundBranches, SoundOther, SoundTurns}
+use Rattle.st_plain.specs.Weight.{stmt_weight, stmts_weight, arms_weight, branches_weight, other_weight}
 use Rattle.st_plain.proofs.Exprs.{fit-inside}
 use Rattle.st_plain.proofs.Wide.{not-zero}
 
@@ -150,10 +153,10 @@ if-arms s arms o m is h =
     let typed : IsStmt h.slots h.held (if_ arms o) = subst (λ x. IsStmt h.slots h.held x) is h.typed in
     record { slots = h.slots; held = h.held; typed = typed.0; fit = h.fit }
 
-pub if-other : (s : TStmtTree) (arms : TArmTrees) (o : TOtherTree) (m next : List ℤ) → s ≡ if_ arms o → SoundStmt s m → next ≡ m → SoundOther o next
-if-other s arms o m next is h e =
+pub if-other : (s : TStmtTree) (arms : TArmTrees) (o : TOtherTree) (m : List ℤ) → s ≡ if_ arms o → SoundStmt s m → SoundOther o m
+if-other s arms o m is h =
     let typed : IsStmt h.slots h.held (if_ arms o) = subst (λ x. IsStmt h.slots h.held x) is h.typed in
-    record { slots = h.slots; held = h.held; typed = typed.1; fit = subst (λ x. AreFit h.slots x) (sym e) h.fit }
+    record { slots = h.slots; held = h.held; typed = typed.1; fit = h.fit }
 
 pub if-is : (turns : List Turn) (s : TStmtTree) (arms : TArmTrees) (o : TOtherTree) (m : List ℤ) (r : Result (List ℤ) Stop) → s ≡ if_ arms o
     → r ≡ do_arms turns arms (do_other turns o) m → r ≡ do_stmt turns s m
@@ -165,17 +168,18 @@ case-branches s e b o sp m is h =
     let typed : IsStmt h.slots h.held (case e b o sp) = subst (λ x. IsStmt h.slots h.held x) is h.typed in
     record { slots = h.slots; held = h.held; of = ty_of e; typed = typed.2; fit = h.fit }
 
-pub case-other : (s : TStmtTree) (e : TExprTree) (b : TBranchTrees) (o : TOtherTree) (sp : Spot) (m next : List ℤ) → s ≡ case e b o sp → SoundStmt s m
-    → next ≡ m → SoundOther o next
-case-other s e b o sp m next is h same =
+pub case-other : (s : TStmtTree) (e : TExprTree) (b : TBranchTrees) (o : TOtherTree) (sp : Spot) (m : List ℤ) → s ≡ case e b o sp → SoundStmt s m
+    → SoundOther o m
+case-other s e b o sp m is h =
     let typed : IsStmt h.slots h.held (case e b o sp) = subst (λ x. IsStmt h.slots h.held x) is h.typed in
-    record { slots = h.slots; held = h.held; typed = typed.3; fit = subst (λ x. AreFit h.slots x) (sym same) h.fit }
+    record { slots = h.slots; held = h.held; typed = typed.3; fit = h.fit }
 
-pub case-is : (turns : List Turn) (s : TStmtTree) (e : TExprTree) (b : TBranchTrees) (o : TOtherTree) (sp : Spot) (m : List ℤ) (v : ℤ)
+pub case-is : (turns : List Turn) (s : TStmtTree) (e : TExprTree) (b : TBranchTrees) (o : TOtherTree) (sp : Spot) (m : List ℤ) (v w : ℤ)
     (r : Result (List ℤ) Stop) → s ≡ case e b o sp
-    → Ok v ≡ value [] e m → r ≡ do_branches turns v b (do_other turns o) m → r ≡ do_stmt turns s m
-case-is turns s e b o sp m v r is on h =
-    h ∙ sym (ap (λ x. do_stmt turns x m) is ∙ ap (λ x. and_then x (λ w. do_branches turns w b (do_other turns o) m)) (value-ok turns e m v on))
+    → Ok v ≡ value [] e m → w ≡ v → r ≡ do_branches turns w b (do_other turns o) m → r ≡ do_stmt turns s m
+case-is turns s e b o sp m v w r is on same h =
+    h ∙ ap (λ x. do_branches turns x b (do_other turns o) m) same
+    ∙ sym (ap (λ x. do_stmt turns x m) is ∙ ap (λ x. and_then x (λ w. do_branches turns w b (do_other turns o) m)) (value-ok turns e m v on))
 
 pub case-err : (turns : List Turn) (s : TStmtTree) (e : TExprTree) (b : TBranchTrees) (o : TOtherTree) (sp : Spot) (m : List ℤ) (d : Cause) → s ≡ case e b o sp
     → Err (within_turns [] d) ≡ value [] e m → Err (within_turns turns d) ≡ do_stmt turns s m
@@ -206,6 +210,13 @@ pub for-some : (turns : List Turn) (s : TStmtTree) (slot : ℕ) (first by : ℤ)
     → s ≡ for_ slot first by n body sp
     → r ≡ all_turns slot first by n (λ v. do_stmts (turns ++ record { name = slot; value = v } ∷ []) body) m → r ≡ do_stmt turns s m
 for-some turns s slot first by n body sp m r is h = h ∙ sym (ap (λ x. do_stmt turns x m) is)
+
+at-least-once : (n a : ℕ) → 2 + a ≤ suc n * (2 + a)
+at-least-once n a = grind arith
+
+pub for-room : (slot : ℕ) (first by : ℤ) (n : ℕ) (body : TStmtTrees) (s : Spot) → 0 < n → 1 + stmts_size body ≤ stmt_size (for_ slot first by n body s)
+for-room slot first by zero body s some = absurd (omega (arith, some))
+for-room slot first by (suc n) body s some = omega (arith, at-least-once n (stmts_size body))
 
 -- ---- lists of statements
 
@@ -260,53 +271,105 @@ arm-lighter (x ∷ xs) (suc i) a lt is =
     let h : 1 + stmts_weight (tstmt_trees a.body.items.items) < arms_weight (tarm_trees xs) = arm-lighter xs i a k is in
     omega (arith, h)
 
-pub arms-first : (all : TArmTrees) (e : TExprTree) (b : TStmtTrees) (sp : Spot) (rest : TArmTrees) (m : List ℤ) → all ≡ and_tarm e b sp rest → SoundArms all m
-    → SoundArms (and_tarm e b sp no_tarms) m
-arms-first all e b sp rest m is h =
-    let typed : AreArms h.slots h.held (and_tarm e b sp rest) = subst (λ x. AreArms h.slots h.held x) is h.typed in
-    record { slots = h.slots; held = h.held; typed = (typed.0, typed.1, typed.2, tt); fit = h.fit }
-
-pub arms-rest : (all : TArmTrees) (e : TExprTree) (b : TStmtTrees) (sp : Spot) (rest : TArmTrees) (m next : List ℤ) → all ≡ and_tarm e b sp rest
-    → SoundArms all m → next ≡ m
-    → SoundArms rest next
-arms-rest all e b sp rest m next is h same =
-    let typed : AreArms h.slots h.held (and_tarm e b sp rest) = subst (λ x. AreArms h.slots h.held x) is h.typed in
-    record { slots = h.slots; held = h.held; typed = typed.3; fit = subst (λ x. AreFit h.slots x) (sym same) h.fit }
-
-pub arms-step : (t u : List Turn) (all : TArmTrees) (e : TExprTree) (b : TStmtTrees) (sp : Spot) (rest : TArmTrees) (m n : List ℤ) (o : Doing)
-    (r w : Result (List ℤ) Stop)
-    → all ≡ and_tarm e b sp rest → t ≡ u → m ≡ n → r ≡ do_arms t (and_tarm e b sp no_tarms) (do_arms u rest o) m → do_arms u all o n ≡ w → r ≡ w
-arms-step t u all e b sp rest m n o r w is et em h whole =
-    h ∙ (λ i. do_arms (et i) (and_tarm e b sp no_tarms) (do_arms u rest o) (em i)) ∙ sym (ap (λ x. do_arms u x o n) is) ∙ whole
-
-pub arms-over : (t u : List Turn) (all : TArmTrees) (e : TExprTree) (b : TStmtTrees) (sp : Spot) (rest : TArmTrees) (m n next : List ℤ) (o : Doing)
-    (w : Result (List ℤ) Stop)
-    → all ≡ and_tarm e b sp rest → t ≡ u → m ≡ n → next ≡ m → do_arms u rest o next ≡ do_arms t (and_tarm e b sp no_tarms) (do_arms u rest o) m
-    → do_arms u all o n ≡ w
-    → do_arms u rest o n ≡ w
-arms-over t u all e b sp rest m n next o w is et em same h whole =
-    sym (ap (λ x. do_arms u rest o x) (same ∙ em)) ∙ arms-step t u all e b sp rest m n o _ w is et em h whole
-
 is-zero : (v : ℤ) → SFits w64 v → of_z w64 v ≡ 0 → same v (pos 0) ≡ true
 is-zero (pos n) f e = ap (λ (k : ℕ). same (pos k) (pos 0)) e
 is-zero (negsuc n) f e = absurd (omega (arith, f.sfits, e))
 
-pub arm-err : (t : List Turn) (e : TExprTree) (b : TStmtTrees) (sp : Spot) (m : List ℤ) (d : Cause) (o : Doing) → Err (within_turns [] d) ≡ value [] e m
-    → Err (within_turns t d) ≡ do_arms t (and_tarm e b sp no_tarms) o m
-arm-err t e b sp m d o h = sym (ap (λ r. and_then r (λ v. cond (same v (pos 0)) (o m) (do_stmts t b m))) (value-err t e m d h))
+-- what the arms from the next one on do, where there is one
+arms-err : (t : List Turn) (all : TArmTrees) (e : TExprTree) (b : TStmtTrees) (sp : Spot) (rest : TArmTrees) (m : List ℤ) (d : Cause) (o : Doing)
+    → all ≡ and_tarm e b sp rest → Err (within_turns [] d) ≡ value [] e m → Err (within_turns t d) ≡ do_arms t all o m
+arms-err t all e b sp rest m d o is h =
+    sym (ap (λ x. do_arms t x o m) is ∙ ap (λ r. and_then r (λ v. cond (same v (pos 0)) (do_arms t rest o m) (do_stmts t b m))) (value-err t e m d h))
 
-pub arm-not : (t : List Turn) (e : TExprTree) (b : TStmtTrees) (sp : Spot) (m : List ℤ) (v : ℤ) (o : Doing) → Ok v ≡ value [] e m → SFits w64 v → of_z w64 v ≡ 0
-    → o m ≡ do_arms t (and_tarm e b sp no_tarms) o m
-arm-not t e b sp m v o h f z =
-    sym (ap (λ r. and_then r (λ x. cond (same x (pos 0)) (o m) (do_stmts t b m))) (value-ok t e m v h)
-    ∙ ap (λ x. cond x (o m) (do_stmts t b m)) (is-zero v f z))
+arms-not : (t : List Turn) (all : TArmTrees) (e : TExprTree) (b : TStmtTrees) (sp : Spot) (rest : TArmTrees) (m : List ℤ) (v : ℤ) (o : Doing)
+    → all ≡ and_tarm e b sp rest → Ok v ≡ value [] e m → SFits w64 v → of_z w64 v ≡ 0 → do_arms t rest o m ≡ do_arms t all o m
+arms-not t all e b sp rest m v o is h f z =
+    sym (ap (λ x. do_arms t x o m) is ∙ ap (λ r. and_then r (λ x. cond (same x (pos 0)) (do_arms t rest o m) (do_stmts t b m))) (value-ok t e m v h)
+    ∙ ap (λ x. cond x (do_arms t rest o m) (do_stmts t b m)) (is-zero v f z))
 
-pub arm-is : (t : List Turn) (e : TExprTree) (b : TStmtTrees) (sp : Spot) (m : List ℤ) (v : ℤ) (o : Doing) (r : Result (List ℤ) Stop) → Ok v ≡ value [] e m
-    → (of_z w64 v ≡ 0 → ⊥)
-    → r ≡ do_stmts t b m → r ≡ do_arms t (and_tarm e b sp no_tarms) o m
-arm-is t e b sp m v o r h z done =
-    done ∙ sym (ap (λ q. and_then q (λ x. cond (same x (pos 0)) (o m) (do_stmts t b m))) (value-ok t e m v h)
-    ∙ ap (λ x. cond x (o m) (do_stmts t b m)) (not-zero v z))
+arms-is : (t : List Turn) (all : TArmTrees) (e : TExprTree) (b : TStmtTrees) (sp : Spot) (rest : TArmTrees) (m : List ℤ) (v : ℤ) (o : Doing)
+    → all ≡ and_tarm e b sp rest → Ok v ≡ value [] e m → (of_z w64 v ≡ 0 → ⊥) → do_stmts t b m ≡ do_arms t all o m
+arms-is t all e b sp rest m v o is h z =
+    sym (ap (λ x. do_arms t x o m) is ∙ ap (λ r. and_then r (λ x. cond (same x (pos 0)) (do_arms t rest o m) (do_stmts t b m))) (value-ok t e m v h)
+    ∙ ap (λ x. cond x (do_arms t rest o m) (do_stmts t b m)) (not-zero v z))
+
+-- the arms that are left do what all of them do
+pub record ArmsLeft (left all : TArmTrees) (m : List ℤ) : Type 0 where
+  pub sound : SoundArms left m
+  pub same : (t : List Turn) (o : Doing) → do_arms t left o m ≡ do_arms t all o m
+
+pub arm-cond : (arms : List TArm) (i : ℕ) (a : TArm) (m : List ℤ) → i < length arms → a ≡ get_or arms i a → SoundArms (tarm_trees (drop i arms)) m
+    → SoundExpr (texpr_tree a.cond) m
+arm-cond arms i a m lt is h =
+    let typed = subst (λ x. AreArms h.slots h.held x) (arms-at arms i a lt is) h.typed in
+    record { slots = h.slots; typed = typed.0; fit = h.fit }
+
+pub arm-stops : (arms : List TArm) (i : ℕ) (a : TArm) (m : List ℤ) (d : Cause) (o : TOtherTree) → i < length arms → a ≡ get_or arms i a
+    → ArmsLeft (tarm_trees (drop i arms)) (tarm_trees arms) m → Err (within_turns [] d) ≡ value [] (texpr_tree a.cond) m
+    → (t : List Turn) → Err (within_turns t d) ≡ do_arms t (tarm_trees arms) (do_other t o) m
+arm-stops arms i a m d o lt is left stops t =
+    arms-err t _ (texpr_tree a.cond) (tstmt_trees a.body.items.items) a.spot (tarm_trees (drop (i + 1) arms)) m d (do_other t o) (arms-at arms i a lt is) stops
+    ∙ left.same t (do_other t o)
+
+pub next-arms : (arms : List TArm) (i : ℕ) (a : TArm) (m : List ℤ) (v : ℤ) → i < length arms → a ≡ get_or arms i a
+    → ArmsLeft (tarm_trees (drop i arms)) (tarm_trees arms) m → Ok v ≡ value [] (texpr_tree a.cond) m → SFits w64 v → of_z w64 v ≡ 0
+    → ArmsLeft (tarm_trees (drop (i + 1) arms)) (tarm_trees arms) m
+next-arms arms i a m v lt is left gives f none =
+    let here = arms-at arms i a lt is in
+    let typed = subst (λ x. AreArms left.sound.slots left.sound.held x) here left.sound.typed in
+    record {
+      sound = record { slots = left.sound.slots; held = left.sound.held; typed = typed.3; fit = left.sound.fit };
+      same = λ t o. arms-not t _ (texpr_tree a.cond) (tstmt_trees a.body.items.items) a.spot (tarm_trees (drop (i + 1) arms)) m v o here gives f none
+          ∙ left.same t o;
+    }
+
+arm-smaller : (arms : List TArm) (i : ℕ) (a : TArm) → i < length arms → a ≡ get_or arms i a
+    → stmts_size (tstmt_trees a.body.items.items) ≤ arms_size (tarm_trees arms)
+arm-smaller [] i a lt is = absurd (omega (arith, lt))
+arm-smaller (x ∷ xs) zero a lt is =
+    let same : stmts_size (tstmt_trees a.body.items.items) ≡ stmts_size (tstmt_trees x.body.items.items) =
+    ap (λ (y : TArm). stmts_size (tstmt_trees y.body.items.items)) is in
+    omega (arith, same)
+arm-smaller (x ∷ xs) (suc i) a lt is =
+    let k : i < length xs = omega (arith, lt) in
+    let h : stmts_size (tstmt_trees a.body.items.items) ≤ arms_size (tarm_trees xs) = arm-smaller xs i a k is in
+    omega (arith, h)
+
+pub arm-body : (arms : List TArm) (i : ℕ) (a : TArm) (body : List TStmt) (m : List ℤ) (v : ℤ) (o : TOtherTree) → i < length arms → a ≡ get_or arms i a
+    → body ≡ a.body.items.items → ArmsLeft (tarm_trees (drop i arms)) (tarm_trees arms) m → Ok v ≡ value [] (texpr_tree a.cond) m → (of_z w64 v ≡ 0 → ⊥)
+    → IsBody (λ t. do_arms t (tarm_trees arms) (do_other t o)) (1 + arms_weight (tarm_trees arms) + other_weight o) (arms_size (tarm_trees arms) + other_size o)
+    m (tstmt_trees body)
+arm-body arms i a body m v o lt is items left gives true_ =
+    let here = arms-at arms i a lt is in
+    let typed = subst (λ x. AreArms left.sound.slots left.sound.held x) here left.sound.typed in
+    let inner : IsBody (λ t. do_arms t (tarm_trees arms) (do_other t o)) (1 + arms_weight (tarm_trees arms) + other_weight o)
+    (arms_size (tarm_trees arms) + other_size o) m (tstmt_trees a.body.items.items) = record {
+      same = λ t. arms-is t _ (texpr_tree a.cond) (tstmt_trees a.body.items.items) a.spot (tarm_trees (drop (i + 1) arms)) m v (do_other t o) here gives true_
+          ∙ left.same t (do_other t o);
+      sound = record { slots = left.sound.slots; held = left.sound.held; typed = typed.2; fit = left.sound.fit };
+      lighter = omega (arith, arm-lighter arms i a lt is);
+      small = omega (arith, arm-smaller arms i a lt is);
+    } in
+    subst (λ x. IsBody (λ t. do_arms t (tarm_trees arms) (do_other t o)) (1 + arms_weight (tarm_trees arms) + other_weight o)
+    (arms_size (tarm_trees arms) + other_size o) m (tstmt_trees x)) (sym items) inner
+
+-- where nothing else is done, the statements of ELSE are
+pub else-body : (o : TOtherTree) (body : TStmtTrees) (does : List Turn → Doing) (weight size : ℕ) (m : List ℤ) → body ≡ statements_of o → SoundOther o m
+    → ((t : List Turn) → do_other t o m ≡ does t m) → IsBody does (1 + weight + other_weight o) (size + other_size o) m body
+else-body no_tother body does weight size m e h f =
+    subst (λ x. IsBody does (1 + weight + 0) (size + 0) m x) (sym e) (record {
+      same = f;
+      sound = record { slots = h.slots; held = h.held; typed = tt; fit = h.fit };
+      lighter = omega arith;
+      small = omega arith;
+    })
+else-body (tother inner) body does weight size m e h f =
+    subst (λ x. IsBody does (1 + weight + (1 + stmts_weight inner)) (size + stmts_size inner) m x) (sym e) (record {
+      same = f;
+      sound = record { slots = h.slots; held = h.held; typed = h.typed; fit = h.fit };
+      lighter = omega arith;
+      small = omega arith;
+    })
 
 -- ---- the branches of a CASE
 
@@ -326,19 +389,63 @@ branch-lighter (x ∷ xs) (suc i) b lt is =
     let h : 1 + stmts_weight (tstmt_trees b.body.items.items) < branches_weight (tbranch_trees xs) = branch-lighter xs i b k is in
     omega (arith, h)
 
-pub branches-first : (all : TBranchTrees) (ls : List TLabel) (b : TStmtTrees) (rest : TBranchTrees) (m : List ℤ) → all ≡ and_tbranch ls b rest
-    → SoundBranches all m
-    → SoundBranches (and_tbranch ls b no_tbranches) m
-branches-first all ls b rest m is h =
-    let typed : AreBranches h.slots h.held h.of (and_tbranch ls b rest) = subst (λ x. AreBranches h.slots h.held h.of x) is h.typed in
-    record { slots = h.slots; held = h.held; of = h.of; typed = (typed.0, typed.1, tt); fit = h.fit }
+branch-smaller : (branches : List TBranch) (i : ℕ) (b : TBranch) → i < length branches → b ≡ get_or branches i b
+    → stmts_size (tstmt_trees b.body.items.items) ≤ branches_size (tbranch_trees branches)
+branch-smaller [] i b lt is = absurd (omega (arith, lt))
+branch-smaller (x ∷ xs) zero b lt is =
+    let same : stmts_size (tstmt_trees b.body.items.items) ≡ stmts_size (tstmt_trees x.body.items.items) =
+    ap (λ (y : TBranch). stmts_size (tstmt_trees y.body.items.items)) is in
+    omega (arith, same)
+branch-smaller (x ∷ xs) (suc i) b lt is =
+    let k : i < length xs = omega (arith, lt) in
+    let h : stmts_size (tstmt_trees b.body.items.items) ≤ branches_size (tbranch_trees xs) = branch-smaller xs i b k is in
+    omega (arith, h)
 
-pub branches-step : (t u : List Turn) (v : ℤ) (all : TBranchTrees) (ls : List TLabel) (b : TStmtTrees) (rest : TBranchTrees) (m n : List ℤ) (o : Doing)
-    (r w : Result (List ℤ) Stop)
-    → all ≡ and_tbranch ls b rest → t ≡ u → m ≡ n → r ≡ do_branches t v (and_tbranch ls b no_tbranches) (do_branches u v rest o) m → do_branches u v all o n ≡ w
-    → r ≡ w
-branches-step t u v all ls b rest m n o r w is et em h whole =
-    h ∙ (λ i. do_branches (et i) v (and_tbranch ls b no_tbranches) (do_branches u v rest o) (em i)) ∙ sym (ap (λ x. do_branches u v x o n) is) ∙ whole
+-- the branches that are left do what all of them do
+pub record BranchesLeft (v : ℤ) (left all : TBranchTrees) : Type 0 where
+  pub sound : (m : List ℤ) → SoundBranches all m → SoundBranches left m
+  pub same : (t : List Turn) (o : Doing) (m : List ℤ) → do_branches t v left o m ≡ do_branches t v all o m
+
+branches-are : (t : List Turn) (v : ℤ) (all : TBranchTrees) (ls : List TLabel) (b : TStmtTrees) (rest : TBranchTrees) (m : List ℤ) (o : Doing) (x : Bool)
+    → all ≡ and_tbranch ls b rest → x ≡ list_any (is_labelled v) ls → cond x (do_stmts t b m) (do_branches t v rest o m) ≡ do_branches t v all o m
+branches-are t v all ls b rest m o x is e = ap (λ y. cond y (do_stmts t b m) (do_branches t v rest o m)) e ∙ sym (ap (λ y. do_branches t v y o m) is)
+
+pub next-branches : (branches : List TBranch) (i : ℕ) (b : TBranch) (v : ℤ) (x : Bool) → i < length branches → b ≡ get_or branches i b
+    → BranchesLeft v (tbranch_trees (drop i branches)) (tbranch_trees branches) → x ≡ list_any (is_labelled v) b.labels.items.items → x ≡ false
+    → BranchesLeft v (tbranch_trees (drop (i + 1) branches)) (tbranch_trees branches)
+next-branches branches i b v x lt is left has none =
+    let here = branches-at branches i b lt is in
+    record {
+      sound = λ m all.
+          let h = left.sound m all in
+          let typed = subst (λ y. AreBranches h.slots h.held h.of y) here h.typed in
+          record { slots = h.slots; held = h.held; of = h.of; typed = typed.2; fit = h.fit };
+      same = λ t o m.
+          branches-are t v _ b.labels.items.items (tstmt_trees b.body.items.items) (tbranch_trees (drop (i + 1) branches)) m o false here (sym none ∙ has)
+          ∙ left.same t o m;
+    }
+
+pub branch-body : (branches : List TBranch) (i : ℕ) (b : TBranch) (body : List TStmt) (v : ℤ) (x : Bool) (o : TOtherTree) (m : List ℤ) → i < length branches
+    → b ≡ get_or branches i b → body ≡ b.body.items.items → BranchesLeft v (tbranch_trees (drop i branches)) (tbranch_trees branches)
+    → x ≡ list_any (is_labelled v) b.labels.items.items → x ≡ true → SoundBranches (tbranch_trees branches) m
+    → IsBody (λ t. do_branches t v (tbranch_trees branches) (do_other t o)) (1 + branches_weight (tbranch_trees branches) + other_weight o)
+    (branches_size (tbranch_trees branches) + other_size o) m (tstmt_trees body)
+branch-body branches i b body v x o m lt is items left has there all =
+    let here = branches-at branches i b lt is in
+    let h = left.sound m all in
+    let typed = subst (λ y. AreBranches h.slots h.held h.of y) here h.typed in
+    let inner : IsBody (λ t. do_branches t v (tbranch_trees branches) (do_other t o)) (1 + branches_weight (tbranch_trees branches) + other_weight o)
+    (branches_size (tbranch_trees branches) + other_size o) m (tstmt_trees b.body.items.items) = record {
+      same = λ t.
+          branches-are t v _ b.labels.items.items (tstmt_trees b.body.items.items) (tbranch_trees (drop (i + 1) branches)) m (do_other t o) true here
+          (sym there ∙ has)
+          ∙ left.same t (do_other t o) m;
+      sound = record { slots = h.slots; held = h.held; typed = typed.1; fit = h.fit };
+      lighter = omega (arith, branch-lighter branches i b lt is);
+      small = omega (arith, branch-smaller branches i b lt is);
+    } in
+    subst (λ y. IsBody (λ t. do_branches t v (tbranch_trees branches) (do_other t o)) (1 + branches_weight (tbranch_trees branches) + other_weight o)
+    (branches_size (tbranch_trees branches) + other_size o) m (tstmt_trees y)) (sym items) inner
 
 -- ---- the turns of a FOR
 
@@ -428,11 +535,3 @@ sound-at slot v w by to n b m h e f = subst (λ x. SoundTurns slot x to n b m) (
 pub turns-at : (slot : ℕ) (v w by to : ℤ) (n : ℕ) (f : ℤ → Doing) (m : List ℤ) (r : Result (List ℤ) Stop) → w ≡ v → to ≡ by → r ≡ all_turns slot w to n f m
     → r ≡ all_turns slot v by n f m
 turns-at slot v w by to n f m r e g h = h ∙ λ i. all_turns slot (e i) (g i) n f m
-
-pub branches-value : (t : List Turn) (v w : ℤ) (b : TBranchTrees) (o : Doing) (m : List ℤ) (r : Result (List ℤ) Stop) → w ≡ v → r ≡ do_branches t w b o m
-    → r ≡ do_branches t v b o m
-branches-value t v w b o m r e h = h ∙ ap (λ x. do_branches t x b o m) e
-
--- what comes otherwise, done inside the same turns on the same values
-pub other-at : (t u : List Turn) (o : TOtherTree) (m n : List ℤ) (r : Result (List ℤ) Stop) → t ≡ u → m ≡ n → r ≡ do_other t o m → r ≡ do_other u o n
-other-at t u o m n r et em h = h ∙ λ i. do_other (et i) o (em i)

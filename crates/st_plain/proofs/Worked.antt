@@ -8,11 +8,10 @@ use Rattle.st_tree.specs.declared.program.Section.{Section}
 use Rattle.st_tree.specs.declared.program.Section.TheVariants as section
 use Rattle.vcp_typed.specs.declared.slot.Slot.{Slot}
 use Rattle.vcp_typed.specs.TExprTree.{TExprTree, literal, get, binary}
-use Rattle.vcp_typed.specs.TStmtTree.{TStmtTree, TStmtTrees, assign, for_, no_tstmts, and_tstmt}
+use Rattle.vcp_typed.specs.TStmtTree.{assign, for_, no_tstmts, and_tstmt}
 use Rattle.vcp_typed.specs.Meaning.{Stop}
 use Rattle.vcp_typed.specs.SourceRun.{Program}
 use Rattle.st_plain.specs.Evaluator.{started, comes_to, answers}
-use Rattle.st_plain.specs.Depth.{stmts_depth}
 
 abbrev at : ℕ → ℕ → Spot
 at line col = record { line = line; col = col }
@@ -87,16 +86,3 @@ seven = refl
 twenty : answers (started product) ((pos 20 ∷ []) ∷ [])
     ≡ record { rows = []; end = Some (record { kind = why.Range; spot = at 7 10; turns = record { name = 1; value = pos 4 } ∷ [] }) }
 twenty = refl
-
--- ---- how many turns can be round a place
-
-deep : TStmtTrees → TStmtTree
-deep body = for_ 0 (pos 1) (pos 1) 2 body (at 1 1)
-
-two-deep : stmts_depth (and_tstmt (deep (and_tstmt (deep no_tstmts) no_tstmts)) (and_tstmt (deep no_tstmts) no_tstmts)) ≡ 2
-unfolding deep
-two-deep = refl
-
--- a FOR without turns has none round its body
-none-deep : stmts_depth (and_tstmt (for_ 0 (pos 1) (pos 1) 0 (and_tstmt (for_ 1 (pos 1) (pos 1) 2 no_tstmts (at 1 1)) no_tstmts) (at 1 1)) no_tstmts) ≡ 0
-none-deep = refl

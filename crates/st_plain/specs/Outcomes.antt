@@ -1,5 +1,5 @@
 -- Outcomes: what the evaluator's functions answer, as results of the meaning.
-use Rattle.std.specs.Prelude.{ℤ, Bool, true, false, List, [], Result, Ok, Err}
+use Rattle.std.specs.Prelude.{ℤ, List, [], Result, Ok, Err}
 use Rattle.vcp_base.specs.declared.turns.Turn.{Turn}
 use Rattle.vcp_typed.specs.Meaning.{Stop}
 use Rattle.st_plain.specs.declared.stop.Stop.{Stop as Cause}
@@ -18,9 +18,3 @@ outside (Err s) = Err (within_turns [] s)
 abbrev pub left : {A : Type 0} → List ℤ → List Turn → Result A Cause → Result (List ℤ) Stop
 left m turns (Ok _) = Ok m
 left m turns (Err s) = Err (within_turns turns s)
-
--- the same where statements may not be reached: then what comes otherwise decides
-abbrev pub left_or : Doing → List ℤ → List Turn → Result Bool Cause → Result (List ℤ) Stop
-left_or otherwise m turns (Ok true) = Ok m
-left_or otherwise m turns (Ok false) = otherwise m
-left_or otherwise m turns (Err s) = Err (within_turns turns s)

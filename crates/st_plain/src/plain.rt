@@ -4,8 +4,8 @@ ghost use Rattle.std.specs.Prelude.{◌≡◌, ◌≤◌, [], None, Some, Ok, Er
 ghost use Rattle.vcp_base.specs.Types.{AreIn};
 ghost use Rattle.vcp_base.specs.declared.kind.StopKind.TheVariants as why;
 ghost use Rattle.vcp_typed.specs.Fitting.{AreFit, input_types, output_types};
+ghost use Rattle.vcp_typed.specs.Size.{stmts_size};
 ghost use Rattle.vcp_typed.specs.SourceRun.{outputs, cycle as cycle_of};
-ghost use Rattle.st_plain.specs.Depth.{stmts_depth as stmts_depth_of};
 ghost use Rattle.st_plain.specs.Evaluator.{started, comes_to, turns_of, within_turns};
 ghost use Rattle.st_plain.specs.Outcomes.{left};
 
@@ -70,7 +70,7 @@ impl<'p> Plain<'p> {
         let values = initial_values(alloc, &slots.items)?;
         let working = Working {
             values: Row::zeros(alloc, slots.len() as u32)?,
-            // no FOR is deeper than the Size
+            // FORs nest no deeper than the Size
             turns: Vec::with_capacity(alloc, program.size() as usize)?,
         };
         Ok(Plain {
@@ -138,7 +138,7 @@ fn run_cycle(program: &Typed, row: &Row, before: &Row, working: &mut Working) ->
     requires row { AreIn (input_types program.now.slots) row.now }
     requires fit { AreFit program.now.slots before.now }
     requires places { length working.old.values ≡ length before.now }
-    requires room { stmts_depth_of program.now.body ≤ vec_capacity working.old.turns }
+    requires room { stmts_size program.now.body ≤ vec_capacity working.old.turns }
     requires outside { working.old.turns.items ≡ [] }
     ensures done { left working.new.values working.new.turns.items result ≡ cycle_of program.now before.now row.now }
     ensures fit { OnOk result (AreFit program.now.slots working.new.values) }

@@ -5,7 +5,7 @@ use Rattle.vcp_base.specs.Types.{fits}
 use Rattle.vcp_typed.specs.TExprTree.{unary}
 use Rattle.vcp_typed.specs.TExprViews.{texpr_tree, texpr_trees}
 use Rattle.std.proofs.lemmas.Result.{err_from_is_err_and}
-use Rattle.st_plain.proofs.Weight.{expr_weight}
+use Rattle.st_plain.specs.Weight.{expr_weight}
 use Rattle.st_plain.proofs.Exprs.{argument-lighter, tree-of-call, apply-at, slot-inside, value-of-slot, not-operand, argument-sound, argument-is, argument-none}
 use Rattle.st_plain.proofs.Exprs.{call-sound, first-stops, second-stops, third-stops, none-stops}
 use Rattle.st_plain.proofs.expr.+expr.Goals as goal

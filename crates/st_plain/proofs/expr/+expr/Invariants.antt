@@ -1,6 +1,6 @@
 use Rattle.std.proofs.Common.{◌+◌, ◌*◌}
 use Rattle.vcp_typed.specs.TExprViews.{texpr_tree, texpr_trees}
-use Rattle.st_plain.proofs.Weight.{expr_weight, exprs_weight}
+use Rattle.st_plain.specs.Weight.{expr_weight, exprs_weight}
 use Rattle.st_plain.proofs.expr.+expr.Given as goal
 
 abbrev pub decreases-evaluate : goal.decreases-evaluate
