@@ -35,6 +35,29 @@ use Rattle.il_front.specs.Lines.{is_end_program}
 abbrev pub is_word : List ℕ → List ℕ → Operator → Option Operator → Option Operator
 is_word n word o rest = cond (str_eq_ignore_ascii_case n word) (Some o) rest
 
+-- a comparison
+abbrev pub comparison_named : List ℕ → Option Operator
+comparison_named n =
+    is_word n (codes "GT") (operator.Combine bin.Gt false)
+    (is_word n (codes "GE") (operator.Combine bin.Ge false)
+    (is_word n (codes "EQ") (operator.Combine bin.Eq false)
+    (is_word n (codes "NE") (operator.Combine bin.Ne false)
+    (is_word n (codes "LE") (operator.Combine bin.Le false)
+    (is_word n (codes "LT") (operator.Combine bin.Lt false)
+    None)))))
+
+-- logic, arithmetic or a comparison
+abbrev pub combining_named : List ℕ → Option Operator
+combining_named n =
+    is_word n (codes "ANDN") (operator.Combine bin.And true)
+    (is_word n (codes "ORN") (operator.Combine bin.Or true)
+    (is_word n (codes "XORN") (operator.Combine bin.Xor true)
+    (is_word n (codes "ADD") (operator.Combine bin.Add false)
+    (is_word n (codes "SUB") (operator.Combine bin.Sub false)
+    (is_word n (codes "MUL") (operator.Combine bin.Mul false)
+    (is_word n (codes "DIV") (operator.Combine bin.Div false)
+    (comparison_named n)))))))
+
 -- the operator that a name spells
 abbrev pub operator_named : List ℕ → Option Operator
 operator_named n =
@@ -44,20 +67,7 @@ operator_named n =
     (is_word n (codes "STN") (operator.Store true)
     (is_word n (codes "S") (operator.Put true)
     (is_word n (codes "R") (operator.Put false)
-    (is_word n (codes "ANDN") (operator.Combine bin.And true)
-    (is_word n (codes "ORN") (operator.Combine bin.Or true)
-    (is_word n (codes "XORN") (operator.Combine bin.Xor true)
-    (is_word n (codes "ADD") (operator.Combine bin.Add false)
-    (is_word n (codes "SUB") (operator.Combine bin.Sub false)
-    (is_word n (codes "MUL") (operator.Combine bin.Mul false)
-    (is_word n (codes "DIV") (operator.Combine bin.Div false)
-    (is_word n (codes "GT") (operator.Combine bin.Gt false)
-    (is_word n (codes "GE") (operator.Combine bin.Ge false)
-    (is_word n (codes "EQ") (operator.Combine bin.Eq false)
-    (is_word n (codes "NE") (operator.Combine bin.Ne false)
-    (is_word n (codes "LE") (operator.Combine bin.Le false)
-    (is_word n (codes "LT") (operator.Combine bin.Lt false)
-    None))))))))))))))))))
+    (combining_named n))))))
 
 -- the operator that a reserved word is; `&` is AND
 abbrev pub operator_reserved : Key → Option Operator

@@ -5,6 +5,7 @@ ghost use Rattle.std.specs.Str.{str_eq_ignore_ascii_case};
 ghost use Rattle.st_lexer.specs.Reading.{IsInside};
 ghost use Rattle.st_tree.specs.Spelling.{bytes_in};
 ghost use Rattle.il_front.specs.declared.operator.Operator.TheVariants as operator_;
+ghost use Rattle.il_front.specs.Judging.{comparison_named as comparison_of, combining_named as combining_of};
 ghost use Rattle.il_front.specs.Judging.{operator_named as named_of, operator_reserved as reserved_of, operator_of as operator_of_bytes, sets as sets_of};
 
 use st_lexer::{Key, Tok, Token};
@@ -39,6 +40,50 @@ fn is(name: &[u8], word: &[u8]) -> bool
     name.eq_ignore_ascii_case(word)
 }
 
+// The comparison of a name.
+fn comparison_named(name: &[u8]) -> Option<Operator>
+    ensures { result ≡ comparison_of name.now }
+{
+    if is(name, b"GT") {
+        combine(BinOp::Gt, false)
+    } else if is(name, b"GE") {
+        combine(BinOp::Ge, false)
+    } else if is(name, b"EQ") {
+        combine(BinOp::Eq, false)
+    } else if is(name, b"NE") {
+        combine(BinOp::Ne, false)
+    } else if is(name, b"LE") {
+        combine(BinOp::Le, false)
+    } else if is(name, b"LT") {
+        combine(BinOp::Lt, false)
+    } else {
+        None
+    }
+}
+
+// The logic, arithmetic or comparison of a name.
+fn combining_named(name: &[u8]) -> Option<Operator>
+    ensures { result ≡ combining_of name.now }
+{
+    if is(name, b"ANDN") {
+        combine(BinOp::And, true)
+    } else if is(name, b"ORN") {
+        combine(BinOp::Or, true)
+    } else if is(name, b"XORN") {
+        combine(BinOp::Xor, true)
+    } else if is(name, b"ADD") {
+        combine(BinOp::Add, false)
+    } else if is(name, b"SUB") {
+        combine(BinOp::Sub, false)
+    } else if is(name, b"MUL") {
+        combine(BinOp::Mul, false)
+    } else if is(name, b"DIV") {
+        combine(BinOp::Div, false)
+    } else {
+        comparison_named(name)
+    }
+}
+
 // The operator of a name, without regard to case.
 fn operator_named(name: &[u8]) -> Option<Operator>
     ensures { result ≡ named_of name.now }
@@ -55,34 +100,8 @@ fn operator_named(name: &[u8]) -> Option<Operator>
         Some(Operator::Put { to: true })
     } else if is(name, b"R") {
         Some(Operator::Put { to: false })
-    } else if is(name, b"ANDN") {
-        combine(BinOp::And, true)
-    } else if is(name, b"ORN") {
-        combine(BinOp::Or, true)
-    } else if is(name, b"XORN") {
-        combine(BinOp::Xor, true)
-    } else if is(name, b"ADD") {
-        combine(BinOp::Add, false)
-    } else if is(name, b"SUB") {
-        combine(BinOp::Sub, false)
-    } else if is(name, b"MUL") {
-        combine(BinOp::Mul, false)
-    } else if is(name, b"DIV") {
-        combine(BinOp::Div, false)
-    } else if is(name, b"GT") {
-        combine(BinOp::Gt, false)
-    } else if is(name, b"GE") {
-        combine(BinOp::Ge, false)
-    } else if is(name, b"EQ") {
-        combine(BinOp::Eq, false)
-    } else if is(name, b"NE") {
-        combine(BinOp::Ne, false)
-    } else if is(name, b"LE") {
-        combine(BinOp::Le, false)
-    } else if is(name, b"LT") {
-        combine(BinOp::Lt, false)
     } else {
-        None
+        combining_named(name)
     }
 }
 
