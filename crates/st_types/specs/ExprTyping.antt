@@ -53,6 +53,18 @@ negated un.Not e = None
 abbrev pub is_called : List ℕ → List ℕ → Fun → Option Fun → Option Fun
 is_called n word f rest = cond (str_eq_ignore_ascii_case n word) (Some f) rest
 
+-- a conversion
+abbrev pub conversion_named : List ℕ → Option Fun
+conversion_named n =
+    is_called n (codes "INT_TO_DINT") fun.IntToDint
+    (is_called n (codes "INT_TO_LINT") fun.IntToLint
+    (is_called n (codes "DINT_TO_INT") fun.DintToInt
+    (is_called n (codes "DINT_TO_LINT") fun.DintToLint
+    (is_called n (codes "LINT_TO_INT") fun.LintToInt
+    (is_called n (codes "LINT_TO_DINT") fun.LintToDint
+    (is_called n (codes "BOOL_TO_INT") fun.BoolToInt
+    None))))))
+
 -- the function of a name
 abbrev pub function : List ℕ → Option Fun
 function n =
@@ -61,14 +73,7 @@ function n =
     (is_called n (codes "MAX") fun.Max
     (is_called n (codes "LIMIT") fun.Limit
     (is_called n (codes "SEL") fun.Sel
-    (is_called n (codes "INT_TO_DINT") fun.IntToDint
-    (is_called n (codes "INT_TO_LINT") fun.IntToLint
-    (is_called n (codes "DINT_TO_INT") fun.DintToInt
-    (is_called n (codes "DINT_TO_LINT") fun.DintToLint
-    (is_called n (codes "LINT_TO_INT") fun.LintToInt
-    (is_called n (codes "LINT_TO_DINT") fun.LintToDint
-    (is_called n (codes "BOOL_TO_INT") fun.BoolToInt
-    None)))))))))))
+    (conversion_named n)))))
 
 -- how many arguments a function has
 abbrev pub arity : Fun → ℕ

@@ -7,6 +7,7 @@ ghost use Rattle.vcp_typed.specs.Rules.{of_numbers as of_numbers_of, conversion 
 ghost use Rattle.vcp_typed.specs.Rules.{arguments as arguments_of};
 ghost use Rattle.vcp_typed.specs.TExprViews.{texpr_tree};
 ghost use Rattle.vcp_typed.specs.Checked.{ty_of as type_of_value};
+ghost use Rattle.st_types.specs.ExprTyping.{conversion_named as conversion_named_of};
 ghost use Rattle.st_types.specs.ExprTyping.{function as function_of, arity as arity_of, called as called_of, converted as converted_of, of_sel as of_sel_of};
 ghost use Rattle.st_types.specs.ExprTyping.{of_one as of_one_of, of_two as of_two_of, of_three as of_three_of, function_type as function_type_of};
 
@@ -20,6 +21,29 @@ fn is(name: &[u8], word: &[u8]) -> bool
     ensures { result ≡ str_eq_ignore_ascii_case name.now word.now }
 {
     name.eq_ignore_ascii_case(word)
+}
+
+// The conversion of a name.
+fn conversion_named(name: &[u8]) -> Option<Fun>
+    ensures { result ≡ conversion_named_of name.now }
+{
+    if is(name, b"INT_TO_DINT") {
+        Some(Fun::IntToDint)
+    } else if is(name, b"INT_TO_LINT") {
+        Some(Fun::IntToLint)
+    } else if is(name, b"DINT_TO_INT") {
+        Some(Fun::DintToInt)
+    } else if is(name, b"DINT_TO_LINT") {
+        Some(Fun::DintToLint)
+    } else if is(name, b"LINT_TO_INT") {
+        Some(Fun::LintToInt)
+    } else if is(name, b"LINT_TO_DINT") {
+        Some(Fun::LintToDint)
+    } else if is(name, b"BOOL_TO_INT") {
+        Some(Fun::BoolToInt)
+    } else {
+        None
+    }
 }
 
 // The function of a name.
@@ -36,22 +60,8 @@ fn function(name: &[u8]) -> Option<Fun>
         Some(Fun::Limit)
     } else if is(name, b"SEL") {
         Some(Fun::Sel)
-    } else if is(name, b"INT_TO_DINT") {
-        Some(Fun::IntToDint)
-    } else if is(name, b"INT_TO_LINT") {
-        Some(Fun::IntToLint)
-    } else if is(name, b"DINT_TO_INT") {
-        Some(Fun::DintToInt)
-    } else if is(name, b"DINT_TO_LINT") {
-        Some(Fun::DintToLint)
-    } else if is(name, b"LINT_TO_INT") {
-        Some(Fun::LintToInt)
-    } else if is(name, b"LINT_TO_DINT") {
-        Some(Fun::LintToDint)
-    } else if is(name, b"BOOL_TO_INT") {
-        Some(Fun::BoolToInt)
     } else {
-        None
+        conversion_named(name)
     }
 }
 
