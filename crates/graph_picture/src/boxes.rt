@@ -1,6 +1,6 @@
 //! The boxes of operations.
 
-ghost use Rattle.std.specs.Prelude.{◌≡◌, ◌<◌, ◌≤◌, [], ◌∷◌, codes, decimal, length, map, flat_map};
+ghost use Rattle.std.specs.Prelude.{◌≡◌, ◌≤◌, length, map, flat_map};
 ghost use Rattle.vcp_outside.specs.Gathering.{GathersTo};
 ghost use Rattle.vcp_outside.specs.Characters.{piece_bytes};
 ghost use Rattle.vcp_outside.specs.Elements.{element_text};
@@ -170,33 +170,6 @@ fn then_blindness<O: Sink>(
     }
 }
 
-/// Draws the worst that came of faults, and of how many of how many.
-fn then_share<O: Sink>(
-    line: &mut Line,
-    out: &mut O,
-    worst: Worst,
-    some: u32,
-    all: u64,
-    place: BoxPlace,
-)
-    ensures { GathersTo (O.seen out.old) (O.seen out.new) line.old line.new
-        (element_text (words place 45 (worst_class_of worst ∷ codes " " ∷ decimal some ∷ codes "/" ∷ decimal all ∷ []))) }
-{
-    then_words(
-        line,
-        out,
-        place,
-        45,
-        &[
-            Piece::Bytes(worst_class(worst)),
-            Piece::Bytes(b" "),
-            Piece::Count(some as u64),
-            Piece::Bytes(b"/"),
-            Piece::Count(all),
-        ],
-    );
-}
-
 /// Draws what is noted in the last line of a box, where anything is.
 fn then_note<O: Sink>(line: &mut Line, out: &mut O, graph: &Graph, look: Look, place: BoxPlace)
     ensures { GathersTo (O.seen out.old) (O.seen out.new) line.old line.new
@@ -205,7 +178,19 @@ fn then_note<O: Sink>(line: &mut Line, out: &mut O, graph: &Graph, look: Look, p
     match look {
         Look::Shown(colour) => then_blindness(line, out, graph, colour, place),
         Look::Untried => {}
-        Look::Tried { worst, some, all } => then_share(line, out, worst, some, all, place),
+        Look::Tried { worst, some, all } => then_words(
+            line,
+            out,
+            place,
+            45,
+            &[
+                Piece::Bytes(worst_class(worst)),
+                Piece::Bytes(b" "),
+                Piece::Count(some as u64),
+                Piece::Bytes(b"/"),
+                Piece::Count(all),
+            ],
+        ),
     }
 }
 
@@ -267,26 +252,6 @@ fn then_body<O: Sink, L: Looks>(
     then_constant_at(line, out, graph, looks, place, op, 2, op.c);
 }
 
-/// Draws the box of operation `n`, where it is no constant.
-fn then_box<O: Sink, L: Looks>(
-    line: &mut Line,
-    out: &mut O,
-    graph: &Graph,
-    looks: &L,
-    n: u32,
-    look: Look,
-    place: BoxPlace,
-    op: &Op,
-)
-    requires tells { L.IsFor looks.now graph.now }
-    ensures { GathersTo (O.seen out.old) (O.seen out.new) line.old line.new
-        (flat_map element_text (box_elements graph.now (L.looks looks.now graph.now) (box_of graph.now n look place op.now))) }
-{
-    if !is_constant(op.kind) {
-        then_body(line, out, graph, looks, n, look, place, op);
-    }
-}
-
 /// Draws the boxes of a graph's operations.
 pub(crate) fn then_boxes<O: Sink, L: Looks>(
     line: &mut Line,
@@ -301,8 +266,12 @@ pub(crate) fn then_boxes<O: Sink, L: Looks>(
         (boxes_below graph.now (L.looks looks.now graph.now) layout.now.places (length graph.now.operations)))) }
 {
     'operations: for n in 0..graph.len() {
+        let op = graph.operation(n);
+        if is_constant(op.kind) {
+            continue;
+        }
         let look = looks.look(graph, n);
         let place = layout.place(n);
-        then_box(line, out, graph, looks, n, look, place, &graph.operation(n));
+        then_body(line, out, graph, looks, n, look, place, &op);
     }
 }

@@ -1,17 +1,16 @@
 //! Constants in the boxes of operations that read them.
 
-ghost use Rattle.std.specs.Prelude.{◌≡◌, ◌<◌, length, flat_map, slice_get};
+ghost use Rattle.std.specs.Prelude.{◌≡◌, ◌<◌, flat_map};
 ghost use Rattle.vcp_outside.specs.Gathering.{GathersTo};
 ghost use Rattle.op_graph.specs.Reads.{named};
 ghost use Rattle.vcp_outside.specs.Characters.{piece_bytes};
 ghost use Rattle.vcp_outside.specs.Elements.{element_text};
-ghost use Rattle.graph_picture.specs.Drawn.{own_of};
-ghost use Rattle.graph_picture.specs.Elements.{patch, patch_value, constant_elements, constant_of, constant_at};
+ghost use Rattle.graph_picture.specs.Elements.{patch, patch_value, constant_at};
 
 use crate::boxes::class;
 use crate::layout::{BoxPlace, left, top};
 use crate::looks::{Look, Looks};
-use crate::names::{is_constant, own_piece};
+use crate::names::{is_constant_at, own_piece};
 use op_graph::{Graph, Op, reads_operation};
 use vcp_outside::{Line, Name, Piece, Sink, Tag, then_element};
 
@@ -62,49 +61,6 @@ fn then_value<O: Sink>(line: &mut Line, out: &mut O, place: BoxPlace, which: u32
     );
 }
 
-/// Draws constant `k`, which is this operation, in a box at this place, as operand `which`.
-fn then_constant<O: Sink>(
-    line: &mut Line,
-    out: &mut O,
-    graph: &Graph,
-    place: BoxPlace,
-    which: u32,
-    k: u32,
-    look: Look,
-    op: &Op,
-)
-    requires { which < 3 }
-    ensures { GathersTo (O.seen out.old) (O.seen out.new) line.old line.new
-        (flat_map element_text (constant_elements place which k look (own_of graph.now op.now.kind op.now.imm))) }
-{
-    then_patch(line, out, place, which, k, look);
-    then_value(line, out, place, which, own_piece(graph, op.kind, op.imm));
-}
-
-/// Draws operation `k` in a box that reads it as operand `which`, where it is a constant.
-fn then_constant_of<O: Sink, L: Looks>(
-    line: &mut Line,
-    out: &mut O,
-    graph: &Graph,
-    looks: &L,
-    place: BoxPlace,
-    which: u32,
-    k: u32,
-)
-    requires operand { which < 3 }
-    requires tells { L.IsFor looks.now graph.now }
-    ensures { GathersTo (O.seen out.old) (O.seen out.new) line.old line.new
-        (flat_map element_text (constant_of graph.now (L.looks looks.now graph.now) place which k (slice_get graph.now.operations k))) }
-{
-    if k < graph.len() {
-        let op = graph.operation(k);
-        if is_constant(op.kind) {
-            let look = looks.look(graph, k);
-            then_constant(line, out, graph, place, which, k, look, &op);
-        }
-    }
-}
-
 /// Draws operand `which` of an operation, which is operation `k`, where that is a constant.
 pub(crate) fn then_constant_at<O: Sink, L: Looks>(
     line: &mut Line,
@@ -122,7 +78,13 @@ pub(crate) fn then_constant_at<O: Sink, L: Looks>(
     ensures { GathersTo (O.seen out.old) (O.seen out.new) line.old line.new
         (flat_map element_text (constant_at graph.now (L.looks looks.now graph.now) place op.now which)) }
 {
-    if reads_operation(op.kind, which) {
-        then_constant_of(line, out, graph, looks, place, which, k);
+    if !reads_operation(op.kind, which) {
+        return;
+    }
+    if is_constant_at(graph, k) {
+        let constant = graph.operation(k);
+        let value = own_piece(graph, constant.kind, constant.imm);
+        then_patch(line, out, place, which, k, looks.look(graph, k));
+        then_value(line, out, place, which, value);
     }
 }

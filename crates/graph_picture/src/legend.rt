@@ -4,7 +4,7 @@ ghost use Rattle.std.specs.Prelude.{◌≡◌, flat_map};
 ghost use Rattle.vcp_outside.specs.Gathering.{GathersTo};
 ghost use Rattle.vcp_outside.specs.Characters.{piece_bytes};
 ghost use Rattle.vcp_outside.specs.Elements.{element_text};
-ghost use Rattle.graph_picture.specs.Elements.{style, swatch, caption, sample, sample_of, legend_of};
+ghost use Rattle.graph_picture.specs.Elements.{swatch, caption, sample_of, legend_of};
 
 use vcp_outside::{Line, Name, Piece, Sink, Tag, then_element};
 
@@ -19,13 +19,6 @@ pub struct Sample<'a> {
     pub told: &'a [u8],
     /// How often it comes, where that is counted.
     pub many: Option<u32>,
-}
-
-/// Goes on with the rules of style.
-fn then_style<O: Sink>(line: &mut Line, out: &mut O, rules: &[u8])
-    ensures { GathersTo (O.seen out.old) (O.seen out.new) line.old line.new (element_text (style rules.now)) }
-{
-    then_element(line, out, Tag::Style, &[], &[Piece::Bytes(rules)]);
 }
 
 /// Draws a small rectangle of a class.
@@ -98,6 +91,6 @@ pub(crate) fn then_legend<O: Sink>(
 )
     ensures { GathersTo (O.seen out.old) (O.seen out.new) line.old line.new (flat_map element_text (legend_of rules.now samples.now)) }
 {
-    then_style(line, out, rules);
+    then_element(line, out, Tag::Style, &[], &[Piece::Bytes(rules)]);
     then_samples(line, out, samples);
 }

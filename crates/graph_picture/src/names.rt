@@ -1,8 +1,8 @@
 //! The names and values that operations have of their own.
 
-ghost use Rattle.std.specs.Prelude.{◌≡◌, unsigned_abs};
+ghost use Rattle.std.specs.Prelude.{◌≡◌, ◌<◌, true, length, slice_get, unsigned_abs};
 ghost use Rattle.vcp_outside.specs.Characters.{piece_bytes};
-ghost use Rattle.graph_picture.specs.Constants.{is_constant as is_constant_of};
+ghost use Rattle.graph_picture.specs.Constants.{is_constant as is_constant_of, is_constant_there};
 ghost use Rattle.graph_picture.specs.Drawn.{own_of};
 
 use op_graph::Graph;
@@ -18,6 +18,14 @@ pub fn is_constant(kind: Kind) -> bool
         Kind::Const => true,
         _ => false,
     }
+}
+
+/// Whether operation `n` is there and is a constant.
+pub(crate) fn is_constant_at(graph: &Graph, n: u32) -> bool
+    ensures value { result ≡ is_constant_there (slice_get graph.now.operations n) }
+    ensures there { result ≡ true → n < length graph.now.operations }
+{
+    n < graph.len() && is_constant(graph.operation(n).kind)
 }
 
 /// An operation's own name or value, and nothing where it has none.

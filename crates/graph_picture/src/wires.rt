@@ -5,10 +5,10 @@ ghost use Rattle.vcp_outside.specs.Gathering.{GathersTo};
 ghost use Rattle.op_graph.specs.Reads.{named};
 ghost use Rattle.vcp_outside.specs.Elements.{element_text};
 ghost use Rattle.graph_picture.specs.Drawn.{wire_of, wires_of, wires_below};
-ghost use Rattle.graph_picture.specs.Elements.{wire_element, line_from, wire_elements};
+ghost use Rattle.graph_picture.specs.Elements.{wire_element, wire_elements};
 
 use crate::layout::{BoxPlace, GraphLayout, left, top};
-use crate::names::is_constant;
+use crate::names::is_constant_at;
 use op_graph::{Graph, Op, reads_operation};
 use vcp_outside::{Line, Name, Piece, Sink, Tag, then_element};
 
@@ -44,33 +44,7 @@ fn then_line<O: Sink>(
     );
 }
 
-/// Draws the line from operation `operand`, unless that is a constant, to operation `reader`, which reads it as its operand `which`.
-fn then_line_from<O: Sink>(
-    line: &mut Line,
-    out: &mut O,
-    graph: &Graph,
-    operand: u32,
-    reader: u32,
-    which: u32,
-    from: BoxPlace,
-    to: BoxPlace,
-)
-    requires { which < 3 }
-    ensures { GathersTo (O.seen out.old) (O.seen out.new) line.old line.new
-        (flat_map element_text (line_from (record { operand = operand; reader = reader; which = which; from = from; to = to })
-        (slice_get graph.now.operations operand))) }
-{
-    if operand < graph.len() {
-        let op = graph.operation(operand);
-        if !is_constant(op.kind) {
-            then_line(line, out, operand, reader, which, from, to);
-        }
-    } else {
-        then_line(line, out, operand, reader, which, from, to);
-    }
-}
-
-/// Draws the line to operand `j` of operation `n`, which is operation `k`, where it is one.
+/// Draws the line to operand `j` of operation `n`, which is operation `k`, where it is one and no constant.
 fn then_wire<O: Sink>(
     line: &mut Line,
     out: &mut O,
@@ -86,8 +60,11 @@ fn then_wire<O: Sink>(
     ensures { GathersTo (O.seen out.old) (O.seen out.new) line.old line.new
         (flat_map element_text (flat_map (wire_elements graph.now) (wire_of layout.now.places n op.now j))) }
 {
-    if reads_operation(op.kind, j) {
-        then_line_from(line, out, graph, k, n, j, layout.place(k), layout.place(n));
+    if !reads_operation(op.kind, j) {
+        return;
+    }
+    if !is_constant_at(graph, k) {
+        then_line(line, out, k, n, j, layout.place(k), layout.place(n));
     }
 }
 

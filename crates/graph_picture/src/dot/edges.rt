@@ -4,10 +4,11 @@ ghost use Rattle.std.specs.Prelude.{◌≡◌, ◌<◌, ◌≤◌, ◌+◌, [], 
 ghost use Rattle.vcp_outside.specs.Gathering.{GathersTo};
 ghost use Rattle.op_graph.specs.Reads.{named};
 ghost use Rattle.graph_picture.specs.Drawn.{wire_of, wires_of, wires_below};
-ghost use Rattle.graph_picture.specs.DotText.{node_name, edge_line, edge_end, constant_text, reading_text, wire_text};
+ghost use Rattle.graph_picture.specs.DotText.{node_name, edge_line, edge_end, constant_text, wire_text};
 
 use crate::dot::nodes::{then_constant, then_constant_name, then_node_name};
-use crate::{Colour, colour_of, is_constant};
+use crate::names::is_constant_at;
+use crate::{Colour, colour_of};
 use op_graph::{Graph, Op, reads_operation};
 use vcp_outside::{Line, Sink};
 use weight_audit::Weights;
@@ -50,36 +51,6 @@ fn then_constant_at<O: Sink>(
     then_edge_end(line, out, reader, which);
 }
 
-/// Goes on with the line from operation `n` to its reader.
-fn then_reading<O: Sink>(
-    line: &mut Line,
-    out: &mut O,
-    graph: &Graph,
-    weights: &Weights,
-    distances: u32,
-    n: u32,
-    reader: u32,
-    which: u32,
-)
-    requires operations { weights.now.operations ≡ length graph.now.operations }
-    requires outputs { length weights.now.outputs ≡ length graph.now.outputs }
-    requires distances { distances ≤ weights.now.horizon + 1 }
-    ensures { GathersTo (O.seen out.old) (O.seen out.new) line.old line.new
-        (reading_text graph.now weights.now distances n (slice_get graph.now.operations n) reader which) }
-{
-    if n < graph.len() {
-        let op = graph.operation(n);
-        if is_constant(op.kind) {
-            let colour = colour_of(weights, n, graph.outputs(), distances);
-            then_constant_at(line, out, graph, n, colour, &op, reader, which);
-        } else {
-            then_edge(line, out, n, reader, which);
-        }
-    } else {
-        then_edge(line, out, n, reader, which);
-    }
-}
-
 /// Goes on with the line to operand `j` of operation `n`, which is operation `k`, where it is one.
 fn then_wire<O: Sink>(
     line: &mut Line,
@@ -99,8 +70,15 @@ fn then_wire<O: Sink>(
     ensures { GathersTo (O.seen out.old) (O.seen out.new) line.old line.new
         (flat_map (wire_text graph.now weights.now distances) (wire_of [] n op.now j)) }
 {
-    if reads_operation(op.kind, j) {
-        then_reading(line, out, graph, weights, distances, k, n, j);
+    if !reads_operation(op.kind, j) {
+        return;
+    }
+    if is_constant_at(graph, k) {
+        let constant = graph.operation(k);
+        let colour = colour_of(weights, k, graph.outputs(), distances);
+        then_constant_at(line, out, graph, k, colour, &constant, n, j);
+    } else {
+        then_edge(line, out, k, n, j);
     }
 }
 

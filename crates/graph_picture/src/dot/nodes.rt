@@ -1,9 +1,8 @@
 //! The lines of nodes.
 
-ghost use Rattle.std.specs.Prelude.{◌≡◌, ◌≤◌, ◌+◌, [], cond, length, flat_map};
+ghost use Rattle.std.specs.Prelude.{◌≡◌, ◌≤◌, ◌+◌, [], length, flat_map};
 ghost use Rattle.vcp_outside.specs.Gathering.{GathersTo};
 ghost use Rattle.graph_picture.specs.Colours.{colours};
-ghost use Rattle.graph_picture.specs.Constants.{is_constant as is_constant_of};
 ghost use Rattle.graph_picture.specs.Drawn.{boxes_below};
 ghost use Rattle.graph_picture.specs.DotText.{node_name, constant_name, label, constant_label, node_line, node_end, box_text};
 
@@ -82,16 +81,6 @@ pub(crate) fn then_constant<O: Sink>(
     then_end(line, out, op.kind, colour);
 }
 
-/// Goes on with the line of an operation that is no constant.
-fn then_node<O: Sink>(line: &mut Line, out: &mut O, graph: &Graph, n: u32, colour: Colour, op: &Op)
-    ensures { GathersTo (O.seen out.old) (O.seen out.new) line.old line.new
-        (cond (is_constant_of op.now.kind) [] (node_line (node_name n) (label graph.now n colour op.now) op.now.kind colour)) }
-{
-    if !is_constant(op.kind) {
-        then_operation(line, out, graph, n, colour, op);
-    }
-}
-
 /// Goes on with the lines of a graph's operations.
 pub(crate) fn then_nodes<O: Sink>(
     line: &mut Line,
@@ -107,7 +96,11 @@ pub(crate) fn then_nodes<O: Sink>(
         (flat_map (box_text graph.now) (boxes_below graph.now (colours graph.now weights.now distances) [] (length graph.now.operations))) }
 {
     'operations: for n in 0..graph.len() {
+        let op = graph.operation(n);
+        if is_constant(op.kind) {
+            continue;
+        }
         let colour = colour_of(weights, n, graph.outputs(), distances);
-        then_node(line, out, graph, n, colour, &graph.operation(n));
+        then_operation(line, out, graph, n, colour, &op);
     }
 }

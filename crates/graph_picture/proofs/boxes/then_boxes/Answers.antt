@@ -1,9 +1,10 @@
-use Rattle.std.proofs.Common.{◌≡◌, ◌∙◌, ap, length, arith, flat_map}
+use Rattle.std.proofs.Common.{◌≡◌, true, false, cond, [], sym, ◌∙◌, ap, length, arith, flat_map}
 use Rattle.std.proofs.lemmas.List.{append-nil}
 use Rattle.vcp_outside.specs.Elements.{element_text}
 use Rattle.graph_picture.specs.Arrangement.{place_at}
+use Rattle.graph_picture.specs.Constants.{is_constant}
 use Rattle.graph_picture.specs.Drawn.{box_of, box_drawn, box_at}
-use Rattle.graph_picture.specs.Elements.{box_elements}
+use Rattle.graph_picture.specs.Elements.{box_elements, body_elements}
 use Rattle.graph_picture.proofs.Going.{both, same, one_more, unmoved, drawn_text}
 use Rattle.graph_picture.proofs.boxes.then_boxes.Goals as goal
 
@@ -16,10 +17,24 @@ operations-preserved g c =
     let n = c.operations.n in
     let looks = g.L.Looks.looks c.args.looks.now graph in
     let places = c.args.layout.now.places in
-    let drawn = rw (c.look-look.ensures, c.place-place.ensures) at c.then_box.ensures in
-    let one = ap (λ o. drawn_text (box_elements graph looks) (box_drawn graph n (looks n) (place_at places n) o)) c.operation.ensures
-    ∙ ap (flat_map element_text) (append-nil (box_elements graph looks (box_of graph n (looks n) (place_at places n) c.operation.result))) in
+    let box = box_of graph n (looks n) (place_at places n) c.operation-op.result in
+    let is : is_constant c.operation-op.result.kind ≡ false = sym c.is_constant.ensures ∙ c.if-is_constant.false in
+    let drawn = rw (c.look-look.ensures, c.place-place.ensures) at c.then_body.ensures in
+    let one = ap (λ o. drawn_text (box_elements graph looks) (box_drawn graph n (looks n) (place_at places n) o)) c.operation-op.ensures
+    ∙ ap (flat_map element_text) (append-nil (box_elements graph looks box) ∙ ap (λ t. cond t [] (body_elements graph looks box)) is) in
     both _ _ _ c.operations.invariant (same drawn one) (one_more (box_elements graph looks) (box_at graph looks places) n)
+
+pub operations-preserved-then-is_constant : goal.operations-preserved-then-is_constant
+operations-preserved-then-is_constant g c =
+    let graph = c.args.graph.now in
+    let n = c.operations.n in
+    let looks = g.L.Looks.looks c.args.looks.now graph in
+    let places = c.args.layout.now.places in
+    let box = box_of graph n (looks n) (place_at places n) c.operation-op.result in
+    let is : is_constant c.operation-op.result.kind ≡ true = sym c.is_constant.ensures ∙ c.if-is_constant.true in
+    let none = ap (λ o. drawn_text (box_elements graph looks) (box_drawn graph n (looks n) (place_at places n) o)) c.operation-op.ensures
+    ∙ ap (flat_map element_text) (append-nil (box_elements graph looks box) ∙ ap (λ t. cond t [] (body_elements graph looks box)) is) in
+    both _ _ _ c.operations.invariant (same unmoved none) (one_more (box_elements graph looks) (box_at graph looks places) n)
 
 pub returns : goal.returns
 returns g c =

@@ -6,5 +6,5 @@ use Rattle.graph_picture.proofs.legend.then_legend.Goals as goal
 
 pub returns : goal.returns
 returns g c =
-    same (and_then c.then_style.ensures c.then_samples.ensures)
+    same (and_then c.then_element.ensures c.then_samples.ensures)
     (ap (λ t. element_text (style c.args.rules.now) ++ t) (each_drawn sample_of c.args.samples.now))

@@ -1,10 +1,11 @@
-use Rattle.std.proofs.Common.{◌≡◌, ◌++◌, ◌∙◌, ap, [], length, flat_map, arith}
+use Rattle.std.proofs.Common.{◌≡◌, true, false, cond, ◌++◌, sym, ◌∙◌, ap, [], length, flat_map, arith}
 use Rattle.std.proofs.lemmas.List.{append-nil}
 use Rattle.vcp_outside.specs.Drawing.{each_below}
 use Rattle.graph_picture.specs.Arrangement.{place_at}
 use Rattle.graph_picture.specs.Colours.{colours}
+use Rattle.graph_picture.specs.Constants.{is_constant}
 use Rattle.graph_picture.specs.Drawn.{box_at, box_drawn}
-use Rattle.graph_picture.specs.DotText.{box_text}
+use Rattle.graph_picture.specs.DotText.{box_text, node_line, node_name, label}
 use Rattle.graph_picture.proofs.Going.{and_then, same, one_text_more, unmoved}
 use Rattle.graph_picture.proofs.dot.nodes.then_nodes.Goals as goal
 
@@ -17,10 +18,26 @@ operations-preserved g c =
     let n = c.operations.n in
     let looks = colours graph c.args.weights.now c.args.distances in
     let boxes = box_at graph looks [] in
-    let drawn = rw (c.colour_of-colour.ensures, c.outputs.ensures) at c.then_node.ensures in
+    let op = c.operation-op.result in
+    let is : is_constant op.kind ≡ false = sym c.is_constant.ensures ∙ c.if-is_constant.false in
+    let drawn = rw (c.colour_of-colour.ensures, c.outputs.ensures) at c.then_operation.ensures in
     same (and_then c.operations.invariant drawn)
     (one_text_more (box_text graph) boxes n ∙ ap (λ t. flat_map (box_text graph) (each_below boxes n) ++ t)
-    (ap (λ o. flat_map (box_text graph) (box_drawn graph n (looks n) (place_at [] n) o)) c.operation.ensures ∙ append-nil _))
+    (ap (λ o. flat_map (box_text graph) (box_drawn graph n (looks n) (place_at [] n) o)) c.operation-op.ensures ∙ append-nil _
+    ∙ ap (λ t. cond t [] (node_line (node_name n) (label graph n (looks n) op) op.kind (looks n))) is))
+
+pub operations-preserved-then-is_constant : goal.operations-preserved-then-is_constant
+operations-preserved-then-is_constant g c =
+    let graph = c.args.graph.now in
+    let n = c.operations.n in
+    let looks = colours graph c.args.weights.now c.args.distances in
+    let boxes = box_at graph looks [] in
+    let op = c.operation-op.result in
+    let is : is_constant op.kind ≡ true = sym c.is_constant.ensures ∙ c.if-is_constant.true in
+    same (and_then c.operations.invariant unmoved)
+    (one_text_more (box_text graph) boxes n ∙ ap (λ t. flat_map (box_text graph) (each_below boxes n) ++ t)
+    (ap (λ o. flat_map (box_text graph) (box_drawn graph n (looks n) (place_at [] n) o)) c.operation-op.ensures ∙ append-nil _
+    ∙ ap (λ t. cond t [] (node_line (node_name n) (label graph n (looks n) op) op.kind (looks n))) is))
 
 pub returns : goal.returns
 returns g c =
