@@ -69,6 +69,12 @@ pub record IsFound (ops : List Op) (inputs : List Range) (Kept : List ℤ → Ty
   pub fits : FitsFrom ops inputs Kept a.known
   pub names : NamesFrom ops inputs Kept a.stops
 
+-- so much is found of all operations
+pub record IsAllFound (ops : List Op) (inputs : List Range) (Kept : List ℤ → Type 0) (a : KnownRanges) : Type 0 where
+  pub known : length a.known ≡ length ops
+  pub stops : length a.stops ≡ length ops
+  pub found : IsFound ops inputs Kept a
+
 -- r has the values that both have, or one of the two; where both, it lies between the ends of the first
 pub record IsCloser (both : Bool) (x y r : Range) : Type 0 where
   pub holds : (v : ℤ) → Parts both (IsIn x v) (IsIn y v) → IsIn r v
@@ -79,6 +85,16 @@ pub record IsCloser (both : Bool) (x y r : Range) : Type 0 where
 pub record IsJoined (both : Bool) (x y s : Stops) : Type 0 where
   pub holds : (why : StopKind) → Parts both (may_stop why x ≡ true) (may_stop why y ≡ true) → may_stop why s ≡ true
   pub first : both ≡ true → (why : StopKind) → may_stop why s ≡ true → may_stop why x ≡ true
+
+-- r is found by both, or by one of the two
+pub record IsFoundBy (both : Bool) (a b r : KnownRanges) : Type 0 where
+  pub known : length r.known ≡ length a.known
+  pub stops : length r.stops ≡ length a.known
+  pub fits : (vs : List ℤ) → Parts both (Fit a.known vs) (Fit b.known vs) → Fit r.known vs
+  pub named : (why : StopKind) (i : ℕ) → Parts both (is_named why (slice_get a.stops i) ≡ true) (is_named why (slice_get b.stops i) ≡ true)
+      → is_named why (slice_get r.stops i) ≡ true
+  pub types : both ≡ true → (ops : List Op) → LieInTypes ops a.known → LieInTypes ops r.known
+  pub first : both ≡ true → (why : StopKind) (i : ℕ) → is_named why (slice_get r.stops i) ≡ true → is_named why (slice_get a.stops i) ≡ true
 
 -- what is told of a graph's operations: what is found of each cycle, so that only what can stop is named, and each range lies within its type
 pub record IsSound (g : Lists) (inputs : List Range) (a : KnownRanges) : Type 0 where
@@ -110,6 +126,14 @@ Box = Vec Range Global
 -- the cells, so many, hold values in a box: in a range for each of them
 abbrev pub IsInBox : ℕ → List Range → List ℤ → Type 0
 IsInBox many cells held = (length cells ≡ many) × Hold cells held
+
+-- more is found: of a cycle from cells in this box too
+pub record IsMore (g : Lists) (inputs cells : List Range) (found more : KnownRanges) : Type 0 where
+  pub known : length more.known ≡ length g.operations
+  pub stops : length more.stops ≡ length g.operations
+  pub fits : (vs : List ℤ) → Fit found.known vs → Fit more.known vs
+  pub named : (why : StopKind) (i : ℕ) → is_named why (slice_get found.stops i) ≡ true → is_named why (slice_get more.stops i) ≡ true
+  pub here : IsFound g.operations inputs (IsInBox (length g.stores) cells) more
 
 -- the cells hold values in one of the boxes
 abbrev pub InBox : List Box → ℕ → List ℤ → Type 0

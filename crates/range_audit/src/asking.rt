@@ -2,7 +2,7 @@
 
 ghost use Rattle.std.specs.Prelude.{◌≡◌, ◌<◌, ◌≤◌, ℕ, ℤ, List, length, slice_get, Some, IfOk};
 ghost use Rattle.range_walk.specs.Intervals.{Fit, Hold};
-ghost use Rattle.range_audit.specs.Searching.{IsAlwaysIn, IsFound, StopsFrom, StopsIn};
+ghost use Rattle.range_audit.specs.Searching.{IsAllFound, IsAlwaysIn, StopsFrom, StopsIn};
 ghost use Rattle.range_walk.specs.Walking.{Given, IsWalk};
 ghost use Rattle.range_walk.specs.declared.range.Range.{Range as Interval};
 ghost use Rattle.range_walk.specs.declared.range.Stops.{Stops as Reasons};
@@ -185,9 +185,7 @@ pub(crate) fn closer_found(
     left: &mut Asking,
 ) -> Result<Ranges, Memory>
     requires walk { IsWalk cycle.now.graph.now.operations cycle.now.cells.now inputs.now told.now }
-    ensures known { IfOk result (λ a. length a.known ≡ length cycle.now.graph.now.operations) }
-    ensures stops { IfOk result (λ a. length a.stops ≡ length cycle.now.graph.now.operations) }
-    ensures found { IfOk result (λ a. IsFound cycle.now.graph.now.operations inputs.now (Hold cycle.now.cells.now) a) }
+    ensures { IfOk result (IsAllFound cycle.now.graph.now.operations inputs.now (Hold cycle.now.cells.now)) }
 {
     let known = closer_ranges(cycle, told.known(), &mut left.answers)?;
     let found = closer_stops(cycle, inputs, told, wanted, done, &mut left.stops)?;

@@ -6,7 +6,7 @@ ghost use Rattle.op_graph.specs.declared.op.Op.{Op as Operation};
 ghost use Rattle.range_walk.specs.Intervals.{IsIn, Fit};
 ghost use Rattle.range_walk.specs.Known.{is_named, LieInTypes};
 ghost use Rattle.range_walk.specs.Walking.{Parts};
-ghost use Rattle.range_audit.specs.Searching.{IsInBox, InBox, IsFound, IsCloser, IsJoined};
+ghost use Rattle.range_audit.specs.Searching.{InBox, IsAllFound, IsFoundBy, IsMore, IsCloser, IsJoined};
 
 use crate::asking::{Asking, closer_found};
 use crate::boxes::{Cycle, has_values};
@@ -72,15 +72,7 @@ pub(crate) fn found_by(alloc: Global, both: bool, a: &Ranges, b: &Ranges) -> Res
     requires stops { length a.now.stops ≡ length a.now.known }
     requires others { length b.now.known ≡ length a.now.known }
     requires other_stops { length b.now.stops ≡ length a.now.known }
-    ensures known { IfOk result (λ r. length r.known ≡ length a.now.known) }
-    ensures stops { IfOk result (λ r. length r.stops ≡ length a.now.known) }
-    ensures fits { IfOk result (λ r. (vs : List ℤ) → Parts both (Fit a.now.known vs) (Fit b.now.known vs) → Fit r.known vs) }
-    ensures named { IfOk result (λ r. (why : StopKind) (i : ℕ)
-        → Parts both (is_named why (slice_get a.now.stops i) ≡ true) (is_named why (slice_get b.now.stops i) ≡ true)
-        → is_named why (slice_get r.stops i) ≡ true) }
-    ensures types { IfOk result (λ r. both ≡ true → (ops : List Operation) → LieInTypes ops a.now.known → LieInTypes ops r.known) }
-    ensures first { IfOk result (λ r. both ≡ true → (why : StopKind) (i : ℕ) → is_named why (slice_get r.stops i) ≡ true
-        → is_named why (slice_get a.now.stops i) ≡ true) }
+    ensures { IfOk result (λ r. IsFoundBy both a.now b.now r) }
 {
     let count = a.known().len();
     let mut known = Vec::with_capacity(alloc, count)?;
@@ -122,12 +114,7 @@ fn with_box(
 ) -> Result<Ranges, Memory>
     requires known { length found.known ≡ length graph.now.operations }
     requires stops { length found.stops ≡ length graph.now.operations }
-    ensures known { IfOk result (λ more. length more.known ≡ length graph.now.operations) }
-    ensures stops { IfOk result (λ more. length more.stops ≡ length graph.now.operations) }
-    ensures fits { IfOk result (λ more. (vs : List ℤ) → Fit found.known vs → Fit more.known vs) }
-    ensures named { IfOk result (λ more. (why : StopKind) (i : ℕ) → is_named why (slice_get found.stops i) ≡ true
-        → is_named why (slice_get more.stops i) ≡ true) }
-    ensures here { IfOk result (λ more. IsFound graph.now.operations inputs.now (IsInBox (length graph.now.stores) cells.now) more) }
+    ensures { IfOk result (λ more. IsMore graph.now inputs.now cells.now found more) }
 {
     let any = has_values(graph, cells);
     if !any {
@@ -154,9 +141,7 @@ pub(crate) fn found_from(
     wanted: &[Stops],
     left: &mut Asking,
 ) -> Result<Ranges, Memory>
-    ensures known { IfOk result (λ found. length found.known ≡ length graph.now.operations) }
-    ensures stops { IfOk result (λ found. length found.stops ≡ length graph.now.operations) }
-    ensures found { IfOk result (λ found. IsFound graph.now.operations inputs.now (InBox boxes.now (length graph.now.stores)) found) }
+    ensures { IfOk result (IsAllFound graph.now.operations inputs.now (InBox boxes.now (length graph.now.stores))) }
 {
     let mut found = nothing_found(alloc, graph)?;
     'boxes: for k in 0..boxes.len() {

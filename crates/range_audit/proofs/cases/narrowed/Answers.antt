@@ -9,6 +9,15 @@ narrow-requires c =
     ap length (c.deref_mut.ensures.value ∙ c.in_ok-copy.ensures) in
     record { many = omega (arith, before, c.requires); cells = c.args.cycle.now.many }
 
+pub returns-clause-many : goal.returns-clause-many
+returns-clause-many c =
+    let copy = c.in_ok-copy.copy in
+    let new = c.narrow.new.ranges in
+    let before : length c.deref_mut.result.now ≡ length c.args.ranges.now =
+    ap length (c.deref_mut.ensures.value ∙ c.in_ok-copy.ensures) in
+    let same : length new ≡ copy.len = omega (arith, before, c.narrow.ensures.many, c.deref_mut.ensures.len) in
+    ap length (with_items_is copy new same) ∙ c.narrow.ensures.many ∙ before
+
 pub returns-clause-fits : goal.returns-clause-fits
 returns-clause-fits c =
     let g = c.args.cycle.now.graph.now in

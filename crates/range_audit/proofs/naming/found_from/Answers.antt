@@ -26,15 +26,19 @@ boxes-preserved c =
           subst (λ rs. IsFound g.operations c.args.inputs.now (IsInBox many rs) new) (c.deref.ensures.value ∙ same) c.in_ok-more.ensures.here);
     }
 
-pub returns-clause-found : goal.returns-clause-found
-returns-clause-found c =
-    let found = c.boxes.invariant.found in
+pub returns : goal.returns
+returns c =
+    let all = c.boxes.invariant in
     record {
-      fits = λ held row vs inside row_in given.
-          let lt = slice_get_within c.args.boxes.now inside.0 inside.1 inside.2 in
-          (found inside.0 (omega (arith, lt, c.boxes-test.false, c.boxes.auto.k-end)) inside.1 inside.2).fits held row vs inside.3 row_in given;
-      names = λ held row vs op why inside row_in given there own no e.
-          let lt = slice_get_within c.args.boxes.now inside.0 inside.1 inside.2 in
-          let at_box = found inside.0 (omega (arith, lt, c.boxes-test.false, c.boxes.auto.k-end)) inside.1 inside.2 in
-          at_box.names held row vs op why inside.3 row_in given there own no e;
+      known = all.known;
+      stops = all.stops;
+      found = record {
+        fits = λ held row vs inside row_in given.
+            let lt = slice_get_within c.args.boxes.now inside.0 inside.1 inside.2 in
+            (all.found inside.0 (omega (arith, lt, c.boxes-test.false, c.boxes.auto.k-end)) inside.1 inside.2).fits held row vs inside.3 row_in given;
+        names = λ held row vs op why inside row_in given there own no e.
+            let lt = slice_get_within c.args.boxes.now inside.0 inside.1 inside.2 in
+            let at_box = all.found inside.0 (omega (arith, lt, c.boxes-test.false, c.boxes.auto.k-end)) inside.1 inside.2 in
+            at_box.names held row vs op why inside.3 row_in given there own no e;
+      };
     }

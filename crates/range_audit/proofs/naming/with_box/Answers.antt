@@ -8,23 +8,30 @@ found_by-requires c = record {
   other_stops = c.in_ok-here.ensures.stops ∙ sym c.requires.known;
 }
 
-pub returns-then-not-any-clause-here : goal.returns-then-not-any-clause-here
-returns-then-not-any-clause-here c = record {
-  fits = λ held row vs inside row_in given. absurd (c.has_values-any.ensures.none c.if-not-any.true held inside);
-  names = λ held row vs op why inside row_in given there own no e. absurd (c.has_values-any.ensures.none c.if-not-any.true held inside);
+pub returns-then-not-any : goal.returns-then-not-any
+returns-then-not-any c = record {
+  known = c.requires.known;
+  stops = c.requires.stops;
+  fits = λ vs fit. fit;
+  named = λ why i e. e;
+  here = record {
+    fits = λ held row vs inside row_in given. absurd (c.has_values-any.ensures.none c.if-not-any.true held inside);
+    names = λ held row vs op why inside row_in given there own no e. absurd (c.has_values-any.ensures.none c.if-not-any.true held inside);
+  };
 }
 
-pub returns-clause-fits : goal.returns-clause-fits
-returns-clause-fits c = λ vs fit. c.in_ok-more.ensures.fits vs (inl fit)
-
-pub returns-clause-named : goal.returns-clause-named
-returns-clause-named c = λ why i e. c.in_ok-more.ensures.named why i (inl e)
-
-pub returns-clause-here : goal.returns-clause-here
-returns-clause-here c =
+pub returns : goal.returns
+returns c =
     let here = c.in_ok-here.ensures.found in
+    let more = c.in_ok-more.ensures in
     record {
-      fits = λ held row vs inside row_in given. c.in_ok-more.ensures.fits vs (inr (here.fits held row vs inside.1 row_in given));
-      names = λ held row vs op why inside row_in given there own no e.
-          c.in_ok-more.ensures.named why (length vs) (inr (here.names held row vs op why inside.1 row_in given there own no e));
+      known = more.known ∙ c.requires.known;
+      stops = more.stops ∙ c.requires.known;
+      fits = λ vs fit. more.fits vs (inl fit);
+      named = λ why i e. more.named why i (inl e);
+      here = record {
+        fits = λ held row vs inside row_in given. more.fits vs (inr (here.fits held row vs inside.1 row_in given));
+        names = λ held row vs op why inside row_in given there own no e.
+            more.named why (length vs) (inr (here.names held row vs op why inside.1 row_in given there own no e));
+      };
     }
