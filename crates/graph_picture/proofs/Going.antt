@@ -1,5 +1,5 @@
 -- Going: one piece of a text behind another.
-use Rattle.std.proofs.Common.{◌≡◌, ℕ, List, [], ◌∷◌, ◌++◌, Option, refl, append_assoc, flat_map, ◌∙◌, ap, add-one, ◌+◌}
+use Rattle.std.proofs.Common.{◌≡◌, ℕ, suc, ◌<◌, arith, length, get_or, take, take-suc, List, [], ◌∷◌, ◌++◌, Option, refl, append_assoc, flat_map, ◌∙◌, ap, add-one, ◌+◌}
 use Rattle.std.proofs.lemmas.Grind.{flat_map-append}
 use Rattle.std.proofs.lemmas.List.{append-nil}
 use Rattle.vcp_outside.specs.Gathering.{Gathered, Gathers}
@@ -79,3 +79,11 @@ in_three a b c = rw (flat_map-append (escaped_in escaping.Quoted) a (b ++ c), fl
 
 pub in_four : (a b c d : List (List ℕ)) → written (a ++ (b ++ (c ++ d))) ≡ written a ++ (written b ++ (written c ++ written d))
 in_four a b c d = flat_map-append (escaped_in escaping.Quoted) a (b ++ (c ++ d)) ∙ ap (λ t. written a ++ t) (in_three b c d)
+
+-- what is made of the first things, and of the next one
+pub taken_more : {X : Type 0} (f : X → List ℕ) (xs : List X) (k : ℕ) (d : X) → k < length xs
+    → flat_map f (take (k + 1) xs) ≡ flat_map f (take k xs) ++ f (get_or xs k d)
+taken_more f xs k d there =
+    let next : k + 1 ≡ suc k = omega arith in
+    ap (λ n. flat_map f (take n xs)) next ∙ ap (flat_map f) (take-suc xs k d there) ∙ flat_map-append f (take k xs) (get_or xs k d ∷ [])
+    ∙ ap (λ t. flat_map f (take k xs) ++ t) (append-nil (f (get_or xs k d)))

@@ -40,10 +40,10 @@ fn behind(depths: &[u32], n: u32, reads: bool) -> u32
     if !reads {
         return 0;
     }
-    match depths.get(n as usize) {
-        Some(depth) => *depth + 1,
-        None => 0,
+    if n as usize >= depths.len() {
+        return 0;
     }
+    depths[n as usize] + 1
 }
 
 /// The depth of an operation behind those before it: one more than the greatest of its operands.
@@ -80,10 +80,10 @@ pub(crate) fn depth_at(depths: &[u32], n: u32) -> u32
     ensures value { result ≡ slice_index_or depths.now n 0 }
     ensures few { result ≤ length depths.now }
 {
-    match depths.get(n as usize) {
-        Some(depth) => *depth,
-        None => 0,
+    if n as usize >= depths.len() {
+        return 0;
     }
+    depths[n as usize]
 }
 
 /// The column of an operation of this depth: the last one for what leaves the cycle, and one behind all others, `end`, for a constant, which

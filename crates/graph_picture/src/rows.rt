@@ -61,10 +61,10 @@ fn row_of(graph: &Graph, places: &[BoxPlace], n: u32, reads: bool, most: u32) ->
     if !reads || n >= graph.len() || is_constant(graph.operation(n).kind) {
         return None;
     }
-    match places.get(n as usize) {
-        Some(place) => Some(place.row),
-        None => None,
+    if n as usize >= places.len() {
+        return None;
     }
+    Some(place_of(places, n).row)
 }
 
 /// The first of these, and 0 where there is none.
