@@ -1,5 +1,5 @@
 -- Script: the script of sites of an image that `inject` takes, and what is written of sites that are chosen.
-use Rattle.std.specs.Prelude.{ℕ, ◌≡◌, ◌<◌, ◌≤◌, List, [], ◌++◌, length, decimal, codes, Option, Result, Ok, Err}
+use Rattle.std.specs.Prelude.{ℕ, ◌≡◌, ◌<◌, ◌≤◌, List, [], ◌++◌, length, decimal, codes, Option, Some, None, Result, Ok, Err}
 use Rattle.std.specs.Io.KnownBytes.{Appends}
 use Rattle.vcp_base.specs.Limits.{most_source_bytes}
 use Rattle.vcp_outside.specs.declared.failed.Failed.{Failed}
@@ -7,6 +7,7 @@ use Rattle.vcp_outside.specs.Written.{AppendsPart}
 use Rattle.op_graph.specs.Lists.{Lists}
 use Rattle.signature_table.specs.Signatures.{Numbers}
 use Rattle.fault_script.specs.ScriptOf.{most_faults, script_of}
+use Rattle.fault_sites.specs.declared.part.Part.{Part}
 use Rattle.fault_sites.specs.declared.site.Site.{Site}
 use Rattle.fault_sites.specs.Part.{kept}
 use Rattle.fault_sites.specs.SiteText.{named_remark, said_from, site_lines}
@@ -42,6 +43,12 @@ WritesNumber n old new (Ok _) = Appends old new (decimal n ++ codes "\n")
 WritesNumber n old new (Err unwritten.Failed) = AppendsPart old new (decimal n ++ codes "\n")
 WritesNumber n old new (Err unwritten.Memory) = Appends old new []
 WritesNumber n old new (Err unwritten.TooMany) = ⊥
+
+-- the part of so many that is chosen, where more than their number is wanted
+abbrev pub chosen_part : ℕ → Chosen → Option Part
+chosen_part total chosen.All = Some (record { skip = 0; left = total })
+chosen_part total (chosen.Part part) = Some part
+chosen_part total chosen.Number = None
 
 -- of these sites what is chosen is written: the script of all, or of a part, or how many there are
 abbrev pub WritesChosen : Lists → Numbers → List ℕ → List Site → Chosen → Option (List ℕ) → Option (List ℕ) → Result (Unit {0}) Unwritten → Type 0

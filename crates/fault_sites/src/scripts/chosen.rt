@@ -1,6 +1,7 @@
 //! What is written of sites.
 
 ghost use Rattle.std.specs.Prelude.{◌≡◌, ◌-◌, min};
+ghost use Rattle.fault_sites.specs.Script.{chosen_part};
 
 use crate::Part;
 
@@ -22,12 +23,16 @@ pub(crate) fn size_of(part: Part, total: u64) -> u64
     part.left.min(total.saturating_sub(part.skip))
 }
 
-/// The part of all of so many.
-pub(crate) fn whole(total: u64) -> Part
-    ensures { result ≡ record { skip = 0; left = total } }
+/// The part of so many sites that is chosen; `None` where their number alone is wanted.
+pub(crate) fn part_of(chosen: &Chosen, total: u64) -> Option<Part>
+    ensures { result ≡ chosen_part total chosen.now }
 {
-    Part {
-        skip: 0,
-        left: total,
+    match *chosen {
+        Chosen::All => Some(Part {
+            skip: 0,
+            left: total,
+        }),
+        Chosen::Part(part) => Some(part),
+        Chosen::Number => None,
     }
 }

@@ -10,7 +10,7 @@ ghost use Rattle.fault_sites.specs.SiteText.{classes_name};
 ghost use Rattle.fault_sites.specs.Script.{WritesScript, WritesChosen};
 ghost use Rattle.fault_sites.specs.declared.scripts.unwritten.Unwritten.TheVariants as unwritten;
 
-use crate::scripts::chosen::{Chosen, size_of, whole};
+use crate::scripts::chosen::{Chosen, part_of, size_of};
 use crate::scripts::number::write_number;
 use crate::scripts::unwritten::{Unwritten, outcome};
 use crate::{Classes, Part, count_sites, image_digest, write_sites};
@@ -70,18 +70,8 @@ pub fn write_chosen_sites<O: Sink>(
     ensures failed { result ≡ Err unwritten.Failed → Rose (O.seen out.old).faults (O.seen out.new).faults }
 {
     let total = count_sites(graph, classes, cycles);
-    match *chosen {
-        Chosen::All => write_part(
-            alloc,
-            graph,
-            table,
-            classes,
-            cycles,
-            whole(total),
-            total,
-            out,
-        ),
-        Chosen::Part(part) => write_part(alloc, graph, table, classes, cycles, part, total, out),
-        Chosen::Number => write_number(out, total),
+    match part_of(chosen, total) {
+        Some(part) => write_part(alloc, graph, table, classes, cycles, part, total, out),
+        None => write_number(out, total),
     }
 }

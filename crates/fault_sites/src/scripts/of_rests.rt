@@ -15,7 +15,7 @@ ghost use Rattle.fault_sites.specs.declared.scripts.unwritten.Unwritten.TheVaria
 use crate::budget::Budget;
 use crate::nowhere::Nowhere;
 use crate::rests::{RunReadings, count_rests, run_readings, then_rests};
-use crate::scripts::chosen::{Chosen, whole};
+use crate::scripts::chosen::{Chosen, part_of};
 use crate::scripts::number::write_number;
 use crate::scripts::unwritten::{Unwritten, outcome};
 use crate::writing::then_remark;
@@ -144,9 +144,8 @@ pub fn write_chosen_rests<O: Sink>(
         Err(_) => return Err(Unwritten::Memory),
     };
     let total = count_rests(graph, &readings, cycles);
-    match *chosen {
-        Chosen::All => write_part(alloc, graph, table, &readings, cycles, whole(total), out),
-        Chosen::Part(part) => write_part(alloc, graph, table, &readings, cycles, part, out),
-        Chosen::Number => write_number(out, total),
+    match part_of(chosen, total) {
+        Some(part) => write_part(alloc, graph, table, &readings, cycles, part, out),
+        None => write_number(out, total),
     }
 }

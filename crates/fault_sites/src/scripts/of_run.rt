@@ -10,7 +10,7 @@ ghost use Rattle.fault_sites.specs.RunSites.{run_class_name, run_sites, run_text
 ghost use Rattle.fault_sites.specs.Script.{IsScript, WritesScript, WritesChosen};
 ghost use Rattle.fault_sites.specs.declared.scripts.unwritten.Unwritten.TheVariants as unwritten;
 
-use crate::scripts::chosen::{Chosen, size_of, whole};
+use crate::scripts::chosen::{Chosen, part_of, size_of};
 use crate::scripts::number::write_number;
 use crate::scripts::unwritten::{Unwritten, outcome};
 use crate::{GraphValues, Part, RunClass, count_run_sites, image_digest, write_run_sites};
@@ -149,9 +149,8 @@ pub fn write_chosen_run_sites<O: Sink>(
         Ok(total) => total,
         Err(_) => return Err(Unwritten::Memory),
     };
-    match *chosen {
-        Chosen::All => write_part(alloc, graph, table, class, rows, whole(total), total, out),
-        Chosen::Part(part) => write_part(alloc, graph, table, class, rows, part, total, out),
-        Chosen::Number => write_number(out, total),
+    match part_of(chosen, total) {
+        Some(part) => write_part(alloc, graph, table, class, rows, part, total, out),
+        None => write_number(out, total),
     }
 }

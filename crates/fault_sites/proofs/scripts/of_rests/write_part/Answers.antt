@@ -2,7 +2,7 @@ use Rattle.std.proofs.Common.{◌≡◌, ◌≤◌, ◌^◌, length, true, sym, 
 use Rattle.fault_script.specs.ScriptOf.{most_faults}
 use Rattle.fault_sites.specs.Rests.{first_fits, fitting, groups, kept_groups, rest_text}
 use Rattle.fault_sites.proofs.GroupsShort.{rest_script}
-use Rattle.fault_sites.proofs.WrittenScripts.{groups_written, sink_failed}
+use Rattle.fault_sites.proofs.WrittenScripts.{groups_unwritten, groups_written, no_failure, sink_failed, too_many_groups, too_many_is_none}
 use Rattle.fault_sites.proofs.scripts.of_rests.write_part.Goals as goal
 
 pub returns-in-Ok-clause-writes : goal.returns-in-Ok-clause-writes
@@ -18,3 +18,23 @@ returns-in-Ok-clause-writes g c =
 
 pub returns-in-Ok-clause-failed : goal.returns-in-Ok-clause-failed
 returns-in-Ok-clause-failed g c = λ is. sink_failed c.write_rests.result c.write_rests.ensures (sym c.outcome.ensures ∙ is)
+
+pub returns-else-fits-clause-writes : goal.returns-else-fits-clause-writes
+returns-else-fits-clause-writes g c =
+    let a = c.args in
+    too_many_groups a.graph.now a.table.now (kept_groups a.part (groups a.graph.now a.cycles)) (g.O.Sink.seen a.out.now).written
+    (sym c.fits.ensures ∙ c.if-fits.false)
+
+pub returns-else-fits-clause-failed : goal.returns-else-fits-clause-failed
+returns-else-fits-clause-failed g c = λ is. too_many_is_none is
+
+pub image_digest-requires : goal.image_digest-requires
+image_digest-requires g c = c.requires.table
+
+pub returns-in-Err-clause-writes : goal.returns-in-Err-clause-writes
+returns-in-Err-clause-writes g c =
+    let a = c.args in
+    groups_unwritten a.graph.now a.table.now (kept_groups a.part (groups a.graph.now a.cycles)) (g.O.Sink.seen a.out.now).written
+
+pub returns-in-Err-clause-failed : goal.returns-in-Err-clause-failed
+returns-in-Err-clause-failed g c = λ is. no_failure is
