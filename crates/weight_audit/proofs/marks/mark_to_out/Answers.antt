@@ -1,8 +1,16 @@
-use Rattle.std.proofs.Common.{◌≡◌, ◌⊎◌, true, false, length, ap, subst, ◌∙◌}
+use Rattle.std.proofs.Common.{◌≡◌, ◌⊎◌, true, false, length, ap, subst, ◌∙◌, arith}
 use Rattle.std.proofs.lemmas.List.{length-replicate}
 use Rattle.weight_audit.specs.Sweeping.{mark}
 use Rattle.weight_audit.proofs.Marking.{out_sound, out_complete}
 use Rattle.weight_audit.proofs.marks.mark_to_out.Goals as goal
+
+pub mark-requires : goal.mark-requires
+mark-requires c =
+    let many = ap length c.requires.none ∙ length-replicate (length c.args.graph.now.operations) false in
+    record { place = omega (arith, many, c.requires.out) }
+
+pub sweep-requires : goal.sweep-requires
+sweep-requires c = record { count = c.mark.ensures.many ∙ ap length c.requires.none ∙ length-replicate (length c.args.graph.now.operations) false }
 
 pub returns : goal.returns
 returns c =

@@ -1,10 +1,21 @@
-use Rattle.std.proofs.Common.{pos, length, sym, subst}
+use Rattle.std.proofs.Common.{pos, length, ap, sym, subst, ◌∙◌, arith}
+use Rattle.std.proofs.lemmas.List.{length-replicate}
 use Rattle.vcp_base.specs.Values.{at}
 use Rattle.weight_audit.specs.Weights.{at_out, weights_from}
 use Rattle.weight_audit.specs.Sweeping.{AreResidues}
 use Rattle.weight_audit.proofs.Residues.{are_zeros}
 use Rattle.weight_audit.proofs.Sweep.{are_at_out}
 use Rattle.weight_audit.proofs.numbers.weigh_to_out.Goals as goal
+
+pub add-requires-clause-place : goal.add-requires-clause-place
+add-requires-clause-place c =
+    let many = ap length c.requires.zeros ∙ length-replicate (length c.args.graph.now.operations) 0 in omega (arith, many, c.requires.out)
+
+pub sweep-requires-clause-many : goal.sweep-requires-clause-many
+sweep-requires-clause-many c = c.add.ensures.many ∙ ap length c.requires.zeros ∙ length-replicate (length c.args.graph.now.operations) 0
+
+pub sweep-requires-clause-profile : goal.sweep-requires-clause-profile
+sweep-requires-clause-profile c = c.requires.profile
 
 pub returns : goal.returns
 returns c =
