@@ -14,10 +14,11 @@ use crate::disturbance::Disturbance;
 use crate::effect::Effect;
 use crate::faults::{Listener, Subject, class_in, then_class_faults};
 use crate::tally::{Tally, plus};
+use fault_sites::Nowhere;
 use op_graph::Graph;
 use std::alloc::Global;
 use vcp_base::Memory;
-use vcp_outside::{Line, MemSink, Sink};
+use vcp_outside::{Line, Sink};
 
 /// How many rows there are for how many cycles later faults are refused: one for each number below 16, and one for all others.
 pub(crate) const DELAYS: usize = 17;
@@ -86,7 +87,7 @@ pub struct ClassCount {
 }
 
 /// What is counted of the faults of a class.
-fn count_class(nowhere: &mut MemSink, subject: &Subject<'_>, class: CoverClass) -> ClassCount
+fn count_class(subject: &Subject<'_>, class: CoverClass) -> ClassCount
     requires table { IsTableOf subject.now.table.now subject.now.graph.now }
     requires mapped { IsMapped subject.now.graph.now subject.now.survey.now }
     ensures { (stops : List Stops)
@@ -95,7 +96,8 @@ fn count_class(nowhere: &mut MemSink, subject: &Subject<'_>, class: CoverClass) 
 {
     let mut line = Line::new();
     let mut counting = Counting::new();
-    then_class_faults(&mut line, nowhere, &mut counting, subject, class);
+    let mut nowhere = Nowhere {};
+    then_class_faults(&mut line, &mut nowhere, &mut counting, subject, class);
     ClassCount { class, counting }
 }
 
@@ -110,7 +112,6 @@ fn add_count(counts: &mut Vec<ClassCount>, count: ClassCount) -> Result<(), Memo
 /// What is counted of each of these classes. Nothing is written.
 pub(crate) fn count_classes(
     alloc: Global,
-    nowhere: &mut MemSink,
     subject: &Subject<'_>,
     classes: &[CoverClass],
 ) -> Result<Vec<ClassCount>, Memory>
@@ -123,7 +124,7 @@ pub(crate) fn count_classes(
     let mut counts = Vec::new(alloc);
     'classes: for i in 0..classes.len() {
         let class = class_in(classes, i);
-        let count = count_class(nowhere, subject, class);
+        let count = count_class(subject, class);
         add_count(&mut counts, count)?;
     }
     Ok(counts)

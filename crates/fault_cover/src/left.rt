@@ -15,10 +15,11 @@ use crate::disturbance::Disturbance;
 use crate::effect::Effect;
 use crate::faults::{Listener, Subject, then_faults_at};
 use crate::tally::plus;
+use fault_sites::Nowhere;
 use op_graph::Graph;
 use std::alloc::Global;
 use vcp_base::Memory;
-use vcp_outside::{Line, MemSink, Sink};
+use vcp_outside::{Line, Sink};
 
 /// What is reported of faults that are neither refused nor do nothing, nor show.
 #[derive(Clone, Copy)]
@@ -247,7 +248,6 @@ fn add_lines(
 /// The lines of operation `k`.
 fn add_lines_at(
     alloc: Global,
-    nowhere: &mut MemSink,
     lines: &mut Vec<LeftLine>,
     subject: &Subject<'_>,
     classes: &[CoverClass],
@@ -263,7 +263,8 @@ fn add_lines_at(
 {
     let mut left = Left::new(alloc);
     let mut line = Line::new();
-    then_faults_at(&mut line, nowhere, &mut left, subject, classes, k);
+    let mut nowhere = Nowhere {};
+    then_faults_at(&mut line, &mut nowhere, &mut left, subject, classes, k);
     if left.lacked {
         return Err(Memory);
     }
@@ -276,7 +277,6 @@ fn add_lines_at(
 /// The lines of all operations whose faults run on or are beyond, in order. Nothing is written.
 pub(crate) fn lines_left(
     alloc: Global,
-    nowhere: &mut MemSink,
     subject: &Subject<'_>,
     classes: &[CoverClass],
 ) -> Result<Vec<LeftLine>, Memory>
@@ -289,7 +289,7 @@ pub(crate) fn lines_left(
 {
     let mut lines = Vec::new(alloc);
     'operations: for k in 0..subject.graph.len() {
-        add_lines_at(alloc, nowhere, &mut lines, subject, classes, k)?;
+        add_lines_at(alloc, &mut lines, subject, classes, k)?;
     }
     Ok(lines)
 }

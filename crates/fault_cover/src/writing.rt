@@ -28,7 +28,7 @@ use op_graph::Graph;
 use signature_table::Table;
 use std::alloc::Global;
 use vcp_base::Memory;
-use vcp_outside::{Failed, Line, MemSink, Sink};
+use vcp_outside::{Failed, Line, Sink};
 
 /// Why a cover isn't written, or not whole.
 #[derive(Clone, Copy)]
@@ -97,7 +97,6 @@ fn then_showing<O: Sink>(
 /// The lines of operations whose faults run on or are beyond, where there are any by the tally of all faults.
 fn left_of(
     alloc: Global,
-    nowhere: &mut MemSink,
     subject: &Subject<'_>,
     classes: &[CoverClass],
     all: &Tally,
@@ -115,7 +114,7 @@ fn left_of(
     if all.runs_on == 0 && all.beyond == 0 {
         return Ok(Vec::new(alloc));
     }
-    lines_left(alloc, nowhere, subject, classes)
+    lines_left(alloc, subject, classes)
 }
 
 /// Goes on with the tables.
@@ -146,26 +145,6 @@ impl Drop for Found {
     }
 }
 
-/// What a cover is written of, while nothing is written.
-fn find_by(
-    alloc: Global,
-    nowhere: &mut MemSink,
-    subject: &Subject<'_>,
-    classes: &[CoverClass],
-) -> Result<Found, Memory>
-    requires table { IsTableOf subject.now.table.now subject.now.graph.now }
-    requires mapped { IsMapped subject.now.graph.now subject.now.survey.now }
-    requires few { length classes.now ≤ 7 }
-    ensures { IfOk result (λ found. Finds subject.now.graph.now subject.now.table.now subject.now.survey.now classes.now found.counts.items found.all
-        found.lines.items) }
-{
-    let _operations = subject.graph.operations();
-    let counts = count_classes(alloc, nowhere, subject, classes)?;
-    let all = total(&counts);
-    let lines = left_of(alloc, nowhere, subject, classes, &all)?;
-    Ok(Found { counts, all, lines })
-}
-
 /// What a cover is written of. All memory is taken here.
 fn find(alloc: Global, subject: &Subject<'_>, classes: &[CoverClass]) -> Result<Found, Memory>
     requires table { IsTableOf subject.now.table.now subject.now.graph.now }
@@ -174,10 +153,11 @@ fn find(alloc: Global, subject: &Subject<'_>, classes: &[CoverClass]) -> Result<
     ensures { IfOk result (λ found. Finds subject.now.graph.now subject.now.table.now subject.now.survey.now classes.now found.counts.items found.all
         found.lines.items) }
 {
-    match MemSink::new(alloc, 0) {
-        Ok(mut nowhere) => find_by(alloc, &mut nowhere, subject, classes),
-        Err(e) => Err(e),
-    }
+    let _operations = subject.graph.operations();
+    let counts = count_classes(alloc, subject, classes)?;
+    let all = total(&counts);
+    let lines = left_of(alloc, subject, classes, &all)?;
+    Ok(Found { counts, all, lines })
 }
 
 /// Goes on with what is found.

@@ -3,7 +3,7 @@ use Rattle.fault_cover.specs.Counts.{AreCounted}
 use Rattle.fault_cover.specs.Leftovers.{AreCovered}
 use Rattle.fault_cover.specs.Telling.{subject}
 use Rattle.fault_cover.proofs.Hearing.{few_heard}
-use Rattle.fault_cover.proofs.writing.find_by.Goals as goal
+use Rattle.fault_cover.proofs.writing.find.Goals as goal
 
 pub returns : goal.returns
 returns c = λ stops survey.
