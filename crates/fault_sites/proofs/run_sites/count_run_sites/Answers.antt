@@ -11,3 +11,18 @@ returns c =
     let few : length a.run.now.graph.operations ≤ 65536 = rw c.graph.ensures at c.len-operations.ensures.rules.part.few_operations in
     let left : c.then_run-behind.result.skip ≡ 18446744073709551615 - length xs = ap (λ (p : Part). p.skip) c.then_run-behind.ensures.left in
     counted xs c.then_run-behind.result.skip (run_few a.class a.table.now a.run.now.graph a.rows.now few c.requires.few) left
+
+pub then_run-behind-requires-clause-begun : goal.then_run-behind-requires-clause-begun
+then_run-behind-requires-clause-begun c = c.requires.begun
+
+pub then_run-behind-requires-clause-same : goal.then_run-behind-requires-clause-same
+then_run-behind-requires-clause-same c = c.requires.same
+
+pub then_run-behind-requires-clause-few : goal.then_run-behind-requires-clause-few
+then_run-behind-requires-clause-few c = c.requires.few
+
+pub then_run-behind-requires-clause-width : goal.then_run-behind-requires-clause-width
+then_run-behind-requires-clause-width c = c.requires.width
+
+pub then_run-behind-requires-clause-row : goal.then_run-behind-requires-clause-row
+then_run-behind-requires-clause-row c = c.requires.row
