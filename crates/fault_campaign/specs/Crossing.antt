@@ -1,9 +1,9 @@
 -- Crossing: what a rerun works on, from cycle to cycle.
-use Rattle.std.specs.Prelude.{ℕ, ◌≡◌, ◌≤◌, List, length, Option, ℤ, true, vec_capacity}
+use Rattle.std.specs.Prelude.{ℕ, ◌≡◌, ◌≤◌, List, [], length, Option, ℤ, true, vec_capacity}
 use Rattle.coded_unit.specs.declared.call.Answer.{Answer}
 use Rattle.coded_unit.specs.Log.{Entry}
 use Rattle.op_graph.specs.Lists.{Lists}
-use Rattle.coded_machine.specs.CycleEnds.{stored_words}
+use Rattle.coded_machine.specs.CycleEnds.{initial_words, stored_words}
 use Rattle.fault_script.specs.declared.act.Fault.{Fault}
 use Rattle.fault_script.specs.Changes.{acts_of}
 use Rattle.fault_injector.specs.RunLaw.{Words}
@@ -26,6 +26,14 @@ pub record Room (g : Lists) (w : Work) : Type 0 where
   pub steady : w.steady ≡ true → StaysMarked g w.marked_by.items w.touched.items
   pub held : length w.held.items ≡ length g.stores
   pub inputs : length w.inputs ≡ length g.inputs
+
+-- What a rerun of a graph's code with this seed begins with: the first words of the cells, and nothing of a cycle before.
+pub record BeginsRerun (g : Lists) (seed : ℕ) (w : Work) : Type 0 where
+  pub room : Room g w
+  pub held : w.held.items ≡ initial_words g seed
+  pub past : w.past.items ≡ []
+  pub past_held : w.past_held.items ≡ []
+  pub cell_marks : w.cell_marks.items ≡ []
 
 -- what the cycle before left
 abbrev pub past_of : Work → Words

@@ -1,11 +1,11 @@
 //! The rerun of a group of faults, and its verdict.
 
-ghost use Rattle.std.specs.Prelude.{◌≡◌, ◌<◌, ◌≤◌, [], true, ℕ, ℤ, List, None, Some, All, IfOk, OnErr, length, slice_get, vec_capacity};
+ghost use Rattle.std.specs.Prelude.{◌≡◌, ◌<◌, ◌≤◌, true, ℕ, ℤ, List, None, Some, All, IfOk, OnErr, length, slice_get, vec_capacity};
 ghost use Rattle.vcp_base.specs.Limits.{most_cycles};
 ghost use Rattle.coded_unit.specs.declared.call.Answer.{Answer as AnswerGiven};
 ghost use Rattle.coded_unit.specs.Seen.{StaysHonest};
 ghost use Rattle.signature_table.specs.Signatures.{IsTableOf};
-ghost use Rattle.coded_machine.specs.CycleEnds.{initial_words, stored_words};
+ghost use Rattle.coded_machine.specs.CycleEnds.{stored_words};
 ghost use Rattle.fault_script.specs.Changes.{acts_of};
 ghost use Rattle.fault_script.specs.Groups.{GroupFits};
 ghost use Rattle.fault_injector.specs.Accepted.{EndsAreRead, OutputsAreRead};
@@ -14,7 +14,7 @@ ghost use Rattle.fault_injector.specs.RunLaw.{GroupStands, RunsKept};
 ghost use Rattle.fault_injector.specs.Names.{Names};
 ghost use Rattle.fault_injector.specs.Verdicts.{verdict_of};
 ghost use Rattle.fault_campaign.specs.Begun.{answers_in};
-ghost use Rattle.fault_campaign.specs.Crossing.{CycleRan, Room};
+ghost use Rattle.fault_campaign.specs.Crossing.{BeginsRerun, CycleRan, Room};
 ghost use Rattle.fault_campaign.specs.Groups.{JudgedAlone, JudgedNot};
 ghost use Rattle.fault_campaign.specs.Laws.{AsksAtTouched, RerunsAreRight, TouchedLaws};
 ghost use Rattle.fault_campaign.specs.Reruns.{InCycles, IsReference, Reran};
@@ -88,11 +88,7 @@ impl Drop for Work {
 impl Work {
     /// What a rerun begins with; `Memory` where there is no room for it.
     fn new(alloc: Global, reference: &Reference<'_>) -> Result<Work, Memory>
-        ensures room { IfOk result (λ w. Room reference.now.graph w) }
-        ensures held { IfOk result (λ w. w.held.items ≡ initial_words reference.now.graph reference.now.table.seed) }
-        ensures past { IfOk result (λ w. w.past.items ≡ []) }
-        ensures past_held { IfOk result (λ w. w.past_held.items ≡ []) }
-        ensures cell_marks { IfOk result (λ w. w.cell_marks.items ≡ []) }
+        ensures { IfOk result (BeginsRerun reference.now.graph reference.now.table.seed) }
     {
         let graph = reference.graph();
         let table = reference.table();
@@ -258,12 +254,8 @@ fn rerun<U: Unit>(
     work: &mut Work,
     faults: &mut Vec<Fault>,
 ) -> Verdict
-    requires room { Room reference.now.graph work.old }
+    requires begun { BeginsRerun reference.now.graph reference.now.table.seed work.old }
     requires faults { length group.now ≤ vec_capacity faults.old }
-    requires held { work.old.held.items ≡ initial_words reference.now.graph reference.now.table.seed }
-    requires past { work.old.past.items ≡ [] }
-    requires past_held { work.old.past_held.items ≡ [] }
-    requires cell_marks { work.old.cell_marks.items ≡ [] }
     ensures { Reran reference.now.table reference.now.graph group.now reference.now.rows reference.now.answers (U.seen unit.old) (U.seen unit.new) result }
 {
     // No call is carried at first.

@@ -16,8 +16,8 @@ cycles-init g c =
     record {
       between =
           started r c.args.group.now c.args.work.now seen.log seen.wrong (c.cycles_by_hand_are_whole.ensures.nothing_carried seen.log seen.wrong)
-          c.requires.past_held c.requires.past c.requires.held c.requires.cell_marks;
-      room = c.requires.room;
+          c.requires.begun.past_held c.requires.begun.past c.requires.begun.held c.requires.begun.cell_marks;
+      room = c.requires.begun.room;
       faults = c.requires.faults;
       count = c.cycles-count.ensures.count;
       within = omega arith;
