@@ -113,3 +113,7 @@ failed_row n row old new before now bytes e (Err f) failed is h =
     let k : Writes {T = Unit {0}} {E = Failed} old new before now (texts_from row_text n (row ∷ [])) (Err e) =
     subst (λ b. Writes {T = Unit {0}} {E = Failed} old new before now b (Err e)) (is ∙ sym (append-nil (row_text n row))) h in
     record { whole = tt; part = k.part; cause = record { later = k.cause.later; capped = k.cause.capped; stayed = tt; failed = k.cause.failed } }
+
+pub failed_released : (q : Result PairEnd Failed) → IsErr q → cycle_end q ≡ pair.Released
+failed_released (Ok e) failed = absurd cc
+failed_released (Err f) failed = refl
