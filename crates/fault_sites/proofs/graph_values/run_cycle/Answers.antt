@@ -1,10 +1,10 @@
-use Rattle.std.proofs.Common.{◌≡◌, ◌+◌, ◌++◌, ◌∷◌, [], ℤ, List, sym, ap, ◌∙◌, arith, drop, length, w64, SFits, rules}
+use Rattle.std.proofs.Common.{◌≡◌, ◌≤◌, ◌+◌, ◌++◌, ◌∷◌, [], ℕ, ℤ, List, sym, ap, ◌∙◌, arith, drop, length, w64, SFits, rules}
 use Rattle.std.proofs.lemmas.Int.{to_z-of_z}
 use Rattle.std.proofs.lemmas.List.{length-append}
 use Rattle.vcp_base.specs.Kinds.{Outcome}
 use Rattle.op_graph.specs.declared.op.Op.{Op}
 use Rattle.op_graph.specs.GraphRun.{Cycle, after, cycle_from, outcome_of}
-use Rattle.fault_sites.proofs.Lists.{drop_there}
+use Rattle.fault_sites.proofs.Lists.{drop_behind, drop_there}
 use Rattle.fault_sites.proofs.graph_values.run_cycle.Goals as goal
 
 -- the cycle that is left, by what the operation gave
@@ -67,3 +67,34 @@ returns-in-Err-clause-values c =
     (drop_there ops k c.operation-op.result c.operation-op.ensures) told in
     let whole = i.left ∙ (next ∙ ap (λ (r : Outcome). after values (λ v. cycle_from cells row (values ++ v ∷ []) (drop (k + 1) ops)) r) c.in-Err.is) in
     sym (ap (λ (x : Cycle). x.values) whole)
+
+pub append-requires : goal.append-requires
+append-requires c =
+    let i = c.operations.invariant in omega (arith, i.given, i.room, i.all, c.requires, c.operations-test.true)
+
+pub returns-in-Err-clause-capacity : goal.returns-in-Err-clause-capacity
+returns-in-Err-clause-capacity c = c.operations.invariant.room
+
+-- where no operation is left
+whole : (cells row values : List ℤ) (ops : List Op) (k : ℕ) (is : Cycle) → is ≡ cycle_from cells row values (drop k ops) → length ops ≤ k
+    → is ≡ cycle_from cells row values []
+whole cells row values ops k is left past = left ∙ ap (λ (xs : List Op). cycle_from cells row values xs) (drop_behind ops k past)
+
+pub returns-clause-stop : goal.returns-clause-stop
+returns-clause-stop c =
+    let i = c.operations.invariant in
+    let past : length c.args.graph.now.operations ≤ c.operations.k = omega (arith, c.operations-test.false, i.all) in
+    sym
+    (ap (λ (x : Cycle). x.stop)
+    (whole c.args.cells.now c.args.row.now c.operations.values.items c.args.graph.now.operations c.operations.k _ i.left past))
+
+pub returns-clause-values : goal.returns-clause-values
+returns-clause-values c =
+    let i = c.operations.invariant in
+    let past : length c.args.graph.now.operations ≤ c.operations.k = omega (arith, c.operations-test.false, i.all) in
+    sym
+    (ap (λ (x : Cycle). x.values)
+    (whole c.args.cells.now c.args.row.now c.operations.values.items c.args.graph.now.operations c.operations.k _ i.left past))
+
+pub returns-clause-capacity : goal.returns-clause-capacity
+returns-clause-capacity c = c.operations.invariant.room

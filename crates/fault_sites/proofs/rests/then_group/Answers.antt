@@ -1,11 +1,18 @@
-use Rattle.std.proofs.Common.{◌≤◌, ◌-◌, length, ℤ, w64, SFits, refl, ap, sym, arith, rules}
+use Rattle.std.proofs.Common.{◌≤◌, ◌-◌, [], ◌∷◌, length, ℤ, w64, SFits, refl, ap, sym, arith, rules}
 use Rattle.std.proofs.lemmas.Int.{to_z-of_z}
 use Rattle.fault_sites.specs.Rests.{changed}
 use Rattle.fault_sites.specs.Telling.{fed_lines}
 use Rattle.fault_sites.proofs.Going.{and_then, same}
 use Rattle.fault_sites.proofs.GroupsFit.{changed_many}
-use Rattle.fault_sites.proofs.Spending.{budget, spends_full, spends_one}
+use Rattle.fault_sites.proofs.Spending.{budget, spends_full, spends_one, spends_over, spends_past}
 use Rattle.fault_sites.proofs.rests.then_group.Goals as goal
+
+pub returns-then-budget-eq0 : goal.returns-then-budget-eq0
+returns-then-budget-eq0 g c = spends_over (changed c.args.n c.args.e c.args.rs.now ∷ []) c.if-budget-eq0.true
+
+pub returns-then-budget-gt0 : goal.returns-then-budget-gt0
+returns-then-budget-gt0 g c =
+    spends_past (changed c.args.n c.args.e c.args.rs.now ∷ []) (omega (arith, c.if-budget-eq0.false)) (omega (arith, c.if-budget-gt0.true)) refl
 
 pub returns-then-budget-count : goal.returns-then-budget-count
 returns-then-budget-count g c =
