@@ -53,7 +53,7 @@ that go kind by kind."""
 SUBJECTS = {"plain": "source", "run": "source", "demo": "source", "il": "listed", "exec": "image", "trace": "image"}
 """What is run by those that run something."""
 BY_KIND = ("Abouts", "Answer", "Endings", "GraphsOf", "Kinds", "Reports")
-WITH_ARMS = {("vcp_inputs", "Forms"), ("vcp_core", "Tasks"), *(("command_meaning", module) for module in BY_KIND)}
+WITH_ARMS = {("vcp_inputs", "Forms"), ("vcp_core", "Tasks"), *(("vcp_inputs", module) for module in BY_KIND)}
 
 
 def without_arms(text, left_out):

@@ -5,7 +5,8 @@ ghost use Rattle.vcp_base.specs.Code.{modulus};
 ghost use Rattle.vcp_base.specs.Kinds.{multiplier as multiplier_of};
 ghost use Rattle.vcp_base.specs.Limits.{most_step};
 ghost use Rattle.coded_unit.specs.Words.{Small as Moderate};
-ghost use Rattle.signature_table.specs.Signatures.{IsReadSignature, stored_signature as stored_signature_of, read_signature as read_signature_of, correction as correction_of};
+ghost use Rattle.signature_table.specs.Signatures.{IsReadSignature, stored_signature as stored_signature_of, read_signature as read_signature_of};
+ghost use Rattle.signature_table.specs.Signatures.{correction as correction_of};
 
 use crate::signatures::signature_of;
 use coded_unit::remainder;

@@ -15,7 +15,5 @@ mod words;
 pub use fault::LexFault;
 pub use reading::{lex, one_reading};
 pub use spot::spot_behind;
-pub use symbols::spelling as symbol_spelling;
 pub use token::{Key, Sym, Tok, Token};
 pub use tokens::Tokens;
-pub use words::spelling as key_spelling;

@@ -27,7 +27,7 @@ const SYMBOLS: [Sym; 17] = [
 ];
 
 /// The bytes of a symbol.
-pub fn spelling(symbol: Sym) -> &'static [u8]
+pub(crate) fn spelling(symbol: Sym) -> &'static [u8]
     ensures { result.now ≡ spec.spelling symbol }
 {
     match symbol {

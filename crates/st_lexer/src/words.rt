@@ -63,7 +63,7 @@ const KEYS: [Key; 52] = [
 ];
 
 /// The spelling of a reserved word, in capitals.
-pub fn spelling(key: Key) -> &'static [u8]
+pub(crate) fn spelling(key: Key) -> &'static [u8]
     ensures { result.now ≡ spec.spelling key }
 {
     match key {

@@ -12,9 +12,9 @@ use Rattle.vcp_inputs.specs.declared.refusal.NoInput.TheVariants as input
 use Rattle.vcp_inputs.specs.Images.{ImageOf, NotImage}
 use Rattle.vcp_inputs.specs.Lines.{input_status, input_text, refusal_text}
 use Rattle.vcp_inputs.specs.Refusals.{IsCaused}
-use Rattle.command_meaning.specs.Abouts.{about}
-use Rattle.command_meaning.specs.Kinds.{prints, refusal_task}
-use Rattle.command_meaning.specs.Performing.{Reaches, done, unmade}
+use Rattle.vcp_inputs.specs.Abouts.{about}
+use Rattle.vcp_inputs.specs.Kinds.{prints, refusal_task}
+use Rattle.vcp_inputs.specs.Performing.{Reaches, done, unmade}
 use Rattle.vcp_outside.specs.Seen.{FilesSeen}
 use Rattle.coded_machine.specs.Moments.{Moment}
 use Rattle.vcp_core.specs.Tasks.{Audited, too_large, TaskOf}

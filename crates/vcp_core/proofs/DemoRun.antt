@@ -14,11 +14,11 @@ use Rattle.vcp_inputs.specs.Files.{Loads, NotLoaded}
 use Rattle.vcp_inputs.specs.Lines.{input_status, input_text, refusal_text}
 use Rattle.vcp_inputs.specs.Programs.{TypedOf, NotTyped}
 use Rattle.vcp_inputs.specs.RowsOutcome.{Opens, RowsOutcome, opened, source_outcome}
-use Rattle.command_meaning.specs.Abouts.{about, made_name}
-use Rattle.command_meaning.specs.FileTasks.{OnRows, untaken}
-use Rattle.command_meaning.specs.Kinds.{Task, refusal_task, runs}
-use Rattle.command_meaning.specs.Seen.{Still}
-use Rattle.command_meaning.specs.Performing.{Reaches, done, unmade}
+use Rattle.vcp_inputs.specs.Abouts.{about, made_name}
+use Rattle.vcp_inputs.specs.FileTasks.{OnRows, untaken}
+use Rattle.vcp_inputs.specs.Kinds.{Task, refusal_task, runs}
+use Rattle.vcp_inputs.specs.Seen.{Still}
+use Rattle.vcp_inputs.specs.Performing.{Reaches, done, unmade}
 use Rattle.vcp_outside.specs.Seen.{FilesSeen, SinkSeen}
 use Rattle.coded_machine.specs.Moments.{Moment}
 use Rattle.vcp_core.proofs.Performing.{file_takes}
@@ -27,8 +27,8 @@ use Rattle.input_rows.specs.declared.fault.RowFault.{RowFault}
 use Rattle.op_graph.specs.Lists.{Lists}
 use Rattle.coded_machine.specs.declared.cycle_end.CycleEnd.{CycleEnd}
 use Rattle.coded_machine.specs.declared.cycle_end.CycleEnd.TheVariants as cycle
-use Rattle.command_meaning.specs.Reports.{RunEnd, complete, end_read, output_names, refused, stopped}
-use Rattle.command_meaning.specs.RunKind.{Job, numbers, run_read}
+use Rattle.vcp_inputs.specs.Reports.{RunEnd, complete, end_read, output_names, refused, stopped}
+use Rattle.vcp_inputs.specs.RunKind.{Job, numbers, run_read}
 use Rattle.run_report.specs.SummaryLine.{summary_text}
 use Rattle.vcp_core.specs.declared.ending.Ending.{Ending}
 use Rattle.vcp_core.specs.MachineRun.{EndsAtStop, IsThere, PrintsLast}
@@ -41,7 +41,7 @@ use Rattle.std.proofs.lemmas.Int.{ints}
 use Rattle.std.proofs.lemmas.List.{length-append}
 use Rattle.std.specs.Int.{saturate_signed, w128}
 use Rattle.vcp_core.specs.EndLines.{last_text}
-use Rattle.command_meaning.specs.Printing.{Report, last_part}
+use Rattle.vcp_inputs.specs.Printing.{Report, last_part}
 use Rattle.vcp_core.specs.Demo.{AreSums, DemoTask, KeepsSums, first_value, last_value, made_held, sum_of, summary_job, summary_then, summed_text, summed_up}
 use Rattle.vcp_core.specs.Shown.{RunCame, Shows}
 use Rattle.coded_machine.specs.State.{State}

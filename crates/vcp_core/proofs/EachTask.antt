@@ -58,10 +58,10 @@ use Rattle.vcp_inputs.specs.RowsOutcome as outcome
 use Rattle.vcp_inputs.specs.Scripts.{ScriptOf, NotScript, no_script}
 use Rattle.vcp_inputs.specs.Wires.{WireOf, NotWire, no_wire}
 use Rattle.program_maker.specs.MadeRows.{made_rows}
-use Rattle.command_meaning.specs.Abouts.{made_name}
-use Rattle.command_meaning.specs.Answer.{source, listed, image}
-use Rattle.command_meaning.specs.FileTasks.{TakenFile, missing, untaken, taken, ParsedFile, TypedFile, ListingFile, ImageFile, ScriptFile, OnRows, TakenRows}
-use Rattle.command_meaning.specs.Kinds.{Task, lacks, answers, compiles, runs, judges, compares, pairs_, wires, prints, refusal_task}
+use Rattle.vcp_inputs.specs.Abouts.{made_name}
+use Rattle.vcp_inputs.specs.Answer.{source, listed, image}
+use Rattle.vcp_inputs.specs.FileTasks.{TakenFile, missing, untaken, taken, ParsedFile, TypedFile, ListingFile, ImageFile, ScriptFile, OnRows, TakenRows}
+use Rattle.vcp_inputs.specs.Kinds.{Task, lacks, answers, compiles, runs, judges, compares, pairs_, wires, prints, refusal_task}
 use Rattle.vcp_core.specs.Demo.{made_held, summary_job}
 use Rattle.vcp_core.specs.EachTask.{HoldsBytes}
 use Rattle.vcp_core.specs.Tasks.{TaskOf, Audited, too_large, printed, WholeRows, FewRows, too_many, few, Apart, same_seed, two_seeds, Compared, PairsRows, pair_job, plain_answer, rows_job, words_job, ok_text, most_trace, table_code, listing, widened, ScriptedTask}

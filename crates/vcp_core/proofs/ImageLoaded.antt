@@ -9,7 +9,7 @@ use Rattle.op_graph.specs.declared.op.Cell.{Cell}
 use Rattle.op_graph.specs.declared.op.Op.{Op}
 use Rattle.op_graph.specs.Lists.{Lists, cells, column}
 use Rattle.signature_table.specs.Signatures.{Numbers, corrections_from, table_of, IsTableOf}
-use Rattle.command_meaning.specs.Answer.{image}
+use Rattle.vcp_inputs.specs.Answer.{image}
 use Rattle.vcp_core.specs.Tasks.{table_code}
 use Rattle.vcp_core.specs.MachineRun.{CarriesOut}
 

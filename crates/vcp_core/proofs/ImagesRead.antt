@@ -23,11 +23,11 @@ use Rattle.vcp_inputs.specs.Lines.{input_status, input_text, memory_text, refusa
 use Rattle.vcp_inputs.specs.Refusals.{IsCaused}
 use Rattle.vcp_inputs.specs.RowsOutcome.{HasLongFile, Opens, begins, rows_outcome, source_outcome}
 use Rattle.vcp_inputs.specs.RowsRead.{graph_columns}
-use Rattle.command_meaning.specs.Abouts.{Among, FileWord, about, image_word, rows_others, rows_words}
-use Rattle.command_meaning.specs.Answer.{image}
-use Rattle.command_meaning.specs.FileTasks.{ImageFile, TakenFile, TakenRows}
-use Rattle.command_meaning.specs.Kinds.{Task, runs}
-use Rattle.command_meaning.specs.Performing.{Performs}
+use Rattle.vcp_inputs.specs.Abouts.{Among, FileWord, about, image_word, rows_others, rows_words}
+use Rattle.vcp_inputs.specs.Answer.{image}
+use Rattle.vcp_inputs.specs.FileTasks.{ImageFile, TakenFile, TakenRows}
+use Rattle.vcp_inputs.specs.Kinds.{Task, runs}
+use Rattle.vcp_inputs.specs.Performing.{Performs}
 use Rattle.vcp_core.specs.declared.image_rows.ImageRows.{ImageRows}
 use Rattle.vcp_core.specs.ImagesRead.{AreImageRows, ImageRowsRead, ReadsImageRows, executing, tracing, injecting, comparing, pairing}
 use Rattle.vcp_core.specs.Loading.{FirstRead}

@@ -30,9 +30,9 @@ use Rattle.vcp_outside.specs.Seen.{SinkSeen}
 use Rattle.coded_machine.specs.Leaves.{Leaves}
 use Rattle.coded_machine.specs.Moments.{Moment}
 use Rattle.vcp_inputs.specs.Forms.{Code}
-use Rattle.command_meaning.specs.Answer.{Subject, source}
-use Rattle.command_meaning.specs.GraphsOf.{StandsFor}
-use Rattle.command_meaning.specs.Reports.{end_read, end_told, subject_outputs, run_status}
+use Rattle.vcp_inputs.specs.Answer.{Subject, source}
+use Rattle.vcp_inputs.specs.GraphsOf.{StandsFor}
+use Rattle.vcp_inputs.specs.Reports.{end_read, end_told, subject_outputs, run_status}
 use Rattle.vcp_core.specs.MachineRun.{CarriesOut, EndsAtStop, HasCauses, IsThere, StandsAs}
 use Rattle.vcp_core.proofs.JobRun.{append-all}
 use Rattle.vcp_core.proofs.PlainNames.{inputs-count}

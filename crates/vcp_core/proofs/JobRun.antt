@@ -23,7 +23,7 @@ use Rattle.coded_machine.specs.CycleEnds.{end_of, outputs_of}
 use Rattle.coded_machine.specs.Runs.{Outcome, AllCycles, outcome_over, end_of_run, followed_by as outcome_followed, unless_ended}
 use Rattle.flat_expr.specs.Told.{graph_end, halted_at}
 use Rattle.coded_machine.specs.RowRuns.{SomeCycles}
-use Rattle.command_meaning.specs.Reports.{RunEnd, complete, stopped, refused, end_told, end_read, behind_text, run_status}
+use Rattle.vcp_inputs.specs.Reports.{RunEnd, complete, stopped, refused, end_told, end_read, behind_text, run_status}
 use Rattle.vcp_core.specs.EndLines.{last_text}
 use Rattle.vcp_core.specs.MachineRun.{EndsAtStop, IsThere}
 

@@ -33,14 +33,14 @@ use Rattle.vcp_inputs.specs.Lines.{input_status, input_text, refusal_text}
 use Rattle.vcp_inputs.specs.RowsOutcome.{RowsOutcome, rows_outcome}
 use Rattle.vcp_inputs.specs.RowsRead.{AllRead, NoneRead, RowsBroken, at_header, at_row, graph_columns}
 use Rattle.vcp_inputs.specs.Scripts.{ScriptOf, NotScript}
-use Rattle.command_meaning.specs.Abouts.{About, about, FileWord, rows_words, script_word, Among}
-use Rattle.command_meaning.specs.Answer.{Answer, Campaign, printed}
-use Rattle.command_meaning.specs.CampaignKind.{GroupsDone, GroupsLeft, RerunsAsked, verdicts_answer, verdicts_meant}
-use Rattle.command_meaning.specs.Seen.{Appending, Still}
-use Rattle.command_meaning.specs.Clauses.{IsTooLong}
-use Rattle.command_meaning.specs.FileTasks.{OnRows, taken}
-use Rattle.command_meaning.specs.Kinds.{Task, judges, refusal_task}
-use Rattle.command_meaning.specs.Performing.{Reaches, done, cut, wanting, unread, unmade, Performs}
+use Rattle.vcp_inputs.specs.Abouts.{About, about, FileWord, rows_words, script_word, Among}
+use Rattle.vcp_inputs.specs.Answer.{Answer, Campaign, printed}
+use Rattle.vcp_inputs.specs.CampaignKind.{GroupsDone, GroupsLeft, RerunsAsked, verdicts_answer, verdicts_meant}
+use Rattle.vcp_inputs.specs.Seen.{Appending, Still}
+use Rattle.vcp_inputs.specs.Clauses.{IsTooLong}
+use Rattle.vcp_inputs.specs.FileTasks.{OnRows, taken}
+use Rattle.vcp_inputs.specs.Kinds.{Task, judges, refusal_task}
+use Rattle.vcp_inputs.specs.Performing.{Reaches, done, cut, wanting, unread, unmade, Performs}
 use Rattle.vcp_outside.specs.Seen.{FilesSeen, SinkSeen}
 use Rattle.coded_machine.specs.Moments.{Moment, moment}
 use Rattle.vcp_core.specs.Tasks.{FewRows, WholeRows, TaskOf, ScriptedTask}

@@ -13,10 +13,10 @@ use Rattle.vcp_inputs.specs.Forms.{Code, Rows, il}
 use Rattle.vcp_inputs.specs.Tables.{rows_name}
 use Rattle.vcp_inputs.specs.Listings.{NotListing}
 use Rattle.vcp_inputs.specs.RowsOutcome.{RowsOutcome, lacking, opened, refused, rows_outcome}
-use Rattle.command_meaning.specs.Answer.{listed}
-use Rattle.command_meaning.specs.FileTasks.{OnRows, TakenFile, TakenRows, missing, taken, untaken}
-use Rattle.command_meaning.specs.Kinds.{Task, runs}
-use Rattle.command_meaning.specs.ListRuns.{HasListColumns, ListsAreTold}
+use Rattle.vcp_inputs.specs.Answer.{listed}
+use Rattle.vcp_inputs.specs.FileTasks.{OnRows, TakenFile, TakenRows, missing, taken, untaken}
+use Rattle.vcp_inputs.specs.Kinds.{Task, runs}
+use Rattle.vcp_inputs.specs.ListRuns.{HasListColumns, ListsAreTold}
 use Rattle.vcp_core.specs.MachineRun.{StandsAs}
 use Rattle.vcp_core.specs.Tasks.{rows_job, TaskOf}
 

@@ -19,11 +19,11 @@ use Rattle.vcp_inputs.specs.Files.{Loads}
 use Rattle.vcp_inputs.specs.Lines.{input_text, input_status, refusal_text}
 use Rattle.vcp_inputs.specs.RowsOutcome.{HasLongFile, Opens, RowsOutcome, begins, opened, rows_outcome, source_outcome}
 use Rattle.vcp_inputs.specs.Refusals.{IsCaused}
-use Rattle.command_meaning.specs.Abouts.{Among, About, FileWord, rows_others, rows_words}
-use Rattle.command_meaning.specs.Clauses.{IsTooLong, MayName}
-use Rattle.command_meaning.specs.FileTasks.{TakenFile, taken, OnRows, TakenRows}
-use Rattle.command_meaning.specs.Kinds.{Task, lacks, lack_answer, refusal_task}
-use Rattle.command_meaning.specs.Performing.{Reaches, done, unread, unmade, Performs}
+use Rattle.vcp_inputs.specs.Abouts.{Among, About, FileWord, rows_others, rows_words}
+use Rattle.vcp_inputs.specs.Clauses.{IsTooLong, MayName}
+use Rattle.vcp_inputs.specs.FileTasks.{TakenFile, taken, OnRows, TakenRows}
+use Rattle.vcp_inputs.specs.Kinds.{Task, lacks, lack_answer, refusal_task}
+use Rattle.vcp_inputs.specs.Performing.{Reaches, done, unread, unmade, Performs}
 use Rattle.vcp_core.specs.Loading.{FirstRead, BothRead}
 use Rattle.vcp_core.proofs.Facts.{if_some_always, if_some_both, if_some_same, if_some_weaker}
 use Rattle.vcp_core.proofs.Performing.{files_lost, still}

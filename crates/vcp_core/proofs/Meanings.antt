@@ -39,14 +39,14 @@ use Rattle.image_file.specs.Image.{image_of}
 use Rattle.signature_table.specs.Signatures.{Numbers, table_of}
 use Rattle.weight_audit.specs.Audit.{most_weights, weights_up_to}
 use Rattle.weight_audit.specs.AuditText.{AuditOf}
-use Rattle.command_meaning.specs.Abouts.{FileWord, about, AllHeld, made_name, image_word, listing_word, rows_words, script_word, source_word, Among}
-use Rattle.command_meaning.specs.Answer.{Answer, Campaign, source, listed, image}
-use Rattle.command_meaning.specs.FileTasks.{TakenFile, missing, untaken, taken, ParsedFile, TypedFile, ListingFile, ImageFile, ScriptFile, OnRows, TakenRows}
-use Rattle.command_meaning.specs.Endings.{HasOwnStatus}
-use Rattle.command_meaning.specs.Kinds.{Task, lacks, answers, compiles, runs, judges, compares, pairs_, wires, prints, refusal_task, Meant}
-use Rattle.command_meaning.specs.PairKind.{PairJob}
-use Rattle.command_meaning.specs.Reports.{end_told, run_status}
-use Rattle.command_meaning.specs.RunKind.{Job, job_answer, run_meant}
+use Rattle.vcp_inputs.specs.Abouts.{FileWord, about, AllHeld, made_name, image_word, listing_word, rows_words, script_word, source_word, Among}
+use Rattle.vcp_inputs.specs.Answer.{Answer, Campaign, source, listed, image}
+use Rattle.vcp_inputs.specs.FileTasks.{TakenFile, missing, untaken, taken, ParsedFile, TypedFile, ListingFile, ImageFile, ScriptFile, OnRows, TakenRows}
+use Rattle.vcp_inputs.specs.Endings.{HasOwnStatus}
+use Rattle.vcp_inputs.specs.Kinds.{Task, lacks, answers, compiles, runs, judges, compares, pairs_, wires, prints, refusal_task, Meant}
+use Rattle.vcp_inputs.specs.PairKind.{PairJob}
+use Rattle.vcp_inputs.specs.Reports.{end_told, run_status}
+use Rattle.vcp_inputs.specs.RunKind.{Job, job_answer, run_meant}
 use Rattle.vcp_core.proofs.OneFile.{one_file, file_has}
 use Rattle.vcp_core.specs.Tasks.{Audited, too_large, printed, FewRows, too_many, few, WholeRows, Apart, same_seed, two_seeds, Compared, PairsRows, pair_job, TaskOf, plain_answer, rows_job, words_job, ok_text, most_trace, table_code, listing, widened, ScriptedTask}
 use Rattle.vcp_core.specs.PerformedLaws.{RunMeansPlain}

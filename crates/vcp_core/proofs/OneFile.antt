@@ -2,8 +2,8 @@
 use Rattle.std.proofs.Common.{ℕ, ◌≡◌, ◌≤◌, refl, ap, subst, List, length, Option, Some, None, arith}
 use Rattle.vcp_inputs.specs.declared.refusal.Refusal.{Refusal}
 use Rattle.vcp_inputs.specs.Files.{IsRefused, long, short}
-use Rattle.command_meaning.specs.FileTasks.{TakenFile, missing, untaken, taken}
-use Rattle.command_meaning.specs.Kinds.{Task, lacks, refusal_task}
+use Rattle.vcp_inputs.specs.FileTasks.{TakenFile, missing, untaken, taken}
+use Rattle.vcp_inputs.specs.Kinds.{Task, lacks, refusal_task}
 
 -- a text is refused in one way
 one_refusal : (Why : List ℕ → Refusal → Type 0) (most : ℕ) (text : List ℕ) → ((r s : Refusal) → Why text r → Why text s → r ≡ s) →

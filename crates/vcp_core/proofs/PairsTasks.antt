@@ -29,13 +29,13 @@ use Rattle.vcp_inputs.specs.Images.{ImageOf, NotImage}
 use Rattle.vcp_inputs.specs.Lines.{input_status, input_text, refusal_text}
 use Rattle.vcp_inputs.specs.RowsOutcome.{RowsOutcome, rows_outcome}
 use Rattle.vcp_inputs.specs.Scripts.{ScriptOf, NotScript}
-use Rattle.command_meaning.specs.Abouts.{Among, FileWord, about, rows_words, script_word}
-use Rattle.command_meaning.specs.Answer.{Campaign}
-use Rattle.command_meaning.specs.Clauses.{IsTooLong}
-use Rattle.command_meaning.specs.FileTasks.{OnRows, taken}
-use Rattle.command_meaning.specs.CampaignKind.{PairRunsAsked, pairs_answer, pairs_meant}
-use Rattle.command_meaning.specs.Kinds.{Task, pairs_, refusal_task}
-use Rattle.command_meaning.specs.Performing.{Reaches, done, cut, wanting, unread, unmade}
+use Rattle.vcp_inputs.specs.Abouts.{Among, FileWord, about, rows_words, script_word}
+use Rattle.vcp_inputs.specs.Answer.{Campaign}
+use Rattle.vcp_inputs.specs.Clauses.{IsTooLong}
+use Rattle.vcp_inputs.specs.FileTasks.{OnRows, taken}
+use Rattle.vcp_inputs.specs.CampaignKind.{PairRunsAsked, pairs_answer, pairs_meant}
+use Rattle.vcp_inputs.specs.Kinds.{Task, pairs_, refusal_task}
+use Rattle.vcp_inputs.specs.Performing.{Reaches, done, cut, wanting, unread, unmade}
 use Rattle.vcp_core.specs.Faults.{campaign_end, of_campaign}
 use Rattle.vcp_core.specs.Reach.{fault_status, fault_text, told_line, told_status}
 use Rattle.vcp_inputs.specs.RowsRead.{AllRead, NoneRead, graph_columns}

@@ -4,16 +4,16 @@ use Rattle.std.specs.Io.KnownBytes.{Appends, IsAtEnd}
 use Rattle.vcp_outside.specs.Counts.{Rose}
 use Rattle.vcp_outside.specs.Held.{Held}
 use Rattle.vcp_inputs.specs.Forms.{Form, Rows, Code, check, format, plain, run, il, compile, list, exec, trace, widen, audit, inject, pair, pairs, wire, demo}
-use Rattle.command_meaning.specs.Answer.{Answer}
-use Rattle.command_meaning.specs.Abouts.{Among, About, about, AllHeld}
-use Rattle.command_meaning.specs.Clauses.{IsEnd, IsTooLong, Keeps, MayHold, Serves, TellsTooLong, Completed, Completes, IsAccepted}
-use Rattle.command_meaning.specs.Endings.{Answered, known, given_up, Came, Causes, DoneHasStatus, DoneIsMeant, Ends, EndingsHaveCauses, Given, GivenUp, GivingUpHasCauses, HasOwnStatus, IsNoFault, NothingFailed, TellsLine}
-use Rattle.command_meaning.specs.Endings as ends
-use Rattle.command_meaning.specs.Kinds.{Task, lacks, answers, compiles, runs, judges, compares, pairs_, wires, Done, Meant}
-use Rattle.command_meaning.specs.Performing.{Reaches, done, cut, wanting, unread, unmade, Performs}
+use Rattle.vcp_inputs.specs.Answer.{Answer}
+use Rattle.vcp_inputs.specs.Abouts.{Among, About, about, AllHeld}
+use Rattle.vcp_inputs.specs.Clauses.{IsEnd, IsTooLong, Keeps, MayHold, Serves, TellsTooLong, Completed, Completes, IsAccepted}
+use Rattle.vcp_inputs.specs.Endings.{Answered, known, given_up, Came, Causes, DoneHasStatus, DoneIsMeant, Ends, EndingsHaveCauses, Given, GivenUp, GivingUpHasCauses, HasOwnStatus, IsNoFault, NothingFailed, TellsLine}
+use Rattle.vcp_inputs.specs.Endings as ends
+use Rattle.vcp_inputs.specs.Kinds.{Task, lacks, answers, compiles, runs, judges, compares, pairs_, wires, Done, Meant}
+use Rattle.vcp_inputs.specs.Performing.{Reaches, done, cut, wanting, unread, unmade, Performs}
 use Rattle.coded_unit.specs.Seen.{UnitSeen, StaysHonest}
 use Rattle.vcp_outside.specs.Seen.{SinkSeen}
-use Rattle.command_meaning.specs.Seen.{Outside, moment_of}
+use Rattle.vcp_inputs.specs.Seen.{Outside, moment_of}
 use Rattle.vcp_core.specs.Performed.{Performed}
 use Rattle.vcp_core.specs.PerformedLaws.{RunMeansPlain, RunWritesPlain}
 use Rattle.vcp_core.specs.Tasks.{TaskOf}

@@ -20,15 +20,15 @@ use Rattle.vcp_inputs.specs.Files.{LeavesLong, NotLoaded}
 use Rattle.vcp_inputs.specs.Lines.{input_text, input_status, memory_text, refusal_text, rows_text, write_fault_text}
 use Rattle.vcp_inputs.specs.Refusals.{IsCaused, no_rows}
 use Rattle.vcp_inputs.proofs.Causes.{row_caused}
-use Rattle.command_meaning.specs.Answer.{printed}
-use Rattle.command_meaning.specs.Abouts.{Among, About, FileWord}
-use Rattle.command_meaning.specs.Clauses.{IsEnd, IsLine, IsTooLong, MayHold, MayName, NamesFile}
-use Rattle.command_meaning.specs.FileTasks.{TakenFile, missing, taken, untaken}
-use Rattle.command_meaning.specs.Kinds.{Task, lacks, lack_answer, refusal_task, runs, Done, Left}
-use Rattle.command_meaning.specs.Seen.{Still}
-use Rattle.command_meaning.specs.Performing.{Reaches, done, cut, unread, unmade, Performs}
-use Rattle.command_meaning.specs.Performing as reached
-use Rattle.command_meaning.specs.RunKind.{Job}
+use Rattle.vcp_inputs.specs.Answer.{printed}
+use Rattle.vcp_inputs.specs.Abouts.{Among, About, FileWord}
+use Rattle.vcp_inputs.specs.Clauses.{IsEnd, IsLine, IsTooLong, MayHold, MayName, NamesFile}
+use Rattle.vcp_inputs.specs.FileTasks.{TakenFile, missing, taken, untaken}
+use Rattle.vcp_inputs.specs.Kinds.{Task, lacks, lack_answer, refusal_task, runs, Done, Left}
+use Rattle.vcp_inputs.specs.Seen.{Still}
+use Rattle.vcp_inputs.specs.Performing.{Reaches, done, cut, unread, unmade, Performs}
+use Rattle.vcp_inputs.specs.Performing as reached
+use Rattle.vcp_inputs.specs.RunKind.{Job}
 use Rattle.vcp_core.specs.declared.ending.Ending.{Ending}
 use Rattle.vcp_core.specs.declared.ending.Ending.TheVariants as end
 use Rattle.vcp_core.specs.MachineRun.{RunsTo}

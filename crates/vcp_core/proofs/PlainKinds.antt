@@ -12,12 +12,12 @@ use Rattle.run_report.specs.Lines.{header_text, row_text}
 use Rattle.vcp_typed.specs.SourceRun.{Program}
 use Rattle.vcp_inputs.specs.Forms.{Rows, plain}
 use Rattle.vcp_inputs.specs.Tables.{rows_name}
-use Rattle.command_meaning.specs.Abouts.{about, Among}
-use Rattle.command_meaning.specs.Answer.{Answer}
-use Rattle.command_meaning.specs.Kinds.{Task, answers}
-use Rattle.command_meaning.specs.Performing.{Reaches, done, cut, wanting}
-use Rattle.command_meaning.specs.Printing.{every_row, last_part}
-use Rattle.command_meaning.specs.Reports.{RunEnd, complete, stopped, refused, end_told, output_names}
+use Rattle.vcp_inputs.specs.Abouts.{about, Among}
+use Rattle.vcp_inputs.specs.Answer.{Answer}
+use Rattle.vcp_inputs.specs.Kinds.{Task, answers}
+use Rattle.vcp_inputs.specs.Performing.{Reaches, done, cut, wanting}
+use Rattle.vcp_inputs.specs.Printing.{every_row, last_part}
+use Rattle.vcp_inputs.specs.Reports.{RunEnd, complete, stopped, refused, end_told, output_names}
 use Rattle.vcp_core.specs.EndLines.{last_text}
 use Rattle.vcp_outside.specs.Seen.{FilesSeen, SinkSeen}
 use Rattle.coded_machine.specs.Moments.{moment}

@@ -11,7 +11,7 @@ use Rattle.input_rows.specs.declared.fault.RowFault.{RowFault}
 use Rattle.input_rows.specs.RowsOf.{RowsLeft}
 use Rattle.run_report.specs.Lines.{header_text, row_text, end_text}
 use Rattle.coded_machine.specs.RowRuns.{texts_from}
-use Rattle.command_meaning.specs.Reports.{output_names}
+use Rattle.vcp_inputs.specs.Reports.{output_names}
 use Rattle.coded_machine.specs.declared.rows.fault.RunFault.{RunFault}
 use Rattle.coded_machine.specs.declared.rows.fault.RunFault.TheVariants as fault
 use Rattle.vcp_core.specs.declared.ending.Ending.{Ending}

@@ -22,16 +22,16 @@ use Rattle.coded_machine.specs.declared.rows.fault.RunFault.TheVariants as given
 use Rattle.coded_machine.specs.FirstRows.{FirstRowsFollow}
 use Rattle.coded_machine.specs.RowRuns.{texts_from, IsFront, CameToEnd, RunsRows, SomeCycles}
 use Rattle.vcp_inputs.specs.Lines.{rows_text}
-use Rattle.command_meaning.specs.GraphsOf.{MayRun}
-use Rattle.command_meaning.specs.Reports.{RunEnd, complete, stopped, refused, end_told, end_read, told_of, subject_outputs, behind_text, run_status}
+use Rattle.vcp_inputs.specs.GraphsOf.{MayRun}
+use Rattle.vcp_inputs.specs.Reports.{RunEnd, complete, stopped, refused, end_told, end_read, told_of, subject_outputs, behind_text, run_status}
 use Rattle.run_report.specs.Lines.{header_text, row_text}
 use Rattle.vcp_inputs.specs.Forms.{Code}
-use Rattle.command_meaning.specs.Answer.{Subject}
+use Rattle.vcp_inputs.specs.Answer.{Subject}
 use Rattle.vcp_core.specs.EndLines.{last_text}
 use Rattle.vcp_core.specs.Shown.{Shows}
 use Rattle.vcp_core.specs.Tasks.{rows_job}
-use Rattle.command_meaning.specs.Printing.{Report, Printing, every_row, goes_on, no_report, run_text, run_then, last_part}
-use Rattle.command_meaning.specs.RunKind.{Job, FirstAsMeant, RunLeft, numbers, calls_of, run_read, run_meant, job_answer}
+use Rattle.vcp_inputs.specs.Printing.{Report, Printing, every_row, goes_on, no_report, run_text, run_then, last_part}
+use Rattle.vcp_inputs.specs.RunKind.{Job, FirstAsMeant, RunLeft, numbers, calls_of, run_read, run_meant, job_answer}
 use Rattle.coded_machine.specs.Moments.{Moment, moment}
 use Rattle.vcp_core.specs.declared.ending.Ending.{Ending}
 use Rattle.vcp_core.specs.Reach.{end_status}

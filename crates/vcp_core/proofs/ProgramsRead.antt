@@ -20,11 +20,11 @@ use Rattle.vcp_inputs.specs.Listings.{NotListing}
 use Rattle.vcp_inputs.specs.Programs.{NotTyped, TypedOf}
 use Rattle.vcp_inputs.specs.Refusals.{IsCaused}
 use Rattle.vcp_inputs.specs.RowsOutcome.{HasLongFile, Opens, begins, rows_outcome}
-use Rattle.command_meaning.specs.Abouts.{about, listing_word, source_word}
-use Rattle.command_meaning.specs.Answer.{source}
-use Rattle.command_meaning.specs.Kinds.{Task, answers, runs}
-use Rattle.command_meaning.specs.ListRuns.{HasListColumns}
-use Rattle.command_meaning.specs.Performing.{Performs}
+use Rattle.vcp_inputs.specs.Abouts.{about, listing_word, source_word}
+use Rattle.vcp_inputs.specs.Answer.{source}
+use Rattle.vcp_inputs.specs.Kinds.{Task, answers, runs}
+use Rattle.vcp_inputs.specs.ListRuns.{HasListColumns}
+use Rattle.vcp_inputs.specs.Performing.{Performs}
 use Rattle.vcp_core.specs.ProgramsRead.{Language, ProgramRead, ReadsProgramRows, answering, instruction_list, listing, run_of, running, structured_text}
 use Rattle.vcp_core.specs.Tasks.{TaskOf, plain_answer, rows_job}
 use Rattle.vcp_core.proofs.ListedRuns.{RunsHeld, il_by}

@@ -5,8 +5,8 @@ use Rattle.vcp_outside.specs.Held.{Held}
 use Rattle.vcp_typed.specs.Size.{size}
 use Rattle.vcp_typed.specs.SourceRun.{Program}
 use Rattle.vcp_inputs.specs.Programs.{TypedOf}
-use Rattle.command_meaning.specs.FileTasks.{taken}
-use Rattle.command_meaning.specs.Kinds.{prints}
+use Rattle.vcp_inputs.specs.FileTasks.{taken}
+use Rattle.vcp_inputs.specs.Kinds.{prints}
 use Rattle.vcp_core.specs.Tasks.{ok_text, TaskOf}
 use Rattle.vcp_inputs.specs.Forms.{check}
 

@@ -10,8 +10,8 @@ use Rattle.coded_machine.specs.declared.cycle_end.CycleEnd.{CycleEnd}
 use Rattle.coded_machine.specs.declared.cycle_end.CycleEnd.TheVariants as cycle
 use Rattle.coded_machine.specs.State.{State}
 use Rattle.run_report.specs.Lines.{stop_text}
-use Rattle.command_meaning.specs.CycleWords.{word_lines}
-use Rattle.command_meaning.specs.Reports.{RunEnd, complete, end_read, refused, stopped}
+use Rattle.vcp_inputs.specs.CycleWords.{word_lines}
+use Rattle.vcp_inputs.specs.Reports.{RunEnd, complete, end_read, refused, stopped}
 use Rattle.vcp_core.specs.EndLines.{last_text}
 use Rattle.vcp_core.specs.declared.ending.Ending.{Ending}
 use Rattle.vcp_core.specs.MachineRun.{EndsAtStop, IsThere, PrintsLast}

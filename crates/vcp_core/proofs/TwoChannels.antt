@@ -26,11 +26,11 @@ use Rattle.vcp_inputs.specs.declared.rows.RowsSource.{RowsSource}
 use Rattle.vcp_inputs.specs.Images.{ImageOf, NotImage}
 use Rattle.vcp_inputs.specs.Lines.{input_status, input_text, refusal_text}
 use Rattle.vcp_inputs.specs.Refusals.{no_rows}
-use Rattle.command_meaning.specs.Abouts.{About, about}
-use Rattle.command_meaning.specs.FileTasks.{TakenFile, missing, taken, untaken, TakenRows}
-use Rattle.command_meaning.specs.Kinds.{Task, compares, refusal_task}
-use Rattle.command_meaning.specs.PairKind.{PairJob, pair_answer, pair_behind, pair_read, pair_status}
-use Rattle.command_meaning.specs.Performing.{Performs, Reaches, done, cut, wanting, unread, unmade}
+use Rattle.vcp_inputs.specs.Abouts.{About, about}
+use Rattle.vcp_inputs.specs.FileTasks.{TakenFile, missing, taken, untaken, TakenRows}
+use Rattle.vcp_inputs.specs.Kinds.{Task, compares, refusal_task}
+use Rattle.vcp_inputs.specs.PairKind.{PairJob, pair_answer, pair_behind, pair_read, pair_status}
+use Rattle.vcp_inputs.specs.Performing.{Performs, Reaches, done, cut, wanting, unread, unmade}
 use Rattle.vcp_core.specs.declared.ending.Ending.{Ending}
 use Rattle.vcp_core.specs.ChannelsRun.{ComparesTo, PairAnswers}
 use Rattle.vcp_core.specs.Loading.{FirstRead, BothRead}

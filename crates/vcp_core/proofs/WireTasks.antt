@@ -22,12 +22,12 @@ use Rattle.vcp_inputs.specs.Forms.{wire}
 use Rattle.vcp_inputs.specs.declared.refusal.Refusal.{Refusal}
 use Rattle.vcp_inputs.specs.declared.refusal.Refusal.TheVariants as refusal
 use Rattle.vcp_inputs.specs.Wires.{WireOf, NotWire, no_wire}
-use Rattle.command_meaning.specs.Abouts.{about, Among}
-use Rattle.command_meaning.specs.Answer.{Answer, printed}
-use Rattle.command_meaning.specs.Clauses.{IsEnd}
-use Rattle.command_meaning.specs.Kinds.{Task, wires}
-use Rattle.command_meaning.specs.Performing.{Reaches, done, cut, Performs}
-use Rattle.command_meaning.specs.WireKind.{WireDone, WireLeft, WritesTold, wire_answer}
+use Rattle.vcp_inputs.specs.Abouts.{about, Among}
+use Rattle.vcp_inputs.specs.Answer.{Answer, printed}
+use Rattle.vcp_inputs.specs.Clauses.{IsEnd}
+use Rattle.vcp_inputs.specs.Kinds.{Task, wires}
+use Rattle.vcp_inputs.specs.Performing.{Reaches, done, cut, Performs}
+use Rattle.vcp_inputs.specs.WireKind.{WireDone, WireLeft, WritesTold, wire_answer}
 use Rattle.vcp_core.proofs.OneFile.{one_file}
 use Rattle.vcp_core.specs.Faults.{of_wire, wire_end}
 use Rattle.vcp_core.specs.Reach.{end_status, fault_status, fault_text, told_line, told_status, wire_ending}

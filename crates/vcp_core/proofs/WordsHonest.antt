@@ -17,7 +17,7 @@ use Rattle.coded_machine.specs.CycleEnds.{end_of, initial_words, stored_words}
 use Rattle.coded_machine.specs.Honest.{CellsHold, HonestCells, HonestCycles, StandsFor, end_at, stop_answer, words_from}
 use Rattle.coded_machine.specs.Runs.{AllCycles, calls_over, setting_at, unless_ended}
 use Rattle.vcp_inputs.specs.Forms.{Code}
-use Rattle.command_meaning.specs.CycleWords.{cycle_begun, unless_stopped, words_among, words_begun, words_for, words_in, words_meant}
+use Rattle.vcp_inputs.specs.CycleWords.{cycle_begun, unless_stopped, words_among, words_begun, words_for, words_in, words_meant}
 use Rattle.vcp_core.specs.Tasks.{table_code}
 
 -- ---- one cycle

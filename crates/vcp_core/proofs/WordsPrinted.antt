@@ -12,7 +12,7 @@ use Rattle.vcp_outside.specs.Written.{Writes}
 use Rattle.vcp_outside.specs.declared.failed.Failed.{Failed}
 use Rattle.vcp_core.proofs.JobRun.{not-there}
 use Rattle.vcp_core.proofs.Written.{writes-on, writes-fail}
-use Rattle.command_meaning.specs.CycleWords.{words_among, word_lines}
+use Rattle.vcp_inputs.specs.CycleWords.{words_among, word_lines}
 
 -- no answer is behind a stop
 none-there : (answers : List Answer) (i : ℕ) (w : ℤ) → answers ≡ [] → word_in (slice_get answers i) ≡ Some w → ⊥

@@ -14,11 +14,11 @@ use Rattle.coded_machine.specs.CycleEnds.{end_of, outputs_of}
 use Rattle.coded_machine.specs.Runs.{AllCycles, Outcome, followed_by, outcome_over, unless_ended}
 use Rattle.coded_machine.specs.State.{State}
 use Rattle.coded_machine.specs.Leaves.{last_answers}
-use Rattle.command_meaning.specs.Answer.{image}
-use Rattle.command_meaning.specs.CycleWords.{word_lines, words_among, words_in}
-use Rattle.command_meaning.specs.Reports.{RunEnd, complete, end_read, subject_outputs, refused, stopped}
-use Rattle.command_meaning.specs.Printing.{each_word, last_part}
-use Rattle.command_meaning.specs.RunKind.{run_read}
+use Rattle.vcp_inputs.specs.Answer.{image}
+use Rattle.vcp_inputs.specs.CycleWords.{word_lines, words_among, words_in}
+use Rattle.vcp_inputs.specs.Reports.{RunEnd, complete, end_read, subject_outputs, refused, stopped}
+use Rattle.vcp_inputs.specs.Printing.{each_word, last_part}
+use Rattle.vcp_inputs.specs.RunKind.{run_read}
 use Rattle.vcp_inputs.specs.Forms.{Code}
 use Rattle.vcp_core.specs.Tasks.{words_job, table_code}
 use Rattle.vcp_core.specs.Shown.{RunCame}

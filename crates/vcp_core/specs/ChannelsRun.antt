@@ -7,10 +7,10 @@ use Rattle.coded_machine.specs.declared.rows.fault.RunFault.{RunFault}
 use Rattle.coded_machine.specs.declared.rows.fault.RunFault.TheVariants as run
 use Rattle.vcp_inputs.specs.Lines.{input_status, input_text}
 use Rattle.vcp_inputs.specs.Refusals.{no_rows}
-use Rattle.command_meaning.specs.Answer.{Answer}
-use Rattle.command_meaning.specs.PairKind.{PairJob, PairJobDone}
+use Rattle.vcp_inputs.specs.Answer.{Answer}
+use Rattle.vcp_inputs.specs.PairKind.{PairJob, PairJobDone}
 use Rattle.pair_channel.specs.BesideDone.{BesideLeft}
-use Rattle.command_meaning.specs.Seen.{Still}
+use Rattle.vcp_inputs.specs.Seen.{Still}
 use Rattle.vcp_core.specs.declared.ending.Ending.{Ending}
 use Rattle.vcp_core.specs.Reach.{end_status}
 

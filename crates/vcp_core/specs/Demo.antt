@@ -15,13 +15,13 @@ use Rattle.program_maker.specs.MadeSource.{made_source}
 use Rattle.vcp_inputs.specs.Forms.{default_code}
 use Rattle.vcp_inputs.specs.declared.rows.RowsSource.TheVariants as origin
 use Rattle.vcp_inputs.specs.RowsOutcome.{source_outcome}
-use Rattle.command_meaning.specs.Abouts.{made_name}
-use Rattle.command_meaning.specs.Answer.{source}
-use Rattle.command_meaning.specs.FileTasks.{TypedFile, OnRows}
-use Rattle.command_meaning.specs.Kinds.{Task, runs}
-use Rattle.command_meaning.specs.Printing.{Printing, last_line, no_words}
-use Rattle.command_meaning.specs.Reports.{RunEnd, end_read}
-use Rattle.command_meaning.specs.RunKind.{Job}
+use Rattle.vcp_inputs.specs.Abouts.{made_name}
+use Rattle.vcp_inputs.specs.Answer.{source}
+use Rattle.vcp_inputs.specs.FileTasks.{TypedFile, OnRows}
+use Rattle.vcp_inputs.specs.Kinds.{Task, runs}
+use Rattle.vcp_inputs.specs.Printing.{Printing, last_line, no_words}
+use Rattle.vcp_inputs.specs.Reports.{RunEnd, end_read}
+use Rattle.vcp_inputs.specs.RunKind.{Job}
 
 -- ---- what is summed up of a run: the first output in its rows
 

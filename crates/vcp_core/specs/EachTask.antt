@@ -2,7 +2,7 @@
 use Rattle.std.specs.Prelude.{ℕ, ◌≡◌, ◌<◌, List, All, Some}
 use Rattle.vcp_outside.specs.Held.{Held}
 use Rattle.vcp_inputs.specs.Forms.{Form}
-use Rattle.command_meaning.specs.Kinds.{Task}
+use Rattle.vcp_inputs.specs.Kinds.{Task}
 use Rattle.vcp_core.specs.Tasks.{TaskOf}
 
 -- what is held under each name are bytes

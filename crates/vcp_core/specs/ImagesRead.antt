@@ -8,8 +8,8 @@ use Rattle.vcp_inputs.specs.Forms.{Form, Rows, exec, trace, inject, pair, pairs}
 use Rattle.vcp_inputs.specs.Images.{ImageOf, NotImage}
 use Rattle.vcp_inputs.specs.RowsOutcome.{HasFewCycles}
 use Rattle.vcp_inputs.specs.RowsRead.{graph_columns}
-use Rattle.command_meaning.specs.Abouts.{about}
-use Rattle.command_meaning.specs.Performing.{Performs}
+use Rattle.vcp_inputs.specs.Abouts.{about}
+use Rattle.vcp_inputs.specs.Performing.{Performs}
 use Rattle.vcp_core.specs.declared.image_rows.ImageRows.{ImageRows}
 use Rattle.vcp_core.specs.Loading.{BothRead}
 use Rattle.vcp_core.specs.Tasks.{TaskOf}

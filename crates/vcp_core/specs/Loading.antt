@@ -9,8 +9,8 @@ use Rattle.vcp_inputs.specs.declared.refusal.Refusal.{Refusal}
 use Rattle.vcp_inputs.specs.declared.rows.RowsSource.{RowsSource}
 use Rattle.vcp_inputs.specs.Files.{Loads}
 use Rattle.vcp_inputs.specs.RowsOutcome.{rows_outcome, source_outcome}
-use Rattle.command_meaning.specs.Abouts.{about}
-use Rattle.command_meaning.specs.Performing.{Performs}
+use Rattle.vcp_inputs.specs.Abouts.{about}
+use Rattle.vcp_inputs.specs.Performing.{Performs}
 use Rattle.vcp_core.specs.declared.fault.Fault.{Fault}
 use Rattle.vcp_core.specs.Reach.{fault_status, fault_text}
 use Rattle.vcp_core.specs.Tasks.{TaskOf}

@@ -19,11 +19,11 @@ use Rattle.coded_machine.specs.declared.rows.fault.RunFault.{RunFault}
 use Rattle.coded_machine.specs.declared.rows.fault.RunFault.TheVariants as run
 use Rattle.vcp_inputs.specs.Lines.{input_status, input_text}
 use Rattle.vcp_inputs.specs.Refusals.{no_rows}
-use Rattle.command_meaning.specs.Answer.{Answer, Subject}
-use Rattle.command_meaning.specs.GraphsOf.{MayRun, StandsFor}
-use Rattle.command_meaning.specs.Seen.{Still}
-use Rattle.command_meaning.specs.Reports.{end_read, output_names, subject_outputs, run_status, told_of}
-use Rattle.command_meaning.specs.RunKind.{Job, RunDone, RunLeft}
+use Rattle.vcp_inputs.specs.Answer.{Answer, Subject}
+use Rattle.vcp_inputs.specs.GraphsOf.{MayRun, StandsFor}
+use Rattle.vcp_inputs.specs.Seen.{Still}
+use Rattle.vcp_inputs.specs.Reports.{end_read, output_names, subject_outputs, run_status, told_of}
+use Rattle.vcp_inputs.specs.RunKind.{Job, RunDone, RunLeft}
 use Rattle.coded_machine.specs.Moments.{Moment}
 use Rattle.coded_machine.specs.Stops.{TellsSomeStop}
 use Rattle.vcp_core.specs.declared.ending.Ending.{Ending}

@@ -1,10 +1,10 @@
 -- Performed: what the program does for the words of a command: it performs the command, and tells the line of its fault, if it ends by one.
 use Rattle.std.specs.Prelude.{ℕ, List}
 use Rattle.vcp_inputs.specs.Forms.{Form}
-use Rattle.command_meaning.specs.Abouts.{about}
-use Rattle.command_meaning.specs.Endings.{TellsLine}
-use Rattle.command_meaning.specs.Performing.{Performs}
-use Rattle.command_meaning.specs.Seen.{Outside, moment_of}
+use Rattle.vcp_inputs.specs.Abouts.{about}
+use Rattle.vcp_inputs.specs.Endings.{TellsLine}
+use Rattle.vcp_inputs.specs.Performing.{Performs}
+use Rattle.vcp_inputs.specs.Seen.{Outside, moment_of}
 use Rattle.vcp_core.specs.Tasks.{TaskOf}
 
 -- A command was performed as far as it came, for the one task that it comes to with what is held, and kept what every command keeps; with a line

@@ -3,12 +3,12 @@ use Rattle.std.specs.Prelude.{ℕ, ◌≡◌, ◌≢◌, ◌≤◌, List}
 use Rattle.vcp_outside.specs.Held.{Held}
 use Rattle.vcp_inputs.specs.Forms.{Form, Rows, Code, run, plain}
 use Rattle.coded_unit.specs.Seen.{StaysHonest}
-use Rattle.command_meaning.specs.Abouts.{about}
-use Rattle.command_meaning.specs.Answer.{Answer}
-use Rattle.command_meaning.specs.Clauses.{Completes, Keeps, MayHold, Serves}
-use Rattle.command_meaning.specs.Endings.{Came, IsNoFault}
-use Rattle.command_meaning.specs.Kinds.{Task, answers, Meant}
-use Rattle.command_meaning.specs.Seen.{Outside}
+use Rattle.vcp_inputs.specs.Abouts.{about}
+use Rattle.vcp_inputs.specs.Answer.{Answer}
+use Rattle.vcp_inputs.specs.Clauses.{Completes, Keeps, MayHold, Serves}
+use Rattle.vcp_inputs.specs.Endings.{Came, IsNoFault}
+use Rattle.vcp_inputs.specs.Kinds.{Task, answers, Meant}
+use Rattle.vcp_inputs.specs.Seen.{Outside}
 use Rattle.vcp_core.specs.Performed.{Performed}
 use Rattle.vcp_core.specs.Tasks.{TaskOf}
 

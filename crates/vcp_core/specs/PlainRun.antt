@@ -12,7 +12,7 @@ use Rattle.input_rows.specs.declared.fault.RowFault.TheVariants as row
 use Rattle.input_rows.specs.RowsOf.{RowsLeft}
 use Rattle.coded_machine.specs.RowRuns.{texts_from}
 use Rattle.run_report.specs.Lines.{header_text, row_text, stop_text}
-use Rattle.command_meaning.specs.Reports.{end_told, output_names}
+use Rattle.vcp_inputs.specs.Reports.{end_told, output_names}
 use Rattle.vcp_core.specs.EndLines.{last_text}
 use Rattle.coded_machine.specs.declared.rows.fault.RunFault.{RunFault}
 use Rattle.coded_machine.specs.declared.rows.fault.RunFault.TheVariants as fault

@@ -9,10 +9,10 @@ use Rattle.coded_machine.specs.Runs.{AllCycles, outcome_over}
 use Rattle.coded_machine.specs.State.{State}
 use Rattle.coded_machine.specs.Leaves.{MachineAfter}
 use Rattle.coded_machine.specs.RowRuns.{CameToEnd}
-use Rattle.command_meaning.specs.Answer.{Subject}
-use Rattle.command_meaning.specs.Printing.{Printing, ShownWords, last_part}
-use Rattle.command_meaning.specs.Reports.{end_read, subject_outputs}
-use Rattle.command_meaning.specs.RunKind.{Job, calls_of, numbers, run_read}
+use Rattle.vcp_inputs.specs.Answer.{Subject}
+use Rattle.vcp_inputs.specs.Printing.{Printing, ShownWords, last_part}
+use Rattle.vcp_inputs.specs.Reports.{end_read, subject_outputs}
+use Rattle.vcp_inputs.specs.RunKind.{Job, calls_of, numbers, run_read}
 use Rattle.vcp_inputs.specs.Forms.{Code}
 use Rattle.input_rows.specs.RowsOf.{RowsLeft}
 use Rattle.vcp_core.specs.MachineRun.{IsThere}

@@ -20,13 +20,13 @@ use Rattle.vcp_inputs.specs.Tables.{rows_name}
 use Rattle.vcp_inputs.specs.declared.images.Image.{Image}
 use Rattle.vcp_inputs.specs.declared.refusal.Refusal.TheVariants as refusal
 use Rattle.vcp_inputs.specs.RowsRead.{graph_columns}
-use Rattle.command_meaning.specs.Answer.{Answer, Campaign, Subject, source, listed, image}
-use Rattle.command_meaning.specs.FileTasks.{ParsedFile, TypedFile, ListingFile, ImageFile, ScriptFile, WireFile, TakenRows}
-use Rattle.command_meaning.specs.Kinds.{Task, answers, compiles, runs, judges, compares, pairs_, wires, prints, refusal_task}
-use Rattle.command_meaning.specs.PairKind.{PairJob}
-use Rattle.command_meaning.specs.Printing.{every_row, each_word, no_words, cycle_words}
-use Rattle.command_meaning.specs.Reports.{subject_outputs}
-use Rattle.command_meaning.specs.RunKind.{Job, meant_answer}
+use Rattle.vcp_inputs.specs.Answer.{Answer, Campaign, Subject, source, listed, image}
+use Rattle.vcp_inputs.specs.FileTasks.{ParsedFile, TypedFile, ListingFile, ImageFile, ScriptFile, WireFile, TakenRows}
+use Rattle.vcp_inputs.specs.Kinds.{Task, answers, compiles, runs, judges, compares, pairs_, wires, prints, refusal_task}
+use Rattle.vcp_inputs.specs.PairKind.{PairJob}
+use Rattle.vcp_inputs.specs.Printing.{every_row, each_word, no_words, cycle_words}
+use Rattle.vcp_inputs.specs.Reports.{subject_outputs}
+use Rattle.vcp_inputs.specs.RunKind.{Job, meant_answer}
 use Rattle.vcp_core.specs.Demo.{DemoTask}
 
 -- ---- what single commands print and name, and their limits

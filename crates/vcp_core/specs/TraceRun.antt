@@ -3,9 +3,9 @@ use Rattle.std.specs.Prelude.{ℕ, cond, nat_le, List, [], Option, None, ℤ, co
 use Rattle.coded_machine.specs.declared.cycle_end.CycleEnd.{CycleEnd}
 use Rattle.coded_machine.specs.State.{State}
 use Rattle.input_rows.specs.declared.fault.RowFault.{RowFault}
-use Rattle.command_meaning.specs.CycleWords.{word_lines, words_among}
-use Rattle.command_meaning.specs.Printing.{last_line}
-use Rattle.command_meaning.specs.Reports.{RunEnd, end_read}
+use Rattle.vcp_inputs.specs.CycleWords.{word_lines, words_among}
+use Rattle.vcp_inputs.specs.Printing.{last_line}
+use Rattle.vcp_inputs.specs.Reports.{RunEnd, end_read}
 
 -- the words that a machine's operations answered in cycle n, where it was begun
 abbrev pub answered_words : State → ℕ → List ℤ

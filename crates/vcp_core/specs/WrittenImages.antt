@@ -9,10 +9,10 @@ use Rattle.image_file.specs.Graphs.{HasImage}
 use Rattle.vcp_inputs.specs.Forms.{Code, Rows, exec, list}
 use Rattle.vcp_inputs.specs.Tables.{rows_name}
 use Rattle.vcp_inputs.specs.RowsRead.{graph_columns}
-use Rattle.command_meaning.specs.Answer.{image}
-use Rattle.command_meaning.specs.FileTasks.{TakenRows}
-use Rattle.command_meaning.specs.GraphsOf.{image_answer}
-use Rattle.command_meaning.specs.Kinds.{Task, prints, runs}
+use Rattle.vcp_inputs.specs.Answer.{image}
+use Rattle.vcp_inputs.specs.FileTasks.{TakenRows}
+use Rattle.vcp_inputs.specs.GraphsOf.{image_answer}
+use Rattle.vcp_inputs.specs.Kinds.{Task, prints, runs}
 use Rattle.vcp_core.specs.Tasks.{TaskOf, listing, rows_job, widened as wide_graph}
 
 -- The file under a name holds what was written as the image of this graph with the numbers of a code, which is no longer than an image may be.

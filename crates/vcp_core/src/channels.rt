@@ -8,7 +8,7 @@ ghost use Rattle.signature_table.specs.Signatures.{table_of};
 ghost use Rattle.coded_machine.specs.Moments.{moment};
 ghost use Rattle.pair_channel.specs.declared.pair_end.PairEnd.TheVariants as pair;
 ghost use Rattle.pair_channel.specs.PairRuns.{Disagrees};
-ghost use Rattle.command_meaning.specs.PairKind.{pair_status};
+ghost use Rattle.vcp_inputs.specs.PairKind.{pair_status};
 ghost use Rattle.vcp_core.specs.ChannelsRun.{ComparesTo};
 ghost use Rattle.vcp_core.specs.MachineRun.{HasCauses};
 ghost use Rattle.vcp_core.specs.Reach.{end_status};

@@ -2,8 +2,8 @@
 
 ghost use Rattle.std.specs.Prelude.{List, Option, ℕ};
 ghost use Rattle.vcp_inputs.specs.Forms.{compile, as_code, IsCode};
-ghost use Rattle.command_meaning.specs.Abouts.{about};
-ghost use Rattle.command_meaning.specs.Performing.{Performs};
+ghost use Rattle.vcp_inputs.specs.Abouts.{about};
+ghost use Rattle.vcp_inputs.specs.Performing.{Performs};
 ghost use Rattle.coded_unit.specs.Seen.{UnitSeen};
 ghost use Rattle.coded_machine.specs.Moments.{moment};
 ghost use Rattle.vcp_core.specs.Tasks.{TaskOf};
@@ -11,10 +11,9 @@ ghost use Rattle.vcp_core.specs.Reach.{told_line, told_status};
 
 use crate::ending::{Ending, text_ended};
 use crate::fault::Fault;
-use command_meaning::image_for;
+use vcp_inputs::{Code, HowOften, image_for, load_typed};
 use std::alloc::Global;
 use vcp_base::{Memory, Text};
-use vcp_inputs::{Code, HowOften, load_typed};
 use vcp_outside::{Files, Sink, write_all};
 
 /// Does what the words `compile P CODE` say, and writes to `out` alone: P is read whole and

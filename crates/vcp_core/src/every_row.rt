@@ -2,7 +2,7 @@
 
 ghost use Rattle.std.specs.Prelude.{None};
 ghost use Rattle.run_report.specs.Lines.{header_text, row_text};
-ghost use Rattle.command_meaning.specs.Reports.{end_read};
+ghost use Rattle.vcp_inputs.specs.Reports.{end_read};
 ghost use Rattle.vcp_core.specs.EndLines.{last_text};
 
 use crate::ending::Ending;

@@ -2,8 +2,8 @@
 
 ghost use Rattle.vcp_outside.specs.Seen.{FilesSeen};
 ghost use Rattle.vcp_inputs.specs.Forms.{exec, rows_of, AreFew};
-ghost use Rattle.command_meaning.specs.Abouts.{about};
-ghost use Rattle.command_meaning.specs.Performing.{Performs};
+ghost use Rattle.vcp_inputs.specs.Abouts.{about};
+ghost use Rattle.vcp_inputs.specs.Performing.{Performs};
 ghost use Rattle.coded_machine.specs.Moments.{moment};
 ghost use Rattle.vcp_core.specs.ImagesRead.{AreImageRows, PerformsOn};
 ghost use Rattle.vcp_core.specs.Tasks.{TaskOf};

@@ -2,8 +2,8 @@
 
 ghost use Rattle.std.specs.Prelude.{List, Option, ℕ};
 ghost use Rattle.vcp_inputs.specs.Forms.{format};
-ghost use Rattle.command_meaning.specs.Abouts.{about};
-ghost use Rattle.command_meaning.specs.Performing.{Performs};
+ghost use Rattle.vcp_inputs.specs.Abouts.{about};
+ghost use Rattle.vcp_inputs.specs.Performing.{Performs};
 ghost use Rattle.coded_unit.specs.Seen.{UnitSeen};
 ghost use Rattle.coded_machine.specs.Moments.{moment};
 ghost use Rattle.vcp_core.specs.Tasks.{TaskOf};

@@ -1,8 +1,8 @@
 //! The command `il`, up to the line of its fault.
 
 ghost use Rattle.vcp_inputs.specs.Forms.{il, rows_of, as_code, AreFew, IsCode};
-ghost use Rattle.command_meaning.specs.Abouts.{about};
-ghost use Rattle.command_meaning.specs.Performing.{Performs};
+ghost use Rattle.vcp_inputs.specs.Abouts.{about};
+ghost use Rattle.vcp_inputs.specs.Performing.{Performs};
 ghost use Rattle.coded_machine.specs.Moments.{moment};
 ghost use Rattle.vcp_core.specs.Tasks.{TaskOf};
 ghost use Rattle.vcp_core.specs.Reach.{told_line, told_status};
@@ -11,10 +11,9 @@ use crate::ending::Ending;
 use crate::fault::Fault;
 use crate::run::run_read;
 use coded_unit::Unit;
-use command_meaning::lists_are_told;
+use vcp_inputs::{Code, RowsWord, lists_are_told, load_il};
 use std::alloc::Global;
 use vcp_base::Text;
-use vcp_inputs::{Code, RowsWord, load_il};
 use vcp_outside::{Files, Sink};
 
 /// Does what the words `il P ROWS CODE` say, and writes to `out` alone: P is read whole and

@@ -12,18 +12,18 @@ ghost use Rattle.image_file.specs.Image.{image_of};
 ghost use Rattle.weight_audit.specs.Audit.{most_weights, weights_up_to};
 ghost use Rattle.weight_audit.specs.AuditText.{AuditOf};
 ghost use Rattle.vcp_inputs.specs.Forms.{Form, audit};
-ghost use Rattle.command_meaning.specs.Abouts.{about, AllHeld};
-ghost use Rattle.command_meaning.specs.FileTasks.{ImageFile};
-ghost use Rattle.command_meaning.specs.Endings.{HasOwnStatus};
-ghost use Rattle.command_meaning.specs.Kinds.{Task, lacks, prints};
+ghost use Rattle.vcp_inputs.specs.Abouts.{about, AllHeld};
+ghost use Rattle.vcp_inputs.specs.FileTasks.{ImageFile};
+ghost use Rattle.vcp_inputs.specs.Endings.{HasOwnStatus};
+ghost use Rattle.vcp_inputs.specs.Kinds.{Task, lacks, prints};
 ghost use Rattle.vcp_core.specs.EachTask.{EachHasTask};
 ghost use Rattle.vcp_core.specs.PerformedLaws.{PerformedCompletes, PerformedKeeps, PerformedKnown, PerformedServes, RunMeansPlain, RunWritesPlain};
 ghost use Rattle.vcp_core.specs.Tasks.{TaskOf, widened};
-ghost use Rattle.command_meaning.specs.WireKind.{WiresDeliver};
+ghost use Rattle.vcp_inputs.specs.WireKind.{WiresDeliver};
 ghost use Rattle.vcp_core.specs.StaleSeen.{StaleShows};
 ghost use Rattle.vcp_core.specs.WrittenImages.{WrittenImagesAreTaken};
 
-use command_meaning::endings_have_causes;
+use vcp_inputs::endings_have_causes;
 use il_front::il_answers_are_one;
 use image_file::images_are_told_apart;
 use st_lexer::one_reading;
@@ -60,7 +60,7 @@ pub fn one_task()
 ///   task is refused, the task was brought to its end, unless memory was lacking: with 0, or with 2 where the command may meet a stop; all that is
 ///   meant by it was written, and of the file that was begun last nothing is unread.
 /// - `keeps`: What every command keeps, and which cause each of the statuses 2, 3, 5 and 6 has, whatever unit, files and sinks are; and a call of
-///   these that fails gives 5 or 6 each time: `Keeps`, in `command_meaning`.
+///   these that fails gives 5 or 6 each time: `Keeps`, in `vcp_inputs`.
 /// - `known`: The status is none but 0 to 7, and 4 only words have that are none of the forms.
 /// - `as_plain`: Where no answer was wrong, `run P ROWS CODE` wrote the bytes that `plain P ROWS` is to write, with its status, unless the status is
 ///   5, 6 or 7.

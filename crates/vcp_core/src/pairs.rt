@@ -11,8 +11,8 @@ ghost use Rattle.fault_campaign.specs.declared.fault.CampaignFault.TheVariants a
 ghost use Rattle.vcp_inputs.specs.Forms.{pairs, rows_of, AreFew, Rows};
 ghost use Rattle.vcp_inputs.specs.RowsOutcome.{source_outcome};
 ghost use Rattle.vcp_inputs.specs.RowsRead.{AllRead};
-ghost use Rattle.command_meaning.specs.Abouts.{about};
-ghost use Rattle.command_meaning.specs.Performing.{Performs};
+ghost use Rattle.vcp_inputs.specs.Abouts.{about};
+ghost use Rattle.vcp_inputs.specs.Performing.{Performs};
 ghost use Rattle.coded_machine.specs.Moments.{moment};
 ghost use Rattle.vcp_core.specs.ImagesRead.{AreImageRows, PerformsOn};
 ghost use Rattle.vcp_core.specs.Tasks.{TaskOf};

@@ -3,8 +3,8 @@
 ghost use Rattle.std.specs.Prelude.{ℕ, Option, List};
 ghost use Rattle.vcp_outside.specs.Seen.{FilesSeen};
 ghost use Rattle.vcp_inputs.specs.Forms.{plain, rows_of, AreFew};
-ghost use Rattle.command_meaning.specs.Abouts.{about};
-ghost use Rattle.command_meaning.specs.Performing.{Performs};
+ghost use Rattle.vcp_inputs.specs.Abouts.{about};
+ghost use Rattle.vcp_inputs.specs.Performing.{Performs};
 ghost use Rattle.coded_unit.specs.Seen.{UnitSeen};
 ghost use Rattle.coded_machine.specs.Moments.{moment};
 ghost use Rattle.vcp_core.specs.ProgramsRead.{structured_text, AreProgramRows, ProgramRead, ProgramRowsRead};

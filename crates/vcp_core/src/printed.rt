@@ -13,9 +13,9 @@ ghost use Rattle.coded_machine.specs.Calls.{Whole};
 ghost use Rattle.coded_machine.specs.State.{State, fresh};
 ghost use Rattle.coded_machine.specs.declared.cycle_end.CycleEnd.{CycleEnd as CycleEndOf};
 ghost use Rattle.vcp_inputs.specs.Forms.{Code as CodeOf, as_code, IsCode};
-ghost use Rattle.command_meaning.specs.Answer.{Subject};
-ghost use Rattle.command_meaning.specs.Printing.{Printing, ShownWords};
-ghost use Rattle.command_meaning.specs.Reports.{end_read};
+ghost use Rattle.vcp_inputs.specs.Answer.{Subject};
+ghost use Rattle.vcp_inputs.specs.Printing.{Printing, ShownWords};
+ghost use Rattle.vcp_inputs.specs.Reports.{end_read};
 ghost use Rattle.coded_machine.specs.Moments.{moment};
 ghost use Rattle.vcp_core.specs.EndLines.{last_text};
 ghost use Rattle.vcp_core.specs.MachineRun.{CarriesOut, HasCauses, IsThere, PrintsLast, RunsTo, StandsAs};
@@ -27,14 +27,13 @@ use coded_machine::{
     run_rows,
 };
 use coded_unit::Unit;
-use command_meaning::graph_of;
+use vcp_inputs::{Code, graph_of};
 use input_rows::Rows;
 use op_graph::Graph;
 use run_report::{end_line, graph_stop_line, refused_line};
 use signature_table::Table;
 use std::alloc::Global;
 use vcp_base::{Columns, Memory};
-use vcp_inputs::Code;
 use vcp_outside::{Failed, Sink};
 use vcp_typed::Typed;
 

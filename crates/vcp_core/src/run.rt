@@ -3,8 +3,8 @@
 ghost use Rattle.std.specs.Prelude.{ℕ, List};
 ghost use Rattle.vcp_outside.specs.Seen.{FilesSeen};
 ghost use Rattle.vcp_inputs.specs.Forms.{run, rows_of, as_code, AreFew, IsCode};
-ghost use Rattle.command_meaning.specs.Abouts.{about};
-ghost use Rattle.command_meaning.specs.Performing.{Performs};
+ghost use Rattle.vcp_inputs.specs.Abouts.{about};
+ghost use Rattle.vcp_inputs.specs.Performing.{Performs};
 ghost use Rattle.coded_machine.specs.Moments.{moment};
 ghost use Rattle.vcp_core.specs.ProgramsRead.{run_of, AreProgramRows, Language, ProgramRead, ProgramRowsRead};
 ghost use Rattle.vcp_core.specs.Tasks.{TaskOf};
@@ -17,10 +17,9 @@ use crate::loading::rows_name;
 use crate::printed::run_program;
 use crate::program_rows::{ProgramRows, load_program_rows};
 use coded_unit::Unit;
-use command_meaning::lists_are_told;
+use vcp_inputs::{Code, HowOften, RowsWord, lists_are_told, load_typed};
 use std::alloc::Global;
 use vcp_base::Text;
-use vcp_inputs::{Code, HowOften, RowsWord, load_typed};
 use vcp_outside::{Files, Sink};
 use vcp_typed::Typed;
 

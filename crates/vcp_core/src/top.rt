@@ -3,11 +3,11 @@
 ghost use Rattle.std.specs.Prelude.{◌≡◌, IfSome, None, true};
 ghost use Rattle.vcp_outside.specs.Counts.{Rose};
 ghost use Rattle.vcp_inputs.specs.Forms.{form, form_of, IsSound};
-ghost use Rattle.command_meaning.specs.Abouts.{about};
-ghost use Rattle.command_meaning.specs.Clauses.{GetsUsage};
-ghost use Rattle.command_meaning.specs.Performing.{Performs};
+ghost use Rattle.vcp_inputs.specs.Abouts.{about};
+ghost use Rattle.vcp_inputs.specs.Clauses.{GetsUsage};
+ghost use Rattle.vcp_inputs.specs.Performing.{Performs};
 ghost use Rattle.coded_machine.specs.Moments.{moment};
-ghost use Rattle.command_meaning.specs.Seen.{outside};
+ghost use Rattle.vcp_inputs.specs.Seen.{outside};
 ghost use Rattle.vcp_core.specs.Performed.{Performed};
 ghost use Rattle.vcp_core.specs.Tasks.{TaskOf};
 ghost use Rattle.vcp_core.specs.Reach.{told_line, told_status};
@@ -61,7 +61,7 @@ const ERRED: u8 = 3;
 /// - `usage`: Words that are none of the forms get the usage line with status 4, and nothing else that contracts see changes; or its sink failed
 ///   in it, with status 6.
 /// - `performed`: Words that are a command's have it performed: as far as it came, for the one task to which they lead with what is held; and the
-///   line of its fault printed, if it ended by one. How far that is and what each command keeps: `Performs`, in `command_meaning`; to which task each
+///   line of its fault printed, if it ended by one. How far that is and what each command keeps: `Performs`, in `vcp_inputs`; to which task each
 ///   command leads: `TaskOf`.
 ///
 /// What follows from these is said by laws: `a_performed_command` of how a command serves and completes, what it keeps and which statuses it has;

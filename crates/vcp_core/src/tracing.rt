@@ -6,7 +6,7 @@ ghost use Rattle.vcp_outside.specs.Written.{WritesTo};
 ghost use Rattle.input_rows.specs.RowsOf.{IsOfRecord};
 ghost use Rattle.signature_table.specs.Signatures.{table_of};
 ghost use Rattle.coded_machine.specs.Calls.{Whole};
-ghost use Rattle.command_meaning.specs.CycleWords.{word_lines, words_among};
+ghost use Rattle.vcp_inputs.specs.CycleWords.{word_lines, words_among};
 ghost use Rattle.coded_machine.specs.Moments.{moment};
 ghost use Rattle.vcp_core.specs.Tasks.{words_job, table_code};
 ghost use Rattle.vcp_core.specs.MachineRun.{HasCauses, RunsTo};

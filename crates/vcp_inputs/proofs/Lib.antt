@@ -12,3 +12,7 @@ pub mod CodeWords
 pub mod FormRows
 pub mod Sound
 pub mod WordsSteps
+mod Causing
+mod ListsTold
+mod Reduced
+pub mod Worked

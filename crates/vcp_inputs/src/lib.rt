@@ -1,9 +1,11 @@
-//! The files that commands read, each of which is accepted or rejected, and the lines of these faults.
+//! The files that commands read, each of which is accepted or rejected, and the lines of these faults; and what
+//! commands mean: what is answered, how a command ends, and the causes of statuses.
 #![tactic(auto)]
 
 mod alike;
 mod images;
 mod listings;
+mod meaning;
 mod reading;
 mod refusal;
 mod rows;
@@ -17,6 +19,7 @@ mod words;
 pub use alike::are_alike;
 pub use images::{Image, load_image};
 pub use listings::{listed_program, load_il};
+pub use meaning::{endings_have_causes, graph_of, image_for, lists_are_told};
 pub use reading::read_file;
 pub use refusal::{NoInput, Refusal};
 pub use rows::{RowsSource, load_rows};

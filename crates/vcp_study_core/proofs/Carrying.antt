@@ -8,8 +8,8 @@ use Rattle.vcp_outside.specs.Written.{AppendsPart, WritesTo}
 use Rattle.vcp_inputs.specs.Lines.{memory_text, write_fault_text, input_status}
 use Rattle.vcp_inputs.specs.declared.refusal.NoInput.{NoInput}
 use Rattle.vcp_inputs.specs.declared.refusal.NoInput.TheVariants as input
-use Rattle.command_meaning.specs.Abouts.{Among}
-use Rattle.command_meaning.specs.Answer.{Answer}
+use Rattle.vcp_inputs.specs.Abouts.{Among}
+use Rattle.vcp_inputs.specs.Answer.{Answer}
 use Rattle.vcp_study_core.specs.CarriedOut.{status_of, written, told_line, told_status, CarriedOut, done, cut, unmade, WritesSo, IsLoss, Fetches, Studies}
 use Rattle.vcp_study_core.specs.FromFiles.{FromFiles, got, ends_by, input_answer, OfLoads, Onward, nothing, onward}
 use Rattle.vcp_study_core.specs.declared.fault.Fault.{Fault}

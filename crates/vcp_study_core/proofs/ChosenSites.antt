@@ -15,7 +15,7 @@ use Rattle.fault_sites.specs.declared.scripts.unwritten.Unwritten.TheVariants as
 use Rattle.fault_sites.specs.declared.site.Site.{Site}
 use Rattle.vcp_inputs.specs.declared.images.Image.{Image}
 use Rattle.vcp_inputs.specs.Lines.{memory_text, write_fault_text}
-use Rattle.command_meaning.specs.Answer.{Answer}
+use Rattle.vcp_inputs.specs.Answer.{Answer}
 use Rattle.vcp_study_core.specs.CarriedOut.{CarriedOut, WritesSo, done, cut, unmade, written}
 use Rattle.vcp_study_core.specs.FromFiles.{own_answer}
 use Rattle.vcp_study_core.specs.Lines.{own_text}

@@ -3,7 +3,7 @@ use Rattle.std.proofs.Common.{ℕ, refl, ap, List}
 use Rattle.vcp_outside.specs.Seen.{SinkSeen}
 use Rattle.il_front.specs.Accumulator.{Il}
 use Rattle.vcp_inputs.specs.declared.refusal.NoInput.TheVariants as input
-use Rattle.command_meaning.specs.Answer.{Answer}
+use Rattle.vcp_inputs.specs.Answer.{Answer}
 use Rattle.vcp_study_core.specs.CarriedOut.{WritesSo}
 use Rattle.vcp_study_core.specs.FromFiles.{fault_answer, input_answer}
 use Rattle.vcp_study_core.specs.Lists.{IsNoList, OfList, no_list}

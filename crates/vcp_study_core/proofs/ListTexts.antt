@@ -12,9 +12,9 @@ use Rattle.il_front.specs.Accumulator.{Il}
 use Rattle.il_front.specs.Answers.{IsIl}
 use Rattle.il_front.specs.TypedForm.{typed_il}
 use Rattle.vcp_inputs.specs.Programs.{TypedOf}
-use Rattle.command_meaning.specs.GraphsOf.{StandsFor}
-use Rattle.command_meaning.specs.ListRuns.{HasListColumns, ListsAreTold}
-use Rattle.command_meaning.specs.Reports.{told_listed}
+use Rattle.vcp_inputs.specs.GraphsOf.{StandsFor}
+use Rattle.vcp_inputs.specs.ListRuns.{HasListColumns, ListsAreTold}
+use Rattle.vcp_inputs.specs.Reports.{told_listed}
 use Rattle.vcp_study_core.specs.ListTexts.{HasSameGraph, HaveSameGraph, IsTextFor, IsTextOfList, RunsAsListed}
 use Rattle.vcp_study_core.specs.SameGraphs.{AreSameButForPlaces, told_anywhere}
 use Rattle.vcp_study_core.proofs.SameGraphs.{told_alike}

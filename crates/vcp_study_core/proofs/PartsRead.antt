@@ -15,7 +15,7 @@ use Rattle.graph_picture.specs.FaultsText.{IsFaultsPicture, faults_text}
 use Rattle.vcp_inputs.specs.declared.images.Image.{Image}
 use Rattle.vcp_inputs.specs.Files.{FileRead}
 use Rattle.vcp_inputs.specs.Refusals.{unscripted}
-use Rattle.command_meaning.specs.Answer.{Answer}
+use Rattle.vcp_inputs.specs.Answer.{Answer}
 use Rattle.vcp_study_core.specs.Forms.{PartNames}
 use Rattle.vcp_study_core.specs.FromFiles.{FromFiles, got, ends_by, input_answer, OfLoads, OfText, of_text, no_text}
 use Rattle.vcp_study_core.specs.Parts.{digits, is_of, ScriptIn, script, of_another, no_script, script_unmade, VerdictsIn, verdicts, no_verdicts, verdicts_unmade}

@@ -5,7 +5,7 @@ use Rattle.vcp_inputs.specs.declared.refusal.NoInput.{NoInput}
 use Rattle.vcp_inputs.specs.declared.refusal.NoInput.TheVariants as input
 use Rattle.vcp_inputs.specs.declared.refusal.Refusal.{Refusal}
 use Rattle.vcp_inputs.specs.Files.{FileRead, Loads, NotLoaded, Never, IsRefused, long, short, Untaken}
-use Rattle.command_meaning.specs.Answer.{Answer}
+use Rattle.vcp_inputs.specs.Answer.{Answer}
 use Rattle.vcp_study_core.specs.FromFiles.{got, ends_by, input_answer, OfLoads}
 use Rattle.vcp_study_core.proofs.Carrying.{IsQuiet}
 

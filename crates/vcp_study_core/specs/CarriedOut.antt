@@ -6,8 +6,8 @@ use Rattle.vcp_outside.specs.Held.{Held}
 use Rattle.vcp_outside.specs.Seen.{FilesSeen, SinkSeen}
 use Rattle.vcp_outside.specs.Written.{AppendsPart}
 use Rattle.vcp_inputs.specs.Lines.{memory_text, write_fault_text}
-use Rattle.command_meaning.specs.Abouts.{Among}
-use Rattle.command_meaning.specs.Answer.{Answer}
+use Rattle.vcp_inputs.specs.Abouts.{Among}
+use Rattle.vcp_inputs.specs.Answer.{Answer}
 use Rattle.vcp_study_core.specs.FromFiles.{FromFiles, got, ends_by, fault_answer}
 use Rattle.vcp_study_core.specs.declared.fault.Fault.{Fault}
 

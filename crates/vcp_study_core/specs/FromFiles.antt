@@ -4,7 +4,7 @@ use Rattle.vcp_outside.specs.Held.{Held}
 use Rattle.vcp_inputs.specs.Files.{Never, NotLoaded}
 use Rattle.vcp_inputs.specs.Lines.{memory_text, write_fault_text, input_text, input_status}
 use Rattle.vcp_inputs.specs.declared.refusal.NoInput.{NoInput}
-use Rattle.command_meaning.specs.Answer.{Answer}
+use Rattle.vcp_inputs.specs.Answer.{Answer}
 use Rattle.vcp_study_core.specs.Lines.{own_text}
 use Rattle.vcp_study_core.specs.declared.fault.Fault.{Fault}
 use Rattle.vcp_study_core.specs.declared.fault.Fault.TheVariants as fault

@@ -9,8 +9,8 @@ use Rattle.vcp_typed.specs.SourceRun.{Program}
 use Rattle.il_front.specs.Accumulator.{Il}
 use Rattle.il_front.specs.TypedForm.{typed_il}
 use Rattle.vcp_inputs.specs.Programs.{IsProgram, TypedOf}
-use Rattle.command_meaning.specs.GraphsOf.{StandsFor}
-use Rattle.command_meaning.specs.Reports.{told_listed}
+use Rattle.vcp_inputs.specs.GraphsOf.{StandsFor}
+use Rattle.vcp_inputs.specs.Reports.{told_listed}
 use Rattle.vcp_study_core.specs.SameGraphs.{AreSameButForPlaces, told_anywhere}
 
 -- the text is a program, of which this is the canonical text

@@ -6,8 +6,8 @@ use Rattle.vcp_inputs.specs.Files.{Untaken}
 use Rattle.vcp_inputs.specs.Listings.{NotListing}
 use Rattle.vcp_inputs.specs.declared.refusal.NoInput.TheVariants as input
 use Rattle.vcp_inputs.specs.declared.refusal.Refusal.{Refusal}
-use Rattle.command_meaning.specs.Answer.{Answer}
-use Rattle.command_meaning.specs.ListRuns.{IsImageOfList}
+use Rattle.vcp_inputs.specs.Answer.{Answer}
+use Rattle.vcp_inputs.specs.ListRuns.{IsImageOfList}
 use Rattle.vcp_inputs.specs.Forms.{Code}
 use Rattle.vcp_study_core.specs.FromFiles.{input_answer, own_answer}
 use Rattle.vcp_study_core.specs.ListTexts.{IsTextOfList}

@@ -31,7 +31,7 @@ use Rattle.vcp_inputs.specs.Files.{Loads}
 use Rattle.vcp_inputs.specs.RowsOutcome.{RowsOutcome, lacking, rows_outcome}
 use Rattle.vcp_inputs.specs.RowsRead.{AllRead, RowsBroken, graph_columns}
 use Rattle.vcp_study_core.specs.declared.fault.StudyRefusal.TheVariants as why
-use Rattle.command_meaning.specs.Answer.{Answer}
+use Rattle.vcp_inputs.specs.Answer.{Answer}
 use Rattle.vcp_study_core.specs.Forms.{PartNames}
 use Rattle.vcp_study_core.specs.FromFiles.{FromFiles, got, ends_by, input_answer, own_answer, memory_answer, OfLoads, OfText}
 

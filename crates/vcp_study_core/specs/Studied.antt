@@ -2,7 +2,7 @@
 -- for words that are none.
 use Rattle.std.specs.Prelude.{ℕ, ◌≡◌, List}
 use Rattle.vcp_outside.specs.Seen.{FilesSeen, SinkSeen}
-use Rattle.command_meaning.specs.Endings.{TellsLine}
+use Rattle.vcp_inputs.specs.Endings.{TellsLine}
 use Rattle.vcp_study_core.specs.Forms.{Form, usage_text}
 use Rattle.vcp_study_core.specs.CarriedOut.{Studies}
 use Rattle.vcp_study_core.specs.Tasks.{TaskOf}

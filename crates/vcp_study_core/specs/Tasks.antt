@@ -16,7 +16,7 @@ use Rattle.vcp_inputs.specs.declared.images.Image.{Image}
 use Rattle.vcp_inputs.specs.Files.{FileRead, Loads}
 use Rattle.vcp_inputs.specs.Images.{ImageOf, NotImage}
 use Rattle.il_front.specs.Answers.{most_il_bytes}
-use Rattle.command_meaning.specs.Answer.{Answer}
+use Rattle.vcp_inputs.specs.Answer.{Answer}
 use Rattle.vcp_study_core.specs.Forms.{Form, waves, list_image, list_text, on, Study, graph, dot, ranges, cover, sites, run_sites, rest_sites, sum, sum_apart, faults, script_named}
 use Rattle.vcp_study_core.specs.FromFiles.{FromFiles, OfLoads, Onward}
 use Rattle.vcp_study_core.specs.Lists.{ListImage, ListText}

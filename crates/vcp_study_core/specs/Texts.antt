@@ -36,7 +36,7 @@ use Rattle.verdict_tables.specs.SumText.{shows_unseen}
 use Rattle.vcp_inputs.specs.declared.images.Image.{Image}
 use Rattle.vcp_inputs.specs.declared.refusal.NoInput.TheVariants as input
 use Rattle.vcp_inputs.specs.declared.refusal.Refusal.TheVariants as refusal
-use Rattle.command_meaning.specs.Answer.{Answer}
+use Rattle.vcp_inputs.specs.Answer.{Answer}
 use Rattle.vcp_study_core.specs.CarriedOut.{written}
 use Rattle.vcp_study_core.specs.FromFiles.{input_answer, own_answer}
 use Rattle.vcp_study_core.specs.Parts.{digits}

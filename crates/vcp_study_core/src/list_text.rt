@@ -3,18 +3,17 @@
 ghost use Rattle.std.specs.Prelude.{◌≤◌, IfOk, IfSome, IsTrue, length};
 ghost use Rattle.il_front.specs.Answers.{most_il_bytes};
 ghost use Rattle.op_graph.specs.Lists.{Lists};
-ghost use Rattle.command_meaning.specs.GraphsOf.{StandsFor};
+ghost use Rattle.vcp_inputs.specs.GraphsOf.{StandsFor};
 ghost use Rattle.vcp_study_core.specs.ListTexts.{IsCanonicalOf, IsItsCanonical, IsTextFor, HasSameGraph, HaveSameGraph};
 ghost use Rattle.vcp_study_core.specs.SameGraphs.{AreSameButForPlaces};
 
 use crate::rough_text::rough_text;
 use crate::same_graphs::same_but_for_places;
-use command_meaning::graph_of;
+use vcp_inputs::{HowOften, NoInput, graph_of, program_of, typed_of};
 use op_graph::Graph;
 use st_writer::write_program;
 use std::alloc::Global;
 use vcp_base::{MOST_SOURCE_BYTES, Memory, Text};
-use vcp_inputs::{HowOften, NoInput, program_of, typed_of};
 use vcp_typed::Typed;
 
 /// The canonical text of the program that a text is; None where it is none.

@@ -1,7 +1,7 @@
 use Rattle.std.proofs.Common.{inl, inr, refl, ap, Err}
 use Rattle.vcp_inputs.specs.Forms.{audit}
 use Rattle.vcp_inputs.specs.Images.{ImageOf, NotImage}
-use Rattle.command_meaning.specs.Abouts.{about, image_word}
+use Rattle.vcp_inputs.specs.Abouts.{about, image_word}
 use Rattle.vcp_core.specs.Tasks.{Audited}
 use Rattle.vcp_core.proofs.Performing.{quiet_lost}
 use Rattle.vcp_core.proofs.audit.audit_command.Goals as goal

@@ -1,9 +1,9 @@
 use Rattle.std.proofs.Common.{inl, inr, refl}
 use Rattle.vcp_inputs.specs.Forms.{audit}
 use Rattle.coded_machine.specs.Moments.{moment}
-use Rattle.command_meaning.specs.Abouts.{about, image_word}
-use Rattle.command_meaning.specs.Answer.{printed as printed_answer}
-use Rattle.command_meaning.specs.Kinds.{prints}
+use Rattle.vcp_inputs.specs.Abouts.{about, image_word}
+use Rattle.vcp_inputs.specs.Answer.{printed as printed_answer}
+use Rattle.vcp_inputs.specs.Kinds.{prints}
 use Rattle.vcp_core.specs.Tasks.{TaskOf}
 use Rattle.vcp_core.proofs.AuditKinds.{audit_told, too_large_audit, weights_caused, weights_read}
 use Rattle.vcp_core.proofs.Facts.{if_some_always, if_some_weaker}

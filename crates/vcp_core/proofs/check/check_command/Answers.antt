@@ -3,9 +3,9 @@ use Rattle.vcp_typed.specs.Size.{size}
 use Rattle.vcp_inputs.specs.Forms.{check}
 use Rattle.vcp_inputs.specs.Programs.{TypedOf, NotTyped}
 use Rattle.coded_machine.specs.Moments.{moment}
-use Rattle.command_meaning.specs.Abouts.{about, source_word}
-use Rattle.command_meaning.specs.Answer.{printed as printed_answer}
-use Rattle.command_meaning.specs.Kinds.{prints}
+use Rattle.vcp_inputs.specs.Abouts.{about, source_word}
+use Rattle.vcp_inputs.specs.Answer.{printed as printed_answer}
+use Rattle.vcp_inputs.specs.Kinds.{prints}
 use Rattle.vcp_core.specs.Tasks.{ok_text, TaskOf}
 use Rattle.vcp_core.proofs.Facts.{if_some_weaker}
 use Rattle.vcp_core.proofs.Performing.{quiet_lost, quiet_ended}

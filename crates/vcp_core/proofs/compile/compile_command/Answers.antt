@@ -5,9 +5,9 @@ use Rattle.vcp_inputs.specs.Programs.{TypedOf, NotTyped}
 use Rattle.vcp_core.proofs.Facts.{if_some_weaker}
 use Rattle.image_file.specs.Image.{image_of}
 use Rattle.coded_machine.specs.Moments.{moment}
-use Rattle.command_meaning.specs.Abouts.{about, source_word}
-use Rattle.command_meaning.specs.GraphsOf.{image_answer}
-use Rattle.command_meaning.specs.Kinds.{compiles as compiles_to}
+use Rattle.vcp_inputs.specs.Abouts.{about, source_word}
+use Rattle.vcp_inputs.specs.GraphsOf.{image_answer}
+use Rattle.vcp_inputs.specs.Kinds.{compiles as compiles_to}
 use Rattle.vcp_core.specs.Tasks.{TaskOf}
 use Rattle.vcp_core.proofs.Performing.{file_takes, files_wanted, quiet_lost, quiet_ended}
 use Rattle.vcp_core.proofs.compile.compile_command.Goals as goal

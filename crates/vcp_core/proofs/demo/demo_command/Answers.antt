@@ -1,6 +1,6 @@
 use Rattle.std.proofs.Common.{ap, inl, inr, refl, Err}
 use Rattle.vcp_inputs.specs.Forms.{demo}
-use Rattle.command_meaning.specs.Abouts.{about, made_name}
+use Rattle.vcp_inputs.specs.Abouts.{about, made_name}
 use Rattle.vcp_core.specs.Demo.{DemoTask}
 use Rattle.vcp_core.proofs.DemoRun.{source_lost}
 use Rattle.vcp_core.proofs.Performing.{input_performs, still, wanted_performs}

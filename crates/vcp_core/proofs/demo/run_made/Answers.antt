@@ -3,10 +3,10 @@ use Rattle.input_rows.specs.RowsOf.{types_of}
 use Rattle.program_maker.specs.MadeRows.{made_rows}
 use Rattle.vcp_typed.specs.Fitting.{input_columns}
 use Rattle.vcp_inputs.specs.Forms.{demo}
-use Rattle.command_meaning.specs.Abouts.{about, made_name}
+use Rattle.vcp_inputs.specs.Abouts.{about, made_name}
 use Rattle.coded_machine.specs.Moments.{moment}
-use Rattle.command_meaning.specs.Answer.{source}
-use Rattle.command_meaning.specs.Printing.{no_words}
+use Rattle.vcp_inputs.specs.Answer.{source}
+use Rattle.vcp_inputs.specs.Printing.{no_words}
 use Rattle.vcp_core.specs.declared.demo.Sums.{Sums}
 use Rattle.vcp_core.specs.Demo.{summary_job, summed_up, DemoTask}
 use Rattle.vcp_core.specs.MachineRun.{RunsTo}

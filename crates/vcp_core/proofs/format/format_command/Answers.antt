@@ -4,9 +4,9 @@ use Rattle.vcp_inputs.specs.Forms.{format}
 use Rattle.vcp_inputs.specs.Programs.{IsProgram, NoProgram}
 use Rattle.vcp_core.proofs.Facts.{if_some_weaker}
 use Rattle.coded_machine.specs.Moments.{moment}
-use Rattle.command_meaning.specs.Abouts.{about, source_word}
-use Rattle.command_meaning.specs.Answer.{printed as printed_answer}
-use Rattle.command_meaning.specs.Kinds.{prints}
+use Rattle.vcp_inputs.specs.Abouts.{about, source_word}
+use Rattle.vcp_inputs.specs.Answer.{printed as printed_answer}
+use Rattle.vcp_inputs.specs.Kinds.{prints}
 use Rattle.vcp_core.specs.Tasks.{TaskOf}
 use Rattle.vcp_core.proofs.Performing.{file_takes, files_wanted, quiet_lost, quiet_ended}
 use Rattle.st_tree.specs.ProgramViews.{program_tree}

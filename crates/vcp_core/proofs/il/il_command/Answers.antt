@@ -3,8 +3,8 @@ use Rattle.vcp_inputs.specs.Forms.{il, rows_of, as_code}
 use Rattle.vcp_typed.specs.Fitting.{input_columns}
 use Rattle.il_front.specs.Outcomes.{IsTypedIl}
 use Rattle.vcp_inputs.specs.Listings.{NotListing}
-use Rattle.command_meaning.specs.Abouts.{about, listing_word}
-use Rattle.command_meaning.specs.FileTasks.{TakenRows}
+use Rattle.vcp_inputs.specs.Abouts.{about, listing_word}
+use Rattle.vcp_inputs.specs.FileTasks.{TakenRows}
 use Rattle.vcp_core.specs.Tasks.{TaskOf}
 use Rattle.vcp_core.proofs.ListedRuns.{RunsHeld, il_by}
 use Rattle.vcp_core.proofs.TwoChannels.{performs_by}

@@ -1,8 +1,8 @@
 use Rattle.std.proofs.Common.{◌≡◌}
 use Rattle.signature_table.specs.Signatures.{table_of}
-use Rattle.command_meaning.specs.Answer.{image}
-use Rattle.command_meaning.specs.FileTasks.{TakenRows}
-use Rattle.command_meaning.specs.Kinds.{prints, runs}
+use Rattle.vcp_inputs.specs.Answer.{image}
+use Rattle.vcp_inputs.specs.FileTasks.{TakenRows}
+use Rattle.vcp_inputs.specs.Kinds.{prints, runs}
 use Rattle.vcp_inputs.specs.RowsRead.{graph_columns}
 use Rattle.vcp_inputs.specs.Tables.{rows_name}
 use Rattle.vcp_core.specs.Tasks.{Audited, listing, rows_job, table_code}

@@ -4,8 +4,8 @@ use Rattle.vcp_inputs.specs.Tables.{rows_name}
 use Rattle.coded_machine.specs.Moments.{moment}
 use Rattle.vcp_inputs.specs.Images.{NotImage}
 use Rattle.vcp_inputs.specs.RowsRead.{graph_columns}
-use Rattle.command_meaning.specs.Abouts.{about, image_word}
-use Rattle.command_meaning.specs.Kinds.{compares}
+use Rattle.vcp_inputs.specs.Abouts.{about, image_word}
+use Rattle.vcp_inputs.specs.Kinds.{compares}
 use Rattle.vcp_core.specs.ChannelsRun.{ComparesTo}
 use Rattle.vcp_core.specs.Tasks.{pair_job, TaskOf}
 use Rattle.vcp_core.proofs.Facts.{if_some_weaker}

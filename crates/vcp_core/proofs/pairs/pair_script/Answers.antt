@@ -7,7 +7,7 @@ use Rattle.vcp_inputs.specs.declared.refusal.Refusal.TheVariants as refusal
 use Rattle.vcp_inputs.specs.Files.{LeavesLong}
 use Rattle.vcp_inputs.specs.RowsOutcome.{source_outcome}
 use Rattle.vcp_inputs.specs.Scripts.{NotScript}
-use Rattle.command_meaning.specs.Abouts.{about, script_word}
+use Rattle.vcp_inputs.specs.Abouts.{about, script_word}
 use Rattle.vcp_core.specs.Tasks.{TaskOf}
 use Rattle.vcp_core.proofs.Facts.{if_some_both, if_some_same, if_some_weaker, if_some_when}
 use Rattle.vcp_core.proofs.ImagesRead.{loads_at, rows-width}

@@ -2,7 +2,7 @@ use Rattle.std.proofs.Common.{inl, inr, refl}
 use Rattle.vcp_inputs.specs.Forms.{pairs, rows_of}
 use Rattle.vcp_inputs.specs.Tables.{rows_name}
 use Rattle.vcp_inputs.specs.RowsOutcome.{source_outcome}
-use Rattle.command_meaning.specs.Abouts.{about}
+use Rattle.vcp_inputs.specs.Abouts.{about}
 use Rattle.vcp_core.specs.Tasks.{TaskOf}
 use Rattle.vcp_core.proofs.Facts.{if_some_always, if_some_weaker}
 use Rattle.vcp_core.proofs.ImagesRead.{loads_at}

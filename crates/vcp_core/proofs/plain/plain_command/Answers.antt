@@ -3,9 +3,9 @@ use Rattle.vcp_inputs.specs.Forms.{plain, rows_of}
 use Rattle.vcp_inputs.specs.Tables.{rows_name}
 use Rattle.vcp_typed.specs.Fitting.{input_columns}
 use Rattle.vcp_inputs.specs.Programs.{TypedOf, NotTyped}
-use Rattle.command_meaning.specs.Abouts.{about, source_word}
-use Rattle.command_meaning.specs.FileTasks.{TakenRows}
-use Rattle.command_meaning.specs.Kinds.{answers}
+use Rattle.vcp_inputs.specs.Abouts.{about, source_word}
+use Rattle.vcp_inputs.specs.FileTasks.{TakenRows}
+use Rattle.vcp_inputs.specs.Kinds.{answers}
 use Rattle.vcp_core.specs.Tasks.{plain_answer as plain_answer_to}
 use Rattle.vcp_core.proofs.Performing.{quiet_lost}
 use Rattle.vcp_core.proofs.plain.plain_command.Goals as goal

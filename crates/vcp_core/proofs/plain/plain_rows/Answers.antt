@@ -5,8 +5,8 @@ use Rattle.vcp_inputs.specs.Tables.{rows_name}
 use Rattle.coded_machine.specs.Moments.{moment}
 use Rattle.vcp_typed.specs.Fitting.{input_columns}
 use Rattle.vcp_inputs.specs.Programs.{TypedOf, NotTyped}
-use Rattle.command_meaning.specs.Abouts.{about, source_word}
-use Rattle.command_meaning.specs.Kinds.{answers}
+use Rattle.vcp_inputs.specs.Abouts.{about, source_word}
+use Rattle.vcp_inputs.specs.Kinds.{answers}
 use Rattle.vcp_core.specs.Tasks.{plain_answer as plain_answer_to, TaskOf}
 use Rattle.vcp_core.proofs.Facts.{if_some_weaker}
 use Rattle.vcp_core.proofs.LoadedRows.{opened_comes, rows_may, rows_unopened}

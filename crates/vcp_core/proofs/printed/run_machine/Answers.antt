@@ -6,7 +6,7 @@ use Rattle.signature_table.specs.Signatures.{Numbers}
 use Rattle.op_graph.specs.Lists.{Lists}
 use Rattle.coded_machine.specs.Moments.{moment}
 use Rattle.coded_machine.specs.declared.rows.fault.RunFault.TheVariants as given_up
-use Rattle.command_meaning.specs.Reports.{end_read, run_status}
+use Rattle.vcp_inputs.specs.Reports.{end_read, run_status}
 use Rattle.vcp_core.specs.declared.ending.Ending.TheVariants as ending
 use Rattle.vcp_core.specs.MachineRun.{IsThere}
 use Rattle.vcp_core.specs.Reach.{end_status}

@@ -1,6 +1,6 @@
 use Rattle.std.proofs.Common.{◌∙◌, ap, arith, Err}
 use Rattle.vcp_inputs.specs.Forms.{rows_of}
-use Rattle.command_meaning.specs.Abouts.{about}
+use Rattle.vcp_inputs.specs.Abouts.{about}
 use Rattle.vcp_core.specs.Tasks.{TaskOf}
 use Rattle.vcp_core.proofs.Facts.{if_some_same}
 use Rattle.vcp_core.proofs.Performing.{files_wanted}

@@ -3,10 +3,10 @@ use Rattle.vcp_inputs.specs.Forms.{run, rows_of, as_code}
 use Rattle.vcp_inputs.specs.Tables.{rows_name}
 use Rattle.vcp_typed.specs.Fitting.{input_columns}
 use Rattle.vcp_inputs.specs.Programs.{TypedOf, NotTyped}
-use Rattle.command_meaning.specs.Abouts.{about, source_word}
-use Rattle.command_meaning.specs.FileTasks.{TakenRows}
-use Rattle.command_meaning.specs.Answer.{source}
-use Rattle.command_meaning.specs.Kinds.{runs as runs_to}
+use Rattle.vcp_inputs.specs.Abouts.{about, source_word}
+use Rattle.vcp_inputs.specs.FileTasks.{TakenRows}
+use Rattle.vcp_inputs.specs.Answer.{source}
+use Rattle.vcp_inputs.specs.Kinds.{runs as runs_to}
 use Rattle.vcp_core.specs.Tasks.{rows_job}
 use Rattle.vcp_core.proofs.Performing.{quiet_lost}
 use Rattle.vcp_core.specs.ProgramsRead.{structured_text}

@@ -8,12 +8,12 @@ use Rattle.il_front.specs.Outcomes.{IsTypedIl}
 use Rattle.vcp_inputs.specs.Listings.{NotListing}
 use Rattle.vcp_inputs.specs.Programs.{TypedOf, NotTyped}
 use Rattle.vcp_inputs.specs.RowsOutcome.{source_outcome}
-use Rattle.command_meaning.specs.Abouts.{about, listing_word, source_word}
-use Rattle.command_meaning.specs.Answer.{listed, source}
-use Rattle.command_meaning.specs.FileTasks.{OnRows}
-use Rattle.command_meaning.specs.Kinds.{runs as runs_to}
-use Rattle.command_meaning.specs.Printing.{every_row, no_words}
-use Rattle.command_meaning.specs.Reports.{subject_outputs}
+use Rattle.vcp_inputs.specs.Abouts.{about, listing_word, source_word}
+use Rattle.vcp_inputs.specs.Answer.{listed, source}
+use Rattle.vcp_inputs.specs.FileTasks.{OnRows}
+use Rattle.vcp_inputs.specs.Kinds.{runs as runs_to}
+use Rattle.vcp_inputs.specs.Printing.{every_row, no_words}
+use Rattle.vcp_inputs.specs.Reports.{subject_outputs}
 use Rattle.vcp_core.specs.MachineRun.{RunsTo}
 use Rattle.vcp_core.specs.ProgramsRead.{structured_text, instruction_list}
 use Rattle.vcp_core.specs.Tasks.{rows_job, TaskOf}

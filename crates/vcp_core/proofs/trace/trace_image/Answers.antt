@@ -5,8 +5,8 @@ use Rattle.vcp_inputs.specs.Tables.{rows_name}
 use Rattle.coded_machine.specs.Moments.{moment}
 use Rattle.vcp_inputs.specs.Images.{ImageOf, NotImage}
 use Rattle.vcp_inputs.specs.RowsRead.{graph_columns}
-use Rattle.command_meaning.specs.Abouts.{about, image_word}
-use Rattle.command_meaning.specs.Kinds.{runs as runs_to}
+use Rattle.vcp_inputs.specs.Abouts.{about, image_word}
+use Rattle.vcp_inputs.specs.Kinds.{runs as runs_to}
 use Rattle.vcp_core.specs.MachineRun.{RunsTo}
 use Rattle.vcp_core.specs.Tasks.{table_code, words_job, TaskOf}
 use Rattle.vcp_core.proofs.Facts.{if_some_weaker}

@@ -2,7 +2,7 @@ use Rattle.std.proofs.Common.{◌≡◌, ◌<◌, ◌∙◌, Some, None, ap, sym
 use Rattle.std.proofs.lemmas.Result.{err_from_is_err_and}
 use Rattle.coded_machine.specs.State.{word_in}
 use Rattle.op_graph.specs.Lists.{Lists}
-use Rattle.command_meaning.specs.CycleWords.{word_lines}
+use Rattle.vcp_inputs.specs.CycleWords.{word_lines}
 use Rattle.vcp_core.proofs.Written.{writes_same}
 use Rattle.vcp_core.proofs.WordsPrinted.{goes-on, fails, no-more, all-words, lines_to, whole-there}
 use Rattle.vcp_core.proofs.tracing.print_words.Goals as goal

@@ -1,7 +1,7 @@
 use Rattle.std.proofs.Common.{take, Ok}
 use Rattle.vcp_outside.specs.declared.failed.Failed.{Failed}
 use Rattle.vcp_outside.specs.Written.{Writes}
-use Rattle.command_meaning.specs.CycleWords.{word_lines, words_among}
+use Rattle.vcp_inputs.specs.CycleWords.{word_lines, words_among}
 use Rattle.vcp_core.proofs.tracing.print_words.Given as goal
 
 abbrev pub invariant-words : goal.invariant-words

@@ -1,6 +1,6 @@
 use Rattle.std.proofs.Common.{refl}
-use Rattle.command_meaning.specs.Answer.{image}
-use Rattle.command_meaning.specs.Printing.{cycle_words, each_word}
+use Rattle.vcp_inputs.specs.Answer.{image}
+use Rattle.vcp_inputs.specs.Printing.{cycle_words, each_word}
 use Rattle.vcp_core.specs.Tasks.{table_code}
 use Rattle.vcp_core.proofs.ImageLoaded.{image-carried, table-is-of}
 use Rattle.vcp_core.proofs.WordsHonest.{meant-words}

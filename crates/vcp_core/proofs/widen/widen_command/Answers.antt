@@ -2,9 +2,9 @@ use Rattle.std.proofs.Common.{◌≡◌, inl, inr, refl, ap, Err}
 use Rattle.vcp_inputs.specs.Forms.{widen}
 use Rattle.vcp_core.proofs.Facts.{if_some_weaker}
 use Rattle.coded_machine.specs.Moments.{moment}
-use Rattle.command_meaning.specs.Abouts.{about, image_word}
-use Rattle.command_meaning.specs.Answer.{printed as printed_answer}
-use Rattle.command_meaning.specs.Kinds.{prints}
+use Rattle.vcp_inputs.specs.Abouts.{about, image_word}
+use Rattle.vcp_inputs.specs.Answer.{printed as printed_answer}
+use Rattle.vcp_inputs.specs.Kinds.{prints}
 use Rattle.vcp_core.specs.Tasks.{widened, TaskOf}
 use Rattle.vcp_core.proofs.Performing.{file_takes, files_wanted, quiet_lost, quiet_ended}
 use Rattle.vcp_base.specs.Limits.{most_image_bytes}

@@ -2,8 +2,8 @@ use Rattle.std.proofs.Common.{◌≡◌, ap, refl, inl, inr, Err}
 use Rattle.vcp_base.specs.Limits.{most_source_bytes}
 use Rattle.vcp_inputs.specs.Forms.{wire}
 use Rattle.vcp_inputs.specs.Wires.{WireOf, NotWire}
-use Rattle.command_meaning.specs.Abouts.{about, script_word}
-use Rattle.command_meaning.specs.Kinds.{wires}
+use Rattle.vcp_inputs.specs.Abouts.{about, script_word}
+use Rattle.vcp_inputs.specs.Kinds.{wires}
 use Rattle.vcp_core.proofs.Facts.{if_some_weaker}
 use Rattle.vcp_core.proofs.Performing.{file_takes, quiet_lost}
 use Rattle.vcp_core.proofs.WireTasks.{wire_ends}

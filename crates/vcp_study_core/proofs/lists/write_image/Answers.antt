@@ -1,6 +1,6 @@
 use Rattle.std.proofs.Common.{false, refl, subst}
 use Rattle.vcp_inputs.specs.Forms.{as_code}
-use Rattle.command_meaning.specs.GraphsOf.{IsImageFor}
+use Rattle.vcp_inputs.specs.GraphsOf.{IsImageFor}
 use Rattle.vcp_typed.specs.SourceRun.{Program}
 use Rattle.vcp_study_core.specs.Lists.{ListImage, of_list}
 use Rattle.vcp_study_core.proofs.Carrying.{no_memory, wrote}

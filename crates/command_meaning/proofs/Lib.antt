@@ -1,4 +1,0 @@
-mod Causing
-mod ListsTold
-mod Reduced
-pub mod Worked

@@ -1,0 +1,37 @@
+//! The graph that represents a program.
+
+ghost use Rattle.std.specs.Prelude.{IfOk};
+ghost use Rattle.vcp_inputs.specs.GraphsOf.{StandsFor};
+
+use flat_stmt::flatten;
+use graph_passes::reduce;
+use op_graph::Graph;
+use std::alloc::Global;
+use vcp_base::Memory;
+use crate::are_alike;
+use vcp_typed::Typed;
+
+/// The graph that is run for a program, and whose image is written: its flattening, folded, shared and
+/// pruned. Want of memory is the only refusal.
+/// It is made twice. The two are alike; where the processor erred in one of them, they may not be, and then it is refused.
+pub fn graph_of(alloc: Global, program: &Typed) -> Result<Graph, Memory>
+    ensures { IfOk result (StandsFor program.now) }
+{
+    let graph = graph_once(alloc, program)?;
+    let again = graph_once(alloc, program)?;
+    if are_alike(&graph, &again) {
+        Ok(graph)
+    } else {
+        Err(Memory)
+    }
+}
+
+// That graph, made once.
+fn graph_once(alloc: Global, program: &Typed) -> Result<Graph, Memory>
+    ensures { IfOk result (StandsFor program.now) }
+{
+    let flat = flatten(alloc, program)?;
+    let graph = reduce(alloc, flat)?;
+    let _rules = graph.len();
+    Ok(graph)
+}
