@@ -1,6 +1,6 @@
 //! The lines of a cover.
 
-ghost use Rattle.std.specs.Prelude.{◌≡◌, ◌<◌, ◌≤◌, ◌^◌, ◌++◌, List, Some, bytes_eq, codes, decimal, flat_map, length, replicate, slice_get};
+ghost use Rattle.std.specs.Prelude.{◌≡◌, ◌<◌, ◌≤◌, ◌^◌, ◌++◌, List, Some, codes, decimal, flat_map, length, replicate, slice_get};
 ghost use Rattle.vcp_outside.specs.Gathering.{GathersTo};
 ghost use Rattle.verdict_tables.specs.SumText.{delay_text};
 ghost use Rattle.fault_cover.specs.Classes.{fault_at};
@@ -21,7 +21,7 @@ use fault_sites::{then_rest, verb};
 use itoa::Buffer;
 use op_graph::Graph;
 use run_report::variable_name;
-use vcp_base::Kind;
+use vcp_base::{Kind, same_bytes};
 use vcp_outside::{Line, Sink};
 use verdict_tables::{then_delay, then_operation};
 
@@ -50,39 +50,32 @@ pub fn classes_name(classes: CoverClasses) -> &'static [u8]
     }
 }
 
-/// Whether a word is this one.
-fn is(word: &[u8], name: &[u8]) -> bool
-    ensures { result ≡ bytes_eq word.now name.now }
-{
-    word == name
-}
-
 /// The classes that a word names.
 pub fn classes_named(word: &[u8]) -> Option<CoverClasses>
     ensures { result ≡ classes_in word.now }
 {
-    if is(word, b"add") {
+    if same_bytes(word, b"add") {
         return Some(CoverClasses::One(CoverClass::Add));
     }
-    if is(word, b"rest") {
+    if same_bytes(word, b"rest") {
         return Some(CoverClasses::One(CoverClass::Rest));
     }
-    if is(word, b"stale") {
+    if same_bytes(word, b"stale") {
         return Some(CoverClasses::One(CoverClass::Stale));
     }
-    if is(word, b"skip") {
+    if same_bytes(word, b"skip") {
         return Some(CoverClasses::One(CoverClass::Skip));
     }
-    if is(word, b"from") {
+    if same_bytes(word, b"from") {
         return Some(CoverClasses::One(CoverClass::From));
     }
-    if is(word, b"late") {
+    if same_bytes(word, b"late") {
         return Some(CoverClasses::One(CoverClass::Late));
     }
-    if is(word, b"operator") {
+    if same_bytes(word, b"operator") {
         return Some(CoverClasses::One(CoverClass::Operator));
     }
-    if is(word, b"all") {
+    if same_bytes(word, b"all") {
         return Some(CoverClasses::All);
     }
     None

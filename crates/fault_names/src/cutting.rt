@@ -1,19 +1,12 @@
 //! What single words write.
 
-ghost use Rattle.std.specs.Prelude.{◌≡◌, ◌==◌, ◌≤◌, bytes_eq, length, option_map};
+ghost use Rattle.std.specs.Prelude.{◌≡◌, ◌==◌, ◌≤◌, length, option_map};
 ghost use Rattle.std.specs.List.{position_or_len};
 ghost use Rattle.fault_names.specs.Words.{cut, spot_of};
 
 use fault_script::index_number;
 use memchr::memchr;
 use vcp_base::Spot;
-
-/// Whether a word is this one.
-pub(crate) fn is(word: &[u8], name: &[u8]) -> bool
-    ensures { result ≡ bytes_eq word.now name.now }
-{
-    word == name
-}
 
 /// How many bytes are before the first such byte, or in the whole word.
 #[tactic(auto, using(vcp_base::proofs::Firsts::first_place))]

@@ -5,12 +5,11 @@ ghost use Rattle.vcp_base.specs.Words.{words as words_of};
 ghost use Rattle.fault_names.specs.Lines.{with_rest, of_kind as of_kind_of, place_at as place_at_of, place_of, operand_of, target_of, add_of, as_of};
 ghost use Rattle.fault_names.specs.Lines.{read_of, operator_of, doing_of};
 
-use crate::cutting::is;
 use crate::operations::operation_named;
 use crate::refused::Why;
 use fault_script::{index_number, kind_named};
 use op_graph::Graph;
-use vcp_base::{Kind, Ty, WordsLeft, number_in};
+use vcp_base::{Kind, Ty, WordsLeft, number_in, same_bytes};
 
 /// What the words before the operation say.
 #[derive(Clone, Copy)]
@@ -91,7 +90,7 @@ fn operand(graph: &Graph, words: &mut WordsLeft<'_>) -> Result<Target, Why>
     let Some(of) = words.next() else {
         return Err(Why::Form);
     };
-    if !is(of, b"of") {
+    if !same_bytes(of, b"of") {
         return Err(Why::Form);
     }
     let Some(j) = index_number(number) else {
@@ -114,7 +113,7 @@ pub(crate) fn take_target(graph: &Graph, words: &mut WordsLeft<'_>) -> Result<Ta
     let Some(first) = words.next() else {
         return Err(Why::Form);
     };
-    if is(first, b"operand") {
+    if same_bytes(first, b"operand") {
         return operand(graph, words);
     }
     match place_at(graph, first, words) {
@@ -133,7 +132,7 @@ fn add(words: &mut WordsLeft<'_>) -> Result<Doing, Why>
     let Some(to) = words.next() else {
         return Err(Why::Form);
     };
-    if !is(to, b"to") {
+    if !same_bytes(to, b"to") {
         return Err(Why::Form);
     }
     match number_in(Ty::Lint, number) {
@@ -149,7 +148,7 @@ fn read_as(r: u32, words: &mut WordsLeft<'_>) -> Result<Doing, Why>
     let Some(word) = words.next() else {
         return Err(Why::Form);
     };
-    if is(word, b"as") {
+    if same_bytes(word, b"as") {
         Ok(Doing::Read { r })
     } else {
         Err(Why::Form)
@@ -176,7 +175,7 @@ fn operator(words: &mut WordsLeft<'_>) -> Result<Doing, Why>
     let Some(at) = words.next() else {
         return Err(Why::Form);
     };
-    if !is(at, b"at") {
+    if !same_bytes(at, b"at") {
         return Err(Why::Form);
     }
     match kind_named(name) {
@@ -192,25 +191,25 @@ pub(crate) fn take_doing(graph: &Graph, words: &mut WordsLeft<'_>) -> Result<Doi
     let Some(verb) = words.next() else {
         return Err(Why::Form);
     };
-    if is(verb, b"add") {
+    if same_bytes(verb, b"add") {
         return add(words);
     }
-    if is(verb, b"stale") {
+    if same_bytes(verb, b"stale") {
         return Ok(Doing::Stale);
     }
-    if is(verb, b"read") {
+    if same_bytes(verb, b"read") {
         return read(graph, words);
     }
-    if is(verb, b"operator") {
+    if same_bytes(verb, b"operator") {
         return operator(words);
     }
-    if is(verb, b"skip") {
+    if same_bytes(verb, b"skip") {
         return Ok(Doing::Skip);
     }
-    if is(verb, b"flip") {
+    if same_bytes(verb, b"flip") {
         return Ok(Doing::Flip);
     }
-    if is(verb, b"stuck") {
+    if same_bytes(verb, b"stuck") {
         return Err(Why::Held);
     }
     Err(Why::Form)

@@ -10,13 +10,12 @@ ghost use Rattle.fault_names.specs.Entries.{fault_count as fault_count_of, count
 ghost use Rattle.vcp_base.specs.Lines.{read_lines};
 ghost use Rattle.fault_names.specs.Script.{cycles_of};
 
-use crate::cutting::is;
 use crate::meant::{Meant, meaning};
 use crate::refused::{Refused, Why};
 use crate::when::Span;
 use fault_script::MOST_FAULTS;
 use op_graph::Graph;
-use vcp_base::{WordsLeft, first_line, first_read};
+use vcp_base::{WordsLeft, first_line, first_read, same_bytes};
 
 /// The most bytes of a text whose script a file can have.
 pub const MOST_NAMED_BYTES: usize = 262_144;
@@ -35,7 +34,7 @@ fn image_named(line: &[u8]) -> Option<&[u8]>
     let Some(digest) = words.only() else {
         return None;
     };
-    if is(mark, b"#") && is(of, b"of") {
+    if same_bytes(mark, b"#") && same_bytes(of, b"of") {
         Some(digest)
     } else {
         None

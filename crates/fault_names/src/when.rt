@@ -5,10 +5,10 @@ ghost use Rattle.vcp_base.specs.Limits.{most_cycles};
 ghost use Rattle.fault_names.specs.Words.{last_of, from_to as from_to_of, span_of};
 ghost use Rattle.fault_names.specs.Lines.{ending_of, bit_of, when_of, with_rest, is_together as is_together_of};
 
-use crate::cutting::{cut_at, is};
+use crate::cutting::cut_at;
 use crate::refused::Why;
 use fault_script::{cycle_number, index_number};
-use vcp_base::WordsLeft;
+use vcp_base::{WordsLeft, same_bytes};
 
 /// Cycles, from one to another, which may be the same.
 #[derive(Clone, Copy)]
@@ -95,13 +95,13 @@ pub(crate) fn take_ending(words: &mut WordsLeft<'_>) -> Option<Ending>
     let Some(word) = words.next() else {
         return Some(Ending::Alone);
     };
-    if is(word, b"bit") {
+    if same_bytes(word, b"bit") {
         return match words.only() {
             Some(word) => bit(word),
             None => None,
         };
     }
-    if is(word, b"together") && words.is_end() {
+    if same_bytes(word, b"together") && words.is_end() {
         Some(Ending::Together)
     } else {
         None
@@ -120,7 +120,7 @@ pub(crate) fn when(words: &mut WordsLeft<'_>) -> Result<Span, Why>
     let Some(cycles) = words.next() else {
         return Err(Why::Form);
     };
-    if !is(word, b"cycle") {
+    if !same_bytes(word, b"cycle") {
         return Err(Why::Form);
     }
     match cycles_said(cycles) {

@@ -1,6 +1,6 @@
 //! What the words of a line say.
 
-ghost use Rattle.std.specs.Prelude.{◌≡◌, ◌<◌, ◌∷◌, true, IfSome, bytes_eq, option_map, option_and_then};
+ghost use Rattle.std.specs.Prelude.{◌≡◌, ◌<◌, ◌∷◌, true, IfSome, option_map, option_and_then};
 ghost use Rattle.vcp_base.specs.Limits.{most_cycles};
 ghost use Rattle.fault_script.specs.Forms.{operand_change as operand_change_of, operand_act as operand_act_of, result_act as result_act_of};
 ghost use Rattle.fault_script.specs.Forms.{operator_act as operator_act_of, skip_act as skip_act_of, act_of, change_of};
@@ -13,7 +13,7 @@ ghost use Rattle.fault_script.specs.Fits.{is_moderate};
 
 use crate::act::Act;
 use crate::numbers::{addend, cycle_number, index_number, kind_named};
-use vcp_base::WordsLeft;
+use vcp_base::{WordsLeft, same_bytes};
 
 /// What a well-formed line says: an act at an operation in a cycle.
 #[derive(Clone, Copy)]
@@ -37,13 +37,6 @@ pub enum Mark {
     Fault,
 }
 
-// Whether a word is this one.
-fn is(word: &[u8], name: &[u8]) -> bool
-    ensures { result ≡ bytes_eq word.now name.now }
-{
-    word == name
-}
-
 // What is added, as the last word.
 fn last_addend(more: &mut WordsLeft<'_>) -> Option<i64>
     ensures value { result ≡ option_and_then addend_of (only more.old) }
@@ -60,13 +53,13 @@ fn operand_change(j: u32, how: &[u8], more: &mut WordsLeft<'_>) -> Option<Act>
     ensures act { result ≡ operand_change_of j how.now more.old }
     ensures moderate { IfSome result (λ a. is_moderate a ≡ true) }
 {
-    if is(how, b"add") {
+    if same_bytes(how, b"add") {
         return added_to(j, more);
     }
-    if is(how, b"from") {
+    if same_bytes(how, b"from") {
         return read_from(j, more);
     }
-    if is(how, b"stale") && more.is_end() {
+    if same_bytes(how, b"stale") && more.is_end() {
         return Some(Act::OperandStale { j });
     }
     None
@@ -117,7 +110,7 @@ fn result_act(more: &mut WordsLeft<'_>) -> Option<Act>
     let Some(how) = more.next() else {
         return None;
     };
-    if !is(how, b"add") {
+    if !same_bytes(how, b"add") {
         return None;
     }
     match last_addend(more) {
@@ -148,16 +141,16 @@ fn act(verb: &[u8], more: &mut WordsLeft<'_>) -> Option<Act>
     ensures act { result ≡ act_of verb.now more.old }
     ensures moderate { IfSome result (λ a. is_moderate a ≡ true) }
 {
-    if is(verb, b"operand") {
+    if same_bytes(verb, b"operand") {
         return operand_act(more);
     }
-    if is(verb, b"result") {
+    if same_bytes(verb, b"result") {
         return result_act(more);
     }
-    if is(verb, b"operator") {
+    if same_bytes(verb, b"operator") {
         return operator_act(more);
     }
-    if is(verb, b"skip") {
+    if same_bytes(verb, b"skip") {
         return skip_act(more);
     }
     None
@@ -204,10 +197,10 @@ pub fn change_of_line(line: &[u8]) -> Option<Change>
 fn mark_named(word: &[u8]) -> Mark
     ensures { result ≡ mark_named_of word.now }
 {
-    if is(word, b"begin") {
+    if same_bytes(word, b"begin") {
         return Mark::Begin;
     }
-    if is(word, b"end") {
+    if same_bytes(word, b"end") {
         return Mark::End;
     }
     Mark::Fault

@@ -1,6 +1,6 @@
 //! The line of a site.
 
-ghost use Rattle.std.specs.Prelude.{◌≡◌, ◌++◌, bytes_eq, codes, decimal};
+ghost use Rattle.std.specs.Prelude.{◌≡◌, ◌++◌, codes, decimal};
 ghost use Rattle.std.specs.Fmt.{signed_decimal};
 ghost use Rattle.vcp_outside.specs.Gathering.{GathersTo};
 ghost use Rattle.fault_sites.specs.SiteText.{class_name as class_name_of, classes_name as classes_name_of, classes_of, verb as verb_of, rest as rest_of};
@@ -9,7 +9,7 @@ ghost use Rattle.fault_sites.specs.SiteText.{site_line};
 use crate::class::{Class, Classes};
 use crate::site::Site;
 use fault_script::Act;
-use vcp_base::{Kind, kind_name};
+use vcp_base::{Kind, kind_name, same_bytes};
 use vcp_outside::{Line, Sink};
 
 /// The word that names a class.
@@ -35,33 +35,26 @@ pub fn classes_name(classes: Classes) -> &'static [u8]
     }
 }
 
-/// Whether a word is this one.
-pub(crate) fn is(word: &[u8], name: &[u8]) -> bool
-    ensures { result ≡ bytes_eq word.now name.now }
-{
-    word == name
-}
-
 /// The classes that a word names.
 pub fn classes_named(word: &[u8]) -> Option<Classes>
     ensures { result ≡ classes_of word.now }
 {
-    if is(word, b"bits") {
+    if same_bytes(word, b"bits") {
         return Some(Classes::One(Class::Bits));
     }
-    if is(word, b"stale") {
+    if same_bytes(word, b"stale") {
         return Some(Classes::One(Class::Stale));
     }
-    if is(word, b"skip") {
+    if same_bytes(word, b"skip") {
         return Some(Classes::One(Class::Skip));
     }
-    if is(word, b"from") {
+    if same_bytes(word, b"from") {
         return Some(Classes::One(Class::From));
     }
-    if is(word, b"operator") {
+    if same_bytes(word, b"operator") {
         return Some(Classes::One(Class::Operator));
     }
-    if is(word, b"all") {
+    if same_bytes(word, b"all") {
         return Some(Classes::All);
     }
     None

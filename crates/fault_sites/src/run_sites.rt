@@ -14,7 +14,6 @@ use crate::GraphValues;
 use crate::counts::BEHIND_ALL;
 use crate::cycle_values::CycleValues;
 use crate::flips::count_flips_in;
-use crate::lines::is;
 use crate::nowhere::Nowhere;
 use crate::part::Part;
 use crate::run_class::RunClass;
@@ -22,7 +21,7 @@ use crate::telling::then_acts;
 use crate::writing::then_remark;
 use input_rows::RowList;
 use signature_table::Table;
-use vcp_base::Row;
+use vcp_base::{Row, same_bytes};
 use vcp_outside::{Failed, Line, Sink};
 
 /// The word that names a class.
@@ -39,10 +38,10 @@ fn run_class_name(class: RunClass) -> &'static [u8]
 pub fn run_class_named(word: &[u8]) -> Option<RunClass>
     ensures { result ≡ run_class_of word.now }
 {
-    if is(word, b"flips") {
+    if same_bytes(word, b"flips") {
         return Some(RunClass::Flips);
     }
-    if is(word, b"late") {
+    if same_bytes(word, b"late") {
         return Some(RunClass::Late);
     }
     None

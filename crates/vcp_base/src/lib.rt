@@ -43,7 +43,7 @@ pub use script::{WordsLeft, first_line, first_read, integer, is_addend, is_skipp
 pub use spellings::{kind_code, kind_name, kind_of_code, stop_name, ty_code, ty_name, ty_of_code};
 pub use spot::Spot;
 pub use steps::Steps;
-pub use text::{Text, is_same_name, same_name};
+pub use text::{Text, is_same_name, same_bytes, same_name};
 pub use turns::{Turn, Turns};
 pub use ty::{Ty, fits, greatest, is_bool, is_number, least, same_type, within};
 pub use words::Words;

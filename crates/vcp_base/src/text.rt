@@ -1,6 +1,6 @@
 //! Texts, which are lists of bytes.
 
-ghost use Rattle.std.specs.Prelude.{◌≡◌, ◌<◌, ◌↔◌, Some, IfOk, IsTrue, length, slice_get};
+ghost use Rattle.std.specs.Prelude.{◌≡◌, ◌<◌, ◌↔◌, Some, IfOk, IsTrue, bytes_eq, length, slice_get};
 ghost use Rattle.vcp_base.specs.Names.{SameName, is_same_name as is_same_name_of};
 
 use crate::memory::Memory;
@@ -75,4 +75,11 @@ pub fn is_same_name(a: &[u8], b: &[u8]) -> bool
     ensures same { IsTrue result ↔ SameName a.now b.now }
 {
     a.eq_ignore_ascii_case(b)
+}
+
+/// Whether two texts are the same bytes.
+pub fn same_bytes(a: &[u8], b: &[u8]) -> bool
+    ensures { result ≡ bytes_eq a.now b.now }
+{
+    a == b
 }

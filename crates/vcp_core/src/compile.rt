@@ -11,9 +11,9 @@ ghost use Rattle.vcp_core.specs.Reach.{told_line, told_status};
 
 use crate::ending::{Ending, text_ended};
 use crate::fault::Fault;
-use vcp_inputs::{Code, HowOften, image_for, load_typed};
 use std::alloc::Global;
 use vcp_base::{Memory, Text};
+use vcp_inputs::{Code, HowOften, image_for, load_typed};
 use vcp_outside::{Files, Sink, write_all};
 
 /// Does what the words `compile P CODE` say, and writes to `out` alone: P is read whole and

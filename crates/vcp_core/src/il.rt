@@ -11,9 +11,9 @@ use crate::ending::Ending;
 use crate::fault::Fault;
 use crate::run::run_read;
 use coded_unit::Unit;
-use vcp_inputs::{Code, RowsWord, lists_are_told, load_il};
 use std::alloc::Global;
 use vcp_base::Text;
+use vcp_inputs::{Code, RowsWord, lists_are_told, load_il};
 use vcp_outside::{Files, Sink};
 
 /// Does what the words `il P ROWS CODE` say, and writes to `out` alone: P is read whole and

@@ -23,7 +23,6 @@ ghost use Rattle.vcp_inputs.specs.WireKind.{WiresDeliver};
 ghost use Rattle.vcp_core.specs.StaleSeen.{StaleShows};
 ghost use Rattle.vcp_core.specs.WrittenImages.{WrittenImagesAreTaken};
 
-use vcp_inputs::endings_have_causes;
 use il_front::il_answers_are_one;
 use image_file::images_are_told_apart;
 use st_lexer::one_reading;
@@ -33,6 +32,7 @@ use telegram::{
     deliveries_are_young, deliveries_rise, receipts_follow_the_equation,
     unaltered_come_from_their_sender,
 };
+use vcp_inputs::endings_have_causes;
 use weight_audit::{an_audit_has_one_text, differences_come_as_weights};
 
 /// A command has a task, whatever bytes are held, and only one, with a status of its own, and it isn't that a name is lacking where

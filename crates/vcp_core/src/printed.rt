@@ -27,13 +27,13 @@ use coded_machine::{
     run_rows,
 };
 use coded_unit::Unit;
-use vcp_inputs::{Code, graph_of};
 use input_rows::Rows;
 use op_graph::Graph;
 use run_report::{end_line, graph_stop_line, refused_line};
 use signature_table::Table;
 use std::alloc::Global;
 use vcp_base::{Columns, Memory};
+use vcp_inputs::{Code, graph_of};
 use vcp_outside::{Failed, Sink};
 use vcp_typed::Typed;
 

@@ -17,9 +17,9 @@ use crate::loading::rows_name;
 use crate::printed::run_program;
 use crate::program_rows::{ProgramRows, load_program_rows};
 use coded_unit::Unit;
-use vcp_inputs::{Code, HowOften, RowsWord, lists_are_told, load_typed};
 use std::alloc::Global;
 use vcp_base::Text;
+use vcp_inputs::{Code, HowOften, RowsWord, lists_are_told, load_typed};
 use vcp_outside::{Files, Sink};
 use vcp_typed::Typed;
 

@@ -9,11 +9,11 @@ ghost use Rattle.vcp_study_core.specs.SameGraphs.{AreSameButForPlaces};
 
 use crate::rough_text::rough_text;
 use crate::same_graphs::same_but_for_places;
-use vcp_inputs::{HowOften, NoInput, graph_of, program_of, typed_of};
 use op_graph::Graph;
 use st_writer::write_program;
 use std::alloc::Global;
 use vcp_base::{MOST_SOURCE_BYTES, Memory, Text};
+use vcp_inputs::{HowOften, NoInput, graph_of, program_of, typed_of};
 use vcp_typed::Typed;
 
 /// The canonical text of the program that a text is; None where it is none.

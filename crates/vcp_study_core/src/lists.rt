@@ -12,10 +12,10 @@ ghost use Rattle.vcp_study_core.specs.Tasks.{TaskOf};
 use crate::fault::{Fault, StudyRefusal, told};
 use crate::list_text::text_for;
 use crate::loading::bytes_under;
-use vcp_inputs::{Code, image_for, listed_program, lists_are_told};
 use il_front::MOST_IL_BYTES;
 use std::alloc::Global;
 use vcp_base::{Memory, Text};
+use vcp_inputs::{Code, image_for, listed_program, lists_are_told};
 use vcp_outside::{Files, Sink, write_all};
 use vcp_typed::Typed;
 

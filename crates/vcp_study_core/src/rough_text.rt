@@ -5,7 +5,8 @@ ghost use Rattle.il_front.specs.Answers.{most_il_bytes};
 
 use itoa::Buffer;
 use st_lexer::{LexFault, Token, lex};
-use st_tree::{BinOp, Section, UnOp};
+use st_tree::{Section, UnOp};
+use st_writer::operator_text;
 use std::alloc::Global;
 use vcp_base::{Memory, Text, Ty, ty_name};
 use vcp_typed::{Slot, TArm, TExpr, TStmt, Typed};
@@ -27,26 +28,6 @@ pub(crate) fn rough_text(alloc: Global, list: &[u8], program: &Typed) -> Result<
     };
     text.program(alloc, list, program);
     text.finish()
-}
-
-/// The word or sign of an operator, between blanks.
-fn operator_sign(op: BinOp) -> &'static [u8] {
-    match op {
-        BinOp::Mul => b" * ",
-        BinOp::Div => b" / ",
-        BinOp::Mod => b" MOD ",
-        BinOp::Add => b" + ",
-        BinOp::Sub => b" - ",
-        BinOp::Lt => b" < ",
-        BinOp::Gt => b" > ",
-        BinOp::Le => b" <= ",
-        BinOp::Ge => b" >= ",
-        BinOp::Eq => b" = ",
-        BinOp::Ne => b" <> ",
-        BinOp::And => b" AND ",
-        BinOp::Xor => b" XOR ",
-        BinOp::Or => b" OR ",
-    }
 }
 
 /// The words with which the block of a section begins.
@@ -228,7 +209,7 @@ impl Growing {
                 ..
             } => {
                 self.operand(slots, left);
-                self.put(operator_sign(*op));
+                self.put(operator_text(*op));
                 self.operand(slots, right);
             }
             _ => self.operand(slots, value),

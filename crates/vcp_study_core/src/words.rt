@@ -1,6 +1,6 @@
 //! From words to a command.
 
-ghost use Rattle.std.specs.Prelude.{ℕ, List, ◌≡◌, ◌≤◌, IfSome, Some, None, bytes_eq, cond, drop, length};
+ghost use Rattle.std.specs.Prelude.{ℕ, List, ◌≡◌, ◌≤◌, IfSome, Some, None, cond, drop, length};
 ghost use Rattle.std.specs.Option.{option_map};
 ghost use Rattle.vcp_base.specs.Limits.{most_cycles, most_horizon};
 ghost use Rattle.vcp_study_core.specs.Forms.{list_image, list_text};
@@ -19,16 +19,9 @@ use crate::part_words::{Named, PartWords};
 use fault_cover::{CoverClasses, classes_named as cover_classes_named};
 use fault_sites::{Chosen, Part, RunClass, classes_named, run_class_named};
 use run_picture::{Period, period_named};
-use vcp_base::{MOST_CYCLES, MOST_HORIZON, Text, Words, numeral};
+use vcp_base::{MOST_CYCLES, MOST_HORIZON, Text, Words, numeral, same_bytes};
 use vcp_inputs::{CommandWords, RowsWord};
 use verdict_tables::MOST_PARTS;
-
-/// Whether a word is this one.
-fn is_word(word: &[u8], name: &[u8]) -> bool
-    ensures { result ≡ bytes_eq word.now name.now }
-{
-    word == name
-}
 
 /// The command that the words say; None where they are none of the forms.
 pub fn command_of(words: &Words) -> Option<StudyCommand<'_>>
@@ -56,13 +49,13 @@ fn named_words<'a>(
     ensures form { option_map form result ≡ named_form command.now name.now words.old }
     ensures sound { IfSome result (λ command. IsSound (form command)) }
 {
-    if is_word(command, b"waves") {
+    if same_bytes(command, b"waves") {
         return waves_words(name, words);
     }
-    if is_word(command, b"image") {
+    if same_bytes(command, b"image") {
         return list_image_words(name, words);
     }
-    if is_word(command, b"text") {
+    if same_bytes(command, b"text") {
         return list_text_words(name, words);
     }
     match study_words(all, command, words) {
@@ -87,7 +80,7 @@ fn period_said(words: &mut CommandWords<'_>) -> Option<Option<Period>>
     ensures { (file : List ℕ) → option_map (waves file) result ≡ waves_form file words.old }
 {
     match words.next() {
-        Some(word) => if is_word(word.bytes(), b"--cycle-time") {
+        Some(word) => if same_bytes(word.bytes(), b"--cycle-time") {
             match last_period(words) {
                 Some(period) => Some(Some(period)),
                 None => None,
@@ -145,16 +138,16 @@ fn study_words<'a>(
     ensures form { option_map study result ≡ study_of command.now words.old }
     ensures sound { IfSome result (λ s. IsSoundStudy (study s)) }
 {
-    if is_word(command, b"graph") {
+    if same_bytes(command, b"graph") {
         return alone_words(graph_words(words));
     }
-    if is_word(command, b"dot") {
+    if same_bytes(command, b"dot") {
         return alone_words(dot_words(words));
     }
-    if is_word(command, b"ranges") {
+    if same_bytes(command, b"ranges") {
         return ranges_words(words);
     }
-    if is_word(command, b"cover") {
+    if same_bytes(command, b"cover") {
         return alone_words(cover_words(words));
     }
     fault_study_words(all, command, words)
@@ -170,16 +163,16 @@ fn fault_study_words<'a>(
     ensures form { option_map study result ≡ fault_study_of command.now words.old }
     ensures sound { IfSome result (λ s. IsSoundStudy (study s)) }
 {
-    if is_word(command, b"sites") {
+    if same_bytes(command, b"sites") {
         return sites_words(words);
     }
-    if is_word(command, b"sum") {
+    if same_bytes(command, b"sum") {
         return sum_words(all, words);
     }
-    if is_word(command, b"faults") {
+    if same_bytes(command, b"faults") {
         return faults_words(words);
     }
-    if is_word(command, b"script") {
+    if same_bytes(command, b"script") {
         return script_words(words);
     }
     None
@@ -253,7 +246,7 @@ pub(crate) struct RangesWords<'a> {
 fn inputs_words<'a>(all: bool, word: &Text, words: &mut CommandWords<'a>) -> Option<RangesWords<'a>>
     ensures { option_map as_ranges result ≡ inputs_form all word.now words.old }
 {
-    if !is_word(word.bytes(), b"--inputs") {
+    if !same_bytes(word.bytes(), b"--inputs") {
         return None;
     }
     match last_name(words) {
@@ -283,7 +276,7 @@ fn ranges_said<'a>(words: &mut CommandWords<'a>) -> Option<RangesWords<'a>>
     ensures { option_map as_ranges result ≡ ranges_form words.old }
 {
     match words.next() {
-        Some(word) => if is_word(word.bytes(), b"--all") {
+        Some(word) => if same_bytes(word.bytes(), b"--all") {
             all_words(words)
         } else {
             inputs_words(false, word, words)
@@ -340,7 +333,7 @@ fn cover_words(words: &mut CommandWords<'_>) -> Option<AloneStudy>
 fn number_chosen(word: &Text) -> Option<Chosen>
     ensures { result ≡ number_word word.now }
 {
-    if is_word(word.bytes(), b"--count") {
+    if same_bytes(word.bytes(), b"--count") {
         Some(Chosen::Number)
     } else {
         None
@@ -453,7 +446,7 @@ fn behind_words<'a>(rows: RowsWord<'a>, words: &mut CommandWords<'a>) -> Option<
     ensures sound { IfSome result (λ s. IsSoundStudy (study s)) }
 {
     match words.next() {
-        Some(word) => if is_word(word.bytes(), b"rest") {
+        Some(word) => if same_bytes(word.bytes(), b"rest") {
             alone_words(rest_words(rows, words))
         } else {
             match run_class_named(word.bytes()) {

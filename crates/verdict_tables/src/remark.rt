@@ -5,8 +5,7 @@ ghost use Rattle.std.specs.List.{list_any};
 ghost use Rattle.vcp_base.specs.Words.{words as words_of};
 ghost use Rattle.verdict_tables.specs.Remark.{digest_in, digest_of, is_for as is_for_of};
 
-use crate::words::is;
-use vcp_base::{WordsLeft, first_line};
+use vcp_base::{WordsLeft, first_line, same_bytes};
 
 /// The digits of the digest in a remark of sites.
 fn digest(line: &[u8]) -> Option<&[u8]>
@@ -28,7 +27,7 @@ fn digest(line: &[u8]) -> Option<&[u8]>
     let Some(digest) = words.next() else {
         return None;
     };
-    if is(mark, b"#") && is(word, b"sites") && is(of, b"of") {
+    if same_bytes(mark, b"#") && same_bytes(word, b"sites") && same_bytes(of, b"of") {
         Some(digest)
     } else {
         None

@@ -1,6 +1,6 @@
 //! Which verdict the words of a line may mean.
 
-ghost use Rattle.std.specs.Prelude.{◌≡◌, ◌<◌, IfSome, bytes_eq, length, option_and_then, option_map};
+ghost use Rattle.std.specs.Prelude.{◌≡◌, ◌<◌, IfSome, length, option_and_then, option_map};
 ghost use Rattle.fault_script.specs.Forms.{number_below};
 ghost use Rattle.fault_injector.specs.Names.{Names};
 ghost use Rattle.verdict_tables.specs.Outcome.{value_of, numbers, numbers_of, named_then, output_named, shown_of, as_wrong, as_refused, stop_of};
@@ -10,7 +10,7 @@ use fault_injector::Verdict;
 use fault_script::cycle_number;
 use op_graph::Graph;
 use run_report::output_name;
-use vcp_base::{StopKind, Ty, WordsLeft, number_in, numeral, stop_name};
+use vcp_base::{StopKind, Ty, WordsLeft, number_in, numeral, same_bytes, stop_name};
 
 /// Two numbers.
 #[derive(Clone, Copy)]
@@ -149,24 +149,17 @@ fn refused(shown: Shown) -> Verdict
     }
 }
 
-/// Whether a word is this one.
-pub(crate) fn is(word: &[u8], name: &[u8]) -> bool
-    ensures { result ≡ bytes_eq word.now name.now }
-{
-    word == name
-}
-
 /// The kind of a stop with this name.
 fn stop(word: &[u8]) -> Option<StopKind>
     ensures { result ≡ stop_of word.now }
 {
-    if is(word, stop_name(StopKind::Range)) {
+    if same_bytes(word, stop_name(StopKind::Range)) {
         return Some(StopKind::Range);
     }
-    if is(word, stop_name(StopKind::DivZero)) {
+    if same_bytes(word, stop_name(StopKind::DivZero)) {
         return Some(StopKind::DivZero);
     }
-    if is(word, stop_name(StopKind::Operand)) {
+    if same_bytes(word, stop_name(StopKind::Operand)) {
         return Some(StopKind::Operand);
     }
     None
@@ -264,19 +257,19 @@ pub(crate) fn meant(graph: &Graph, words: &mut WordsLeft<'_>) -> Option<Verdict>
     let Some(first) = words.next() else {
         return None;
     };
-    if is(first, b"same") {
+    if same_bytes(first, b"same") {
         return Some(Verdict::Same);
     }
-    if is(first, b"wrong") {
+    if same_bytes(first, b"wrong") {
         return wrong_of(graph, words);
     }
-    if is(first, b"ran-on") {
+    if same_bytes(first, b"ran-on") {
         return ran_on(words);
     }
-    if is(first, b"refused") {
+    if same_bytes(first, b"refused") {
         return refused_of(graph, words);
     }
-    if is(first, b"stopped") {
+    if same_bytes(first, b"stopped") {
         return stopped(graph, words);
     }
     None

@@ -3,12 +3,12 @@
 ghost use Rattle.std.specs.Prelude.{IfOk};
 ghost use Rattle.vcp_inputs.specs.GraphsOf.{StandsFor};
 
+use crate::are_alike;
 use flat_stmt::flatten;
 use graph_passes::reduce;
 use op_graph::Graph;
 use std::alloc::Global;
 use vcp_base::Memory;
-use crate::are_alike;
 use vcp_typed::Typed;
 
 /// The graph that is run for a program, and whose image is written: its flattening, folded, shared and

@@ -4,12 +4,12 @@ ghost use Rattle.std.specs.Prelude.{IfOk};
 ghost use Rattle.vcp_inputs.specs.Forms.{as_code, IsCode};
 ghost use Rattle.vcp_inputs.specs.GraphsOf.{IsImageFor};
 
+use crate::Code;
 use crate::meaning::graphs::graph_of;
 use image_file::write_image;
 use signature_table::Table;
 use std::alloc::Global;
 use vcp_base::{Memory, Text};
-use crate::Code;
 use vcp_typed::Typed;
 
 /// The image of a graph that may represent a program, with the seed and the step of a code. Want of memory is the only refusal.

@@ -8,8 +8,8 @@ ghost use Rattle.vcp_inputs.specs.Forms.{name_then, rows_then};
 ghost use Rattle.vcp_inputs.specs.Forms.{number_then, code_then, end_then, form, form_of, image_form, most_made, usage_text, IsSound};
 
 use crate::words::command::Command;
-use crate::words::words_left::{CommandWords, is_word};
-use vcp_base::{MOST_CYCLES, MOST_HORIZON, SEEDS, Words};
+use crate::words::words_left::CommandWords;
+use vcp_base::{MOST_CYCLES, MOST_HORIZON, SEEDS, Words, same_bytes};
 
 /// The line that words get which are none of the forms. It names all commands.
 pub fn usage() -> &'static [u8]
@@ -35,28 +35,28 @@ pub fn command_of(words: &Words) -> Option<Command<'_>>
 fn named_command<'a>(command: &[u8], words: &mut CommandWords<'a>) -> Option<Command<'a>>
     ensures { option_map form result ≡ form_of (command.now ∷ words.old) }
 {
-    if is_word(command, b"check") {
+    if same_bytes(command, b"check") {
         return check_words(words);
     }
-    if is_word(command, b"format") {
+    if same_bytes(command, b"format") {
         return format_words(words);
     }
-    if is_word(command, b"plain") {
+    if same_bytes(command, b"plain") {
         return plain_words(words);
     }
-    if is_word(command, b"run") {
+    if same_bytes(command, b"run") {
         return run_words(words);
     }
-    if is_word(command, b"il") {
+    if same_bytes(command, b"il") {
         return il_words(words);
     }
-    if is_word(command, b"compile") {
+    if same_bytes(command, b"compile") {
         return compile_words(words);
     }
-    if is_word(command, b"wire") {
+    if same_bytes(command, b"wire") {
         return wire_words(words);
     }
-    if is_word(command, b"demo") {
+    if same_bytes(command, b"demo") {
         return demo_words(words);
     }
     image_command(command, words)
@@ -66,28 +66,28 @@ fn named_command<'a>(command: &[u8], words: &mut CommandWords<'a>) -> Option<Com
 fn image_command<'a>(command: &[u8], words: &mut CommandWords<'a>) -> Option<Command<'a>>
     ensures { option_map form result ≡ image_form command.now words.old }
 {
-    if is_word(command, b"list") {
+    if same_bytes(command, b"list") {
         return list_words(words);
     }
-    if is_word(command, b"exec") {
+    if same_bytes(command, b"exec") {
         return exec_words(words);
     }
-    if is_word(command, b"trace") {
+    if same_bytes(command, b"trace") {
         return trace_words(words);
     }
-    if is_word(command, b"widen") {
+    if same_bytes(command, b"widen") {
         return widen_words(words);
     }
-    if is_word(command, b"audit") {
+    if same_bytes(command, b"audit") {
         return audit_words(words);
     }
-    if is_word(command, b"inject") {
+    if same_bytes(command, b"inject") {
         return inject_words(words);
     }
-    if is_word(command, b"pair") {
+    if same_bytes(command, b"pair") {
         return pair_words(words);
     }
-    if is_word(command, b"pairs") {
+    if same_bytes(command, b"pairs") {
         return pairs_words(words);
     }
     None

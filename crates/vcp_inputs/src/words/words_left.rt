@@ -1,6 +1,6 @@
 //! The words of a command, read from the front.
 
-ghost use Rattle.std.specs.Prelude.{◌≡◌, ◌≤◌, ◌∷◌, [], IfSome, IfNone, bytes_eq};
+ghost use Rattle.std.specs.Prelude.{◌≡◌, ◌≤◌, ◌∷◌, [], IfSome, IfNone};
 ghost use Rattle.std.specs.Option.{option_map};
 ghost use Rattle.vcp_base.specs.Limits.{seeds, most_step};
 ghost use Rattle.vcp_inputs.specs.Forms.{is_file_name as is_file_name_of, is_end as is_end_of, number_within, name_and_rest, rows_and_rest};
@@ -8,7 +8,7 @@ ghost use Rattle.vcp_inputs.specs.Forms.{number_and_rest, code_of, rows_of, as_c
 
 use crate::words::command::{Code, DEFAULT_CODE, RowsWord};
 use std::marker::Model;
-use vcp_base::{MOST_CYCLES, MOST_STEP, SEEDS, Text, Words, numeral};
+use vcp_base::{MOST_CYCLES, MOST_STEP, SEEDS, Text, Words, numeral, same_bytes};
 
 /// The words that are left, from the front, seen as a list.
 #[derive(Drop)]
@@ -23,13 +23,6 @@ impl<'a> Model for CommandWords<'a> {
     ghost Value = { List (List ℕ) };
 
     ghost view = { λ w. drop w.at w.words.now };
-}
-
-/// Whether a word is this one.
-pub(crate) fn is_word(word: &[u8], name: &[u8]) -> bool
-    ensures { result ≡ bytes_eq word.now name.now }
-{
-    word == name
 }
 
 /// Whether a word can be a file's name: it isn't empty and doesn't begin with `-`.
@@ -102,7 +95,7 @@ impl<'a> CommandWords<'a> {
         let Some(word) = self.next() else {
             return None;
         };
-        if is_word(word.bytes(), b"--cycles") {
+        if same_bytes(word.bytes(), b"--cycles") {
             return match self.number(0, MOST_CYCLES) {
                 Some(cycles) => Some(RowsWord::Cycles(cycles)),
                 None => None,
