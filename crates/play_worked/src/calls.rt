@@ -1,13 +1,12 @@
 //! Single calls of libraries, of what no command shows. Each answers a line, or more, or bytes, which a session compares as it does an output.
 
 mod elements;
-mod files;
 mod graphs;
 mod images;
 mod large_images;
 mod machines;
 mod made;
-mod sinks;
+mod steps;
 mod units;
 mod values;
 mod words;
@@ -33,19 +32,29 @@ pub fn single_call(
         "again" => images::write_again(alloc, files, rest, out),
         "names" => write_all(out, &large_images::long_names(alloc, rest)),
         "chain" => write_all(out, &large_images::chain(alloc, rest)),
-        _ => {
-            let mut told = String::new(alloc);
-            tell(alloc, name, rest, files, unit, &mut told);
-            if !told.ends_with("\n") {
-                say(&mut told, "\n");
-            }
-            write_all(out, told.as_bytes())
-        }
+        _ => write_told(alloc, name, rest, files, unit, out),
     };
     match written {
         Ok(()) => 0,
         Err(Failed) => 6,
     }
+}
+
+/// Writes what the call of a name answers, which has these words.
+fn write_told(
+    alloc: Global,
+    name: &str,
+    words: &str,
+    files: &mut MemFiles,
+    unit: &mut BadUnit,
+    out: &mut MemSink,
+) -> Result<(), Failed> {
+    let mut told = String::new(alloc);
+    tell(alloc, name, words, files, unit, &mut told);
+    if !told.ends_with("\n") {
+        say(&mut told, "\n");
+    }
+    write_all(out, told.as_bytes())
 }
 
 /// Tells what the call of a name answers, which has these words. Each part of the calls answers whether the name is one of its own.
@@ -62,11 +71,10 @@ fn tell(
         || values::tell_words(name, &n, told)
         || values::tell_kinds(name, &n, told)
         || values::tell_texts(alloc, name, &n, words, told)
-        || units::tell_units(alloc, name, &n, words, files, unit, told)
         || graphs::tell_graphs(alloc, name, &n, words, files, told)
         || tell_others(alloc, name, &n, words, files, unit, told);
     if !is_made {
-        say(told, "no call of this name");
+        units::tell_units(alloc, name, &n, words, files, unit, told);
     }
 }
 
@@ -84,9 +92,8 @@ fn tell_others(
         "fronts" => images::tell_fronts(alloc, files, words, told),
         "changes" => images::tell_changes(alloc, files, n, words, told),
         "by_hand" => machines::tell_by_hand(alloc, files, unit, n, words, told),
-        "files" => files::tell_steps(alloc, files, words, told),
-        "sink" => sinks::sink_steps(alloc, words, told),
-        "unflushed" => sinks::unflushed_steps(words, told),
+        "files" | "unflushed" => steps::tell_files(alloc, files, words, told),
+        "sink" => steps::tell_sink(alloc, files, words, told),
         "made" => made::tell_made(alloc, words::u32_of(n[0]), told),
         _ => return false,
     }

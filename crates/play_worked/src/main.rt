@@ -14,28 +14,17 @@ mod texts;
 
 use host::play_files;
 use std::process::ExitCode;
-use texts::say;
-use vcp_outside::{HostFiles, HostSink, given_words, write_all};
+use vcp_outside::{HostFiles, HostSink, given_words};
 
 fn main(rt: HostRuntime) -> ExitCode {
-    let mut told = String::new(rt.alloc());
-    let mut faults = String::new(rt.alloc());
-    match given_words(&rt) {
-        Ok(names) => play_files(
-            rt.alloc(),
-            &mut HostFiles::new(&rt),
-            &names,
-            &mut told,
-            &mut faults,
-        ),
-        Err(_) => say(&mut faults, "no memory\n"),
-    }
+    let names = match given_words(&rt) {
+        Ok(names) => names,
+        Err(_) => return ExitCode::FAILURE,
+    };
+    let mut files = HostFiles::new(&rt);
     let mut out = HostSink::new(rt.stdout());
     let mut err = HostSink::new(rt.stderr());
-    if write_all(&mut out, told.as_bytes()).is_ok()
-        && write_all(&mut err, faults.as_bytes()).is_ok()
-        && faults.is_empty()
-    {
+    if play_files(rt.alloc(), &mut files, &names, &mut out, &mut err) {
         return ExitCode::SUCCESS;
     }
     ExitCode::FAILURE

@@ -10,6 +10,13 @@ pub fn say(told: &mut String, text: &str) {
     told.push_str(text).ok();
 }
 
+/// Appends texts, one after another.
+pub fn say_all(told: &mut String, texts: &[&str]) {
+    for text in texts {
+        say(told, text);
+    }
+}
+
 /// Appends a text as a line.
 pub fn say_line(told: &mut String, line: &str) {
     say(told, line);

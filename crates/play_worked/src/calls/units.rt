@@ -1,5 +1,8 @@
 //! Units, asked one call after another.
 
+ghost use Rattle.std.specs.Prelude.{◌≡◌, length};
+ghost use Rattle.fault_script.specs.Groups.{Apart};
+
 use crate::calls::graphs::{graph_in, text_in};
 use crate::calls::words::{call_in, tell_parts, u32_of, word_of};
 use crate::texts::{behind, numbers, say, text_of, word};
@@ -21,31 +24,19 @@ pub fn tell_units(
     files: &mut MemFiles,
     unit: &mut BadUnit,
     told: &mut String,
-) -> bool {
-    match name {
-        "answer" => tell_answers(alloc, &mut CpuUnit::new(), words, told),
-        "cpu" => tell_answers(
-            alloc,
-            &mut CpuUnit::new(),
-            text_of(text_in(alloc, files, words).bytes()),
-            told,
-        ),
-        "unit" => tell_answers(
-            alloc,
-            unit,
-            text_of(text_in(alloc, files, words).bytes()),
-            told,
-        ),
-        "log" => tell_logged(
-            alloc,
-            text_of(text_in(alloc, files, word(words, 0)).bytes()),
-            u32_of(n[1]),
-            told,
-        ),
-        "acts" => tell_acts(alloc, n, words, files, unit, told),
-        _ => return false,
+) {
+    if name == "answer" {
+        return tell_answers(alloc, &mut CpuUnit::new(), words, told);
     }
-    true
+    let text = text_in(alloc, files, word(words, 0));
+    let calls = text_of(text.bytes());
+    match name {
+        "cpu" => tell_answers(alloc, &mut CpuUnit::new(), calls, told),
+        "log" => tell_logged(alloc, calls, u32_of(n[1]), told),
+        "unit" => tell_answers(alloc, unit, calls, told),
+        "acts" => tell_acts(alloc, n, words, calls, files, unit, told),
+        _ => say(told, "no call of this name"),
+    }
 }
 
 /// Tells a unit's answers to these calls, a line each.
@@ -97,12 +88,12 @@ fn first_fault(alloc: Global, graph: &Graph, script: &str) -> Option<Fault> {
     None
 }
 
-/// Tells the answers of a unit to the calls of a file under a fault of an image, where a word was kept for it before, or `-` for none, and how many of
-/// them are wrong.
+/// Tells the answers of a unit to calls under a fault of an image, where a word was kept for it before, or `-` for none, and how many of them are wrong.
 fn tell_acts(
     alloc: Global,
     n: &[i128; 12],
     words: &str,
+    calls: &str,
     files: &mut MemFiles,
     unit: &mut BadUnit,
     told: &mut String,
@@ -115,14 +106,7 @@ fn tell_acts(
     if let Some(graph) = graph_in(alloc, files, word(words, 1))
         && let Some(fault) = first_fault(alloc, &graph, behind(words, 3))
     {
-        tell_under(
-            alloc,
-            unit,
-            fault,
-            kept,
-            text_of(text_in(alloc, files, word(words, 0)).bytes()),
-            told,
-        );
+        tell_under(alloc, unit, fault, kept, calls, told);
     }
 }
 
@@ -139,8 +123,24 @@ fn tell_under(
     let mut words = KeptWords::new(alloc);
     if let Ok(()) = group.push(fault)
         && let Ok(()) = words.push(kept)
-        && let Ok(mut scripted) = Scripted::with_kept(alloc, unit, &group, &words)
     {
+        tell_scripted(alloc, unit, &group, &words, calls, told);
+    }
+}
+
+/// Tells the answers of a unit under the faults of a group, for which words are kept.
+fn tell_scripted(
+    alloc: Global,
+    unit: &mut BadUnit,
+    group: &Group,
+    kept: &KeptWords,
+    calls: &str,
+    told: &mut String,
+)
+    requires apart { Apart group.now }
+    requires each { length kept.now ≡ length group.now }
+{
+    if let Ok(mut scripted) = Scripted::with_kept(alloc, unit, group, kept) {
         tell_answers(alloc, &mut scripted, calls, told);
         numbers(told, &[scripted.wrong() as i128]);
         say(told, " wrong");

@@ -3,10 +3,9 @@
 use crate::calls::{single_call, tell_answer};
 use crate::sessions::setting::{Outside, Program};
 use crate::sessions::words::words_of;
-use crate::texts::{item, numbers, say, spelled, text_of, word_off};
+use crate::texts::{item, numbers, say, say_all, spelled, text_of, word_off};
 use coded_unit::BadUnit;
 use std::alloc::Global;
-use std::fmt::Write;
 use vcp_base::kind_name;
 use vcp_core::vcp;
 use vcp_outside::{MemFiles, MemSink};
@@ -49,9 +48,8 @@ pub fn status_of(
 }
 
 impl Came {
-    /// Tells the status and the error, as a session writes them. An error that fills the room for it need not be a whole line.
+    /// Tells the status and the error, as a session writes them behind `=`. An error that fills the room for it need not be a whole line.
     pub fn tell_end(&self, room: u32, told: &mut String) {
-        say(told, "= ");
         numbers(told, &[self.status as i128]);
         let error = self.err.bytes();
         if !error.is_empty() {
@@ -110,22 +108,20 @@ impl Came {
         for line in times.lines() {
             let (wanted, part) = word_off(line);
             let mut came = String::new(alloc);
-            numbers(
-                &mut came,
-                &[self.times(text_of(&spelled(alloc, part))) as i128],
-            );
+            numbers(&mut came, &[self.times(alloc, part)]);
             if came.as_str() != wanted {
                 tell_instead(told, line, &came);
             }
         }
     }
 
-    /// How often a text stands in the output.
-    fn times(&self, part: &str) -> usize {
+    /// How often a text, which is spelled, stands in the output.
+    fn times(&self, alloc: Global, part: &str) -> i128 {
+        let part = spelled(alloc, part);
         text_of(self.out.bytes())
-            .split(part)
+            .split(text_of(&part))
             .count()
-            .saturating_sub(1)
+            .saturating_sub(1) as i128
     }
 
     /// Whether a call in which a call of an object fails ended as it has to, where the whole one ended so: where the files fail with 5, a front of the
@@ -165,7 +161,12 @@ fn is_begun(came: &str, wanted: &str) -> bool {
 
 /// Tells what was wanted, and what came.
 fn tell_instead(told: &mut String, wanted: &str, came: &str) {
-    write!(told, "wanted `{wanted}`, came `{came}` of ").ok();
+    say_all(told, &["wanted `", wanted, "`, came `", came, "` of "]);
+}
+
+/// Tells the end that was wanted, and that which came.
+pub fn tell_other_end(told: &mut String, wanted: &str, came: &str) {
+    say_all(told, &["wanted `= ", wanted, "`, came `= ", came, "` of "]);
 }
 
 /// Tells the first line that differs.

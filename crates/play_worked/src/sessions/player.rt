@@ -1,13 +1,14 @@
 //! Playing a session.
 
-use crate::sessions::came::{Came, status_of, tell_difference};
+use crate::sessions::came::{Came, status_of, tell_difference, tell_other_end};
 use crate::sessions::files::SessionFiles;
 use crate::sessions::setting::{Outside, Program, Setting, answer_in, fail};
-use crate::sessions::words::{STUDY_USAGE, USAGE};
-use crate::texts::{behind, copy_of, count, put, say, say_line, spelled, text_of, word, word_off};
+use crate::sessions::words::usage_end;
+use crate::texts::{
+    behind, copy_of, count, numbers, put, say, say_all, say_line, spelled, word, word_off,
+};
 use coded_unit::BadUnit;
 use std::alloc::Global;
-use std::fmt::Write;
 use std::mem;
 use vcp_outside::MemSink;
 
@@ -92,22 +93,25 @@ impl Session {
 
     /// Tells what came of it.
     fn tell(&self, told: &mut String, faults: &mut String) {
-        let name = self.name.as_str();
-        let made = self.made;
-        let otherwise = self.otherwise;
+        say_all(told, &[self.name.as_str(), ": "]);
         if self.faults.is_empty() {
-            write!(told, "{name}: {made} calls\n").ok();
+            numbers(told, &[self.made as i128]);
+            say(told, " calls\n");
         } else {
-            write!(told, "{name}: {otherwise} of {made} calls otherwise\n").ok();
+            numbers(told, &[self.otherwise as i128]);
+            say(told, " of");
+            numbers(told, &[self.made as i128]);
+            say(told, " calls otherwise\n");
+            say(faults, &self.faults);
         }
-        say(faults, &self.faults);
     }
 
     /// Notes what is said of a text in this line.
-    fn note(&mut self, said: &str, text: &str) {
-        let name = self.name.as_str();
-        let number = self.number;
-        write!(self.faults, "{name}, line {number}: {said} `{text}`\n").ok();
+    fn note<'t>(&mut self, said: &'t str, text: &'t str) {
+        say(&mut self.faults, &self.name);
+        say(&mut self.faults, ", line");
+        numbers(&mut self.faults, &[self.number as i128]);
+        say_all(&mut self.faults, &[": ", said, " `", text, "`\n"]);
     }
 
     /// Does what the next line says. A line that sets something for a call, or begins one, has its place where none is open; each other where one is.
@@ -156,7 +160,7 @@ impl Session {
             "&" => put(&mut self.output, self.files.text(rest)),
             "*" => say_line(&mut self.times, rest),
             "?" => say_line(&mut self.asked, rest),
-            "=" => self.end(line, rest),
+            "=" => self.end(rest),
             ">" => self.keep(rest),
             _ => self.want(line.as_bytes()),
         }
@@ -225,34 +229,28 @@ impl Session {
         say(&mut self.call, call);
         if !output.is_empty() {
             self.want(output.as_bytes());
-            self.make("= 0", "");
+            self.make("0", "");
         }
     }
 
     /// The end of a call, with a status and a line of error, or the usage line.
-    fn end(&mut self, line: &str, rest: &str) {
-        if rest == "usage" {
-            let usage = if self.call.starts_with("vcp_study") {
-                STUDY_USAGE
-            } else {
-                USAGE
-            };
-            let mut end = String::new(self.alloc);
-            say(&mut end, "= 4 ");
-            say(&mut end, text_of(usage).trim_ascii_end());
-            self.make(&end, "");
+    fn end(&mut self, end: &str) {
+        if end == "usage" {
+            let usage = usage_end(&self.call);
+            self.make(usage, "");
         } else {
-            self.make(line, "");
+            self.make(end, "");
         }
     }
 
     /// The end of a call whose output is the file of a name from now on, with the status that stands behind the name, or else 0.
     fn keep(&mut self, rest: &str) {
         let (name, status) = word_off(rest);
-        let mut end = String::new(self.alloc);
-        say(&mut end, "= ");
-        say(&mut end, if status.is_empty() { "0" } else { status });
-        self.make(&end, name);
+        if status.is_empty() {
+            self.make("0", name);
+        } else {
+            self.make(status, name);
+        }
     }
 
     /// Makes the open call, which ends so, and keeps its output as the file of a name where one is given. The name of another program than `vcp` stands
@@ -337,7 +335,9 @@ impl Session {
         }
         let mut ended = String::new(self.alloc);
         came.tell_end(self.setting.error_room, &mut ended);
-        tell_difference(ended.as_bytes(), end.as_bytes(), told);
+        if ended.as_str() != end {
+            tell_other_end(told, end, &ended);
+        }
     }
 
     /// What comes of a call of these words in which the call of a number of an object fails. Nothing where there is no memory for it.
@@ -383,7 +383,9 @@ impl Session {
             match self.came(program, words, outside, number) {
                 Some(came) if came.is_broken_of(whole, failed) => {}
                 _ => {
-                    write!(told, "otherwise where call {number} of a kind fails, in ").ok();
+                    say(told, "otherwise where call");
+                    numbers(told, &[number as i128]);
+                    say(told, " of a kind fails, in ");
                 }
             }
         }
