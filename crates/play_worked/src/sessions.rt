@@ -1,6 +1,6 @@
 //! Sessions: calls of `vcp`, of `vcp_study` or of a library on files in memory, and what they give.
 
-mod came;
+pub mod came;
 mod files;
 mod player;
 mod setting;

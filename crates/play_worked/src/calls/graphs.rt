@@ -4,6 +4,7 @@ ghost use Rattle.std.specs.Prelude.{◌≡◌, ◌<◌, length};
 
 use crate::calls::images::read;
 use crate::calls::words::{truth, u32_of};
+use crate::sessions::came::Came;
 use crate::texts::{item, numbers, say, text_of, word};
 use graph_passes::{fold, prune, reduce, share};
 use op_graph::{Build, Graph, GraphBuilder, Op};
@@ -12,21 +13,22 @@ use std::alloc::Global;
 use vcp_base::{
     Kind, MOST_CYCLES, MOST_STEP, Memory, Profile, SEEDS, Spot, Text, Ty, kind_name, ty_name,
 };
-use vcp_outside::{MemFiles, read_all};
+use vcp_outside::read_all;
 use weight_audit::Weights;
 use weight_audit::weigh::weights;
 
 /// What the file of a name has; nothing where it isn't read.
-pub fn text_in(alloc: Global, files: &mut MemFiles, name: &str) -> Text {
-    match read_all(alloc, files, name.as_bytes(), 1 << 24) {
+pub fn text_in(came: &mut Came, name: &str) -> Text {
+    match read_all(came.alloc, &mut came.files, name.as_bytes(), 1 << 24) {
         Ok(text) => text,
-        Err(_) => Text::from_vec(Vec::new(alloc)),
+        Err(_) => Text::from_vec(Vec::new(came.alloc)),
     }
 }
 
 /// The graph of the image of a name; None where it is none.
-pub fn graph_in(alloc: Global, files: &mut MemFiles, name: &str) -> Option<Graph> {
-    match read(alloc, text_in(alloc, files, name).bytes()) {
+pub fn graph_in(came: &mut Came, name: &str) -> Option<Graph> {
+    let text = text_in(came, name);
+    match read(came.alloc, text.bytes()) {
         Ok((graph, _table)) => Some(graph),
         Err(_) => None,
     }
@@ -34,19 +36,18 @@ pub fn graph_in(alloc: Global, files: &mut MemFiles, name: &str) -> Option<Graph
 
 /// Calls on graphs: on that of an image, and how many operations a builder takes.
 pub fn tell_graphs(
-    alloc: Global,
+    came: &mut Came,
     name: &str,
     n: &[i128; 12],
     words: &str,
-    files: &mut MemFiles,
     told: &mut String,
 ) -> bool {
     match name {
-        "graph" => match graph_in(alloc, files, word(words, 0)) {
-            Some(graph) => tell_graph(alloc, word(words, 1), n, graph, told),
+        "graph" => match graph_in(came, word(words, 0)) {
+            Some(graph) => tell_graph(came.alloc, word(words, 1), n, graph, told),
             None => say(told, "no image"),
         },
-        "filled" => tell_filled(alloc, told),
+        "filled" => tell_filled(came.alloc, told),
         _ => return false,
     }
     true

@@ -5,13 +5,14 @@ ghost use Rattle.signature_table.specs.Signatures.{IsTableOf};
 
 use crate::calls::graphs::text_in;
 use crate::calls::words::u32_of;
+use crate::sessions::came::Came;
 use crate::texts::{copy_of, numbers, word};
 use image_file::{ImageFault, read_image, write_image};
 use op_graph::Graph;
 use signature_table::Table;
 use std::alloc::Global;
 use vcp_base::{MOST_IMAGE_BYTES, Memory, Text};
-use vcp_outside::{Failed, MemFiles, MemSink, write_all};
+use vcp_outside::{Failed, write_all};
 
 /// The graph and the table of bytes, if they aren't too many.
 pub fn read(alloc: Global, bytes: &[u8]) -> Result<(Graph, Table), ImageFault>
@@ -35,25 +36,21 @@ fn written_again(alloc: Global, bytes: &[u8]) -> Result<Text, ImageFault> {
 }
 
 /// Writes the image of what a file reads to.
-pub fn write_again(
-    alloc: Global,
-    files: &mut MemFiles,
-    name: &str,
-    out: &mut MemSink,
-) -> Result<(), Failed> {
-    match written_again(alloc, text_in(alloc, files, name).bytes()) {
-        Ok(image) => write_all(out, image.bytes()),
+pub fn write_again(came: &mut Came, name: &str) -> Result<(), Failed> {
+    let text = text_in(came, name);
+    match written_again(came.alloc, text.bytes()) {
+        Ok(image) => write_all(&mut came.out, image.bytes()),
         Err(_) => Err(Failed),
     }
 }
 
 /// Tells how many fronts of a file there are of which is told that they end there, up to the first of which something else is told.
-pub fn tell_fronts(alloc: Global, files: &mut MemFiles, name: &str, told: &mut String) {
-    let text = text_in(alloc, files, name);
+pub fn tell_fronts(came: &mut Came, name: &str, told: &mut String) {
+    let text = text_in(came, name);
     let bytes = text.bytes();
     let mut short = 0u32;
     for n in 0..bytes.len() {
-        match read(alloc, bytes.get(..n).unwrap_or(bytes)) {
+        match read(came.alloc, bytes.get(..n).unwrap_or(bytes)) {
             Err(ImageFault::Short { at }) if at == short => short = short.saturating_add(1),
             _ => break,
         }
@@ -86,18 +83,12 @@ fn values(alloc: Global, bytes: &[u8], at: usize) -> u32 {
 }
 
 /// Tells how many of the bytes of a file, from a place to before another, may have each value and are refused, or are the image of what they read to.
-pub fn tell_changes(
-    alloc: Global,
-    files: &mut MemFiles,
-    n: &[i128; 12],
-    words: &str,
-    told: &mut String,
-) {
-    let text = text_in(alloc, files, word(words, 0));
+pub fn tell_changes(came: &mut Came, n: &[i128; 12], words: &str, told: &mut String) {
+    let text = text_in(came, word(words, 0));
     let bytes = text.bytes();
     let mut places = 0u32;
     for at in u32_of(n[1])..u32_of(n[2]) {
-        if values(alloc, bytes, at as usize) == 256 {
+        if values(came.alloc, bytes, at as usize) == 256 {
             places = places.saturating_add(1);
         }
     }

@@ -1,9 +1,11 @@
 //! Images that are too large to be written out.
 
+use crate::sessions::came::Came;
 use crate::texts::{count, put, spelled};
 use signature_table::signature_of;
 use std::alloc::Global;
 use vcp_base::Profile;
+use vcp_outside::{Failed, write_all};
 
 /// The first 16 bytes of images with the seed 0 and the step 1.
 fn begun(alloc: Global) -> Vec<u8> {
@@ -15,10 +17,10 @@ fn letter(n: u32) -> u8 {
     b'a' + (n % 16) as u8
 }
 
-/// An image of so many names of 2,000 bytes, which differ in their last three alone, up to 4,096.
-pub fn long_names(alloc: Global, number: &str) -> Vec<u8> {
+/// Writes an image of so many names of 2,000 bytes, which differ in their last three alone, up to 4,096.
+pub fn write_names(came: &mut Came, number: &str) -> Result<(), Failed> {
     let count = count(number);
-    let mut bytes = begun(alloc);
+    let mut bytes = begun(came.alloc);
     put(&mut bytes, &count.to_be_bytes());
     put(&mut bytes, &[0; 20]);
     for n in 0..count {
@@ -26,7 +28,7 @@ pub fn long_names(alloc: Global, number: &str) -> Vec<u8> {
         put(&mut bytes, &[b'a'; 1997]);
         put(&mut bytes, &[letter(n), letter(n / 16), letter(n / 256)]);
     }
-    bytes
+    write_all(&mut came.out, &bytes)
 }
 
 /// A turn node in the one before, with its number.
@@ -45,10 +47,10 @@ fn put_constant(bytes: &mut Vec<u8>, i: u32) {
     put(bytes, &correction.to_be_bytes());
 }
 
-/// An image of so many turn nodes, each in the one before and with its number from 0, and so many operations CONST 0, each in its node.
-pub fn chain(alloc: Global, number: &str) -> Vec<u8> {
+/// Writes an image of so many turn nodes, each in the one before and with its number from 0, and so many operations CONST 0, each in its node.
+pub fn write_chain(came: &mut Came, number: &str) -> Result<(), Failed> {
     let count = count(number);
-    let mut bytes = begun(alloc);
+    let mut bytes = begun(came.alloc);
     put(
         &mut bytes,
         &[0, 0, 0, 1, 0, 0, 0, 0, 0, 0, 0, 0, 0, 0, 0, 0],
@@ -62,5 +64,5 @@ pub fn chain(alloc: Global, number: &str) -> Vec<u8> {
     for i in 0..count {
         put_constant(&mut bytes, i);
     }
-    bytes
+    write_all(&mut came.out, &bytes)
 }

@@ -5,6 +5,7 @@ ghost use Rattle.coded_machine.specs.State.{Finished};
 
 use crate::calls::graphs::graph_in;
 use crate::calls::words::i64_of;
+use crate::sessions::came::Came;
 use crate::texts::{item, numbers, say, text_of, word};
 use coded_machine::{CycleEnd, Machine};
 use coded_unit::{BadUnit, Unit};
@@ -12,19 +13,11 @@ use op_graph::Graph;
 use signature_table::Table;
 use std::alloc::Global;
 use vcp_base::{Row, stop_name};
-use vcp_outside::MemFiles;
 
 /// Tells three cycles of a machine of the image of a name, with the seed 0 and the step 1, on rows of one value each.
-pub fn tell_by_hand(
-    alloc: Global,
-    files: &mut MemFiles,
-    unit: &mut BadUnit,
-    n: &[i128; 12],
-    words: &str,
-    told: &mut String,
-) {
-    if let Some(graph) = graph_in(alloc, files, word(words, 0)) {
-        tell_cycles(alloc, &graph, unit, n, told);
+pub fn tell_by_hand(came: &mut Came, n: &[i128; 12], words: &str, told: &mut String) {
+    if let Some(graph) = graph_in(came, word(words, 0)) {
+        tell_cycles(came.alloc, &graph, &mut came.unit, n, told);
     }
 }
 

@@ -1,5 +1,6 @@
 //! Made programs, by the sums of their texts.
 
+use crate::calls::words::u32_of;
 use crate::texts::numbers;
 use program_maker::make;
 use std::alloc::Global;
@@ -14,8 +15,8 @@ fn tell_sum(bytes: &[u8], told: &mut String) {
 }
 
 /// Tells how many bytes the made program of a number has, with their sum, and the same of its rows.
-pub fn tell_made(alloc: Global, number: u32, told: &mut String) {
-    if let Ok(made) = make(alloc, number) {
+pub fn tell_made(alloc: Global, number: i128, told: &mut String) {
+    if let Ok(made) = make(alloc, u32_of(number)) {
         tell_sum(made.source.bytes(), told);
         tell_sum(made.rows.bytes(), told);
     }

@@ -1,5 +1,6 @@
 //! Calls of files and of sinks, one after another.
 
+use crate::sessions::came::Came;
 use crate::texts::{count, numbers, say, say_all, spelled, text_of, word_off};
 use std::alloc::Global;
 use std::io::{self, Write};
@@ -18,8 +19,7 @@ fn tell_steps<O: Sink>(
     }
 }
 
-/// Tells what they answer to a step, in brackets: `begin NAME`, `read N` with room for 1, 2 or 8 bytes, and `read_all NAME LIMIT`, which answers how many
-/// bytes there are; `write TEXT` or `write_all TEXT`, how many are written. `put NAME TEXT` and `fail_call N`, a call of the files, answer nothing.
+/// Tells what they answer to a step, in brackets: of `write TEXT` or `write_all TEXT` how many bytes are written.
 fn tell_step<O: Sink>(
     alloc: Global,
     files: &mut MemFiles,
@@ -28,6 +28,19 @@ fn tell_step<O: Sink>(
     told: &mut String,
 ) {
     let (call, words) = word_off(step);
+    match call {
+        "write" => tell_count(sink.write(words.as_bytes()), told),
+        "write_all" => match write_all(sink, words.as_bytes()) {
+            Ok(()) => tell_count(Ok(words.len()), told),
+            Err(Failed) => say(told, "[failed]"),
+        },
+        _ => tell_file_step(alloc, files, call, words, told),
+    }
+}
+
+/// Tells what the files answer to a step: `begin NAME`, `read N` with room for 1, 2 or 8 bytes, and `read_all NAME LIMIT`, which answers how many bytes
+/// there are. `put NAME TEXT` and `fail_call N` answer nothing.
+fn tell_file_step(alloc: Global, files: &mut MemFiles, call: &str, words: &str, told: &mut String) {
     match call {
         "put" => {
             let (name, text) = word_off(words);
@@ -38,12 +51,7 @@ fn tell_step<O: Sink>(
         }
         "begin" => tell_begun(files.begin(&spelled(alloc, words)), told),
         "read" => tell_read(files, words, told),
-        "read_all" => tell_read_all(alloc, files, words, told),
-        "write" => tell_count(sink.write(words.as_bytes()), told),
-        _ => match write_all(sink, words.as_bytes()) {
-            Ok(()) => tell_count(Ok(words.len()), told),
-            Err(Failed) => tell_count(Err(Failed), told),
-        },
+        _ => tell_read_all(alloc, files, words, told),
     }
 }
 
@@ -110,18 +118,18 @@ impl Write for NeverFlushed {
 }
 
 /// Tells what files in memory and the sink of the host over a writer whose flush fails answer to these steps.
-pub fn tell_files(alloc: Global, files: &mut MemFiles, steps: &str, told: &mut String) {
+pub fn tell_files(came: &mut Came, steps: &str, told: &mut String) {
     let mut sink = HostSink::new(NeverFlushed { taken: 0 });
-    tell_steps(alloc, files, &mut sink, steps, told);
+    tell_steps(came.alloc, &mut came.files, &mut sink, steps, told);
 }
 
 /// Tells what a sink in memory with this room answers to the steps behind it, and what was written to it. Its call of a number fails where the first step
 /// is `fail_call N`.
-pub fn tell_sink(alloc: Global, files: &mut MemFiles, words: &str, told: &mut String) {
+pub fn tell_sink(came: &mut Came, words: &str, told: &mut String) {
     let (room, steps) = word_off(words);
-    if let Ok(mut sink) = MemSink::new(alloc, count(room)) {
+    if let Ok(mut sink) = MemSink::new(came.alloc, count(room)) {
         fail_first(&mut sink, steps);
-        tell_steps(alloc, files, &mut sink, steps, told);
+        tell_steps(came.alloc, &mut came.files, &mut sink, steps, told);
         say_all(told, &[": [", text_of(sink.bytes()), "]"]);
     }
 }

@@ -5,6 +5,7 @@ ghost use Rattle.fault_script.specs.Groups.{Apart};
 
 use crate::calls::graphs::{graph_in, text_in};
 use crate::calls::words::{call_in, tell_parts, u32_of, word_of};
+use crate::sessions::came::Came;
 use crate::texts::{behind, numbers, say, text_of, word};
 use coded_unit::{Answer, BadUnit, CpuUnit, LogUnit, Unit, Word};
 use fault_injector::{KeptWords, Scripted};
@@ -12,29 +13,20 @@ use fault_script::{Fault, Group, read_script};
 use op_graph::Graph;
 use std::alloc::Global;
 use vcp_base::MOST_SOURCE_BYTES;
-use vcp_outside::MemFiles;
 
 /// Calls on units: the right answer to a call; and, to the calls that are the lines of a file, the answers of the processor, of a unit that keeps so
 /// many calls, with these, of the session's unit, and of that under a fault.
-pub fn tell_units(
-    alloc: Global,
-    name: &str,
-    n: &[i128; 12],
-    words: &str,
-    files: &mut MemFiles,
-    unit: &mut BadUnit,
-    told: &mut String,
-) {
+pub fn tell_units(came: &mut Came, name: &str, n: &[i128; 12], words: &str, told: &mut String) {
     if name == "answer" {
-        return tell_answers(alloc, &mut CpuUnit::new(), words, told);
+        return tell_answers(came.alloc, &mut CpuUnit::new(), words, told);
     }
-    let text = text_in(alloc, files, word(words, 0));
+    let text = text_in(came, word(words, 0));
     let calls = text_of(text.bytes());
     match name {
-        "cpu" => tell_answers(alloc, &mut CpuUnit::new(), calls, told),
-        "log" => tell_logged(alloc, calls, u32_of(n[1]), told),
-        "unit" => tell_answers(alloc, unit, calls, told),
-        "acts" => tell_acts(alloc, n, words, calls, files, unit, told),
+        "cpu" => tell_answers(came.alloc, &mut CpuUnit::new(), calls, told),
+        "log" => tell_logged(came.alloc, calls, u32_of(n[1]), told),
+        "unit" => tell_answers(came.alloc, &mut came.unit, calls, told),
+        "acts" => tell_acts(came, n, words, calls, told),
         _ => say(told, "no call of this name"),
     }
 }
@@ -89,24 +81,16 @@ fn first_fault(alloc: Global, graph: &Graph, script: &str) -> Option<Fault> {
 }
 
 /// Tells the answers of a unit to calls under a fault of an image, where a word was kept for it before, or `-` for none, and how many of them are wrong.
-fn tell_acts(
-    alloc: Global,
-    n: &[i128; 12],
-    words: &str,
-    calls: &str,
-    files: &mut MemFiles,
-    unit: &mut BadUnit,
-    told: &mut String,
-) {
+fn tell_acts(came: &mut Came, n: &[i128; 12], words: &str, calls: &str, told: &mut String) {
     let kept = if word(words, 2) == "-" {
         None
     } else {
         Some(word_of(n[2]))
     };
-    if let Some(graph) = graph_in(alloc, files, word(words, 1))
-        && let Some(fault) = first_fault(alloc, &graph, behind(words, 3))
+    if let Some(graph) = graph_in(came, word(words, 1))
+        && let Some(fault) = first_fault(came.alloc, &graph, behind(words, 3))
     {
-        tell_under(alloc, unit, fault, kept, calls, told);
+        tell_under(came.alloc, &mut came.unit, fault, kept, calls, told);
     }
 }
 

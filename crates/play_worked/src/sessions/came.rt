@@ -6,48 +6,68 @@ use crate::sessions::words::words_of;
 use crate::texts::{item, numbers, say, say_all, spelled, text_of, word_off};
 use coded_unit::BadUnit;
 use std::alloc::Global;
-use vcp_base::kind_name;
+use vcp_base::{Memory, kind_name};
 use vcp_core::vcp;
 use vcp_outside::{MemFiles, MemSink};
 use vcp_study_core::vcp_study;
 
-/// What came of a call of a program.
+/// What a call of a program is handed, and what came of it.
 pub struct Came {
-    pub status: u8,
+    pub alloc: Global,
+    pub files: MemFiles,
+    pub unit: BadUnit,
     pub out: MemSink,
     pub err: MemSink,
-    pub unit: BadUnit,
+    pub status: u8,
 }
 
 impl Drop for Came {
     fn drop(self) {
         let Came {
-            status: _,
+            alloc: _,
+            files: _,
+            unit: _,
             out: _,
             err: _,
-            unit: _,
+            status: _,
         } = self;
     }
 }
 
-/// The status of a call of these words on these objects.
-pub fn status_of(
-    alloc: Global,
-    program: Program,
-    words: &str,
-    files: &mut MemFiles,
-    unit: &mut BadUnit,
-    out: &mut MemSink,
-    err: &mut MemSink,
-) -> u8 {
-    match program {
-        Program::Vcp => vcp(alloc, &words_of(alloc, words), files, unit, out, err),
-        Program::Study => vcp_study(alloc, &words_of(alloc, words), files, out, err),
-        Program::Single => single_call(alloc, words, files, unit, out),
-    }
-}
-
 impl Came {
+    /// Makes the call of a number of an object fail.
+    pub fn fail(&mut self, outside: Outside, number: u32) -> Result<(), Memory> {
+        match outside {
+            Outside::Files => self.files.fail_call(number as u64),
+            Outside::Output => self.out.fail_call(number as u64),
+            Outside::Errors => self.err.fail_call(number as u64),
+            Outside::Nothing => Ok(()),
+        }
+    }
+
+    /// Makes a call of these words. The status is what it gives.
+    pub fn call(&mut self, program: Program, words: &str) {
+        let alloc = self.alloc;
+        self.status = match program {
+            Program::Vcp => vcp(
+                alloc,
+                &words_of(alloc, words),
+                &mut self.files,
+                &mut self.unit,
+                &mut self.out,
+                &mut self.err,
+            ),
+            Program::Study => vcp_study(
+                alloc,
+                &words_of(alloc, words),
+                &mut self.files,
+                &mut self.out,
+                &mut self.err,
+            ),
+            Program::Single => single_call(self, words),
+        };
+    }
+
     /// Tells the status and the error, as a session writes them behind `=`. An error that fills the room for it need not be a whole line.
     pub fn tell_end(&self, room: u32, told: &mut String) {
         numbers(told, &[self.status as i128]);
@@ -62,10 +82,10 @@ impl Came {
     }
 
     /// Tells where the unit was asked other calls than these lines want, which may end before the fields of a call.
-    pub fn tell_calls(&self, alloc: Global, asked: &str, told: &mut String) {
+    pub fn tell_calls(&self, asked: &str, told: &mut String) {
         let mut i = 0u32;
         for wanted in asked.lines() {
-            let mut came = String::new(alloc);
+            let mut came = String::new(self.alloc);
             if wanted.starts_with("wrong") {
                 say(&mut came, "wrong");
                 numbers(&mut came, &[self.unit.wrong() as i128]);
@@ -104,11 +124,11 @@ impl Came {
     }
 
     /// Tells where texts stand in the output another number of times than these lines want.
-    pub fn tell_times(&self, alloc: Global, times: &str, told: &mut String) {
+    pub fn tell_times(&self, times: &str, told: &mut String) {
         for line in times.lines() {
             let (wanted, part) = word_off(line);
-            let mut came = String::new(alloc);
-            numbers(&mut came, &[self.times(alloc, part)]);
+            let mut came = String::new(self.alloc);
+            numbers(&mut came, &[self.times(part)]);
             if came.as_str() != wanted {
                 tell_instead(told, line, &came);
             }
@@ -116,8 +136,8 @@ impl Came {
     }
 
     /// How often a text, which is spelled, stands in the output.
-    fn times(&self, alloc: Global, part: &str) -> i128 {
-        let part = spelled(alloc, part);
+    fn times(&self, part: &str) -> i128 {
+        let part = spelled(self.alloc, part);
         text_of(self.out.bytes())
             .split(text_of(&part))
             .count()

@@ -1,8 +1,8 @@
 //! Playing a session.
 
-use crate::sessions::came::{Came, status_of, tell_difference, tell_other_end};
+use crate::sessions::came::{Came, tell_difference, tell_other_end};
 use crate::sessions::files::SessionFiles;
-use crate::sessions::setting::{Outside, Program, Setting, answer_in, fail};
+use crate::sessions::setting::{Outside, Program, Setting, answer_in};
 use crate::sessions::words::usage_end;
 use crate::texts::{
     behind, copy_of, count, numbers, put, say, say_all, say_line, spelled, word, word_off,
@@ -328,8 +328,8 @@ impl Session {
 
     /// Tells what of a call is otherwise than it has to be; where its output is kept, whatever that is.
     fn tell_otherwise(&self, came: &Came, end: &str, kept: &str, told: &mut String) {
-        came.tell_calls(self.alloc, &self.asked, told);
-        came.tell_times(self.alloc, &self.times, told);
+        came.tell_calls(&self.asked, told);
+        came.tell_times(&self.times, told);
         if kept.is_empty() {
             tell_difference(came.out.bytes(), &self.output, told);
         }
@@ -343,22 +343,22 @@ impl Session {
     /// What comes of a call of these words in which the call of a number of an object fails. Nothing where there is no memory for it.
     fn came(&self, program: Program, words: &str, outside: Outside, number: u32) -> Option<Came> {
         let setting = &self.setting;
-        if let Ok(mut out) = MemSink::new(self.alloc, setting.room)
-            && let Ok(mut err) = MemSink::new(self.alloc, setting.error_room)
-            && let Ok(mut unit) = BadUnit::new(self.alloc, setting.kept)
+        if let Ok(out) = MemSink::new(self.alloc, setting.room)
+            && let Ok(err) = MemSink::new(self.alloc, setting.error_room)
+            && let Ok(unit) = BadUnit::new(self.alloc, setting.kept)
         {
-            let mut files = self.files.in_memory();
-            setting.replace(&mut unit);
-            fail(outside, number, &mut files, &mut out, &mut err).ok();
-            let status = status_of(
-                self.alloc, program, words, &mut files, &mut unit, &mut out, &mut err,
-            );
-            return Some(Came {
-                status,
+            let mut came = Came {
+                alloc: self.alloc,
+                files: self.files.in_memory(),
+                unit,
                 out,
                 err,
-                unit,
-            });
+                status: 0,
+            };
+            setting.replace(&mut came.unit);
+            came.fail(outside, number).ok();
+            came.call(program, words);
+            return Some(came);
         }
         None
     }

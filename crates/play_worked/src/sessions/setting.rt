@@ -2,8 +2,6 @@
 
 use coded_unit::{Answer, BadUnit, Word};
 use std::alloc::Global;
-use vcp_base::Memory;
-use vcp_outside::{MemFiles, MemSink};
 
 /// Which program is called.
 #[derive(Clone, Copy)]
@@ -72,22 +70,6 @@ impl Setting {
         for (number, answer) in &self.answers {
             unit.replace(*number as u64, *answer).ok();
         }
-    }
-}
-
-/// Makes the call of a number of an object fail.
-pub fn fail(
-    outside: Outside,
-    number: u32,
-    files: &mut MemFiles,
-    out: &mut MemSink,
-    err: &mut MemSink,
-) -> Result<(), Memory> {
-    match outside {
-        Outside::Files => files.fail_call(number as u64),
-        Outside::Output => out.fail_call(number as u64),
-        Outside::Errors => err.fail_call(number as u64),
-        Outside::Nothing => Ok(()),
     }
 }
 
