@@ -1,5 +1,6 @@
 pub mod Cells
 pub mod Header
+pub mod Opening
 pub mod RecordsLeft
 pub mod RowLists
 pub mod RowsOf

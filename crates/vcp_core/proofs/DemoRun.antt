@@ -9,7 +9,7 @@ use Rattle.vcp_inputs.specs.Forms.{demo}
 use Rattle.vcp_inputs.specs.declared.refusal.Refusal.{Refusal}
 use Rattle.vcp_inputs.specs.declared.refusal.NoInput.{NoInput}
 use Rattle.vcp_inputs.specs.declared.refusal.NoInput.TheVariants as input
-use Rattle.vcp_inputs.specs.declared.rows.RowsSource.TheVariants as origin
+use Rattle.input_rows.specs.declared.source.RowsSource.TheVariants as origin
 use Rattle.vcp_inputs.specs.Files.{Loads, NotLoaded}
 use Rattle.vcp_inputs.specs.Lines.{input_status, input_text, refusal_text}
 use Rattle.vcp_inputs.specs.Programs.{TypedOf, NotTyped}

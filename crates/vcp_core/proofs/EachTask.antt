@@ -48,7 +48,7 @@ use Rattle.vcp_inputs.specs.Tables.{rows_name}
 use Rattle.vcp_inputs.specs.declared.images.Image.{Image}
 use Rattle.vcp_inputs.specs.declared.refusal.Refusal.{Refusal}
 use Rattle.vcp_inputs.specs.declared.refusal.Refusal.TheVariants as refusal
-use Rattle.vcp_inputs.specs.declared.rows.RowsSource.TheVariants as origin
+use Rattle.input_rows.specs.declared.source.RowsSource.TheVariants as origin
 use Rattle.vcp_inputs.specs.Files.{long, short}
 use Rattle.vcp_inputs.specs.Images.{ImageOf, NotImage, no_image}
 use Rattle.vcp_inputs.specs.Listings.{NotListing, no_listing}

@@ -4,7 +4,7 @@ use Rattle.vcp_base.specs.declared.columns.Column.{Column}
 use Rattle.input_rows.specs.RowsOf.{RowsLeft}
 use Rattle.vcp_inputs.specs.declared.refusal.NoInput.{NoInput}
 use Rattle.vcp_inputs.specs.RowsOutcome.{source_outcome, Opens}
-use Rattle.vcp_inputs.specs.declared.rows.RowsSource.TheVariants as rows
+use Rattle.input_rows.specs.declared.source.RowsSource.TheVariants as rows
 
 -- ---- a program and its rows
 

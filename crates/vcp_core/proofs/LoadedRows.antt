@@ -14,7 +14,7 @@ use Rattle.vcp_inputs.specs.declared.refusal.Refusal.{Refusal}
 use Rattle.vcp_inputs.specs.declared.refusal.Refusal.TheVariants as refusal
 use Rattle.vcp_inputs.specs.declared.refusal.NoInput.{NoInput}
 use Rattle.vcp_inputs.specs.declared.refusal.NoInput.TheVariants as input
-use Rattle.vcp_inputs.specs.declared.rows.RowsSource.{RowsSource}
+use Rattle.input_rows.specs.declared.source.RowsSource.{RowsSource}
 use Rattle.vcp_inputs.specs.Files.{Loads}
 use Rattle.vcp_inputs.specs.Lines.{input_text, input_status, refusal_text}
 use Rattle.vcp_inputs.specs.RowsOutcome.{HasLongFile, Opens, RowsOutcome, begins, opened, rows_outcome, source_outcome}

@@ -13,7 +13,7 @@ use Rattle.run_report.specs.SummaryLine.{summary_text}
 use Rattle.program_maker.specs.MadeRows.{made_rows}
 use Rattle.program_maker.specs.MadeSource.{made_source}
 use Rattle.vcp_inputs.specs.Forms.{default_code}
-use Rattle.vcp_inputs.specs.declared.rows.RowsSource.TheVariants as origin
+use Rattle.input_rows.specs.declared.source.RowsSource.TheVariants as origin
 use Rattle.vcp_inputs.specs.RowsOutcome.{source_outcome}
 use Rattle.vcp_inputs.specs.Abouts.{made_name}
 use Rattle.vcp_inputs.specs.Answer.{source}

@@ -6,7 +6,7 @@ use Rattle.signature_table.specs.Signatures.{table_of}
 use Rattle.coded_machine.specs.Moments.{Moment}
 use Rattle.vcp_inputs.specs.Forms.{Form, Rows, exec, trace, inject, pair, pairs}
 use Rattle.vcp_inputs.specs.Images.{ImageOf, NotImage}
-use Rattle.vcp_inputs.specs.RowsOutcome.{HasFewCycles}
+use Rattle.input_rows.specs.Opening.{HasFewCycles}
 use Rattle.vcp_inputs.specs.RowsRead.{graph_columns}
 use Rattle.vcp_inputs.specs.Abouts.{about}
 use Rattle.vcp_inputs.specs.Performing.{Performs}

@@ -6,7 +6,7 @@ use Rattle.vcp_outside.specs.Seen.{FilesSeen}
 use Rattle.coded_machine.specs.Moments.{Moment}
 use Rattle.vcp_inputs.specs.Forms.{Form, Rows}
 use Rattle.vcp_inputs.specs.declared.refusal.Refusal.{Refusal}
-use Rattle.vcp_inputs.specs.declared.rows.RowsSource.{RowsSource}
+use Rattle.input_rows.specs.declared.source.RowsSource.{RowsSource}
 use Rattle.vcp_inputs.specs.Files.{Loads}
 use Rattle.vcp_inputs.specs.RowsOutcome.{rows_outcome, source_outcome}
 use Rattle.vcp_inputs.specs.Abouts.{about}

@@ -10,7 +10,7 @@ use Rattle.vcp_inputs.specs.Forms.{Code, Form, Rows, il, plain, run}
 use Rattle.vcp_inputs.specs.declared.refusal.Refusal.{Refusal}
 use Rattle.vcp_inputs.specs.Listings.{NotListing}
 use Rattle.vcp_inputs.specs.Programs.{NotTyped, TypedOf}
-use Rattle.vcp_inputs.specs.RowsOutcome.{HasFewCycles}
+use Rattle.input_rows.specs.Opening.{HasFewCycles}
 use Rattle.vcp_core.specs.declared.fault.Fault.{Fault}
 use Rattle.vcp_core.specs.declared.program_rows.ProgramRows.{ProgramRows}
 use Rattle.vcp_core.specs.Loading.{EndsUnread, FirstRead, BothRead}

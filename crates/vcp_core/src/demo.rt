@@ -16,14 +16,16 @@ ghost use Rattle.vcp_core.specs.Reach.{told_line, told_status};
 use crate::ending::{Ending, run_ended};
 use crate::fault::Fault;
 use crate::loading::input_columns;
+use crate::opening::open;
 use crate::printed::{Printed, print_end, run_program};
 use coded_machine::{CycleEnd, Machine, ReleasedRows};
 use coded_unit::Unit;
+use input_rows::RowsSource;
 use program_maker::make;
 use run_report::summary_line;
 use std::alloc::Global;
 use vcp_base::{Columns, Memory, Row, Text};
-use vcp_inputs::{DEFAULT_CODE, HowOften, RowsSource, typed_of};
+use vcp_inputs::{DEFAULT_CODE, HowOften, typed_of};
 use vcp_outside::{Failed, Sink};
 use vcp_typed::Typed;
 
@@ -139,7 +141,7 @@ fn run_made<'a, U: Unit, O: Sink>(
         Err(Memory) => return Err(Fault::Memory),
     };
     let source = RowsSource::File(rows);
-    match source.open(alloc, &columns) {
+    match open(alloc, &source, &columns) {
         Ok(mut rows) => run_ended(
             MADE,
             run_program(

@@ -14,6 +14,7 @@ use crate::every_row::{EveryRow, RowLines};
 use crate::fault::Fault;
 use crate::image_rows::{ImageRows, load_image_rows};
 use crate::loading::rows_name;
+use crate::opening::open;
 use crate::printed::run_printed;
 use coded_unit::Unit;
 use std::alloc::Global;
@@ -56,7 +57,7 @@ fn run_image<'a, U: Unit, O: Sink>(
         (moment (U.seen unit.old) (O.seen out.old)) (moment (U.seen unit.new) (O.seen out.new)) (told_line result) (told_status result) }
 {
     let name = rows_name(rows);
-    match loaded.rows.open(alloc, &loaded.columns) {
+    match open(alloc, &loaded.rows, &loaded.columns) {
         Ok(mut rows) => run_ended(
             name,
             run_printed(

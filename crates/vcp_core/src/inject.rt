@@ -4,7 +4,8 @@ ghost use Rattle.std.specs.Prelude.{◌≡◌, ◌≤◌, All, IfErr, IfOk, leng
 ghost use Rattle.vcp_base.specs.Limits.{most_cycles, most_names};
 ghost use Rattle.vcp_inputs.specs.Forms.{inject, rows_of, AreFew, Rows};
 ghost use Rattle.vcp_inputs.specs.Refusals.{IsCaused};
-ghost use Rattle.vcp_inputs.specs.RowsOutcome.{HasFewCycles, source_outcome};
+ghost use Rattle.input_rows.specs.Opening.{HasFewCycles};
+ghost use Rattle.vcp_inputs.specs.RowsOutcome.{source_outcome};
 ghost use Rattle.vcp_inputs.specs.Abouts.{about};
 ghost use Rattle.vcp_inputs.specs.Performing.{Performs};
 ghost use Rattle.coded_machine.specs.Moments.{moment};
@@ -19,11 +20,11 @@ use crate::image_rows::{ImageRows, load_image_rows};
 use crate::loading::rows_name;
 use coded_unit::Unit;
 use fault_campaign::run_campaign;
-use input_rows::RowList;
+use input_rows::{RowList, RowsSource};
 use op_graph::Graph;
 use std::alloc::Global;
 use vcp_base::{Columns, Text};
-use vcp_inputs::{NoInput, Refusal, RowsSource, RowsWord, load_script, whole_rows};
+use vcp_inputs::{NoInput, Refusal, RowsWord, load_script, whole_rows};
 use vcp_outside::{Files, Sink};
 
 /// The most cycles times operations of a run under faults.

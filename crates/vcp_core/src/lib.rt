@@ -17,6 +17,7 @@ mod inject;
 mod laws;
 mod listing;
 mod loading;
+mod opening;
 mod pair;
 mod pairs;
 mod plain;

@@ -16,6 +16,7 @@ use crate::ending::{Ending, run_ended};
 use crate::fault::Fault;
 use crate::image_rows::{ImageRows, load_image_rows};
 use crate::loading::rows_name;
+use crate::opening::open;
 use coded_unit::Unit;
 use std::alloc::Global;
 use vcp_base::Text;
@@ -63,7 +64,7 @@ fn pair_image<'a, U: Unit, O: Sink>(
         (moment (U.seen unit.old) (O.seen out.old)) (moment (U.seen unit.new) (O.seen out.new)) (told_line result) (told_status result) }
 {
     let name = rows_name(rows);
-    match loaded.rows.open(alloc, &loaded.columns) {
+    match open(alloc, &loaded.rows, &loaded.columns) {
         Ok(mut rows) => run_ended(
             name,
             run_channels(alloc, &loaded.image, seed, &mut rows, unit, out),

@@ -14,6 +14,7 @@ ghost use Rattle.vcp_core.specs.Reach.{told_line, told_status};
 use crate::ending::{Ending, run_ended};
 use crate::fault::Fault;
 use crate::loading::rows_name;
+use crate::opening::open;
 use crate::plain_run::print_run;
 use crate::program_rows::{ProgramRows, load_program_rows};
 use std::alloc::Global;
@@ -78,7 +79,7 @@ fn plain_rows<'a, O: Sink>(
         (moment unit (O.seen out.old)) (moment unit (O.seen out.new)) (told_line result) (told_status result) }
 {
     let name = rows_name(rows);
-    match loaded.rows.open(alloc, &loaded.columns) {
+    match open(alloc, &loaded.rows, &loaded.columns) {
         Ok(mut rows) => run_ended(name, print_run(alloc, &loaded.program, &mut rows, out)),
         Err(input) => Err(Fault::Input { name, input }),
     }

@@ -6,9 +6,10 @@ ghost use Rattle.vcp_core.specs.ProgramsRead.{AreProgramRows, EndsOn, ReadsOn};
 
 use crate::fault::Fault;
 use crate::loading::{input_columns, rows_name};
+use input_rows::RowsSource;
 use std::alloc::Global;
 use vcp_base::{Columns, Memory};
-use vcp_inputs::{RowsSource, RowsWord, lists_are_told, load_rows};
+use vcp_inputs::{RowsWord, lists_are_told, load_rows};
 use vcp_outside::Files;
 use vcp_typed::Typed;
 

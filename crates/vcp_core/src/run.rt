@@ -14,6 +14,7 @@ use crate::ending::{Ending, run_ended};
 use crate::every_row::{EveryRow, RowLines};
 use crate::fault::Fault;
 use crate::loading::rows_name;
+use crate::opening::open;
 use crate::printed::run_program;
 use crate::program_rows::{ProgramRows, load_program_rows};
 use coded_unit::Unit;
@@ -89,7 +90,7 @@ fn run_rows<'a, U: Unit, O: Sink>(
     // So what is run of an instruction list is the list on the accumulator.
     lists_are_told();
     let name = rows_name(rows);
-    match loaded.rows.open(alloc, &loaded.columns) {
+    match open(alloc, &loaded.rows, &loaded.columns) {
         Ok(mut rows) => run_ended(
             name,
             run_program(

@@ -15,6 +15,7 @@ use crate::ending::{Ending, run_ended};
 use crate::fault::Fault;
 use crate::image_rows::{ImageRows, load_image_rows};
 use crate::loading::rows_name;
+use crate::opening::open;
 use crate::tracing::run_words;
 use coded_unit::Unit;
 use std::alloc::Global;
@@ -62,7 +63,7 @@ fn trace_image<'a, U: Unit, O: Sink>(
         (moment (U.seen unit.old) (O.seen out.old)) (moment (U.seen unit.new) (O.seen out.new)) (told_line result) (told_status result) }
 {
     let name = rows_name(rows);
-    match loaded.rows.open(alloc, &loaded.columns) {
+    match open(alloc, &loaded.rows, &loaded.columns) {
         Ok(rows) => run_ended(
             name,
             run_words(

@@ -1,6 +1,6 @@
 -- RowsOutcome: what the words ROWS give, where the files hold this.
-use Rattle.std.specs.Prelude.{ℕ, ◌≡◌, ◌⊎◌, ◌≤◌, Bool, true, false, cond, nat_lt, List, [], ◌∷◌, length, Option, Some, None, Result, Ok, Err}
-use Rattle.vcp_base.specs.Limits.{most_rows_bytes, most_cycles}
+use Rattle.std.specs.Prelude.{ℕ, ◌≡◌, ◌⊎◌, Bool, true, false, cond, nat_lt, List, [], ◌∷◌, length, Option, Some, None, Result, Ok, Err}
+use Rattle.vcp_base.specs.Limits.{most_rows_bytes}
 use Rattle.vcp_base.specs.declared.columns.Column.{Column}
 use Rattle.vcp_outside.specs.Counts.{Rose}
 use Rattle.vcp_outside.specs.Held.{Held}
@@ -13,8 +13,8 @@ use Rattle.vcp_inputs.specs.declared.refusal.NoInput.{NoInput}
 use Rattle.vcp_inputs.specs.declared.refusal.NoInput.TheVariants as input
 use Rattle.vcp_inputs.specs.declared.refusal.Refusal.{Refusal}
 use Rattle.vcp_inputs.specs.declared.refusal.Refusal.TheVariants as refusal
-use Rattle.vcp_inputs.specs.declared.rows.RowsSource.{RowsSource}
-use Rattle.vcp_inputs.specs.declared.rows.RowsSource.TheVariants as source
+use Rattle.input_rows.specs.declared.source.RowsSource.{RowsSource}
+use Rattle.input_rows.specs.Opening.{source_rows}
 
 -- what ROWS come to: the name of their file is lacking, they are refused, or these rows are left
 pub data RowsOutcome : Type 0 where
@@ -60,15 +60,9 @@ Opens outcome before now (Err input.Memory) = Unit {0}
 
 -- what a source comes to that was loaded
 abbrev pub source_outcome : RowsSource → List Column → RowsOutcome
-source_outcome (source.File bytes) columns = rows_or_refusal (rows_of bytes columns)
-source_outcome (source.Cycles n) columns = rows_or_refusal (rows_of_cycles n columns)
+source_outcome source columns = rows_or_refusal (source_rows source columns)
 
 -- a source that comes to the same, or why there is none
 abbrev pub LoadsRows : RowsOutcome → List Column → ℕ → ℕ → Result RowsSource NoInput → Type 0
 LoadsRows outcome columns before now (Ok source) = outcome ≡ source_outcome source columns
 LoadsRows outcome columns before now (Err why) = Opens outcome before now (Err why)
-
--- a source of cycles has as many as a run may have
-abbrev pub HasFewCycles : RowsSource → Type 0
-HasFewCycles (source.File bytes) = Unit {0}
-HasFewCycles (source.Cycles n) = n ≤ most_cycles

@@ -22,7 +22,7 @@ pub use listings::{listed_program, load_il};
 pub use meaning::{endings_have_causes, graph_of, image_for, lists_are_told};
 pub use reading::read_file;
 pub use refusal::{NoInput, Refusal};
-pub use rows::{RowsSource, load_rows};
+pub use rows::load_rows;
 pub use scripts::load_script;
 pub use sources::{HowOften, load_program, load_typed, program_of, typed_of};
 pub use telling::{input_status, tell_input, tell_of, tell_place, tell_refusal};

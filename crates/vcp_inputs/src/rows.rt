@@ -8,7 +8,8 @@ ghost use Rattle.vcp_outside.specs.Counts.{Rose};
 ghost use Rattle.vcp_outside.specs.Held.{Held};
 ghost use Rattle.input_rows.specs.RowsOf.{IsOfRecord, types_of};
 ghost use Rattle.vcp_inputs.specs.Forms.{rows_of, file, AreFew};
-ghost use Rattle.vcp_inputs.specs.RowsOutcome.{rows_outcome, source_outcome, Opens, LoadsRows, begins, HasLongFile, HasFewCycles};
+ghost use Rattle.input_rows.specs.Opening.{HasFewCycles};
+ghost use Rattle.vcp_inputs.specs.RowsOutcome.{rows_outcome, LoadsRows, begins, HasLongFile};
 ghost use Rattle.vcp_inputs.specs.Refusals.{IsCaused};
 ghost use Rattle.vcp_inputs.specs.declared.refusal.NoInput.TheVariants as input;
 ghost use Rattle.vcp_inputs.specs.declared.refusal.Refusal.{Refusal as RefusalOf};
@@ -17,19 +18,10 @@ ghost use Rattle.vcp_inputs.specs.declared.refusal.Refusal.TheVariants as refusa
 use crate::RowsWord;
 use crate::reading::read_file;
 use crate::refusal::{NoInput, Refusal};
-use input_rows::{RowFault, Rows};
+use input_rows::{RowFault, RowsSource};
 use std::alloc::Global;
 use vcp_base::{Columns, MOST_ROWS_BYTES, Text};
 use vcp_outside::Files;
-
-/// The rows of a run before they are read.
-#[derive(Drop)]
-pub enum RowsSource {
-    /// The bytes of a file, at most 67,108,864.
-    File(Text),
-    /// So many cycles without inputs, at most 1,000,000.
-    Cycles(u32),
-}
 
 /// The bytes of the rows file under a name, which isn't begun where there are no columns.
 fn load_file<F: Files>(
@@ -103,35 +95,5 @@ pub fn load_rows<F: Files>(
     match rows {
         RowsWord::File(name) => load_file(alloc, files, name, columns),
         RowsWord::Cycles(number) => Ok(RowsSource::Cycles(number)),
-    }
-}
-
-impl RowsSource {
-    /// The rows for the columns with which the source was loaded. `Header` where a file's first record isn't
-    /// each column's name once, and `Form` for cycles where there are columns. There are no more columns than
-    /// a `u32` counts. Each row has a value of each column's type, and there are at most 1,000,000; what is
-    /// refused behind them is a record.
-    pub fn open<'a>(&'a self, alloc: Global, columns: &'a Columns) -> Result<Rows<'a>, NoInput>
-        requires few { HasFewCycles self.now }
-        requires narrow { length columns.now < 2 ^ 32 }
-        ensures opens { (before now : ℕ) → Opens (source_outcome self.now columns.now) before now result }
-        ensures read { result ≢ Err input.Unread }
-        ensures caused { IfErr result IsCaused }
-        ensures types { IfOk result (λ left. left.types ≡ types_of columns.now) }
-        ensures typed { IfOk result (λ left. All (AreIn left.types) left.rows) }
-        ensures few { IfOk result (λ left. length left.rows ≤ most_cycles) }
-        ensures behind { IfOk result (λ left. IfSome left.refusal IsOfRecord) }
-        ensures fresh { IfOk result (λ left. left.ended ≡ false) }
-    {
-        match self {
-            RowsSource::File(text) => match Rows::new(alloc, text.bytes(), columns) {
-                Ok(rows) => Ok(rows),
-                Err(fault) => Err(NoInput::from(fault)),
-            },
-            RowsSource::Cycles(number) => match Rows::cycles(*number, columns) {
-                Ok(rows) => Ok(rows),
-                Err(fault) => Err(NoInput::from(fault)),
-            },
-        }
     }
 }

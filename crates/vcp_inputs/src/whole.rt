@@ -3,12 +3,12 @@
 ghost use Rattle.std.specs.Prelude.{◌≡◌, ◌≤◌, All, IfErr, IfOk, length};
 ghost use Rattle.vcp_base.specs.Limits.{most_cycles, most_names};
 ghost use Rattle.vcp_inputs.specs.Refusals.{IsCaused};
-ghost use Rattle.vcp_inputs.specs.RowsOutcome.{HasFewCycles, source_outcome};
+ghost use Rattle.input_rows.specs.Opening.{HasFewCycles};
+ghost use Rattle.vcp_inputs.specs.RowsOutcome.{source_outcome};
 ghost use Rattle.vcp_inputs.specs.RowsRead.{AllRead, NoneRead, graph_columns as columns_of};
 
 use crate::refusal::NoInput;
-use crate::rows::RowsSource;
-use input_rows::{RowList, collect_rows};
+use input_rows::{RowList, RowsSource, collect_rows, open_rows};
 use op_graph::Graph;
 use std::alloc::Global;
 use vcp_base::{Columns, Memory};
@@ -33,9 +33,9 @@ pub fn whole_rows(alloc: Global, inputs: &RowsSource, columns: &Columns) -> Resu
     ensures width { IfOk result (λ list. All (λ row. length row ≡ length columns.now) list) }
     ensures few { IfOk result (λ list. length list ≤ most_cycles) }
 {
-    let rows = match inputs.open(alloc, columns) {
+    let rows = match open_rows(alloc, inputs, columns) {
         Ok(rows) => rows,
-        Err(input) => return Err(input),
+        Err(fault) => return Err(NoInput::from(fault)),
     };
     let list = collect_rows(alloc, rows)?;
     Ok(list)
