@@ -2,12 +2,17 @@
 use Rattle.std.proofs.Common.{ℕ, ◌+◌, ◌≡◌, false, refl, sym, ap, subst, ◌∙◌, List, length, Option, Some, None, ℤ}
 use Rattle.vcp_base.specs.declared.kind.StopKind.{StopKind}
 use Rattle.vcp_base.specs.declared.kind.StopKind.TheVariants as stop
+use Rattle.coded_unit.specs.declared.call.Answer.{Answer}
+use Rattle.coded_unit.specs.Log.{Entry}
 use Rattle.op_graph.specs.GraphRun.{Cycle, cycle, stored}
-use Rattle.signature_table.specs.Signatures.{stamp_before}
+use Rattle.op_graph.specs.Lists.{Lists}
+use Rattle.signature_table.specs.Signatures.{Numbers, stamp_before}
 use Rattle.coded_machine.specs.declared.cycle_end.CycleEnd.{CycleEnd}
 use Rattle.coded_machine.specs.declared.cycle_end.CycleEnd.TheVariants as end
+use Rattle.coded_machine.specs.Calls.{Whole, CallsOf, Carried}
 use Rattle.coded_machine.specs.CycleEnds.{end_of, end_or, outputs_of, stored_words}
 use Rattle.coded_machine.specs.Honest.{CellsHold, StandsFor, FollowsGraph, end_at}
+use Rattle.coded_machine.specs.Runs.{CarriedCycle, Turn}
 use Rattle.coded_machine.specs.State.{State, given, setting, with_answers, after_end, row_after}
 
 released_stop : (k : ℕ) (s : Option StopKind) → end_at k s ≡ end.Released → s ≡ None
@@ -83,3 +88,36 @@ follows_carried old mid new values row e out before going same all stands is mac
     (is ∙ end_same old mid going same all ∙ ap (end_of old.graph old.table old.cycles) (sym kept))
     (machine ∙ after_same old mid e same all ∙ ap (λ xs. after_end (with_answers old xs) e) (sym kept))
     (row_is ∙ row_same old mid e before same all ∙ ap (λ xs. row_after (with_answers old xs) e before) (sym kept))
+
+-- and a turn of the machine
+pub turn_carried : (old mid new : State) (row : List ℤ) (e : CycleEnd) (x y : Option (List Entry)) (i j : ℕ) → old.ended ≡ None
+    → mid ≡ record old { answers = mid.answers; under_way = mid.under_way } → given mid ≡ mid.answers → Whole old.graph.operations mid.answers
+    → CarriedCycle old mid row x y i j → e ≡ end_or mid.ended (end_of mid.graph mid.table mid.cycles (given mid)) → new ≡ after_end mid e
+    → Turn old new row e x y i j
+turn_carried old mid new row e x y i j going same all whole carried is machine =
+    let kept : new.answers ≡ mid.answers = ap (λ (m : State). m.answers) machine ∙ answers_kept mid e in
+    record {
+      going = going;
+      whole = subst (Whole old.graph.operations) (sym kept) whole;
+      carried = subst (λ xs. Carried (CallsOf (setting old row) xs) x y i j) (sym kept) carried;
+      end_is = is ∙ end_same old mid going same all ∙ ap (end_of old.graph old.table old.cycles) (sym kept);
+      machine = machine ∙ after_same old mid e same all ∙ ap (λ xs. after_end (with_answers old xs) e) (sym kept);
+    }
+
+-- its row of outputs
+pub row_carried : (old mid new : State) (e : CycleEnd) (before : List ℤ) → mid ≡ record old { answers = mid.answers; under_way = mid.under_way }
+    → given mid ≡ mid.answers → new ≡ after_end mid e → row_after mid e before ≡ row_after (with_answers old new.answers) e before
+row_carried old mid new e before same all machine =
+    let kept : new.answers ≡ mid.answers = ap (λ (m : State). m.answers) machine ∙ answers_kept mid e in
+    row_same old mid e before same all ∙ ap (λ xs. row_after (with_answers old xs) e before) (sym kept)
+
+-- what is told of its answers
+pub told_carried : (P : Lists → Numbers → ℕ → List Answer → Type 0) (old mid new : State) (e : CycleEnd)
+    → mid ≡ record old { answers = mid.answers; under_way = mid.under_way } → given mid ≡ mid.answers → new ≡ after_end mid e
+    → (P mid.graph mid.table mid.cycles (given mid) → P old.graph old.table old.cycles new.answers)
+    × (P old.graph old.table old.cycles new.answers → P mid.graph mid.table mid.cycles (given mid))
+told_carried P old mid new e same all machine =
+    let kept : given mid ≡ new.answers = all ∙ sym (ap (λ (m : State). m.answers) machine ∙ answers_kept mid e) in (
+      λ h. subst (λ (m : State). P m.graph m.table m.cycles new.answers) same (subst (P mid.graph mid.table mid.cycles) kept h),
+      λ h. subst (P mid.graph mid.table mid.cycles) (sym kept) (subst (λ (m : State). P m.graph m.table m.cycles new.answers) (sym same) h),
+    )

@@ -1,5 +1,6 @@
 pub mod ByHand
 pub mod Causes
+pub mod Ended
 pub mod Ends
 pub mod FirstCells
 pub mod Following

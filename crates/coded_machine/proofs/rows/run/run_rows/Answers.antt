@@ -1,32 +1,45 @@
-use Rattle.std.proofs.Common.{length, refl, subst, sym, ap, ◌∙◌, arith, ◌<◌, Err}
+use Rattle.std.proofs.Common.{length, refl, subst, sym, ap, ◌∙◌, Err}
+use Rattle.std.proofs.Math.Nat.{le_refl, le_of_eq, le_trans}
 use Rattle.std.proofs.lemmas.Result.{err_from_is_err_and}
 use Rattle.std.proofs.lemmas.List.{length-replicate}
 use Rattle.input_rows.specs.RowsOf.{RowsLeft}
 use Rattle.op_graph.specs.Lists.{Lists}
 use Rattle.op_graph.specs.Rules.{IsGraph}
 use Rattle.signature_table.specs.Signatures.{IsTable}
-use Rattle.coded_machine.proofs.Exits.{memory_exit, row_exit, last_exit, cycle_exit, write_exit, refused_rose}
+use Rattle.coded_machine.specs.Moments.{moment}
+use Rattle.coded_machine.proofs.Ended.{given_up, at_cycle, at_last_row}
+use Rattle.coded_machine.proofs.Exits.{memory_exit, row_exit, last_exit, cycle_exit, write_exit}
 use Rattle.coded_machine.proofs.Overall.{Fair}
-use Rattle.coded_machine.proofs.Stopping.{stopped_counted, stop_placed, refusal_numbered}
 use Rattle.coded_machine.proofs.UpTo.{up_to_first, up_to_next, cycles_left}
 use Rattle.coded_machine.proofs.rows.run.run_rows.Goals as goal
 
-pub returns-in_err-inputs-clause-leaves : goal.returns-in_err-inputs-clause-leaves
-returns-in_err-inputs-clause-leaves g c =
+pub returns-in_err-inputs : goal.returns-in_err-inputs
+returns-in_err-inputs g c =
     let p = err_from_is_err_and c.from_residual.result c.from_residual.ensures.1 in
     let runs = c.runs_follow_their_answers.ensures in
-    let honest = c.honest_runs_follow_the_graph.ensures in
     let m = c.args.machine.now in
+    let start = moment (g.U.Unit.seen c.args.unit.now) (g.O.Sink.seen c.args.out.now) in
     let fair : Fair m.graph m.table (g.S.RowReader.left c.args.rows.now).rows =
     record {
       graph = subst IsGraph c.graph-graph.ensures c.len-operations.ensures.rules;
       table = subst IsTable c.table.ensures c.step-step.ensures.ranges;
       few = c.requires.few;
     } in
-    rw (p.1, p.2)
-    (memory_exit runs honest m.graph m.table (g.S.RowReader.left c.args.rows.now) (g.S.RowReader.left c.args.rows.now) g.R.ReleasedRows.text _ _ (g.R.ReleasedRows.Keeps c.args.released.now)
+    let leaves =
+    memory_exit runs c.honest_runs_follow_the_graph.ensures m.graph m.table (g.S.RowReader.left c.args.rows.now) (g.S.RowReader.left c.args.rows.now) g.R.ReleasedRows.text start start (g.R.ReleasedRows.Keeps c.args.released.now)
     (g.R.ReleasedRows.Keeps c.args.released.now) m fair
-    (up_to_first runs (g.S.RowReader.left c.args.rows.now) g.R.ReleasedRows.text _ (g.R.ReleasedRows.Keeps c.args.released.now) m c.requires.fresh))
+    (up_to_first runs (g.S.RowReader.left c.args.rows.now) g.R.ReleasedRows.text start (g.R.ReleasedRows.Keeps c.args.released.now) m c.requires.fresh) in
+    let e = given_up _ _ _ _ _ _ _ _ _ _ c.from_residual.result (p.1 ∙ ap Err p.2) leaves (le_refl _) (λ other. refl) in
+    record {
+      runs = e.leaves.run;
+      leaves = e.leaves;
+      later = e.later;
+      stayed = e.stayed;
+      stopped = e.stopped;
+      placed = e.placed;
+      refused = e.refused;
+      numbered = e.numbered;
+    }
 
 pub cycles-init : goal.cycles-init
 cycles-init g c =
@@ -50,14 +63,25 @@ cycles-init g c =
 pub next-requires : goal.next-requires
 next-requires g c = c.cycles.invariant.inputs
 
-pub returns-in_err-next-clause-leaves : goal.returns-in_err-next-clause-leaves
-returns-in_err-next-clause-leaves g c =
+pub returns-in_err-next : goal.returns-in_err-next
+returns-in_err-next g c =
     let p = err_from_is_err_and c.from_residual-in_err-next.result c.from_residual-in_err-next.ensures.1 in
     let m = c.args.machine.now in
     let so_far = c.cycles.invariant in
-    rw (p.1, p.2)
-    (row_exit so_far.runs so_far.honest m.graph m.table (g.S.RowReader.left c.args.rows.now) (g.S.RowReader.left c.cycles.rows) g.R.ReleasedRows.text _ _ (g.R.ReleasedRows.Keeps c.args.released.now)
-    (g.R.ReleasedRows.Keeps c.cycles.released) c.cycles.machine c.in_err-next.field-0.0 so_far.fair so_far.so_far c.in_err-next.ensures.refusal)
+    let leaves =
+    row_exit so_far.runs so_far.honest m.graph m.table (g.S.RowReader.left c.args.rows.now) (g.S.RowReader.left c.cycles.rows) g.R.ReleasedRows.text _ _ (g.R.ReleasedRows.Keeps c.args.released.now)
+    (g.R.ReleasedRows.Keeps c.cycles.released) c.cycles.machine c.in_err-next.field-0.0 so_far.fair so_far.so_far c.in_err-next.ensures.refusal in
+    let e = given_up _ _ _ _ _ _ _ _ _ _ c.from_residual-in_err-next.result (p.1 ∙ ap Err p.2) leaves (le_of_eq (sym so_far.so_far.faults)) (λ other. so_far.so_far.faults) in
+    record {
+      runs = e.leaves.run;
+      leaves = e.leaves;
+      later = e.later;
+      stayed = e.stayed;
+      stopped = e.stopped;
+      placed = e.placed;
+      refused = e.refused;
+      numbered = e.numbered;
+    }
 
 pub run_cycle-requires-clause-going : goal.run_cycle-requires-clause-going
 run_cycle-requires-clause-going g c = c.cycles.invariant.so_far.run.going
@@ -76,20 +100,32 @@ run_cycle-requires-clause-few g c =
 pub run_cycle-requires-clause-width : goal.run_cycle-requires-clause-width
 run_cycle-requires-clause-width g c = c.cycles.invariant.outputs ∙ ap (λ (x : Lists). length x.outputs) (sym c.cycles.invariant.so_far.run.graph)
 
-pub returns-in_err-end-clause-leaves : goal.returns-in_err-end-clause-leaves
-returns-in_err-end-clause-leaves g c =
+pub returns-in_err-end : goal.returns-in_err-end
+returns-in_err-end g c =
     let p = err_from_is_err_and c.from_residual-in_err-end.result c.from_residual-in_err-end.ensures.1 in
     let m = c.args.machine.now in
     let so_far = c.cycles.invariant in
     let one = c.in_ok-next.ensures.row c.if-branch.true in
     let cycle = c.in_err-end.ensures in
-    rw (p.1, p.2)
-    (write_exit so_far.runs so_far.honest m.graph m.table (g.S.RowReader.left c.args.rows.now) (g.S.RowReader.left c.cycles.rows) (g.S.RowReader.left c.next.new.self) g.R.ReleasedRows.text _ _ _
+    let after = moment (g.U.Unit.seen c.run_cycle.new.unit) (g.O.Sink.seen c.run_cycle.new.out) in
+    let leaves =
+    write_exit so_far.runs so_far.honest m.graph m.table (g.S.RowReader.left c.args.rows.now) (g.S.RowReader.left c.cycles.rows) (g.S.RowReader.left c.next.new.self) g.R.ReleasedRows.text _ _ after
     (g.R.ReleasedRows.Keeps c.args.released.now) (g.R.ReleasedRows.Keeps c.cycles.released) (g.R.ReleasedRows.Keeps c.run_cycle.new.released) c.cycles.machine
-    c.run_cycle.new.machine c.next.new.out so_far.fair so_far.so_far one cycle.turn cycle.between cycle.written.part cycle.written.cause.failed)
+    c.run_cycle.new.machine c.next.new.out so_far.fair so_far.so_far one cycle.turn cycle.between cycle.written.part cycle.written.cause.failed in
+    let e = given_up _ _ _ _ _ _ _ _ _ _ c.from_residual-in_err-end.result (p.1 ∙ ap Err p.2) leaves (le_trans (le_of_eq (sym so_far.so_far.faults)) cycle.written.cause.later) (λ other. absurd (other (p.1 ∙ ap Err p.2))) in
+    record {
+      runs = e.leaves.run;
+      leaves = e.leaves;
+      later = e.later;
+      stayed = e.stayed;
+      stopped = e.stopped;
+      placed = e.placed;
+      refused = e.refused;
+      numbered = e.numbered;
+    }
 
 pub cycles-smaller : goal.cycles-smaller
-cycles-smaller g c = omega (arith, ap (λ (x : RowsLeft). length x.rows) (c.in_ok-next.ensures.row c.if-branch.true))
+cycles-smaller g c = le_of_eq (sym (ap (λ (x : RowsLeft). length x.rows) (c.in_ok-next.ensures.row c.if-branch.true)))
 
 pub cycles-preserved : goal.cycles-preserved
 cycles-preserved g c =
@@ -110,122 +146,74 @@ cycles-preserved g c =
           cycle.written.cause.stayed cycle.kept;
     }
 
-pub returns-in_default-clause-leaves : goal.returns-in_default-clause-leaves
-returns-in_default-clause-leaves g c =
+pub returns-in_default : goal.returns-in_default
+returns-in_default g c =
     let m = c.args.machine.now in
     let so_far = c.cycles.invariant in
     let one = c.in_ok-next.ensures.row c.if-branch.true in
     let cycle = c.in_ok-end.ensures in
-    cycle_exit so_far.runs so_far.honest m.graph m.table (g.S.RowReader.left c.args.rows.now) (g.S.RowReader.left c.cycles.rows) (g.S.RowReader.left c.next.new.self) g.R.ReleasedRows.text _ _ _
+    let after = moment (g.U.Unit.seen c.run_cycle.new.unit) (g.O.Sink.seen c.run_cycle.new.out) in
+    let leaves =
+    cycle_exit so_far.runs so_far.honest m.graph m.table (g.S.RowReader.left c.args.rows.now) (g.S.RowReader.left c.cycles.rows) (g.S.RowReader.left c.next.new.self) g.R.ReleasedRows.text _ _ after
     (g.R.ReleasedRows.Keeps c.args.released.now) (g.R.ReleasedRows.Keeps c.cycles.released) (g.R.ReleasedRows.Keeps c.run_cycle.new.released) c.cycles.machine
     c.run_cycle.new.machine c.next.new.out c.in_ok-end.end so_far.fair so_far.so_far c.in_default.not-Released one cycle.turn cycle.between
-    cycle.written.whole cycle.kept
+    cycle.written.whole cycle.kept in
+    let e = at_cycle c.entries_keep_their_rules.ensures _ _ _ _ _ _ _ _ _ _ _ _ _ _ _ so_far.fair.graph so_far.so_far cycle.turn cycle.cause leaves cycle.written.cause.stayed in
+    record {
+      runs = e.leaves.run;
+      leaves = e.leaves;
+      later = e.later;
+      stayed = e.stayed;
+      stopped = e.stopped;
+      placed = e.placed;
+      refused = e.refused;
+      numbered = e.numbered;
+    }
 
-pub returns-clause-leaves : goal.returns-clause-leaves
-returns-clause-leaves g c =
+pub returns : goal.returns
+returns g c =
     let m = c.args.machine.now in
     let so_far = c.cycles.invariant in
     let none = c.in_ok-next.ensures.end c.if-branch.false in
+    let leaves =
     last_exit so_far.runs so_far.honest m.graph m.table (g.S.RowReader.left c.args.rows.now) (g.S.RowReader.left c.cycles.rows) g.R.ReleasedRows.text _ _ (g.R.ReleasedRows.Keeps c.args.released.now)
-    (g.R.ReleasedRows.Keeps c.cycles.released) c.cycles.machine so_far.fair so_far.so_far none.0 none.1
+    (g.R.ReleasedRows.Keeps c.cycles.released) c.cycles.machine so_far.fair so_far.so_far none.0 none.1 in
+    let e = at_last_row _ _ _ _ _ _ _ _ _ leaves so_far.so_far.faults in
+    record {
+      runs = e.leaves.run;
+      leaves = e.leaves;
+      later = e.later;
+      stayed = e.stayed;
+      stopped = e.stopped;
+      placed = e.placed;
+      refused = e.refused;
+      numbered = e.numbered;
+    }
 
-pub returns-in_default-clause-stopped : goal.returns-in_default-clause-stopped
-returns-in_default-clause-stopped g c = λ k why is.
-    let so_far = c.cycles.invariant in
-    let cycle = c.in_ok-end.ensures in
-    let graph = subst IsGraph (sym so_far.so_far.run.graph) so_far.fair.graph in
-    let entries = c.entries_keep_their_rules.ensures in
-    stopped_counted entries c.cycles.machine c.run_cycle.new.machine c.next.new.out c.in_ok-end.end k why _ _ _ _ _ _ graph cycle.turn cycle.cause
-    (cc) so_far.so_far.run.carried.told
-
-pub returns-in_default-clause-refused : goal.returns-in_default-clause-refused
-returns-in_default-clause-refused g c = λ i found wanted is.
-    let m = c.args.machine.now in
-    refused_rose m.graph m.table (g.S.RowReader.left c.args.rows.now) g.R.ReleasedRows.text _ _ _ i found wanted is (returns-in_default-clause-leaves g c).run
-
-pub returns-in_default-clause-placed : goal.returns-in_default-clause-placed
-returns-in_default-clause-placed g c = λ k why is.
-    let so_far = c.cycles.invariant in
-    let cycle = c.in_ok-end.ensures in
-    let graph = subst IsGraph (sym so_far.so_far.run.graph) so_far.fair.graph in
-    let entries = c.entries_keep_their_rules.ensures in
-    let m = c.cycles.machine in
-    subst (λ (x : Lists). k < length x.operations) so_far.so_far.run.graph
-    (stop_placed entries m.graph m.table m.cycles c.run_cycle.new.machine.answers c.in_ok-end.end k why graph cycle.turn.whole cycle.cause (cc))
-
-pub returns-in_default-clause-numbered : goal.returns-in_default-clause-numbered
-returns-in_default-clause-numbered g c = λ i found wanted is.
-    let cycle = c.in_ok-end.ensures in
-    let m = c.cycles.machine in
-    subst (λ (x : Lists). i < length x.outputs) c.cycles.invariant.so_far.run.graph
-    (refusal_numbered m.graph m.table m.cycles c.run_cycle.new.machine.answers c.in_ok-end.end i found wanted cycle.cause (cc))
-
-pub returns-in_err-outputs-clause-leaves : goal.returns-in_err-outputs-clause-leaves
-returns-in_err-outputs-clause-leaves g c =
+pub returns-in_err-outputs : goal.returns-in_err-outputs
+returns-in_err-outputs g c =
     let p = err_from_is_err_and c.from_residual-in_err-outputs.result c.from_residual-in_err-outputs.ensures.1 in
     let runs = c.runs_follow_their_answers.ensures in
-    let honest = c.honest_runs_follow_the_graph.ensures in
     let m = c.args.machine.now in
+    let start = moment (g.U.Unit.seen c.args.unit.now) (g.O.Sink.seen c.args.out.now) in
     let fair : Fair m.graph m.table (g.S.RowReader.left c.args.rows.now).rows =
     record {
       graph = subst IsGraph c.graph-graph.ensures c.len-operations.ensures.rules;
       table = subst IsTable c.table.ensures c.step-step.ensures.ranges;
       few = c.requires.few;
     } in
-    rw (p.1, p.2)
-    (memory_exit runs honest m.graph m.table (g.S.RowReader.left c.args.rows.now) (g.S.RowReader.left c.args.rows.now) g.R.ReleasedRows.text _ _ (g.R.ReleasedRows.Keeps c.args.released.now)
+    let leaves =
+    memory_exit runs c.honest_runs_follow_the_graph.ensures m.graph m.table (g.S.RowReader.left c.args.rows.now) (g.S.RowReader.left c.args.rows.now) g.R.ReleasedRows.text start start (g.R.ReleasedRows.Keeps c.args.released.now)
     (g.R.ReleasedRows.Keeps c.args.released.now) m fair
-    (up_to_first runs (g.S.RowReader.left c.args.rows.now) g.R.ReleasedRows.text _ (g.R.ReleasedRows.Keeps c.args.released.now) m c.requires.fresh))
-
--- ---- the sink's count of faults
-
-pub returns-in_err-next-clause-later : goal.returns-in_err-next-clause-later
-returns-in_err-next-clause-later g c = omega (arith, c.cycles.invariant.so_far.faults)
-
-pub returns-in_err-end-clause-later : goal.returns-in_err-end-clause-later
-returns-in_err-end-clause-later g c = omega (arith, c.cycles.invariant.so_far.faults, c.in_err-end.ensures.written.cause.later)
-
-pub returns-in_default-clause-later : goal.returns-in_default-clause-later
-returns-in_default-clause-later g c = omega (arith, c.cycles.invariant.so_far.faults, c.in_ok-end.ensures.written.cause.later)
-
-pub returns-clause-later : goal.returns-clause-later
-returns-clause-later g c = omega (arith, c.cycles.invariant.so_far.faults)
-
-pub returns-in_err-inputs-clause-stayed : goal.returns-in_err-inputs-clause-stayed
-returns-in_err-inputs-clause-stayed g c = λ other. refl
-
-pub returns-in_err-outputs-clause-stayed : goal.returns-in_err-outputs-clause-stayed
-returns-in_err-outputs-clause-stayed g c = λ other. refl
-
-pub returns-in_err-next-clause-stayed : goal.returns-in_err-next-clause-stayed
-returns-in_err-next-clause-stayed g c = λ other. c.cycles.invariant.so_far.faults
-
-pub returns-in_err-end-clause-stayed : goal.returns-in_err-end-clause-stayed
-returns-in_err-end-clause-stayed g c = λ other.
-    let p = err_from_is_err_and c.from_residual-in_err-end.result c.from_residual-in_err-end.ensures.1 in absurd (other (p.1 ∙ ap Err p.2))
-
-pub returns-in_default-clause-stayed : goal.returns-in_default-clause-stayed
-returns-in_default-clause-stayed g c = λ other. c.in_ok-end.ensures.written.cause.stayed ∙ c.cycles.invariant.so_far.faults
-
-pub returns-clause-stayed : goal.returns-clause-stayed
-returns-clause-stayed g c = λ other. c.cycles.invariant.so_far.faults
-
--- ---- the first part of what is left
-
-pub returns-in_err-inputs-clause-runs : goal.returns-in_err-inputs-clause-runs
-returns-in_err-inputs-clause-runs g c = (returns-in_err-inputs-clause-leaves g c).run
-
-pub returns-in_err-outputs-clause-runs : goal.returns-in_err-outputs-clause-runs
-returns-in_err-outputs-clause-runs g c = (returns-in_err-outputs-clause-leaves g c).run
-
-pub returns-in_err-next-clause-runs : goal.returns-in_err-next-clause-runs
-returns-in_err-next-clause-runs g c = (returns-in_err-next-clause-leaves g c).run
-
-pub returns-in_err-end-clause-runs : goal.returns-in_err-end-clause-runs
-returns-in_err-end-clause-runs g c = (returns-in_err-end-clause-leaves g c).run
-
-pub returns-in_default-clause-runs : goal.returns-in_default-clause-runs
-returns-in_default-clause-runs g c = (returns-in_default-clause-leaves g c).run
-
-pub returns-clause-runs : goal.returns-clause-runs
-returns-clause-runs g c = (returns-clause-leaves g c).run
+    (up_to_first runs (g.S.RowReader.left c.args.rows.now) g.R.ReleasedRows.text start (g.R.ReleasedRows.Keeps c.args.released.now) m c.requires.fresh) in
+    let e = given_up _ _ _ _ _ _ _ _ _ _ c.from_residual-in_err-outputs.result (p.1 ∙ ap Err p.2) leaves (le_refl _) (λ other. refl) in
+    record {
+      runs = e.leaves.run;
+      leaves = e.leaves;
+      later = e.later;
+      stayed = e.stayed;
+      stopped = e.stopped;
+      placed = e.placed;
+      refused = e.refused;
+      numbered = e.numbered;
+    }
