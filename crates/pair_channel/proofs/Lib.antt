@@ -1,5 +1,6 @@
 pub mod Channels
 pub mod Counting
+pub mod Ended
 pub mod Ends
 pub mod Rows
 pub mod Runs

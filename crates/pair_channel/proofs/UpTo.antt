@@ -1,5 +1,6 @@
 -- UpTo: a pair's run between two of its cycles.
-use Rattle.std.proofs.Common.{ℕ, ◌+◌, ◌<◌, ◌≤◌, ◌≡◌, false, refl, ap, subst, sym, ◌∙◌, ℤ, List, [], ◌∷◌, ◌++◌, append-nil, length, length-append, map, arith, Option, Result, Ok, Err}
+use Rattle.std.proofs.Common.{ℕ, ◌+◌, ◌<◌, ◌≤◌, ◌≡◌, ◌≢◌, false, refl, ap, subst, sym, ◌∙◌, ℤ, List, [], ◌∷◌, ◌++◌, append-nil, length, length-append, map, arith, Option, Result, Ok, Err}
+use Rattle.std.proofs.Math.Nat.{le_refl}
 use Rattle.std.proofs.lemmas.List.{length-map}
 use Rattle.std.specs.Io.KnownBytes.{Appends}
 use Rattle.std.specs.Result.{IsErr}
@@ -117,3 +118,29 @@ failed_row n row old new before now bytes e (Err f) failed is h =
 pub failed_released : (q : Result PairEnd Failed) → IsErr q → cycle_end q ≡ pair.Released
 failed_released (Ok e) failed = absurd cc
 failed_released (Err f) failed = refl
+
+-- ---- a row that was written, and an end without one
+
+pub released_row : (n : ℕ) (row : List ℤ) (old new : Option (List ℕ)) (before now : ℕ) (bytes : List ℕ) (v : Unit {0}) → bytes ≡ row_text n row →
+    Writes {T = Unit {0}} {E = Failed} old new before now bytes (Ok v) →
+    Writes {T = PairEnd} {E = Failed} old new before now (texts_from row_text n (row ∷ [])) (Ok pair.Released)
+released_row n row old new before now bytes v is h =
+    let k : Writes {T = Unit {0}} {E = Failed} old new before now (texts_from row_text n (row ∷ [])) (Ok v) =
+    subst (λ b. Writes {T = Unit {0}} {E = Failed} old new before now b (Ok v)) (is ∙ sym (append-nil (row_text n row))) h in
+    record { whole = k.whole; part = tt; cause = record { later = k.cause.later; capped = k.cause.capped; stayed = k.cause.stayed; failed = tt } }
+
+pub no_row : (n : ℕ) (row : List ℤ) (old : Option (List ℕ)) (before : ℕ) (e : PairEnd) → e ≢ pair.Released →
+    Writes {T = PairEnd} {E = Failed} old old before before (texts_from row_text n (pair_row_if e row)) (Ok e)
+no_row n row old before e not =
+    let none : pair_row_if e row ≡ [] = none_if e not in
+    record {
+      whole = subst (λ rows. Appends old old (texts_from row_text n rows)) (sym none) (appends_nothing old);
+      part = tt;
+      cause = record { later = le_refl before; capped = λ h. h; stayed = refl; failed = tt };
+    }
+  where
+    none_if : (e : PairEnd) → e ≢ pair.Released → pair_row_if e row ≡ []
+    none_if pair.Released not = absurd (not refl)
+    none_if (pair.Stopped op why) not = refl
+    none_if (pair.Parted one two) not = refl
+    none_if (pair.Differ output one two) not = refl

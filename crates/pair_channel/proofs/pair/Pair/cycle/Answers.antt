@@ -1,4 +1,4 @@
-use Rattle.std.proofs.Common.{◌≡◌, ◌<◌, None, length, arith, sym, ap, subst, refl, ◌∙◌}
+use Rattle.std.proofs.Common.{◌≡◌, ◌<◌, ◌≤◌, ◌+◌, ◌^◌, None, length, sym, ap, subst, refl, ◌∙◌}
 use Rattle.vcp_base.specs.Limits.{most_cycles}
 use Rattle.op_graph.specs.Lists.{Lists}
 use Rattle.coded_machine.specs.State.{State, with_answers}
@@ -11,7 +11,7 @@ use Rattle.pair_channel.proofs.pair.Pair.cycle.Goals as goal
 pub cycle-one-requires-clause-cycle : goal.cycle-one-requires-clause-cycle
 cycle-one-requires-clause-cycle g c =
     let together = c.self.invariant.together c.in_default.is in
-    omega (arith, together.first_cycles, ap (λ (q : PairState). q.cycles) c.self.view_is, c.requires.cycle)
+    subst (λ n. n < most_cycles) (sym (together.first_cycles ∙ ap (λ (q : PairState). q.cycles) c.self.view_is)) c.requires.cycle
 
 pub cycle-one-requires-clause-between : goal.cycle-one-requires-clause-between
 cycle-one-requires-clause-between g c = ap (λ (q : PairState). q.first.under_way) c.self.view_is ∙ c.requires.between
@@ -19,20 +19,20 @@ cycle-one-requires-clause-between g c = ap (λ (q : PairState). q.first.under_wa
 pub cycle-two-requires-clause-cycle : goal.cycle-two-requires-clause-cycle
 cycle-two-requires-clause-cycle g c =
     let together = c.self.invariant.together c.in_default.is in
-    omega (arith, together.second_cycles, ap (λ (q : PairState). q.cycles) c.self.view_is, c.requires.cycle)
+    subst (λ n. n < most_cycles) (sym (together.second_cycles ∙ ap (λ (q : PairState). q.cycles) c.self.view_is)) c.requires.cycle
 
 pub cycle-two-requires-clause-out : goal.cycle-two-requires-clause-out
 cycle-two-requires-clause-out g c = c.self.invariant.theirs ∙ ap (λ (h : Lists). length h.outputs) (sym c.self.invariant.one_graph)
 
 pub both-end-requires-clause-few : goal.both-end-requires-clause-few
-both-end-requires-clause-few g c = omega (arith, c.cycle-one.ensures.width, c.self.invariant.ours, c.self.invariant.few)
+both-end-requires-clause-few g c = subst (λ n. n < 2 ^ 32) (sym (c.cycle-one.ensures.width ∙ c.self.invariant.ours)) c.self.invariant.few
 
 pub both-end-requires-clause-width : goal.both-end-requires-clause-width
 both-end-requires-clause-width g c =
     c.cycle-two.ensures.width ∙ (c.self.invariant.theirs ∙ (sym c.self.invariant.ours ∙ sym c.cycle-one.ensures.width))
 
 pub settle-requires-clause-few : goal.settle-requires-clause-few
-settle-requires-clause-few g c = omega (arith, ap (λ (q : PairState). q.cycles) c.self.view_is, c.requires.cycle)
+settle-requires-clause-few g c = subst (λ n. n < most_cycles) (sym (ap (λ (q : PairState). q.cycles) c.self.view_is)) c.requires.cycle
 
 pub settle-requires-clause-width : goal.settle-requires-clause-width
 settle-requires-clause-width g c =
@@ -46,7 +46,7 @@ invariant_of-self g c =
     let together : Together p = sound.together c.in_default.is in
     let m : State = with_answers s.first c.cycle-one.new.self.answers in
     let k : State = with_answers s.second c.cycle-two.new.self.answers in
-    let few : s.cycles < most_cycles = omega (arith, ap (λ (q : PairState). q.cycles) c.self.view_is, c.requires.cycle) in
+    let few : s.cycles < most_cycles = subst (λ n. n < most_cycles) (sym (ap (λ (q : PairState). q.cycles) c.self.view_is)) c.requires.cycle in
     (left_by p s.ours s.theirs m k c.cycle-one.new.self c.cycle-two.new.self c.cycle-one.result c.cycle-two.result c.cycle-one.new.out c.cycle-two.new.out
     c.settle.new.row c.args.out.now c.settle.new.out c.both-end.result c.settle.new.cycles c.settle.new.ended sound c.in_default.is few refl refl
     (c.cycle-one.ensures.machine together.first_going) (c.cycle-two.ensures.machine together.second_going)
@@ -69,7 +69,7 @@ returns-clause-turn g c =
     let k : State = with_answers s.second c.cycle-two.new.self.answers in
     let e = c.cycle-one.result in
     let f = c.cycle-two.result in
-    let few : s.cycles < most_cycles = omega (arith, ap (λ (q : PairState). q.cycles) c.self.view_is, c.requires.cycle) in
+    let few : s.cycles < most_cycles = subst (λ n. n < most_cycles) (sym (ap (λ (q : PairState). q.cycles) c.self.view_is)) c.requires.cycle in
     let done =
     (left_by p s.ours s.theirs m k c.cycle-one.new.self c.cycle-two.new.self e f c.cycle-one.new.out c.cycle-two.new.out
     c.settle.new.row c.args.out.now c.settle.new.out c.both-end.result c.settle.new.cycles c.settle.new.ended sound c.in_default.is few refl refl
@@ -102,7 +102,8 @@ returns-clause-unchanged g c = λ apart. c.settle.ensures.out ∙ unchanged_row 
 
 pub returns-clause-cycles : goal.returns-clause-cycles
 returns-clause-cycles g c =
-    omega (arith, c.settle.ensures.cycles, counted c.both-end.result c.self.inside.cycles, ap (λ (q : PairState). q.cycles) c.self.view_is)
+    subst (λ n. c.settle.new.cycles ≤ n + 1) (ap (λ (q : PairState). q.cycles) c.self.view_is)
+    (subst (λ n. n ≤ c.self.inside.cycles + 1) (sym c.settle.ensures.cycles) (counted c.both-end.result c.self.inside.cycles))
 
 pub returns-clause-graph : goal.returns-clause-graph
 returns-clause-graph g c = c.cycle-one.ensures.graph ∙ ap (λ (q : PairState). q.first.graph) c.self.view_is

@@ -1,4 +1,4 @@
-use Rattle.std.proofs.Common.{◌≡◌, ◌<◌, List, ℤ, None, length, arith, sym, ap, subst, refl, ◌∙◌}
+use Rattle.std.proofs.Common.{◌≡◌, ◌<◌, ◌≤◌, ◌+◌, ◌^◌, List, ℤ, None, length, sym, ap, subst, refl, ◌∙◌}
 use Rattle.vcp_base.specs.Limits.{most_cycles}
 use Rattle.op_graph.specs.Lists.{Lists}
 use Rattle.coded_unit.specs.declared.call.Answer.{Answer}
@@ -14,7 +14,7 @@ use Rattle.pair_channel.proofs.pair.Pair.end.Goals as goal
 pub end-one-requires-clause-cycle : goal.end-one-requires-clause-cycle
 end-one-requires-clause-cycle g c =
     let together = c.self.invariant.together c.in_default.is in
-    omega (arith, together.first_cycles, ap (λ (q : PairState). q.cycles) c.self.view_is, c.requires.cycle)
+    subst (λ n. n < most_cycles) (sym (together.first_cycles ∙ ap (λ (q : PairState). q.cycles) c.self.view_is)) c.requires.cycle
 
 pub end-one-requires-clause-finished : goal.end-one-requires-clause-finished
 end-one-requires-clause-finished g c =
@@ -25,20 +25,20 @@ end-one-requires-clause-finished g c =
 pub cycle-two-requires-clause-cycle : goal.cycle-two-requires-clause-cycle
 cycle-two-requires-clause-cycle g c =
     let together = c.self.invariant.together c.in_default.is in
-    omega (arith, together.second_cycles, ap (λ (q : PairState). q.cycles) c.self.view_is, c.requires.cycle)
+    subst (λ n. n < most_cycles) (sym (together.second_cycles ∙ ap (λ (q : PairState). q.cycles) c.self.view_is)) c.requires.cycle
 
 pub cycle-two-requires-clause-out : goal.cycle-two-requires-clause-out
 cycle-two-requires-clause-out g c = c.self.invariant.theirs ∙ ap (λ (h : Lists). length h.outputs) (sym c.self.invariant.one_graph)
 
 pub both-end-requires-clause-few : goal.both-end-requires-clause-few
-both-end-requires-clause-few g c = omega (arith, c.end-one.ensures.width, c.self.invariant.ours, c.self.invariant.few)
+both-end-requires-clause-few g c = subst (λ n. n < 2 ^ 32) (sym (c.end-one.ensures.width ∙ c.self.invariant.ours)) c.self.invariant.few
 
 pub both-end-requires-clause-width : goal.both-end-requires-clause-width
 both-end-requires-clause-width g c =
     c.cycle-two.ensures.width ∙ (c.self.invariant.theirs ∙ (sym c.self.invariant.ours ∙ sym c.end-one.ensures.width))
 
 pub settle-requires-clause-few : goal.settle-requires-clause-few
-settle-requires-clause-few g c = omega (arith, ap (λ (q : PairState). q.cycles) c.self.view_is, c.requires.cycle)
+settle-requires-clause-few g c = subst (λ n. n < most_cycles) (sym (ap (λ (q : PairState). q.cycles) c.self.view_is)) c.requires.cycle
 
 pub settle-requires-clause-width : goal.settle-requires-clause-width
 settle-requires-clause-width g c =
@@ -51,7 +51,7 @@ invariant_of-self g c =
     let sound : SoundPair p s.ours s.theirs = c.self.invariant in
     let together : Together p = sound.together c.in_default.is in
     let k : State = with_answers s.second c.cycle-two.new.self.answers in
-    let few : s.cycles < most_cycles = omega (arith, ap (λ (q : PairState). q.cycles) c.self.view_is, c.requires.cycle) in
+    let few : s.cycles < most_cycles = subst (λ n. n < most_cycles) (sym (ap (λ (q : PairState). q.cycles) c.self.view_is)) c.requires.cycle in
     (left_by p s.ours s.theirs s.first k c.end-one.new.self c.cycle-two.new.self c.end-one.result c.cycle-two.result c.end-one.new.out c.cycle-two.new.out
     c.settle.new.row c.args.out.now c.settle.new.out c.both-end.result c.settle.new.cycles c.settle.new.ended sound c.in_default.is few refl refl
     c.end-one.ensures.machine (c.cycle-two.ensures.machine together.second_going) c.end-one.ensures.graph c.cycle-two.ensures.graph c.end-one.ensures.between
@@ -70,7 +70,7 @@ returns-clause-concluded g c =
     let k : State = with_answers s.second c.cycle-two.new.self.answers in
     let e = c.end-one.result in
     let f = c.cycle-two.result in
-    let few : s.cycles < most_cycles = omega (arith, ap (λ (q : PairState). q.cycles) c.self.view_is, c.requires.cycle) in
+    let few : s.cycles < most_cycles = subst (λ n. n < most_cycles) (sym (ap (λ (q : PairState). q.cycles) c.self.view_is)) c.requires.cycle in
     let done =
     (left_by p s.ours s.theirs s.first k c.end-one.new.self c.cycle-two.new.self e f c.end-one.new.out c.cycle-two.new.out
     c.settle.new.row c.args.out.now c.settle.new.out c.both-end.result c.settle.new.cycles c.settle.new.ended sound c.in_default.is few refl refl
@@ -108,7 +108,8 @@ returns-clause-unchanged g c = λ apart. c.settle.ensures.out ∙ unchanged_row 
 
 pub returns-clause-cycles : goal.returns-clause-cycles
 returns-clause-cycles g c =
-    omega (arith, c.settle.ensures.cycles, counted c.both-end.result c.self.inside.cycles, ap (λ (q : PairState). q.cycles) c.self.view_is)
+    subst (λ n. c.settle.new.cycles ≤ n + 1) (ap (λ (q : PairState). q.cycles) c.self.view_is)
+    (subst (λ n. n ≤ c.self.inside.cycles + 1) (sym c.settle.ensures.cycles) (counted c.both-end.result c.self.inside.cycles))
 
 pub returns-clause-graph : goal.returns-clause-graph
 returns-clause-graph g c = c.end-one.ensures.graph ∙ ap (λ (q : PairState). q.first.graph) c.self.view_is

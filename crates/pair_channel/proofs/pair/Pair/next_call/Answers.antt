@@ -1,4 +1,5 @@
-use Rattle.std.proofs.Common.{IfSome, arith, ap, subst}
+use Rattle.std.proofs.Common.{IfSome, ◌<◌, ◌∙◌, sym, ap, subst}
+use Rattle.vcp_base.specs.Limits.{most_cycles}
 use Rattle.coded_machine.specs.Calls.{CallsNextOperation, Next}
 use Rattle.coded_machine.specs.State.{given, setting}
 use Rattle.pair_channel.specs.PairStates.{PairState}
@@ -8,7 +9,7 @@ use Rattle.pair_channel.proofs.pair.Pair.next_call.Goals as goal
 pub next_call-requires : goal.next_call-requires
 next_call-requires c =
     let together = c.self.invariant.together c.in-None.is in
-    omega (arith, together.first_cycles, ap (λ (q : PairState). q.cycles) c.self.view_is, c.requires)
+    subst (λ n. n < most_cycles) (sym (together.first_cycles ∙ ap (λ (q : PairState). q.cycles) c.self.view_is)) c.requires
 
 pub returns-in-None-clause-none : goal.returns-in-None-clause-none
 returns-in-None-clause-none c =
