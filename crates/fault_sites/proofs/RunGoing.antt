@@ -1,5 +1,5 @@
 -- RunGoing: the sites that a run decides, cycle by cycle.
-use Rattle.std.proofs.Common.{◌≡◌, ℕ, ℤ, zero, suc, ◌+◌, ◌≤◌, List, [], ◌∷◌, ◌++◌, length, drop, slice_get, Option, Some, None, All, refl, sym, ap, ◌∙◌, append_assoc}
+use Rattle.std.proofs.Common.{◌≡◌, ℕ, ℤ, zero, suc, ◌+◌, ◌-◌, ◌<◌, ◌≤◌, List, [], ◌∷◌, ◌++◌, length, drop, slice_get, Option, Some, None, All, refl, sym, ap, ◌∙◌, append_assoc, arith}
 use Rattle.std.proofs.lemmas.List.{append-nil}
 use Rattle.std.proofs.lemmas.List.Elements.{All-head, All-tail}
 use Rattle.vcp_base.specs.declared.kind.StopKind.{StopKind}
@@ -14,7 +14,7 @@ use Rattle.fault_sites.specs.declared.site.Site.{Site}
 use Rattle.fault_sites.specs.Run.{Moment, after, begun}
 use Rattle.fault_sites.specs.RunSites.{cycle_of, in_cycle, run_sites, run_sites_from, unless_stopped}
 use Rattle.fault_sites.specs.Telling.{Tells}
-use Rattle.fault_sites.proofs.Going.{tells_none, tells_both, tells_over, tells_same}
+use Rattle.fault_sites.proofs.Going.{passed_over, tells_none, tells_both, tells_over, tells_same}
 use Rattle.fault_sites.proofs.Lists.{drop_there, drop_behind}
 
 pub width_there : (rows : List (List ℤ)) (w n : ℕ) (row : List ℤ) → All (λ r. length r ≡ w) rows → slice_get rows n ≡ Some row → length row ≡ w
@@ -36,15 +36,15 @@ pub same_cycle : (class : RunClass) (t : Numbers) (n : ℕ) (now : Moment) (g : 
     → in_cycle class (cycle_of t n now are) ≡ in_cycle class (record { graph = g; table = t; cycle = n; cells = cells; past = past; values = values })
 same_cycle class t n now g cells past values are e f h k = rw (e, f, h, k) refl
 
--- of a run that is a cycle behind
+-- of what the run was before
 pub row_is : (class : RunClass) (t : Numbers) (n : ℕ) (past now next : Moment) (row : List ℤ) → past ≡ now → next ≡ after now (cycle now.graph now.cells row)
     → of_row class t now n row ≡ in_cycle class (cycle_of t n past next.values)
 row_is class t n past now next row same is = rw (same, is) refl
 
--- it comes to the same
-pub both_after : (past now behind next : Moment) (row : List ℤ) → past ≡ now → behind ≡ after past (cycle past.graph past.cells row)
-    → next ≡ after now (cycle now.graph now.cells row) → behind ≡ next
-both_after past now behind next row same is also = is ∙ (ap (λ (m : Moment). after m (cycle m.graph m.cells row)) same ∙ sym also)
+-- so many sites that all stand before the part
+pub passed_by : {a : SinkSeen} {l : Gathered} {p : Part} (xs : List Site) (n : ℕ) → n ≡ length xs → 0 < p.left → n ≤ p.skip
+    → Tells a a l l p (record { skip = p.skip - n; left = p.left }) xs
+passed_by xs n is going some = passed_over xs going (omega (arith, is, some)) (omega (arith, is)) refl
 
 -- those of a cycle without a stop, and the rest
 pub left_on : (class : RunClass) (t : Numbers) (now : Moment) (n : ℕ) (rows : List (List ℤ)) (row : List ℤ) → slice_get rows n ≡ Some row

@@ -5,6 +5,7 @@ pub mod Flips
 pub mod Late
 pub mod Laws
 pub mod Members
+pub mod NextWord
 pub mod Part
 pub mod Readings
 pub mod RestScript
@@ -13,6 +14,7 @@ pub mod Run
 pub mod RunActs
 pub mod RunCycle
 pub mod RunSites
+pub mod Running
 pub mod Script
 pub mod SiteText
 pub mod Sites

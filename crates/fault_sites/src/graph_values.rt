@@ -5,40 +5,36 @@ ghost use Rattle.vcp_base.specs.Values.{at as at_of};
 ghost use Rattle.op_graph.specs.GraphRun.{cycle as cycle_of, initial, operand as operand_of, outcome_of, own as own_of, read as read_of, stored};
 ghost use Rattle.op_graph.specs.Reads.{named as named_of};
 ghost use Rattle.fault_sites.specs.Run.{after, begun};
+ghost use Rattle.fault_sites.specs.Running.{Room, before, moment};
 
 use crate::acts::named;
 use op_graph::{Graph, Op};
 use std::alloc::Global;
-use std::marker::Model;
+use std::mem::swap;
 use vcp_base::{Kind, Memory, Row, StopKind, operands, short_outcome};
 
-/// The run of a graph on plain integers, cycle by cycle. It borrows the graph. All memory that it ever takes is taken by `new`.
-pub struct GraphValues<'a> {
-    graph: &'a Graph,
-    cells: Vec<i64>,
-    values: Vec<i64>,
+/// The run of a graph on plain integers, between two cycles. All memory that it ever takes is taken by `new`.
+pub(crate) struct GraphValues {
+    /// The values that the cells hold.
+    pub(crate) cells: Vec<i64>,
+    /// The values of the operations in the last cycle.
+    pub(crate) values: Vec<i64>,
+    /// The values that the cells held before the last cycle.
+    pub(crate) past_cells: Vec<i64>,
+    /// The values of the operations in the cycle before the last one.
+    pub(crate) past: Vec<i64>,
+    /// The values of the inputs.
+    pub(crate) row: Row,
 }
 
-impl<'a> Model for GraphValues<'a> {
-    ghost use Rattle.std.specs.Prelude.{◌≤◌, length, vec_capacity};
-    ghost use Rattle.fault_sites.specs.Run.{Moment};
-
-    ghost Value = { Moment };
-
-    ghost view = { λ r. record { graph = r.graph.now; cells = r.cells.items; values = r.values.items } };
-
-    ghost invariant = { λ r. record {
-      cells : length r.graph.now.stores ≤ vec_capacity r.cells;
-      values : length r.graph.now.operations ≤ vec_capacity r.values;
-    } };
-}
-
-impl Drop for GraphValues<'_> {
+impl Drop for GraphValues {
     fn drop(self) {
         let GraphValues {
-            graph: _,
             cells: _,
             values: _,
+            past_cells: _,
+            past: _,
+            row: _,
         } = self;
     }
 }
@@ -157,54 +153,37 @@ fn first_cells(alloc: Global, graph: &Graph) -> Result<Vec<i64>, Memory>
     Ok(cells)
 }
 
-impl<'a> GraphValues<'a> {
-    /// The run of a graph before its first cycle. `Memory` where there is no room for a value of each
-    /// operation and of each cell. The cells hold their initial values.
-    pub fn new(alloc: Global, graph: &'a Graph) -> Result<GraphValues<'a>, Memory>
-        ensures { IfOk result (λ r. r ≡ begun graph.now) }
+impl GraphValues {
+    /// The run of a graph before its first cycle: the cells hold their initial values.
+    pub(crate) fn new(alloc: Global, graph: &Graph) -> Result<GraphValues, Memory>
+        ensures room { IfOk result (Room graph.now) }
+        ensures begun { IfOk result (λ r. moment graph.now r ≡ begun graph.now) }
     {
-        let cells = first_cells(alloc, graph)?;
-        let values = Vec::with_capacity(alloc, graph.len() as usize)?;
+        let operations = graph.len() as usize;
+        let cells = graph.cells() as usize;
         Ok(GraphValues {
-            graph,
-            cells,
-            values,
+            cells: first_cells(alloc, graph)?,
+            values: Vec::with_capacity(alloc, operations)?,
+            past_cells: Vec::with_capacity(alloc, cells)?,
+            past: Vec::with_capacity(alloc, operations)?,
+            row: Row::zeros(alloc, graph.inputs())?,
         })
     }
 
-    /// The graph.
-    pub fn graph(&self) -> &'a Graph
-        ensures { result.now ≡ self.now.graph }
+    /// Runs one cycle on the values of the inputs: the operations in order, up to the first that stops, and answers why that one stops. Then the cells
+    /// hold what their STOREs gave, which means nothing behind a stop. It takes no memory.
+    pub(crate) fn cycle(&mut self, graph: &Graph) -> Option<StopKind>
+        requires { Room graph.now self.old }
+        ensures room { Room graph.now self.new }
+        ensures stop { result ≡ (cycle_of graph.now self.old.cells.items self.old.row).stop }
+        ensures before { before graph.now self.new ≡ moment graph.now self.old }
+        ensures run { result ≡ None → moment graph.now self.new
+            ≡ after (moment graph.now self.old) (cycle_of graph.now self.old.cells.items self.old.row) }
     {
-        self.graph
-    }
-
-    /// Runs one cycle on a row of inputs: the operations in order, up to the first that stops. Answers why
-    /// that one stops; then the cells hold what they held. An input past the end of the row has the value 0,
-    /// and one outside its type stops its operation. After a cycle without a stop the cells hold what their
-    /// STOREs gave. It takes no memory.
-    pub fn cycle(&mut self, row: &Row) -> Option<StopKind>
-        ensures stop { result ≡ (cycle_of self.old.graph self.old.cells row.now).stop }
-        ensures run { self.new ≡ after self.old (cycle_of self.old.graph self.old.cells row.now) }
-    {
-        let stop = run_cycle(self.graph, &self.cells, row, &mut self.values);
-        if stop.is_none() {
-            store(self.graph, &self.values, &mut self.cells);
-        }
+        swap(&mut self.values, &mut self.past);
+        let stop = run_cycle(graph, &self.cells, &self.row, &mut self.values);
+        swap(&mut self.cells, &mut self.past_cells);
+        store(graph, &self.values, &mut self.cells);
         stop
-    }
-
-    /// The values that the cells hold.
-    pub fn cells(&self) -> &[i64]
-        ensures { result.now ≡ self.now.cells }
-    {
-        &self.cells
-    }
-
-    /// The values of the operations in the last cycle, up to the first that stopped in it.
-    pub fn values(&self) -> &[i64]
-        ensures { result.now ≡ self.now.values }
-    {
-        &self.values
     }
 }

@@ -1,7 +1,7 @@
 //! Scripts of the single faults of a class: each fault that a graph can have there in so many cycles, once, in order.
 //!
-//! For two classes the run of the graph on plain integers is needed, with the value of each operation: `GraphValues`. A script begins with the digest
-//! of the image that it is for, and is written whole or in parts (`scripts`).
+//! For two classes the run of the graph on plain integers is needed, with the value of each operation. A script begins with the digest of the image
+//! that it is for, and is written whole or in parts (`scripts`).
 #![tactic(auto)]
 
 mod acts;
@@ -15,6 +15,7 @@ mod graph_values;
 mod late;
 mod laws;
 mod lines;
+mod next_word;
 mod nowhere;
 mod part;
 mod reading;
@@ -33,7 +34,6 @@ pub use acts::{KINDS, from_of, named, operator_of};
 pub use class::{Class, Classes};
 pub use counts::count_sites;
 pub use digest::image_digest;
-pub use graph_values::GraphValues;
 pub use late::{may_be_late, store_of};
 pub use laws::{
     a_flip_turns_one_bit, a_line_is_read_back, a_script_is_read_back,
@@ -42,15 +42,17 @@ pub use laws::{
     parts_are_the_whole,
 };
 pub use lines::{classes_name, classes_named, then_rest, then_site, verb};
+pub use next_word::next_is;
 pub use nowhere::Nowhere;
 pub use part::Part;
 pub use reading::Reading;
 pub use rests::is_out;
 pub use run_class::RunClass;
-pub use run_sites::{count_run_sites, run_class_named, write_run_sites};
+pub use run_sites::run_class_named;
 pub use scripts::{
     Chosen, Unwritten, write_chosen_rests, write_chosen_run_sites, write_chosen_sites,
 };
 pub use site::Site;
+pub use values::power;
 pub use words_read::{WordReadings, readings};
 pub use writing::write_sites;

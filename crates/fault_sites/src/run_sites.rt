@@ -1,6 +1,6 @@
 //! The sites of a class that the words of a run decide, and their script.
 
-ghost use Rattle.std.specs.Prelude.{◌≡◌, ◌<◌, ◌≤◌, All, length};
+ghost use Rattle.std.specs.Prelude.{◌≡◌, ◌<◌, ◌≤◌, All, IfOk, length};
 ghost use Rattle.vcp_base.specs.Limits.{most_cycles};
 ghost use Rattle.vcp_outside.specs.Written.{WritesTo};
 ghost use Rattle.fault_sites.specs.Flips.{flips_in};
@@ -8,20 +8,23 @@ ghost use Rattle.fault_sites.specs.Late.{lates_in};
 ghost use Rattle.fault_sites.specs.Run.{begun};
 ghost use Rattle.fault_sites.specs.RunCycle.{as_cycle};
 ghost use Rattle.fault_sites.specs.RunSites.{cycle_of, in_cycle, run_class_name as run_class_name_of, run_class_of, run_sites, run_text};
+ghost use Rattle.fault_sites.specs.Running.{Room, before, moment};
 ghost use Rattle.fault_sites.specs.Telling.{Tells};
 
-use crate::GraphValues;
 use crate::counts::BEHIND_ALL;
 use crate::cycle_values::CycleValues;
 use crate::flips::count_flips_in;
+use crate::graph_values::GraphValues;
 use crate::nowhere::Nowhere;
 use crate::part::Part;
 use crate::run_class::RunClass;
 use crate::telling::then_acts;
 use crate::writing::then_remark;
 use input_rows::RowList;
+use op_graph::Graph;
 use signature_table::Table;
-use vcp_base::{Row, same_bytes};
+use std::alloc::Global;
+use vcp_base::{Memory, same_bytes};
 use vcp_outside::{Failed, Line, Sink};
 
 /// The word that names a class.
@@ -76,29 +79,30 @@ fn then_lates<O: Sink>(line: &mut Line, out: &mut O, part: Part, c: &CycleValues
     then_acts(line, out, part, c, c.graph, c.cycle)
 }
 
-/// Goes on with the sites of a class in cycle `n`, which is the last one of the first run. The second one is before it.
+/// Goes on with the sites of a class in cycle `n`, which is the last one of a run.
 fn then_cycle<O: Sink>(
     line: &mut Line,
     out: &mut O,
     part: Part,
     class: RunClass,
     n: u32,
-    run: &GraphValues<'_>,
-    past: &GraphValues<'_>,
+    graph: &Graph,
+    run: &GraphValues,
     table: &Table,
 ) -> Part
     requires few { n < most_cycles }
     requires going { 0 < part.left }
-    ensures { Tells (O.seen out.old) (O.seen out.new) line.old line.new part result (in_cycle class (cycle_of table.now n past.now run.now.values)) }
+    ensures { Tells (O.seen out.old) (O.seen out.new) line.old line.new part result
+        (in_cycle class (cycle_of table.now n (before graph.now run.now) run.now.values.items)) }
 {
     let cycle = CycleValues {
         class,
-        graph: past.graph(),
+        graph,
         table,
         cycle: n,
-        cells: past.cells(),
-        past: past.values(),
-        values: run.values(),
+        cells: &run.past_cells,
+        past: &run.past,
+        values: &run.values,
     };
     match class {
         RunClass::Flips => then_flips(line, out, part, &cycle),
@@ -106,58 +110,52 @@ fn then_cycle<O: Sink>(
     }
 }
 
-/// Goes on with the sites of a class in the run over all rows, or up to its stop. The second run goes a cycle behind.
+/// Goes on with the sites of a class in the run over all rows, or up to its stop.
 fn then_run<O: Sink>(
     line: &mut Line,
     out: &mut O,
     mut part: Part,
     class: RunClass,
-    run: &mut GraphValues<'_>,
-    past: &mut GraphValues<'_>,
+    graph: &Graph,
+    run: &mut GraphValues,
     table: &Table,
     rows: &RowList,
-    row: &mut Row,
 ) -> Part
-    requires begun { run.old ≡ begun run.old.graph }
-    requires same { past.old ≡ run.old }
+    requires room { Room graph.now run.old }
+    requires begun { moment graph.now run.old ≡ begun graph.now }
     requires few { length rows.now ≤ most_cycles }
-    requires width { All (λ r. length r ≡ length run.old.graph.inputs) rows.now }
-    requires row { length row.old ≡ length run.old.graph.inputs }
-    ensures { Tells (O.seen out.old) (O.seen out.new) line.old line.new part result (run_sites class table.now run.old.graph rows.now) }
+    requires width { All (λ r. length r ≡ length graph.now.inputs) rows.now }
+    ensures { Tells (O.seen out.old) (O.seen out.new) line.old line.new part result (run_sites class table.now graph.now rows.now) }
 {
     let count = rows.len() as u32;
     'cycles: for n in 0..count {
         if part.left == 0 {
             return part;
         }
-        rows.get(n, row);
-        match run.cycle(row) {
+        rows.get(n, &mut run.row);
+        match run.cycle(graph) {
             Some(_) => return part,
-            None => part = then_cycle(line, out, part, class, n, run, past, table),
+            None => part = then_cycle(line, out, part, class, n, graph, run, table),
         }
-        past.cycle(row);
     }
     part
 }
 
-/// How many sites a class has in the run over all rows, or up to its stop. The runs are before their first cycle, and `row` is for their inputs.
-pub fn count_run_sites(
-    class: RunClass,
-    run: &mut GraphValues<'_>,
-    past: &mut GraphValues<'_>,
+/// How many sites a class has in the run over all rows, or up to its stop.
+pub(crate) fn count_run_sites(
+    alloc: Global,
+    graph: &Graph,
     table: &Table,
+    class: RunClass,
     rows: &RowList,
-    row: &mut Row,
-) -> u64
-    requires begun { run.old ≡ begun run.old.graph }
-    requires same { past.old ≡ run.old }
+) -> Result<u64, Memory>
     requires few { length rows.now ≤ most_cycles }
-    requires width { All (λ r. length r ≡ length run.old.graph.inputs) rows.now }
-    requires row { length row.old ≡ length run.old.graph.inputs }
-    ensures { result ≡ length (run_sites class table.now run.old.graph rows.now) }
+    requires width { All (λ r. length r ≡ length graph.now.inputs) rows.now }
+    ensures { IfOk result (λ n. n ≡ length (run_sites class table.now graph.now rows.now)) }
 {
     // A graph has at most 65,536 operations.
-    let _operations = run.graph().len();
+    let _operations = graph.len();
+    let mut run = GraphValues::new(alloc, graph)?;
     let mut line = Line::new();
     let mut nowhere = Nowhere {};
     let behind = then_run(
@@ -165,38 +163,35 @@ pub fn count_run_sites(
         &mut nowhere,
         BEHIND_ALL,
         class,
-        run,
-        past,
+        graph,
+        &mut run,
         table,
         rows,
-        row,
     );
-    u64::MAX - behind.skip
+    Ok(u64::MAX - behind.skip)
 }
 
 /// Writes the script of a part of the sites of a class in a run over all rows, at most 1,000,000, or up to its stop: a remark with the digits of the
 /// image's digest, and a line for each site, in the order of cycle, operation, operand, and bit or operation. The words are those of the table's code.
-/// The runs are before their first cycle, and `row` is for their inputs. It takes no memory. After `Failed` a part of the text is written.
-pub fn write_run_sites<O: Sink>(
+/// The run is before its first cycle. It takes no memory. After `Failed` a part of the text is written.
+pub(crate) fn write_run_sites<O: Sink>(
     out: &mut O,
     digest: &[u8],
     class: RunClass,
-    run: &mut GraphValues<'_>,
-    past: &mut GraphValues<'_>,
+    graph: &Graph,
+    run: &mut GraphValues,
     table: &Table,
     rows: &RowList,
-    row: &mut Row,
     part: Part,
 ) -> Result<(), Failed>
-    requires begun { run.old ≡ begun run.old.graph }
-    requires same { past.old ≡ run.old }
+    requires room { Room graph.now run.old }
+    requires begun { moment graph.now run.old ≡ begun graph.now }
     requires few { length rows.now ≤ most_cycles }
-    requires width { All (λ r. length r ≡ length run.old.graph.inputs) rows.now }
-    requires row { length row.old ≡ length run.old.graph.inputs }
-    ensures { WritesTo (O.seen out.old) (O.seen out.new) (run_text class digest.now table.now run.old.graph rows.now part) result }
+    requires width { All (λ r. length r ≡ length graph.now.inputs) rows.now }
+    ensures { WritesTo (O.seen out.old) (O.seen out.new) (run_text class digest.now table.now graph.now rows.now part) result }
 {
     let mut line = Line::new();
     then_remark(&mut line, out, run_class_name(class), digest);
-    then_run(&mut line, out, part, class, run, past, table, rows, row);
+    then_run(&mut line, out, part, class, graph, run, table, rows);
     line.end(out)
 }

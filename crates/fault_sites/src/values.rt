@@ -10,7 +10,7 @@ use fault_script::Act;
 pub(crate) const ADDENDS: u32 = 124;
 
 /// A power of two, at most 2^61.
-pub(crate) fn power(k: u32) -> i64
+pub fn power(k: u32) -> i64
     requires { k < 62 }
     ensures { result ≡ pos (2 ^ k) }
 {

@@ -1,68 +1,26 @@
 //! Sites of a class that the words of a run decide.
 
-ghost use Rattle.std.specs.Prelude.{◌≡◌, ◌≤◌, All, length, Err, IfOk};
+ghost use Rattle.std.specs.Prelude.{◌≡◌, ◌≤◌, All, length, Err};
 ghost use Rattle.vcp_base.specs.Limits.{most_cycles};
 ghost use Rattle.vcp_outside.specs.Counts.{Rose};
 ghost use Rattle.signature_table.specs.Signatures.{IsTableOf};
 ghost use Rattle.fault_sites.specs.Part.{kept};
-ghost use Rattle.fault_sites.specs.Run.{begun};
 ghost use Rattle.fault_sites.specs.RunSites.{run_class_name, run_sites, run_text};
 ghost use Rattle.fault_sites.specs.Script.{IsScript, WritesScript, WritesChosen};
 ghost use Rattle.fault_sites.specs.declared.scripts.unwritten.Unwritten.TheVariants as unwritten;
 
+use crate::graph_values::GraphValues;
+use crate::run_sites::{count_run_sites, write_run_sites};
 use crate::scripts::chosen::{Chosen, part_of, size_of};
 use crate::scripts::number::write_number;
 use crate::scripts::unwritten::{Unwritten, outcome};
-use crate::{GraphValues, Part, RunClass, count_run_sites, image_digest, write_run_sites};
+use crate::{Part, RunClass, image_digest};
 use fault_script::MOST_FAULTS;
 use input_rows::RowList;
 use op_graph::Graph;
 use signature_table::Table;
 use std::alloc::Global;
-use vcp_base::{Memory, Row};
 use vcp_outside::Sink;
-
-/// Two runs of a graph before their first cycle, and a row for its inputs.
-#[derive(Drop)]
-struct Runs<'a> {
-    run: GraphValues<'a>,
-    past: GraphValues<'a>,
-    row: Row,
-}
-
-/// Two runs of a graph.
-fn two_runs(alloc: Global, graph: &Graph) -> Result<Runs<'_>, Memory>
-    ensures run { IfOk result (λ r. r.run ≡ begun graph.now) }
-    ensures past { IfOk result (λ r. r.past ≡ begun graph.now) }
-    ensures row { IfOk result (λ r. length r.row ≡ length graph.now.inputs) }
-{
-    let row = Row::zeros(alloc, graph.inputs())?;
-    let run = GraphValues::new(alloc, graph)?;
-    match GraphValues::new(alloc, graph) {
-        Ok(past) => Ok(Runs { run, past, row }),
-        Err(why) => Err(why),
-    }
-}
-
-/// How many sites a class has in the run over all rows, or up to its stop.
-fn count(
-    alloc: Global,
-    graph: &Graph,
-    table: &Table,
-    class: RunClass,
-    rows: &RowList,
-) -> Result<u64, Memory>
-    requires few { length rows.now ≤ most_cycles }
-    requires width { All (λ r. length r ≡ length graph.now.inputs) rows.now }
-    ensures { IfOk result (λ n. n ≡ length (run_sites class table.now graph.now rows.now)) }
-{
-    let Runs {
-        mut run,
-        mut past,
-        mut row,
-    } = two_runs(alloc, graph)?;
-    Ok(count_run_sites(class, &mut run, &mut past, table, rows, &mut row))
-}
 
 /// Writes the script of a part of the sites of a class in the run over all rows.
 fn write_by<O: Sink>(
@@ -83,15 +41,9 @@ fn write_by<O: Sink>(
         (O.seen out.old).written (O.seen out.new).written result }
     ensures failed { result ≡ Err unwritten.Failed → Rose (O.seen out.old).faults (O.seen out.new).faults }
 {
-    match two_runs(alloc, graph) {
-        Ok(
-            Runs {
-                mut run,
-                mut past,
-                mut row,
-            },
-        ) => outcome(write_run_sites(
-            out, digest, class, &mut run, &mut past, table, rows, &mut row, part,
+    match GraphValues::new(alloc, graph) {
+        Ok(mut run) => outcome(write_run_sites(
+            out, digest, class, graph, &mut run, table, rows, part,
         )),
         Err(_) => Err(Unwritten::Memory),
     }
@@ -145,7 +97,7 @@ pub fn write_chosen_run_sites<O: Sink>(
         (O.seen out.old).written (O.seen out.new).written result }
     ensures failed { result ≡ Err unwritten.Failed → Rose (O.seen out.old).faults (O.seen out.new).faults }
 {
-    let total = match count(alloc, graph, table, class, rows) {
+    let total = match count_run_sites(alloc, graph, table, class, rows) {
         Ok(total) => total,
         Err(_) => return Err(Unwritten::Memory),
     };

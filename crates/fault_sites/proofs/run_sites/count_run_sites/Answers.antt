@@ -7,22 +7,19 @@ use Rattle.fault_sites.proofs.run_sites.count_run_sites.Goals as goal
 pub returns : goal.returns
 returns c =
     let a = c.args in
-    let xs = run_sites a.class a.table.now a.run.now.graph a.rows.now in
-    let few : length a.run.now.graph.operations ≤ 65536 = rw c.graph.ensures at c.len-operations.ensures.rules.part.few_operations in
+    let xs = run_sites a.class a.table.now a.graph.now a.rows.now in
+    let few : length a.graph.now.operations ≤ 65536 = c.len-operations.ensures.rules.part.few_operations in
     let left : c.then_run-behind.result.skip ≡ 18446744073709551615 - length xs = ap (λ (p : Part). p.skip) c.then_run-behind.ensures.left in
-    counted xs c.then_run-behind.result.skip (run_few a.class a.table.now a.run.now.graph a.rows.now few c.requires.few) left
+    counted xs c.then_run-behind.result.skip (run_few a.class a.table.now a.graph.now a.rows.now few c.requires.few) left
+
+pub then_run-behind-requires-clause-room : goal.then_run-behind-requires-clause-room
+then_run-behind-requires-clause-room c = c.in_ok-run.ensures.room
 
 pub then_run-behind-requires-clause-begun : goal.then_run-behind-requires-clause-begun
-then_run-behind-requires-clause-begun c = c.requires.begun
-
-pub then_run-behind-requires-clause-same : goal.then_run-behind-requires-clause-same
-then_run-behind-requires-clause-same c = c.requires.same
+then_run-behind-requires-clause-begun c = c.in_ok-run.ensures.begun
 
 pub then_run-behind-requires-clause-few : goal.then_run-behind-requires-clause-few
 then_run-behind-requires-clause-few c = c.requires.few
 
 pub then_run-behind-requires-clause-width : goal.then_run-behind-requires-clause-width
 then_run-behind-requires-clause-width c = c.requires.width
-
-pub then_run-behind-requires-clause-row : goal.then_run-behind-requires-clause-row
-then_run-behind-requires-clause-row c = c.requires.row

@@ -9,19 +9,16 @@ returns g c =
     let remark = (rw c.run_class_name.ensures at c.then_remark.ensures) _ _ _ (c.new-line.ensures.begun _ _) in
     let told = c.then_run.ensures.gathers _ _ _ remark in
     written_same (c.end.ensures.writes _ _ _ told)
-    (ended_text (run_class_name c.args.class) c.args.digest.now (kept c.args.part (run_sites c.args.class c.args.table.now c.args.run.now.graph c.args.rows.now)))
+    (ended_text (run_class_name c.args.class) c.args.digest.now (kept c.args.part (run_sites c.args.class c.args.table.now c.args.graph.now c.args.rows.now)))
+
+pub then_run-requires-clause-room : goal.then_run-requires-clause-room
+then_run-requires-clause-room g c = c.requires.room
 
 pub then_run-requires-clause-begun : goal.then_run-requires-clause-begun
 then_run-requires-clause-begun g c = c.requires.begun
-
-pub then_run-requires-clause-same : goal.then_run-requires-clause-same
-then_run-requires-clause-same g c = c.requires.same
 
 pub then_run-requires-clause-few : goal.then_run-requires-clause-few
 then_run-requires-clause-few g c = c.requires.few
 
 pub then_run-requires-clause-width : goal.then_run-requires-clause-width
 then_run-requires-clause-width g c = c.requires.width
-
-pub then_run-requires-clause-row : goal.then_run-requires-clause-row
-then_run-requires-clause-row g c = c.requires.row
