@@ -1,4 +1,4 @@
-use Rattle.std.proofs.Common.{◌≡◌, ◌<◌, arith, append_assoc, decimal, take, refl, length, pos, ℕ, ◌+◌, ◌∙◌, sym, Result, Ok}
+use Rattle.std.proofs.Common.{◌≡◌, ◌<◌, true≢false, arith, append_assoc, decimal, take, refl, length, pos, ℕ, ◌+◌, ◌∙◌, sym, Result, Ok}
 use Rattle.std.proofs.lemmas.List.{append-nil, take_all}
 use Rattle.std.proofs.lemmas.Option.{slice_get-get_or}
 use Rattle.run_report.specs.Lines.{value_cell}
@@ -29,3 +29,9 @@ returns g c =
     let whole : take c.cells.i c.args.row.now ≡ c.args.row.now = take_all c.cells.i c.args.row.now (omega arith) in
     let all = rw whole at c.cells.invariant.gathered in
     rw append_assoc at (c.end.ensures.writes _ _ _ all)
+
+pub returns-then-not-has_count : goal.returns-then-not-has_count
+returns-then-not-has_count g c = absurd (true≢false (sym c.has_count.ensures ∙ c.if-not-has_count.true))
+
+pub returns-then-not-has_cell : goal.returns-then-not-has_cell
+returns-then-not-has_cell g c = absurd (true≢false (sym c.has_cell.ensures ∙ c.if-not-has_cell.true))
