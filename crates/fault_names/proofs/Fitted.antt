@@ -1,5 +1,5 @@
 -- Fitted: what a line means fits the graph.
-use Rattle.std.proofs.Common.{◌≡◌, ℕ, ◌<◌, ◌≤◌, ◌==◌, Bool, true, false, cond, nat_lt, nat_le, List, [], ◌∷◌, Option, Some, None, Result, Ok, Err, bytes_eq, slice_get, codes, refl, sym, ap, arith, subst}
+use Rattle.std.proofs.Common.{◌≡◌, ℕ, ◌<◌, ◌≤◌, ◌==◌, Bool, true, false, cond, nat_lt, nat_le, List, [], ◌∷◌, Option, Some, None, Result, Ok, Err, drop, slice_get, codes, refl, sym, ap, arith, subst}
 use Rattle.std.specs.Option.{option_map, option_and_then}
 use Rattle.std.proofs.lemmas.Bool.Decides.{nat_tests}
 use Rattle.vcp_base.specs.Limits.{most_cycles}
@@ -10,6 +10,7 @@ use Rattle.op_graph.specs.Lists.{Lists}
 use Rattle.fault_script.specs.declared.act.Act.{Act}
 use Rattle.fault_script.specs.Forms.{cycle_of}
 use Rattle.fault_script.specs.Fits.{is_sited, is_timely, is_alike, is_moderate, ActFits}
+use Rattle.fault_sites.specs.NextWord.{first_is}
 use Rattle.fault_names.specs.declared.refused.Why.{Why}
 use Rattle.fault_names.specs.declared.refused.Why.TheVariants as reason
 use Rattle.fault_names.specs.declared.when.Span.{Span}
@@ -20,7 +21,7 @@ use Rattle.fault_names.specs.declared.doing.Doing.TheVariants as doing
 use Rattle.fault_names.specs.declared.meant.Acts.{Acts}
 use Rattle.fault_names.specs.declared.meant.Meant.{Meant}
 use Rattle.fault_names.specs.Words.{cut, from_to, last_of, span_by, span_of}
-use Rattle.fault_names.specs.Lines.{with_rest, and_next, or_form, doing_of, target_of, when_of, ending_of, act_of, one_act, acts_of, is_together, unfit, unfit_other, unfit_else, unfit_acts, unless_unfit, fitted_at, fitted, ended, timed, aimed, meant_of}
+use Rattle.fault_names.specs.Lines.{with_rest, and_next, or_form, doing_of, target_of, span_next, when_of, ending_of, act_of, one_act, acts_of, is_together, unfit, unfit_other, unfit_else, unfit_acts, unless_unfit, fitted_at, fitted, ended, timed, aimed, meant_of}
 
 -- ---- what was read
 
@@ -90,15 +91,16 @@ span_fits : (w : List ℕ) (o : Option (List ℕ × List ℕ)) (s : Span) → sp
 span_fits w None s h = one_cycle (cycle_of w) s (cycle_low w) h
 span_fits w (Some p) s h = ranges (cycle_of p.0) (last_of p.1) s (last_low p.1) h
 
-when_if : (n : List ℕ) (more : List (List ℕ)) (p : Span × List (List ℕ)) (b : Bool)
-    → cond b (with_rest more (or_form (span_of n))) (Err reason.Form) ≡ Ok p → SpanFits p.0
-when_if n more p true h = span_fits n (cut 46 n) p.0 (some_of (span_of n) p.0 (with_was more (or_form (span_of n)) p h))
-when_if n more p false h = absurd cc
+next_fits : (ws : List (List ℕ)) (p : Span × List (List ℕ)) → span_next ws ≡ Ok p → SpanFits p.0
+next_fits [] p h = absurd cc
+next_fits (n ∷ more) p h = span_fits n (cut 46 n) p.0 (some_of (span_of n) p.0 (with_was more (or_form (span_of n)) p h))
+
+when_if : (ws : List (List ℕ)) (p : Span × List (List ℕ)) (b : Bool) → cond b (span_next ws) (Err reason.Form) ≡ Ok p → SpanFits p.0
+when_if ws p true h = next_fits ws p h
+when_if ws p false h = absurd cc
 
 when_fits : (ws : List (List ℕ)) (p : Span × List (List ℕ)) → when_of ws ≡ Ok p → SpanFits p.0
-when_fits [] p h = absurd cc
-when_fits (w ∷ []) p h = absurd cc
-when_fits (w ∷ n ∷ more) p h = when_if n more p (bytes_eq w (codes "cycle")) h
+when_fits ws p h = when_if (drop 1 ws) p (first_is (codes "cycle") ws) h
 
 -- ---- acts
 

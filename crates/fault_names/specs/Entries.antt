@@ -1,11 +1,12 @@
 -- Entries: which lines of a text are taken, and the first that is refused.
-use Rattle.std.specs.Prelude.{ℕ, ◌+◌, Bool, false, not, cond, ◌&&◌, nat_le, List, [], ◌∷◌, Option, Some, None, Result, Ok, Err, codes, bytes_eq}
+use Rattle.std.specs.Prelude.{ℕ, ◌+◌, Bool, false, not, cond, drop, nat_le, List, [], ◌∷◌, Option, Some, None, Result, Ok, Err, codes, bytes_eq}
 use Rattle.std.specs.Str.Lines.{lines}
 use Rattle.op_graph.specs.Lists.{Lists}
 use Rattle.vcp_base.specs.Lines.{Line, read_lines}
-use Rattle.vcp_base.specs.Words.{words}
+use Rattle.vcp_base.specs.Words.{only, words}
 use Rattle.fault_script.specs.ScriptOf.{most_faults}
 use Rattle.fault_script.specs.declared.act.Act.{Act}
+use Rattle.fault_sites.specs.NextWord.{first_is}
 use Rattle.fault_names.specs.declared.refused.Why.{Why}
 use Rattle.fault_names.specs.declared.refused.Why.TheVariants as reason
 use Rattle.fault_names.specs.declared.refused.Refused.{Refused}
@@ -20,10 +21,12 @@ most_named_bytes = 262144
 
 -- ---- the image
 
+abbrev pub digest_behind : List (List ℕ) → Option (List ℕ)
+digest_behind ws = cond (first_is (codes "of") ws) (only (drop 1 ws)) None
+
 -- the digits of the image that the words of a first line name: `# of DIGEST`
 abbrev pub image_named : List (List ℕ) → Option (List ℕ)
-image_named (a ∷ b ∷ d ∷ []) = cond (bytes_eq a (codes "#") && bytes_eq b (codes "of")) (Some d) None
-image_named _ = None
+image_named ws = cond (first_is (codes "#") ws) (digest_behind (drop 1 ws)) None
 
 abbrev pub is_other : List ℕ → Option (List ℕ) → Bool
 is_other digest None = false

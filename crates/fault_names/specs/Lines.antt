@@ -1,5 +1,5 @@
 -- Lines: what the words of a line mean. A line is read from the left, and the first word that is wrong decides why it is refused.
-use Rattle.std.specs.Prelude.{ℕ, ◌^◌, Bool, true, false, cond, nat_lt, List, [], ◌∷◌, Option, Some, None, option_map, option_and_then, Result, Ok, Err, slice_get, pos, neg_ℤ, codes, bytes_eq}
+use Rattle.std.specs.Prelude.{ℕ, ◌^◌, Bool, true, false, cond, nat_lt, List, [], ◌∷◌, Option, Some, None, option_map, option_and_then, Result, Ok, Err, slice_get, drop, pos, neg_ℤ, codes, bytes_eq}
 use Rattle.vcp_base.specs.declared.kind.Kind.{Kind}
 use Rattle.op_graph.specs.declared.op.Op.{Op}
 use Rattle.op_graph.specs.Lists.{Lists}
@@ -8,6 +8,7 @@ use Rattle.fault_script.specs.declared.act.Act.{Act}
 use Rattle.fault_script.specs.declared.act.Act.TheVariants as act
 use Rattle.fault_script.specs.Forms.{index_of, kind_of}
 use Rattle.fault_script.specs.Fits.{is_sited, is_timely, is_alike, is_moderate}
+use Rattle.fault_sites.specs.NextWord.{first_is}
 use Rattle.fault_sites.specs.Sites.{adding}
 use Rattle.fault_names.specs.declared.refused.Why.{Why}
 use Rattle.fault_names.specs.declared.refused.Why.TheVariants as reason
@@ -35,6 +36,10 @@ with_rest rest (Ok x) = Ok (x, rest)
 abbrev pub and_next : {X Y : Type 0} → (X → Result Y Why) → Result X Why → Result Y Why
 and_next next (Err why) = Err why
 and_next next (Ok x) = next x
+
+-- what comes next behind this word, which has to be the first
+abbrev pub behind_word : {X : Type 0} → List ℕ → List (List ℕ) → (List (List ℕ) → Read X) → Read X
+behind_word name ws next = cond (first_is name ws) (next (drop 1 ws)) (Err reason.Form)
 
 -- what there is, or else the line is none of the forms
 abbrev pub or_form : {X : Type 0} → Option X → Result X Why
@@ -66,9 +71,8 @@ at_place j (Err why) = Err why
 at_place j (Ok k) = Ok (record { operand = j; op = k.0 }, k.1)
 
 abbrev pub operand_of : Lists → List (List ℕ) → Read Target
-operand_of g (j ∷ w ∷ more) =
-    cond (bytes_eq w (codes "of")) (and_next (λ j. at_place (Some j) (place_of g more)) (or_form (index_of j))) (Err reason.Form)
-operand_of g _ = Err reason.Form
+operand_of g [] = Err reason.Form
+operand_of g (j ∷ ws) = behind_word (codes "of") ws (λ more. and_next (λ j. at_place (Some j) (place_of g more)) (or_form (index_of j)))
 
 -- an operation, or `operand J of` it
 abbrev pub target_of : Lists → List (List ℕ) → Read Target
@@ -79,13 +83,11 @@ target_of g (w ∷ more) = cond (bytes_eq w (codes "operand")) (operand_of g mor
 
 -- add E to
 abbrev pub add_of : List (List ℕ) → Read Doing
-add_of (e ∷ w ∷ more) =
-    cond (bytes_eq w (codes "to")) (with_rest more (or_form (option_map (λ e. doing.Add e) (number_of_64 e)))) (Err reason.Form)
-add_of _ = Err reason.Form
+add_of [] = Err reason.Form
+add_of (e ∷ ws) = behind_word (codes "to") ws (λ more. with_rest more (or_form (option_map (λ e. doing.Add e) (number_of_64 e))))
 
 abbrev pub as_of : ℕ → List (List ℕ) → Read Doing
-as_of r [] = Err reason.Form
-as_of r (w ∷ more) = cond (bytes_eq w (codes "as")) (Ok (doing.Read r, more)) (Err reason.Form)
+as_of r ws = behind_word (codes "as") ws (λ more. Ok (doing.Read r, more))
 
 -- read PLACE as
 abbrev pub read_of : Lists → List (List ℕ) → Read Doing
@@ -93,9 +95,8 @@ read_of g ws = and_next (λ p. as_of p.0 p.1) (place_of g ws)
 
 -- operator KIND at
 abbrev pub operator_of : List (List ℕ) → Read Doing
-operator_of (k ∷ w ∷ more) =
-    cond (bytes_eq w (codes "at")) (with_rest more (or_form (option_map (λ k. doing.Operator k) (kind_of k)))) (Err reason.Form)
-operator_of _ = Err reason.Form
+operator_of [] = Err reason.Form
+operator_of (k ∷ ws) = behind_word (codes "at") ws (λ more. with_rest more (or_form (option_map (λ k. doing.Operator k) (kind_of k))))
 
 -- the words before the operation
 abbrev pub doing_of : Lists → List (List ℕ) → Read Doing
@@ -112,10 +113,13 @@ doing_of g (verb ∷ more) =
 
 -- ---- in which cycles
 
+abbrev pub span_next : List (List ℕ) → Read Span
+span_next [] = Err reason.Form
+span_next (n ∷ more) = with_rest more (or_form (span_of n))
+
 -- cycle N, or cycle N..M
 abbrev pub when_of : List (List ℕ) → Read Span
-when_of (w ∷ n ∷ more) = cond (bytes_eq w (codes "cycle")) (with_rest more (or_form (span_of n))) (Err reason.Form)
-when_of _ = Err reason.Form
+when_of ws = behind_word (codes "cycle") ws span_next
 
 abbrev pub bit_of : List ℕ → Option Ending
 bit_of w = option_map (λ b. ending.Bit b) (index_of w)

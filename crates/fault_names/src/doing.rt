@@ -2,12 +2,13 @@
 
 ghost use Rattle.std.specs.Prelude.{◌≡◌, ◌<◌, IfOk, length};
 ghost use Rattle.vcp_base.specs.Words.{words as words_of};
-ghost use Rattle.fault_names.specs.Lines.{with_rest, of_kind as of_kind_of, place_at as place_at_of, place_of, operand_of, target_of, add_of, as_of};
+ghost use Rattle.fault_names.specs.Lines.{with_rest, place_at as place_at_of, place_of, operand_of, target_of, add_of};
 ghost use Rattle.fault_names.specs.Lines.{read_of, operator_of, doing_of};
 
 use crate::operations::operation_named;
 use crate::refused::Why;
 use fault_script::{index_number, kind_named};
+use fault_sites::next_is;
 use op_graph::Graph;
 use vcp_base::{Kind, Ty, WordsLeft, number_in, same_bytes};
 
@@ -46,17 +47,6 @@ pub struct Target {
     pub op: u32,
 }
 
-/// Takes the name of an operation of this kind.
-fn of_kind(graph: &Graph, kind: Kind, words: &mut WordsLeft<'_>) -> Result<u32, Why>
-    ensures value { with_rest words.new result ≡ of_kind_of graph.now kind words.old }
-    ensures there { IfOk result (λ k. k < length graph.now.operations) }
-{
-    let Some(name) = words.next() else {
-        return Err(Why::Form);
-    };
-    operation_named(graph, Some(kind), name)
-}
-
 /// Takes the rest of what names an operation, behind its first word.
 fn place_at(graph: &Graph, first: &[u8], words: &mut WordsLeft<'_>) -> Result<u32, Why>
     ensures value { with_rest words.new result ≡ place_at_of graph.now first.now words.old }
@@ -64,7 +54,10 @@ fn place_at(graph: &Graph, first: &[u8], words: &mut WordsLeft<'_>) -> Result<u3
 {
     match kind_named(first) {
         None => operation_named(graph, None, first),
-        Some(kind) => of_kind(graph, kind, words),
+        Some(kind) => match words.next() {
+            Some(name) => operation_named(graph, Some(kind), name),
+            None => Err(Why::Form),
+        },
     }
 }
 
@@ -87,10 +80,7 @@ fn operand(graph: &Graph, words: &mut WordsLeft<'_>) -> Result<Target, Why>
     let Some(number) = words.next() else {
         return Err(Why::Form);
     };
-    let Some(of) = words.next() else {
-        return Err(Why::Form);
-    };
-    if !same_bytes(of, b"of") {
+    if !next_is(words, b"of") {
         return Err(Why::Form);
     }
     let Some(j) = index_number(number) else {
@@ -129,10 +119,7 @@ fn add(words: &mut WordsLeft<'_>) -> Result<Doing, Why>
     let Some(number) = words.next() else {
         return Err(Why::Form);
     };
-    let Some(to) = words.next() else {
-        return Err(Why::Form);
-    };
-    if !same_bytes(to, b"to") {
+    if !next_is(words, b"to") {
         return Err(Why::Form);
     }
     match number_in(Ty::Lint, number) {
@@ -141,26 +128,16 @@ fn add(words: &mut WordsLeft<'_>) -> Result<Doing, Why>
     }
 }
 
-/// Takes the word behind what is read: `as`.
-fn read_as(r: u32, words: &mut WordsLeft<'_>) -> Result<Doing, Why>
-    ensures { with_rest words.new result ≡ as_of r words.old }
-{
-    let Some(word) = words.next() else {
-        return Err(Why::Form);
-    };
-    if same_bytes(word, b"as") {
-        Ok(Doing::Read { r })
-    } else {
-        Err(Why::Form)
-    }
-}
-
 /// Takes the words behind `read`: what names an operation, and `as`.
 fn read(graph: &Graph, words: &mut WordsLeft<'_>) -> Result<Doing, Why>
     ensures { with_rest words.new result ≡ read_of graph.now words.old }
 {
     match place(graph, words) {
-        Ok(r) => read_as(r, words),
+        Ok(r) => if next_is(words, b"as") {
+            Ok(Doing::Read { r })
+        } else {
+            Err(Why::Form)
+        },
         Err(why) => Err(why),
     }
 }
@@ -172,10 +149,7 @@ fn operator(words: &mut WordsLeft<'_>) -> Result<Doing, Why>
     let Some(name) = words.next() else {
         return Err(Why::Form);
     };
-    let Some(at) = words.next() else {
-        return Err(Why::Form);
-    };
-    if !same_bytes(at, b"at") {
+    if !next_is(words, b"at") {
         return Err(Why::Form);
     }
     match kind_named(name) {

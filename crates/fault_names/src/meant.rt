@@ -4,13 +4,14 @@ ghost use Rattle.std.specs.Prelude.{◌≡◌, ◌<◌, ◌^◌, pos, length};
 ghost use Rattle.vcp_base.specs.Words.{words as words_of};
 ghost use Rattle.fault_sites.specs.Sites.{adding as adding_of};
 ghost use Rattle.fault_names.specs.Lines.{act_of, acts_of, is_together as is_together_of, fitted as fitted_of, ended as ended_of, timed as timed_of};
-ghost use Rattle.fault_names.specs.Lines.{aimed as aimed_of, meant_of, both_flips as both_flips_of, flips_of, plain_acts as plain_acts_of};
+ghost use Rattle.fault_names.specs.Lines.{meant_of, both_flips as both_flips_of, flips_of, plain_acts as plain_acts_of};
 
 use crate::doing::{Doing, Target, take_doing, take_target};
 use crate::fitting::unfit_acts;
 use crate::refused::Why;
 use crate::when::{Ending, Span, is_together, take_ending, when};
 use fault_script::Act;
+use fault_sites::power;
 use op_graph::Graph;
 use vcp_base::WordsLeft;
 
@@ -66,14 +67,6 @@ fn act(doing: Doing, place: Option<u32>) -> Option<Act>
         },
         Doing::Flip => None,
     }
-}
-
-/// A power of two, at most 2^61.
-fn power(b: u32) -> i64
-    requires { b < 62 }
-    ensures { result ≡ pos (2 ^ b) }
-{
-    (1u64 << b) as i64
 }
 
 /// The two acts of which one flips a bit.
@@ -177,23 +170,16 @@ fn timed(
     }
 }
 
-/// The same, from the words of the operation on.
-fn aimed(graph: &Graph, doing: Doing, words: &mut WordsLeft<'_>) -> Result<Meant, Why>
-    ensures { result ≡ aimed_of graph.now doing words.old }
-{
-    match take_target(graph, words) {
-        Ok(target) => timed(graph, doing, target, words),
-        Err(why) => Err(why),
-    }
-}
-
 /// What a line means, or why it is refused.
 pub fn meaning(graph: &Graph, text: &[u8]) -> Result<Meant, Why>
     ensures { result ≡ meant_of graph.now (words_of text.now) }
 {
     let mut words = WordsLeft::new(text);
     match take_doing(graph, &mut words) {
-        Ok(doing) => aimed(graph, doing, &mut words),
+        Ok(doing) => match take_target(graph, &mut words) {
+            Ok(target) => timed(graph, doing, target, &mut words),
+            Err(why) => Err(why),
+        },
         Err(why) => Err(why),
     }
 }

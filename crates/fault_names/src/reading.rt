@@ -5,7 +5,7 @@ ghost use Rattle.std.specs.Str.Lines.{lines};
 ghost use Rattle.vcp_base.specs.Limits.{most_source_bytes};
 ghost use Rattle.vcp_base.specs.Words.{words as words_of};
 ghost use Rattle.fault_script.specs.ScriptOf.{most_faults};
-ghost use Rattle.fault_names.specs.Entries.{image_named as image_named_of, is_other as is_other_of, names_other as names_other_of, other_count};
+ghost use Rattle.fault_names.specs.Entries.{image_named as image_named_of, names_other as names_other_of, other_count};
 ghost use Rattle.fault_names.specs.Entries.{fault_count as fault_count_of, counted as counted_of, taken as taken_of, lines_checked, checked};
 ghost use Rattle.vcp_base.specs.Lines.{read_lines};
 ghost use Rattle.fault_names.specs.Script.{cycles_of};
@@ -14,8 +14,9 @@ use crate::meant::{Meant, meaning};
 use crate::refused::{Refused, Why};
 use crate::when::Span;
 use fault_script::MOST_FAULTS;
+use fault_sites::next_is;
 use op_graph::Graph;
-use vcp_base::{WordsLeft, first_line, first_read, same_bytes};
+use vcp_base::{WordsLeft, first_line, first_read};
 
 /// The most bytes of a text whose script a file can have.
 pub const MOST_NAMED_BYTES: usize = 262_144;
@@ -25,30 +26,13 @@ fn image_named(line: &[u8]) -> Option<&[u8]>
     ensures { option_map (λ d. d.now) result ≡ image_named_of (words_of line.now) }
 {
     let mut words = WordsLeft::new(line);
-    let Some(mark) = words.next() else {
+    if !next_is(&mut words, b"#") {
         return None;
-    };
-    let Some(of) = words.next() else {
-        return None;
-    };
-    let Some(digest) = words.only() else {
-        return None;
-    };
-    if same_bytes(mark, b"#") && same_bytes(of, b"of") {
-        Some(digest)
-    } else {
-        None
     }
-}
-
-/// Whether a first line names another image than that with the digest.
-fn is_other(digest: &[u8], line: &[u8]) -> bool
-    ensures { result ≡ is_other_of digest.now (image_named_of (words_of line.now)) }
-{
-    match image_named(line) {
-        Some(named) => named != digest,
-        None => false,
+    if !next_is(&mut words, b"of") {
+        return None;
     }
+    words.only()
 }
 
 /// Whether the first line of a text names another image.
@@ -59,7 +43,10 @@ fn names_other(digest: &[u8], text: &[u8]) -> bool
         return false;
     }
     let (line, _more) = first_line(text);
-    is_other(digest, line)
+    match image_named(line) {
+        Some(named) => named != digest,
+        None => false,
+    }
 }
 
 /// How many faults a line says.
@@ -96,27 +83,18 @@ fn counted(before: u64, meant: &Meant) -> Result<u64, Why>
     }
 }
 
-/// The same of a line that isn't skipped.
-fn taken(graph: &Graph, before: u64, text: &[u8]) -> Result<u64, Why>
-    requires { before ≤ most_faults }
-    ensures count { result ≡ taken_of graph.now before text.now }
-    ensures few { IfOk result (λ n. n ≤ most_faults) }
-{
-    match meaning(graph, text) {
-        Ok(meant) => counted(before, &meant),
-        Err(why) => Err(why),
-    }
-}
-
-/// The same with the number of the line.
+/// The same of a line that isn't skipped, which has this number.
 fn line_taken(graph: &Graph, before: u64, line: u32, text: &[u8]) -> Result<u64, Refused>
     requires { before ≤ most_faults }
     ensures ok { IfOk result (λ n. taken_of graph.now before text.now ≡ Ok n) }
     ensures refused { IfErr result (λ r. (r.line ≡ line) × (taken_of graph.now before text.now ≡ Err r.why)) }
     ensures few { IfOk result (λ n. n ≤ most_faults) }
 {
-    match taken(graph, before, text) {
-        Ok(count) => Ok(count),
+    match meaning(graph, text) {
+        Ok(meant) => match counted(before, &meant) {
+            Ok(count) => Ok(count),
+            Err(why) => Err(Refused { line, why }),
+        },
         Err(why) => Err(Refused { line, why }),
     }
 }

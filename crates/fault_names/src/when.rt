@@ -3,11 +3,12 @@
 ghost use Rattle.std.specs.Prelude.{◌≡◌, ◌<◌, ◌≤◌, IfSome, IfOk};
 ghost use Rattle.vcp_base.specs.Limits.{most_cycles};
 ghost use Rattle.fault_names.specs.Words.{last_of, from_to as from_to_of, span_of};
-ghost use Rattle.fault_names.specs.Lines.{ending_of, bit_of, when_of, with_rest, is_together as is_together_of};
+ghost use Rattle.fault_names.specs.Lines.{ending_of, when_of, with_rest, is_together as is_together_of};
 
 use crate::cutting::cut_at;
 use crate::refused::Why;
 use fault_script::{cycle_number, index_number};
+use fault_sites::next_is;
 use vcp_base::{WordsLeft, same_bytes};
 
 /// Cycles, from one to another, which may be the same.
@@ -78,16 +79,6 @@ pub(crate) fn cycles_said(word: &[u8]) -> Option<Span>
     }
 }
 
-/// The number of a bit.
-fn bit(word: &[u8]) -> Option<Ending>
-    ensures value { result ≡ bit_of word.now }
-{
-    match index_number(word) {
-        Some(b) => Some(Ending::Bit { b }),
-        None => None,
-    }
-}
-
 /// What is behind the cycles, to the end of the line.
 pub(crate) fn take_ending(words: &mut WordsLeft<'_>) -> Option<Ending>
     ensures value { result ≡ ending_of words.old }
@@ -97,7 +88,10 @@ pub(crate) fn take_ending(words: &mut WordsLeft<'_>) -> Option<Ending>
     };
     if same_bytes(word, b"bit") {
         return match words.only() {
-            Some(word) => bit(word),
+            Some(word) => match index_number(word) {
+                Some(b) => Some(Ending::Bit { b }),
+                None => None,
+            },
             None => None,
         };
     }
@@ -114,15 +108,12 @@ pub(crate) fn when(words: &mut WordsLeft<'_>) -> Result<Span, Why>
     ensures order { IfOk result (λ s. s.first ≤ s.last) }
     ensures below { IfOk result (λ s. s.last < most_cycles) }
 {
-    let Some(word) = words.next() else {
+    if !next_is(words, b"cycle") {
         return Err(Why::Form);
-    };
+    }
     let Some(cycles) = words.next() else {
         return Err(Why::Form);
     };
-    if !same_bytes(word, b"cycle") {
-        return Err(Why::Form);
-    }
     match cycles_said(cycles) {
         Some(span) => Ok(span),
         None => Err(Why::Form),
