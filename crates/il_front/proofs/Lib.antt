@@ -18,3 +18,4 @@ pub mod OneAnswer
 pub mod SomeAnswer
 pub mod Built
 pub mod CodeSize
+mod Assigned

@@ -1,6 +1,6 @@
 //! The statements of instructions.
 
-ghost use Rattle.std.specs.Prelude.{◌≡◌, ◌<◌, ◌≤◌, IfOk, Some, length, slice_get};
+ghost use Rattle.std.specs.Prelude.{◌≡◌, ◌<◌, ◌≤◌, IfOk, IsOkAnd, Some, length, slice_get};
 ghost use Rattle.vcp_base.specs.Limits.{most_names};
 ghost use Rattle.vcp_base.specs.declared.ty.Ty.TheVariants as ty_;
 ghost use Rattle.vcp_typed.specs.TExprViews.{texpr_tree};
@@ -118,6 +118,16 @@ fn putting(
     Ok(TStmt::if_(arms, None))
 }
 
+// A variable gets a value, where there is room for it.
+fn assigned(slot: u32, value: Result<TExpr, Memory>, spot: Spot) -> Result<TStmt, Memory>
+    ensures { IfOk result (λ r. IsOkAnd value (λ v. tstmt_tree r ≡ assign_tree slot (texpr_tree v) spot)) }
+{
+    match value {
+        Ok(value) => Ok(TStmt::assign(slot, value, spot)),
+        Err(Memory) => Err(Memory),
+    }
+}
+
 // The statement of an instruction, where the result before it has the type.
 fn statement(
     alloc: Global,
@@ -132,33 +142,28 @@ fn statement(
     let at = instruction.at;
     match instruction.action {
         Action::Load { negated, operand } => {
-            match turned(alloc, negated, spot, operand_expr(at, operand)) {
-                Ok(value) => Ok(TStmt::assign(places.place(operand_type(operand)), value, spot)),
-                Err(Memory) => Err(Memory),
-            }
+            let value = turned(alloc, negated, spot, operand_expr(at, operand));
+            assigned(places.place(operand_type(operand)), value, spot)
         }
         Action::Store {
             negated,
             slot,
             ty: to,
-        } => match stored(alloc, places, negated, spot, ty, to) {
-            Ok(value) => Ok(TStmt::assign(slot, value, at)),
-            Err(Memory) => Err(Memory),
-        },
+        } => assigned(slot, stored(alloc, places, negated, spot, ty, to), at),
         Action::Put { to, slot, .. } => putting(alloc, places, spot, at, ty, to, slot),
         Action::Complement => {
-            match TExpr::unary(alloc, UnOp::Not, Ty::Bool, kept(places, ty), spot) {
-                Ok(value) => Ok(TStmt::assign(places.place(ty), value, spot)),
-                Err(Memory) => Err(Memory),
-            }
+            let value = TExpr::unary(alloc, UnOp::Not, Ty::Bool, kept(places, ty), spot);
+            assigned(places.place(ty), value, spot)
         }
         Action::Combine {
             op,
             negated,
             operand,
         } => {
-            let e = turned(alloc, negated, spot, operand_expr(at, operand))?;
-            combining(alloc, places, op, spot, ty, e, operand_type(operand))
+            match turned(alloc, negated, spot, operand_expr(at, operand)) {
+                Ok(e) => combining(alloc, places, op, spot, ty, e, operand_type(operand)),
+                Err(Memory) => Err(Memory),
+            }
         }
     }
 }
