@@ -1,7 +1,9 @@
+mod Bits
 pub mod Modular
 mod Multiples
 pub mod Replacements
 pub mod Shifts
 pub mod Sizes
 pub mod Steps
+mod Totals
 pub mod Worked

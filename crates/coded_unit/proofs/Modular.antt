@@ -62,11 +62,6 @@ pub cut_once : (z h l x v : ℤ) (s : ℕ) → z ≡ pos (2 ^ 31) *ℤ h +ℤ l 
     → pos 2147483647 *ℤ h +ℤ x ≡ pos 2147483647 *ℤ v +ℤ pos s → z ≡ pos 2147483647 *ℤ v +ℤ pos s
 cut_once z h l x v s a b e = omega (arith, ints)
 
--- one integer, cut at 2^61, cut at 2^61 again, and stepped to its parts
-pub cut_twice : (z h l m r v : ℤ) (s : ℕ) → z ≡ pos (2 ^ 61) *ℤ h +ℤ l → h +ℤ l ≡ pos (2 ^ 61) *ℤ m +ℤ r
-    → pos 2305843009213693951 *ℤ (h +ℤ m) +ℤ (m +ℤ r) ≡ pos 2305843009213693951 *ℤ v +ℤ pos s → z ≡ pos 2305843009213693951 *ℤ v +ℤ pos s
-cut_twice z h l m r v s a b e = omega (arith, ints)
-
 -- the product of a sum
 pub times_plus : (a x y : ℤ) → a *ℤ (x +ℤ y) ≡ a *ℤ x +ℤ a *ℤ y
 times_plus a x y =

@@ -72,6 +72,9 @@ unfolding multiple
 of_zero profile.Narrow = refl
 of_zero profile.Wide = refl
 
+pub and_nothing : (z : ℤ) → z +ℤ pos 0 ≡ z
+and_nothing z = omega (arith, ints)
+
 -- ---- the product
 
 scaled_opposite : (k n : ℕ) → pos k *ℤ neg_ℤ (pos n) ≡ neg_ℤ (pos (k * n))

@@ -108,7 +108,6 @@ impl Word {
 
     /// The word `A*value + residue`, for a value from -2^63 to 2^63. The residue should be below `A`:
     /// only then does `split` give the two back, and a greater one adds to the value part.
-    #[tactic(auto, unfolding(crate::specs::Words::coded))]
     pub fn packed(profile: Profile, value: i128, residue: Residue) -> Word
         requires low { negsuc (2 ^ 63) ≤ℤ value }
         requires high { value ≤ℤ pos (2 ^ 63) }
@@ -318,7 +317,6 @@ fn high_part(code: i128) -> i128
 /// 2^61 is the constant and 1, so an integer `2^61*high + low` is `A*high + (high + low)`, and its
 /// parts come from two shifts and a step of one.
 #[inline(always)]
-#[tactic(auto, using(crate::proofs::Modular::split_is), unfolding(crate::specs::Words::coded))]
 fn wide_parts(code: i128) -> (i128, Residue)
     ensures value { result.0 ≡ value_part Profile.Wide code }
     ensures residue { result.1 ≡ modulo Profile.Wide code }

@@ -1,7 +1,16 @@
-use Rattle.std.proofs.Common.{arith}
-use Rattle.std.proofs.lemmas.Int.{ints}
-use Rattle.std.proofs.lemmas.Grind.{common_steps}
+use Rattle.std.proofs.Common.{ap, ◌∙◌, ◌+ℤ◌, ◌*ℤ◌, SFits, w64, rules}
+use mir.Syntax.{w128}
+use Rattle.std.proofs.lemmas.Int.{to_z-of_z}
+use Rattle.coded_unit.specs.Multiples.{multiple}
+use Rattle.coded_unit.proofs.Bits.{back}
+use Rattle.coded_unit.proofs.Multiples.{of_operand, and_nothing}
 use Rattle.coded_unit.proofs.beside.product.Goals as goal
 
 pub returns : goal.returns
-returns c = grind (ints, arith, common_steps)
+returns c =
+    let fits : SFits w64 c.args.second.value = search rules in
+    to_z-of_z w128 c.plus.result record { sfits = c.plus.type_inv } ∙ c.plus.ensures
+    ∙ ap (λ z. back w128 c.multiplied.result +ℤ back w128 z) c.disagreement.ensures
+    ∙ and_nothing (back w128 c.multiplied.result)
+    ∙ of_operand c.args.profile c.multiplied.result (c.args.first.value *ℤ back w64 c.args.second.value) c.multiplied.ensures
+    ∙ ap (λ z. multiple c.args.profile (c.args.first.value *ℤ z)) (to_z-of_z w64 c.args.second.value fits)

@@ -1,13 +1,10 @@
-use Rattle.std.proofs.Common.{arith}
-use Rattle.std.proofs.lemmas.Int.{ints}
-use Rattle.std.proofs.lemmas.Grind.{common_steps}
+use Rattle.coded_unit.proofs.Totals.{scaled_small}
 use Rattle.coded_unit.proofs.table.scaled.Goals as goal
 
 pub overflow_mul-result : goal.overflow_mul-result
-overflow_mul-result c = grind (ints, arith, common_steps)
+overflow_mul-result c = (scaled_small c.args.factor c.args.by c.ranges.factor c.ranges.by.fits c.requires.low c.requires.high).fits
 
-pub returns-clause-value : goal.returns-clause-value
-returns-clause-value c = grind (ints, arith, common_steps)
-
-pub returns-clause-small : goal.returns-clause-small
-returns-clause-small c = grind (ints, arith, common_steps)
+pub returns : goal.returns
+returns c =
+    let product = scaled_small c.args.factor c.args.by c.ranges.factor c.ranges.by.fits c.requires.low c.requires.high in
+    record { value = product.is; small = product.near }
