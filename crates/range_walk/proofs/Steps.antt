@@ -21,7 +21,7 @@ use Rattle.range_walk.specs.declared.range.Stops.{Stops}
 use Rattle.range_walk.specs.declared.told.Told.{Told}
 use Rattle.range_walk.specs.Known.{is_named, may_stop, can_stop_so}
 use Rattle.range_walk.specs.Intervals.{IsIn, LiesIn, Fit, Hold, RowIn}
-use Rattle.range_walk.specs.Walking.{Given, OwnFits, Tells, OperandIs, OperandsAre, IsWalk}
+use Rattle.range_walk.specs.Walking.{Given, OwnFits, Tells, TellsAt, OperandIs, OperandsAre, IsWalk}
 use Rattle.range_walk.proofs.Allowed.{named_able}
 
 pub get_there : {X : Type 0} (xs : List X) (i : ℕ) → i < length xs → (x : X) × (slice_get xs i ≡ Some x)
@@ -87,11 +87,6 @@ module _ (g : Lists) (i : ℕ) (op : Op) (entries : EntryLaws) (graph : IsGraph 
       let c = operand_below (take i g.operations) _ op.c rules.c in
       let many = front in
       (omega arith, omega arith, omega arith)
-
--- what is told of operation i, where those before it are in these ranges
-abbrev pub TellsAt : List Op → List Range → List Range → List Range → ℕ → Told → Type 0
-TellsAt ops cells inputs known i t = (held row vs : List ℤ) (op : Op) → slice_get ops i ≡ Some op → Hold cells held → RowIn inputs row → Given ops held row vs
-    → Fit known vs → length vs ≡ i → Tells held row vs op t
 
 -- operation k is in the range
 abbrev pub FitsAt : List Op → List Range → List Range → ℕ → Range → Type 0

@@ -1,10 +1,12 @@
 -- ValueBounds: the bounds of each kind's value, by the ranges of its operands.
-use Rattle.std.proofs.Common.{◌≡◌, ◌≢◌, ℤ, pos, ◌-ℤ◌, ◌≤ℤ◌, ◌<ℤ◌, Bool, true, false, T, refl, sym, subst, arith}
+use Rattle.std.proofs.Common.{◌≡◌, ◌≢◌, ◌⊎◌, inl, inr, ℤ, pos, ◌-ℤ◌, ◌≤ℤ◌, ◌<ℤ◌, Bool, true, false, T, refl, sym, subst, arith}
 use Rattle.std.specs.Prelude.{int_le, int_lt}
 use Rattle.std.proofs.lemmas.Int.{ints}
 use Rattle.std.proofs.lemmas.Bool.{and_parts, and_from, both_ways, false_from_ne_true}
 use Rattle.vcp_base.specs.declared.ty.Ty.{Ty}
-use Rattle.vcp_base.specs.Kinds.{same, truth}
+use Rattle.vcp_base.specs.declared.kind.Kind.{Kind}
+use Rattle.vcp_base.specs.declared.kind.Kind.TheVariants as kind
+use Rattle.vcp_base.specs.Kinds.{same, truth, value, divides_by_zero}
 use Rattle.vcp_base.specs.Types.{fits, least, greatest}
 use Rattle.range_walk.specs.declared.range.Bounds.{Bounds}
 use Rattle.range_walk.specs.declared.range.Range.{Range}
@@ -85,3 +87,13 @@ less_than_itself x = not_less_than x x (omega (arith, ints))
 -- a divisor that isn't 0
 pub not_divided : (y : ℤ) → same y (pos 0) ≡ false → y ≢ pos 0
 not_divided y h e = both_ways (same y (pos 0)) h (is_same y (pos 0) e)
+
+pub not_by_zero : (k : Kind) (y : ℤ) → (k ≡ kind.Div) ⊎ (k ≡ kind.Mod) → y ≢ pos 0 → divides_by_zero k y ≡ false
+not_by_zero k y (inl e) some = subst (λ t. divides_by_zero t y ≡ false) (sym e) (false_from_ne_true (same y (pos 0)) (λ t. some (same_is y (pos 0) t)))
+not_by_zero k y (inr e) some = subst (λ t. divides_by_zero t y ≡ false) (sym e) (false_from_ne_true (same y (pos 0)) (λ t. some (same_is y (pos 0) t)))
+
+-- ---- what an operation gives that reads none
+
+pub given_value : (k : Kind) (imm x y z : ℤ) → (k ≡ kind.Input) ⊎ (k ≡ kind.Const) → value k imm x y z ≡ imm
+given_value k imm x y z (inl e) = subst (λ t. value t imm x y z ≡ imm) (sym e) refl
+given_value k imm x y z (inr e) = subst (λ t. value t imm x y z ≡ imm) (sym e) refl

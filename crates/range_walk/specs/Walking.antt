@@ -58,6 +58,11 @@ pub record Tells (held row vs : List ℤ) (op : Op) (t : Told) : Type 0 where
   pub value : (v : ℤ) → outcome_of held row vs op ≡ Ok v → IsIn t.range v
   pub stop : (why : StopKind) → OwnFits row op → why ≢ stop.Operand → outcome_of held row vs op ≡ Err why → may_stop why t.stops ≡ true
 
+-- what is told of operation i holds, where the cells, the inputs of the row and the operations before it are in these ranges
+abbrev pub TellsAt : List Op → List Range → List Range → List Range → ℕ → Told → Type 0
+TellsAt ops cells inputs known i t = (held row vs : List ℤ) (op : Op) → slice_get ops i ≡ Some op → Hold cells held → RowIn inputs row → Given ops held row vs
+    → Fit known vs → length vs ≡ i → Tells held row vs op t
+
 -- three values are in the ranges of an operation's operands
 pub record AreIn (o : Operands) (x y z : ℤ) : Type 0 where
   pub first : IsIn o.first x

@@ -1,9 +1,11 @@
 //! What is found of all operations of a graph.
 
-ghost use Rattle.std.specs.Prelude.{◌≡◌};
+ghost use Rattle.std.specs.Prelude.{◌≡◌, ◌<◌, [], ◌∷◌, ◌++◌, length, slice_get, Some, IfOk};
 
-use crate::range::{Range, Stops};
+use crate::range::{Range, Stops, range_at};
+use std::alloc::Global;
 use std::marker::Model;
+use vcp_base::Memory;
 
 /// The range of the values of each operation of a graph, and why it may stop. It is read as two
 /// lists, in the order of the operations.
@@ -32,6 +34,42 @@ impl Ranges {
         ensures { result ≡ record { known = known.items; stops = stops.items } }
     {
         Ranges { known, stops }
+    }
+
+    /// Nothing of no operation, with room for so many.
+    pub fn with_capacity(alloc: Global, count: usize) -> Result<Ranges, Memory>
+        ensures { IfOk result (λ r. r ≡ record { known = []; stops = [] }) }
+    {
+        let known = Vec::with_capacity(alloc, count)?;
+        let stops = Vec::with_capacity(alloc, count)?;
+        Ok(Ranges { known, stops })
+    }
+
+    /// Appends what is found of the next operation. After `Memory` the two lists may differ in their lengths.
+    pub fn push(&mut self, range: Range, why: Stops) -> Result<(), Memory>
+        ensures known { IfOk result (λ _. self.new.known ≡ self.old.known ++ range ∷ []) }
+        ensures stops { IfOk result (λ _. self.new.stops ≡ self.old.stops ++ why ∷ []) }
+    {
+        self.known.push(range)?;
+        self.stops.push(why)?;
+        Ok(())
+    }
+
+    /// The range of operation `i`.
+    pub fn range_at(&self, i: usize) -> Range
+        requires { i < length self.now.known }
+        ensures { slice_get self.now.known i ≡ Some result }
+    {
+        range_at(self.known(), i)
+    }
+
+    /// Why operation `i` may stop.
+    pub fn stops_at(&self, i: usize) -> Stops
+        requires { i < length self.now.stops }
+        ensures { slice_get self.now.stops i ≡ Some result }
+    {
+        let stops = self.stops();
+        stops[i]
     }
 
     /// The range of each operation.

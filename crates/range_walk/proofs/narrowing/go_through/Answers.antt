@@ -15,3 +15,6 @@ operations-preserved c =
 
 pub returns-clause-fits : goal.returns-clause-fits
 returns-clause-fits c = c.operations.invariant.fits
+
+pub returns-clause-many : goal.returns-clause-many
+returns-clause-many c = c.operations.invariant.many

@@ -26,3 +26,6 @@ returns-then-same-clause-fits c = λ held row vs hold given whole fit.
 
 pub returns-clause-fits : goal.returns-clause-fits
 returns-clause-fits c = c.passes.invariant.fits
+
+pub returns-clause-many : goal.returns-clause-many
+returns-clause-many c = c.passes.invariant.many

@@ -1,5 +1,5 @@
-use Rattle.std.proofs.Common.{◌-ℤ◌, SFits, w64, rules, arith}
-use Rattle.std.proofs.lemmas.Int.{ints}
+use Rattle.std.proofs.Common.{◌-ℤ◌, SFits, w64, rules}
+use Rattle.range_walk.proofs.Bits.{difference_low, difference_high}
 use Rattle.range_walk.proofs.values.difference.Goals as goal
 
 pub returns : goal.returns
@@ -8,8 +8,4 @@ returns c = λ x y i j.
     let a_high : SFits w64 c.args.a.high = search rules in
     let b_low : SFits w64 c.args.b.low = search rules in
     let b_high : SFits w64 c.args.b.high = search rules in
-    let least = i.at_least in
-    let most = i.at_most in
-    let at_least = j.at_least in
-    let at_most = j.at_most in
-    c.between.ensures (x -ℤ y) (omega (arith, ints)) (omega (arith, ints))
+    c.between.ensures (x -ℤ y) (difference_low _ _ x y a_low b_high i.at_least j.at_most) (difference_high _ _ x y a_high b_low i.at_most j.at_least)

@@ -1,8 +1,7 @@
-use Rattle.std.proofs.Common.{◌*ℤ◌, SFits, w64, rules, arith, refl, sym, ◌∙◌}
+use Rattle.std.proofs.Common.{◌*ℤ◌, SFits, w64, rules, refl, sym, ◌∙◌}
 use mir.Syntax.{w128}
 use Rattle.std.proofs.lemmas.Bool.{and_parts}
-use Rattle.std.proofs.lemmas.Int.{ints}
-use Rattle.range_walk.proofs.Bits.{of_bits, below_bits, above_bits}
+use Rattle.range_walk.proofs.Bits.{of_bits, below_bits, above_bits, low_bits, high_bits}
 use Rattle.range_walk.proofs.Integers.{le_trans, spans, product_within, product_nonzero}
 use Rattle.range_walk.proofs.values.product.Goals as goal
 
@@ -51,11 +50,9 @@ returns c = λ x y i j.
     (below_bits w128 c.min-2.result c.times-high_high.result (a.high *ℤ b.high) k hh c.min-2.ensures.other_bound))
     (le_trans (a.high *ℤ b.high) c.max-2.result most
     (above_bits w128 c.max-2.result c.times-high_high.result (a.high *ℤ b.high) k hh c.max-2.ensures.other_bound) second_high)) in
-    let at_least = within.at_least in
-    let at_most = within.at_most in
     record {
-      at_least = omega (arith, ints);
-      at_most = omega (arith, ints);
+      at_least = low_bits w128 least (x *ℤ y) low within.at_least;
+      at_most = high_bits w128 most (x *ℤ y) high within.at_most;
       not_zero = λ e.
           let both = and_parts a.nonzero b.nonzero (sym c.both_hold.ensures ∙ e) in
           product_nonzero x y (i.not_zero both.0) (j.not_zero both.1);

@@ -1,8 +1,14 @@
-use Rattle.std.proofs.Common.{◌≡◌, pos, false, sym, subst}
+use Rattle.std.proofs.Common.{◌≡◌, pos, false, sym, subst, ◌∙◌, rules}
 use Rattle.vcp_base.specs.Kinds.{value, divides_by_zero}
 use Rattle.range_walk.specs.Intervals.{IsWithin}
-use Rattle.range_walk.proofs.ValueBounds.{not_divided}
+use Rattle.range_walk.proofs.Bits.{wide_is}
+use Rattle.range_walk.proofs.ValueBounds.{not_divided, given_value}
 use Rattle.range_walk.proofs.values.value_bounds.Goals as goal
+
+pub returns-in-Input : goal.returns-in-Input
+returns-in-Input c = λ x y z i j k d.
+    let imm = c.args.op.now.imm in
+    subst (λ v. IsWithin c.only.result v) (wide_is imm (search rules) ∙ sym (given_value c.args.op.now.kind imm x y z c.in-Input.is)) c.only.ensures
 
 pub returns-in-Not : goal.returns-in-Not
 returns-in-Not c = λ x y z i j k d.
