@@ -53,15 +53,20 @@ pub enum BinOp {
 
 /// A list of expressions: the arguments of a call.
 #[cycle(tree)]
-#[derive(Drop)]
 pub struct Exprs {
     pub items: Vec<Expr>,
+}
+
+impl Drop for Exprs {
+    #[cycle(tree_drop)]
+    fn drop(self) {
+        let Exprs { items: _ } = self;
+    }
 }
 
 /// An expression, with the spot of its literal, name, operator or function name. Contracts see a tree as what
 /// it holds, never where it lies in memory.
 #[cycle(tree)]
-#[derive(Drop)]
 pub enum Expr {
     /// A literal, with its type where it is typed. TRUE and `BOOL#1` are both the literal 1 of type
     /// BOOL. Whether the value is one of the type is not asked here.
@@ -94,6 +99,36 @@ pub enum Expr {
         args: Exprs,
         spot: Spot,
     },
+}
+
+impl Drop for Expr {
+    #[cycle(tree_drop)]
+    fn drop(self) {
+        match self {
+            Expr::Lit {
+                ty: _,
+                value: _,
+                spot: _,
+            } => {}
+            Expr::Name { name: _, spot: _ } => {}
+            Expr::Unary {
+                op: _,
+                arg: _,
+                spot: _,
+            } => {}
+            Expr::Binary {
+                op: _,
+                left: _,
+                right: _,
+                spot: _,
+            } => {}
+            Expr::Call {
+                name: _,
+                args: _,
+                spot: _,
+            } => {}
+        }
+    }
 }
 
 impl Exprs {

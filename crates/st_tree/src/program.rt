@@ -24,43 +24,80 @@ pub enum Section {
 }
 
 /// A declared name, with its spot.
-#[derive(Drop)]
 pub struct Declared {
     pub name: Text,
     pub spot: Spot,
 }
 
+impl Drop for Declared {
+    fn drop(self) {
+        let Declared { name: _, spot: _ } = self;
+    }
+}
+
 /// The names of a declaration.
-#[derive(Drop)]
 pub struct DeclaredNames {
     pub items: Vec<Declared>,
 }
 
+impl Drop for DeclaredNames {
+    fn drop(self) {
+        let DeclaredNames { items: _ } = self;
+    }
+}
+
 /// A declaration: names, their type, and their initial value where one is given.
-#[derive(Drop)]
 pub struct Decl {
     pub names: DeclaredNames,
     pub ty: Ty,
     pub init: Option<Expr>,
 }
 
+impl Drop for Decl {
+    fn drop(self) {
+        let Decl {
+            names: _,
+            ty: _,
+            init: _,
+        } = self;
+    }
+}
+
 /// The declarations of a block.
-#[derive(Drop)]
 pub struct Decls {
     pub items: Vec<Decl>,
 }
 
+impl Drop for Decls {
+    fn drop(self) {
+        let Decls { items: _ } = self;
+    }
+}
+
 /// A block of declarations.
-#[derive(Drop)]
 pub struct Block {
     pub section: Section,
     pub decls: Decls,
 }
 
+impl Drop for Block {
+    fn drop(self) {
+        let Block {
+            section: _,
+            decls: _,
+        } = self;
+    }
+}
+
 /// The blocks of a program.
-#[derive(Drop)]
 pub struct Blocks {
     pub items: Vec<Block>,
+}
+
+impl Drop for Blocks {
+    fn drop(self) {
+        let Blocks { items: _ } = self;
+    }
 }
 
 /// A program: its name, its blocks of declarations and its body.

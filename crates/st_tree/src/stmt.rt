@@ -13,59 +13,102 @@ use std::alloc::Global;
 use vcp_base::{Memory, Spot, Text};
 
 /// A label of a CASE: one value, or the range from the first to the last.
-#[derive(Drop)]
 pub struct Label {
     pub first: Expr,
     pub last: Option<Expr>,
 }
 
+impl Drop for Label {
+    fn drop(self) {
+        let Label { first: _, last: _ } = self;
+    }
+}
+
 /// The labels of a branch of a CASE.
-#[derive(Drop)]
 pub struct Labels {
     pub items: Vec<Label>,
 }
 
+impl Drop for Labels {
+    fn drop(self) {
+        let Labels { items: _ } = self;
+    }
+}
+
 /// A list of statements.
 #[cycle(stmt)]
-#[derive(Drop)]
 pub struct Stmts {
     pub items: Vec<Stmt>,
 }
 
+impl Drop for Stmts {
+    #[cycle(stmt_drop)]
+    fn drop(self) {
+        let Stmts { items: _ } = self;
+    }
+}
+
 /// A condition of an IF with its body, and the spot of the IF or ELSIF.
 #[cycle(stmt)]
-#[derive(Drop)]
 pub struct Arm {
     pub cond: Expr,
     pub body: Stmts,
     pub spot: Spot,
 }
 
+impl Drop for Arm {
+    #[cycle(stmt_drop)]
+    fn drop(self) {
+        let Arm {
+            cond: _,
+            body: _,
+            spot: _,
+        } = self;
+    }
+}
+
 /// The conditions of an IF, in order, with their bodies.
 #[cycle(stmt)]
-#[derive(Drop)]
 pub struct Arms {
     pub items: Vec<Arm>,
 }
 
+impl Drop for Arms {
+    #[cycle(stmt_drop)]
+    fn drop(self) {
+        let Arms { items: _ } = self;
+    }
+}
+
 /// The labels of a branch of a CASE, with its body.
 #[cycle(stmt)]
-#[derive(Drop)]
 pub struct Branch {
     pub labels: Labels,
     pub body: Stmts,
 }
 
+impl Drop for Branch {
+    #[cycle(stmt_drop)]
+    fn drop(self) {
+        let Branch { labels: _, body: _ } = self;
+    }
+}
+
 /// The branches of a CASE, in order.
 #[cycle(stmt)]
-#[derive(Drop)]
 pub struct Branches {
     pub items: Vec<Branch>,
 }
 
+impl Drop for Branches {
+    #[cycle(stmt_drop)]
+    fn drop(self) {
+        let Branches { items: _ } = self;
+    }
+}
+
 /// A statement.
 #[cycle(stmt)]
-#[derive(Drop)]
 pub enum Stmt {
     /// An assignment, with the spot of the assigned name.
     Assign {
@@ -96,6 +139,35 @@ pub enum Stmt {
         body: Stmts,
         spot: Spot,
     },
+}
+
+impl Drop for Stmt {
+    #[cycle(stmt_drop)]
+    fn drop(self) {
+        match self {
+            Stmt::Assign {
+                name: _,
+                value: _,
+                spot: _,
+            } => {}
+            Stmt::If { arms: _, other: _ } => {}
+            Stmt::Case {
+                on: _,
+                branches: _,
+                other: _,
+                spot: _,
+            } => {}
+            Stmt::For {
+                name: _,
+                name_spot: _,
+                first: _,
+                last: _,
+                by: _,
+                body: _,
+                spot: _,
+            } => {}
+        }
+    }
 }
 
 impl Labels {

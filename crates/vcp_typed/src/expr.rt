@@ -59,14 +59,19 @@ pub fn conversion(fun: Fun) -> Option<(Ty, Ty)>
 
 /// The arguments of a function.
 #[cycle(typed_tree)]
-#[derive(Drop)]
 pub struct TExprs {
     pub items: Vec<TExpr>,
 }
 
+impl Drop for TExprs {
+    #[cycle(typed_tree_drop)]
+    fn drop(self) {
+        let TExprs { items: _ } = self;
+    }
+}
+
 /// A checked expression. The spot is that of its literal, operator or function name.
 #[cycle(typed_tree)]
-#[derive(Drop)]
 pub enum TExpr {
     /// A value of the type: a literal, or a constant by its value.
     Lit {
@@ -106,6 +111,40 @@ pub enum TExpr {
         args: TExprs,
         spot: Spot,
     },
+}
+
+impl Drop for TExpr {
+    #[cycle(typed_tree_drop)]
+    fn drop(self) {
+        match self {
+            TExpr::Lit {
+                ty: _,
+                value: _,
+                spot: _,
+            } => {}
+            TExpr::Get { slot: _, ty: _ } => {}
+            TExpr::Widen { ty: _, arg: _ } => {}
+            TExpr::Unary {
+                op: _,
+                ty: _,
+                arg: _,
+                spot: _,
+            } => {}
+            TExpr::Binary {
+                op: _,
+                ty: _,
+                left: _,
+                right: _,
+                spot: _,
+            } => {}
+            TExpr::Call {
+                fun: _,
+                ty: _,
+                args: _,
+                spot: _,
+            } => {}
+        }
+    }
 }
 
 impl TExprs {

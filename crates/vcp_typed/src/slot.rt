@@ -7,13 +7,24 @@ use std::alloc::Global;
 use vcp_base::{Memory, Spot, Text, Ty};
 
 /// A variable: its declared name with the spot, its section, its type and its initial value.
-#[derive(Drop)]
 pub struct Slot {
     pub name: Text,
     pub spot: Spot,
     pub section: Section,
     pub ty: Ty,
     pub init: i64,
+}
+
+impl Drop for Slot {
+    fn drop(self) {
+        let Slot {
+            name: _,
+            spot: _,
+            section: _,
+            ty: _,
+            init: _,
+        } = self;
+    }
 }
 
 /// The variables of a program, in order of declaration.

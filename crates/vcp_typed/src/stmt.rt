@@ -34,45 +34,78 @@ impl Drop for TLabels {
 
 /// A list of statements.
 #[cycle(typed_stmt)]
-#[derive(Drop)]
 pub struct TStmts {
     pub items: Vec<TStmt>,
 }
 
+impl Drop for TStmts {
+    #[cycle(typed_stmt_drop)]
+    fn drop(self) {
+        let TStmts { items: _ } = self;
+    }
+}
+
 /// A condition of an IF with its body, and the spot of the IF or ELSIF.
 #[cycle(typed_stmt)]
-#[derive(Drop)]
 pub struct TArm {
     pub cond: TExpr,
     pub body: TStmts,
     pub spot: Spot,
 }
 
+impl Drop for TArm {
+    #[cycle(typed_stmt_drop)]
+    fn drop(self) {
+        let TArm {
+            cond: _,
+            body: _,
+            spot: _,
+        } = self;
+    }
+}
+
 /// The conditions of an IF, in order, with their bodies.
 #[cycle(typed_stmt)]
-#[derive(Drop)]
 pub struct TArms {
     pub items: Vec<TArm>,
 }
 
+impl Drop for TArms {
+    #[cycle(typed_stmt_drop)]
+    fn drop(self) {
+        let TArms { items: _ } = self;
+    }
+}
+
 /// The labels of a branch of a CASE, with its body.
 #[cycle(typed_stmt)]
-#[derive(Drop)]
 pub struct TBranch {
     pub labels: TLabels,
     pub body: TStmts,
 }
 
+impl Drop for TBranch {
+    #[cycle(typed_stmt_drop)]
+    fn drop(self) {
+        let TBranch { labels: _, body: _ } = self;
+    }
+}
+
 /// The branches of a CASE, in order.
 #[cycle(typed_stmt)]
-#[derive(Drop)]
 pub struct TBranches {
     pub items: Vec<TBranch>,
 }
 
+impl Drop for TBranches {
+    #[cycle(typed_stmt_drop)]
+    fn drop(self) {
+        let TBranches { items: _ } = self;
+    }
+}
+
 /// A checked statement.
 #[cycle(typed_stmt)]
-#[derive(Drop)]
 pub enum TStmt {
     /// An assignment to a slot, with the spot of the assigned name.
     Assign {
@@ -102,6 +135,34 @@ pub enum TStmt {
         body: TStmts,
         spot: Spot,
     },
+}
+
+impl Drop for TStmt {
+    #[cycle(typed_stmt_drop)]
+    fn drop(self) {
+        match self {
+            TStmt::Assign {
+                slot: _,
+                value: _,
+                spot: _,
+            } => {}
+            TStmt::If { arms: _, other: _ } => {}
+            TStmt::Case {
+                on: _,
+                branches: _,
+                other: _,
+                spot: _,
+            } => {}
+            TStmt::For {
+                slot: _,
+                first: _,
+                by: _,
+                turns: _,
+                body: _,
+                spot: _,
+            } => {}
+        }
+    }
 }
 
 impl TLabels {
