@@ -1,5 +1,5 @@
 -- Lists are equal under a function where they are as long, and equal under it at each place.
-use Rattle.std.proofs.Common.{◌≡◌, ℕ, zero, suc, ◌+◌, ◌<◌, Bool, List, [], ◌∷◌, length, get_or, refl, ap, ◌∙◌, sym, subst, arith, inl, inr}
+use Rattle.std.proofs.Common.{◌≡◌, ℕ, zero, suc, ◌+◌, ◌<◌, ◌≤◌, Bool, true, false, List, [], ◌∷◌, length, get_or, refl, ap, ◌∙◌, sym, subst, arith, inl, inr}
 use Rattle.std.proofs.lemmas.List.{get_or_read}
 use Rattle.std.proofs.str.Laws.{order}
 use Rattle.std.specs.Prelude.{map, ◌↔◌, IsTrue}
@@ -32,23 +32,39 @@ each f (x ∷ xs) (y ∷ ys) e zero d lt = (heads _ _ _ _ e).0
 each f (x ∷ xs) (y ∷ ys) e (suc k) d lt = each f xs ys (heads _ _ _ _ e).1 k d (omega (arith, lt))
 
 -- equal at each place before i, and at place i
-pub at-one-more : {X Y : Type 0} (f : X → Y) (xs ys : List X) (i : ℕ) (x y : X) → i < length xs → i < length ys
+pub at-one-more : {X Y : Type 0} (f : X → Y) (xs ys : List X) (i : ℕ) (x y : X) → i < length xs → length xs ≡ length ys
     → x ≡ get_or xs i x → y ≡ get_or ys i y → f x ≡ f y
     → ((k : ℕ) (d : X) → k < i → f (get_or xs k d) ≡ f (get_or ys k d))
     → (k : ℕ) (d : X) → k < i + 1 → f (get_or xs k d) ≡ f (get_or ys k d)
-at-one-more f xs ys i x y in_xs in_ys is_x is_y same before k d lt =
+at-one-more f xs ys i x y in_xs long is_x is_y same before k d lt =
     elim (order k i) [
       | inl below ↦ before k d below
       | inr up ↦
           let here : i ≡ k = omega arith in
+          let in_ys : i < length ys = omega arith in
           subst (λ j. f (get_or xs j d) ≡ f (get_or ys j d)) here
           (sym (ap f (get_or_read xs i x in_xs is_x d)) ∙ same ∙ ap f (get_or_read ys i y in_ys is_y d))
     ]
 
 -- equal lists are equal at place i
-pub at-place : {X Y : Type 0} (f : X → Y) (xs ys : List X) (i : ℕ) (x y : X) → i < length xs → i < length ys
+pub at-place : {X Y : Type 0} (f : X → Y) (xs ys : List X) (i : ℕ) (x y : X) → i < length xs → length xs ≡ length ys
     → x ≡ get_or xs i x → y ≡ get_or ys i y → f (get_or xs i x) ≡ f (get_or ys i x) → f x ≡ f y
-at-place f xs ys i x y in_xs in_ys is_x is_y same = ap f is_x ∙ same ∙ sym (ap f (get_or_read ys i y in_ys is_y x))
+at-place f xs ys i x y in_xs long is_x is_y same =
+    let in_ys : i < length ys = omega arith in
+    ap f is_x ∙ same ∙ sym (ap f (get_or_read ys i y in_ys is_y x))
+
+-- equal at each place, where all places are before i
+pub all-before : {X Y : Type 0} (f : X → Y) (xs ys : List X) (i : ℕ) → length xs ≤ i
+    → ((k : ℕ) (d : X) → k < i → f (get_or xs k d) ≡ f (get_or ys k d))
+    → (k : ℕ) (d : X) → k < length xs → f (get_or xs k d) ≡ f (get_or ys k d)
+all-before f xs ys i past before k d lt = before k d (omega (arith, lt, past))
+
+-- the answers of a test of what is so, and of what isn't
+pub always : {P : Type 0} → P → IsTrue true ↔ P
+always p = (λ t. p, λ q. refl)
+
+pub never : {P : Type 0} → (P → IsTrue false) → IsTrue false ↔ P
+never f = (λ t. absurd cc, f)
 
 -- what is equal to one of two equal values
 pub moved : {X : Type 0} (r : Bool) (x y z : X) → x ≡ y → (IsTrue r ↔ (z ≡ x)) → IsTrue r ↔ (z ≡ y)

@@ -1,30 +1,26 @@
-use Rattle.std.proofs.Common.{arith, refl}
+use Rattle.std.proofs.Common.{refl}
 use Rattle.st_tree.specs.declared.program.Declared.{Declared}
 use Rattle.st_tree.specs.ProgramViews.{declared_tree}
 use Rattle.st_tree.specs.Bare.{bare_declared}
-use Rattle.st_tree.proofs.Pointwise.{at-one-more, at-place, both-by-each, both-length, both-each}
+use Rattle.st_tree.proofs.Pointwise.{always, never, all-before, at-one-more, at-place, both-by-each, both-length, both-each}
 use Rattle.st_tree.proofs.same_program.same_names.Goals as goal
 
 pub returns-then-a-b : goal.returns-then-a-b
-returns-then-a-b c = (λ e. absurd cc, λ e. absurd (omega (arith, both-length bare_declared declared_tree _ _ e)))
+returns-then-a-b c = never (λ e. absurd (c.if-a-b.true (both-length bare_declared declared_tree _ _ e)))
 
 pub returns-then-not-same_declared : goal.returns-then-not-same_declared
-returns-then-not-same_declared c = (
-  λ e. absurd cc,
-  λ e. c.if-not-same_declared.ensures.1
-      (at-place (λ (x : Declared). bare_declared (declared_tree x)) c.args.a.now c.args.b.now c.loop-i.i _ _ c.loop-i-test.true
-      (omega arith) c.index-a-i.is c.index-b-i.is
-      (both-each bare_declared declared_tree _ _ e c.loop-i.i c.index-a-i.result c.loop-i-test.true)),
-)
+returns-then-not-same_declared c =
+    never (λ e. c.if-not-same_declared.ensures.1
+    (at-place (λ (x : Declared). bare_declared (declared_tree x)) c.args.a.now c.args.b.now c.loop-i.i _ _ c.loop-i-test.true
+    c.if-a-b.false c.index-a-i.is c.index-b-i.is
+    (both-each bare_declared declared_tree _ _ e c.loop-i.i c.index-a-i.result c.loop-i-test.true)))
 
 pub loop-i-preserved : goal.loop-i-preserved
 loop-i-preserved c =
     at-one-more (λ (x : Declared). bare_declared (declared_tree x)) c.args.a.now c.args.b.now c.loop-i.i _ _ c.loop-i-test.true
-    (omega arith) c.index-a-i.is c.index-b-i.is
+    c.if-a-b.false c.index-a-i.is c.index-b-i.is
     (c.if-not-same_declared.ensures.0 refl) c.loop-i.invariant
 
 pub returns : goal.returns
-returns c = (
-  λ _. both-by-each bare_declared declared_tree c.args.a.now c.args.b.now c.if-a-b.false (λ k d lt. c.loop-i.invariant k d (omega (arith, lt))),
-  λ _. refl,
-)
+returns c = always (both-by-each bare_declared declared_tree c.args.a.now c.args.b.now c.if-a-b.false
+    (all-before (λ (x : Declared). bare_declared (declared_tree x)) _ _ c.loop-i.i c.loop-i-test.false c.loop-i.invariant))

@@ -1,5 +1,5 @@
-use Rattle.std.proofs.Common.{◌≡◌, sym, ap, arith, refl}
-use Rattle.st_tree.proofs.Pointwise.{at-one-more, at-place, moved}
+use Rattle.std.proofs.Common.{◌≡◌, sym, ap, refl}
+use Rattle.st_tree.proofs.Pointwise.{always, never, all-before, at-one-more, at-place, moved}
 use Rattle.st_tree.proofs.SameStmts.{bare_stmt_of, bare_arm_of, bare_branch_of, stmts-by-each, stmts-length, stmts-each, arms-by-each, arms-length, arms-each}
 use Rattle.st_tree.proofs.SameStmts.{branches-by-each, branches-length, branches-each, bare-if, bare-case, bare-for, same-if, other-if, same-case, other-case}
 use Rattle.st_tree.proofs.SameStmts.{same-for}
@@ -39,67 +39,64 @@ is_for-returns-then-same_bounds t c =
     c.same_stmts.ensures (bare-for _ _ _ _ _ _ _ _ _ c.in-For.is c.deref.ensures.value)
 
 pub same_stmts-returns-then-a-b : goal.same_stmts-returns-then-a-b
-same_stmts-returns-then-a-b t c = (λ e. absurd cc, λ e. absurd (omega (arith, stmts-length _ _ e)))
+same_stmts-returns-then-a-b t c = never (λ e. absurd (c.if-a-b.true (stmts-length _ _ e)))
 
 pub same_stmts-returns-then-not-same_stmt : goal.same_stmts-returns-then-not-same_stmt
-same_stmts-returns-then-not-same_stmt t c = (
-  λ e. absurd cc,
-  λ e. c.if-not-same_stmt.ensures.1
-      (at-place bare_stmt_of c.args.a.now c.args.b.now c.loop-i.i _ _ c.loop-i-test.true (omega arith) c.index-a-i.is c.index-b-i.is
-      (stmts-each _ _ e c.loop-i.i c.index-a-i.result c.loop-i-test.true)),
-)
+same_stmts-returns-then-not-same_stmt t c =
+    never (λ e. c.if-not-same_stmt.ensures.1
+    (at-place bare_stmt_of c.args.a.now c.args.b.now c.loop-i.i _ _ c.loop-i-test.true c.if-a-b.false c.index-a-i.is c.index-b-i.is
+    (stmts-each _ _ e c.loop-i.i c.index-a-i.result c.loop-i-test.true)))
 
 pub same_stmts-loop-i-preserved : goal.same_stmts-loop-i-preserved
 same_stmts-loop-i-preserved t c =
-    at-one-more bare_stmt_of c.args.a.now c.args.b.now c.loop-i.i _ _ c.loop-i-test.true (omega arith) c.index-a-i.is c.index-b-i.is
+    at-one-more bare_stmt_of c.args.a.now c.args.b.now c.loop-i.i _ _ c.loop-i-test.true c.if-a-b.false c.index-a-i.is c.index-b-i.is
     (c.if-not-same_stmt.ensures.0 refl) c.loop-i.invariant
 
 pub same_stmts-returns : goal.same_stmts-returns
 same_stmts-returns t c =
-    (λ _. stmts-by-each c.args.a.now c.args.b.now c.if-a-b.false (λ k d lt. c.loop-i.invariant k d (omega (arith, lt))), λ _. refl)
+    always (stmts-by-each c.args.a.now c.args.b.now c.if-a-b.false
+    (all-before bare_stmt_of _ _ c.loop-i.i c.loop-i-test.false c.loop-i.invariant))
 
 pub same_arms-returns-then-a-b : goal.same_arms-returns-then-a-b
-same_arms-returns-then-a-b t c = (λ e. absurd cc, λ e. absurd (omega (arith, arms-length _ _ e)))
+same_arms-returns-then-a-b t c = never (λ e. absurd (c.if-a-b.true (arms-length _ _ e)))
 
 pub same_arms-returns-then-not-same_arm : goal.same_arms-returns-then-not-same_arm
-same_arms-returns-then-not-same_arm t c = (
-  λ e. absurd cc,
-  λ e.
-      let same : bare_arm_of c.index-a-i.result ≡ bare_arm_of c.index-b-i.result =
-      at-place bare_arm_of c.args.a.now c.args.b.now c.loop-i.i _ _ c.loop-i-test.true (omega arith) c.index-a-i.is c.index-b-i.is
-      (arms-each _ _ e c.loop-i.i c.index-a-i.result c.loop-i-test.true) in
-      c.if-not-same_arm.ensures.1 (ap (λ p. p.0) same, ap (λ p. p.1) same),
-)
+same_arms-returns-then-not-same_arm t c =
+    never (λ e.
+    let same : bare_arm_of c.index-a-i.result ≡ bare_arm_of c.index-b-i.result =
+    at-place bare_arm_of c.args.a.now c.args.b.now c.loop-i.i _ _ c.loop-i-test.true c.if-a-b.false c.index-a-i.is c.index-b-i.is
+    (arms-each _ _ e c.loop-i.i c.index-a-i.result c.loop-i-test.true) in
+    c.if-not-same_arm.ensures.1 (ap (λ p. p.0) same, ap (λ p. p.1) same))
 
 pub same_arms-loop-i-preserved : goal.same_arms-loop-i-preserved
 same_arms-loop-i-preserved t c =
     let both = c.if-not-same_arm.ensures.0 refl in
-    at-one-more bare_arm_of c.args.a.now c.args.b.now c.loop-i.i _ _ c.loop-i-test.true (omega arith) c.index-a-i.is c.index-b-i.is
+    at-one-more bare_arm_of c.args.a.now c.args.b.now c.loop-i.i _ _ c.loop-i-test.true c.if-a-b.false c.index-a-i.is c.index-b-i.is
     (λ i. (both.0 i, both.1 i)) c.loop-i.invariant
 
 pub same_arms-returns : goal.same_arms-returns
 same_arms-returns t c =
-    (λ _. arms-by-each c.args.a.now c.args.b.now c.if-a-b.false (λ k d lt. c.loop-i.invariant k d (omega (arith, lt))), λ _. refl)
+    always (arms-by-each c.args.a.now c.args.b.now c.if-a-b.false
+    (all-before bare_arm_of _ _ c.loop-i.i c.loop-i-test.false c.loop-i.invariant))
 
 pub same_branches-returns-then-a-b : goal.same_branches-returns-then-a-b
-same_branches-returns-then-a-b t c = (λ e. absurd cc, λ e. absurd (omega (arith, branches-length _ _ e)))
+same_branches-returns-then-a-b t c = never (λ e. absurd (c.if-a-b.true (branches-length _ _ e)))
 
 pub same_branches-returns-then-not-same_branch : goal.same_branches-returns-then-not-same_branch
-same_branches-returns-then-not-same_branch t c = (
-  λ e. absurd cc,
-  λ e.
-      let same : bare_branch_of c.index-a-i.result ≡ bare_branch_of c.index-b-i.result =
-      at-place bare_branch_of c.args.a.now c.args.b.now c.loop-i.i _ _ c.loop-i-test.true (omega arith) c.index-a-i.is c.index-b-i.is
-      (branches-each _ _ e c.loop-i.i c.index-a-i.result c.loop-i-test.true) in
-      c.if-not-same_branch.ensures.1 (ap (λ p. p.0) same, ap (λ p. p.1) same),
-)
+same_branches-returns-then-not-same_branch t c =
+    never (λ e.
+    let same : bare_branch_of c.index-a-i.result ≡ bare_branch_of c.index-b-i.result =
+    at-place bare_branch_of c.args.a.now c.args.b.now c.loop-i.i _ _ c.loop-i-test.true c.if-a-b.false c.index-a-i.is c.index-b-i.is
+    (branches-each _ _ e c.loop-i.i c.index-a-i.result c.loop-i-test.true) in
+    c.if-not-same_branch.ensures.1 (ap (λ p. p.0) same, ap (λ p. p.1) same))
 
 pub same_branches-loop-i-preserved : goal.same_branches-loop-i-preserved
 same_branches-loop-i-preserved t c =
     let both = c.if-not-same_branch.ensures.0 refl in
-    at-one-more bare_branch_of c.args.a.now c.args.b.now c.loop-i.i _ _ c.loop-i-test.true (omega arith) c.index-a-i.is c.index-b-i.is
+    at-one-more bare_branch_of c.args.a.now c.args.b.now c.loop-i.i _ _ c.loop-i-test.true c.if-a-b.false c.index-a-i.is c.index-b-i.is
     (λ i. (both.0 i, both.1 i)) c.loop-i.invariant
 
 pub same_branches-returns : goal.same_branches-returns
 same_branches-returns t c =
-    (λ _. branches-by-each c.args.a.now c.args.b.now c.if-a-b.false (λ k d lt. c.loop-i.invariant k d (omega (arith, lt))), λ _. refl)
+    always (branches-by-each c.args.a.now c.args.b.now c.if-a-b.false
+    (all-before bare_branch_of _ _ c.loop-i.i c.loop-i-test.false c.loop-i.invariant))
