@@ -20,4 +20,6 @@ pub mod Finding
 pub mod Wanted
 pub mod WholeLaws
 pub mod StmtNodes
+pub mod SingleNodes
+pub mod Items
 mod SlotNames

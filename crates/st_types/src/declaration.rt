@@ -215,14 +215,17 @@ fn add_all(
 ) -> Result<(), Memory>
     ensures { OnOk result (MakesAll (map block_tree blocks.now) (made_by made.old) (made_by made.new) first.old first.new) }
 {
-    add_blocks(alloc, made, blocks, first)?;
-    let whole = Environment {
-        alloc,
-        names: &made.names,
-        held: &[],
-    };
-    whole.inside_blocks(blocks, first)?;
-    Ok(())
+    match add_blocks(alloc, made, blocks, first) {
+        Ok(()) => {
+            let whole = Environment {
+                alloc,
+                names: &made.names,
+                held: &[],
+            };
+            whole.inside_blocks(blocks, first)
+        }
+        Err(Memory) => Err(Memory),
+    }
 }
 
 /// What the blocks of a program declare; their faults are noted. `Memory` where there is no room, also for 2^32 slots.

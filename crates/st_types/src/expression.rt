@@ -83,7 +83,10 @@ fn sign(
             note(first, Rule::Mismatch, spot);
             Ok(None)
         }
-        Some(ty) => Ok(Some(TExpr::unary(alloc, op, ty, arg, spot)?)),
+        Some(ty) => match TExpr::unary(alloc, op, ty, arg, spot) {
+            Ok(e) => Ok(Some(e)),
+            Err(Memory) => Err(Memory),
+        },
     }
 }
 
@@ -128,7 +131,10 @@ fn operate(
                     return Err(Memory);
                 }
             };
-            Ok(Some(TExpr::binary(alloc, op, ty, left, right, spot)?))
+            match TExpr::binary(alloc, op, ty, left, right, spot) {
+                Ok(e) => Ok(Some(e)),
+                Err(Memory) => Err(Memory),
+            }
         }
     }
 }

@@ -108,8 +108,10 @@ fn with_label(list: Option<TLabels>, label: Option<TLabel>) -> Result<Option<TLa
     let Some(label) = label else {
         return Ok(None);
     };
-    list.push(label)?;
-    Ok(Some(list))
+    match list.push(label) {
+        Ok(()) => Ok(Some(list)),
+        Err(Memory) => Err(Memory),
+    }
 }
 
 impl Environment<'_> {

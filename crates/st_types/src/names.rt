@@ -96,7 +96,9 @@ impl Names {
         if self.find(entry.name.bytes()).is_some() {
             return Ok(false);
         }
-        self.entries.push(entry)?;
-        Ok(true)
+        match self.entries.push(entry) {
+            Ok(()) => Ok(true),
+            Err(_) => Err(Memory),
+        }
     }
 }

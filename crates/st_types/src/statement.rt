@@ -11,7 +11,6 @@ ghost use Rattle.vcp_typed.specs.TStmtTree.{tother};
 ghost use Rattle.vcp_typed.specs.TStmtViews.{tstmt_tree, tstmt_trees, tarm_trees, tbranch_trees, tother_tree};
 ghost use Rattle.st_types.specs.declared.fault.Rule.TheVariants as rule_;
 ghost use Rattle.st_types.specs.Faults.{fault};
-ghost use Rattle.st_types.specs.Notes.{Notes};
 ghost use Rattle.st_types.specs.ExprTyping.{both};
 ghost use Rattle.st_types.specs.StmtTyping.{entry_type as entry_type_of, Narrows, NoTest, IsBool, assign_of, test_of, selector_of, begins as begins_of};
 ghost use Rattle.st_types.specs.StmtTyping.{turns_of as turns_of_bounds, case_of};
@@ -68,16 +67,24 @@ fn assign_of(
         discard(e);
         return Ok(None);
     }
-    let value = widened(alloc, x.ty, e)?;
-    Ok(Some(TStmt::assign(x.slot, value, spot)))
+    match widened(alloc, x.ty, e) {
+        Ok(value) => Ok(Some(TStmt::assign(x.slot, value, spot))),
+        Err(Memory) => Err(Memory),
+    }
 }
 
 // The condition, if it is of BOOL.
 fn tested(e: Option<TExpr>, spot: Spot, first: &mut Option<Fault>) -> Option<TExpr>
-    ensures notes { Notes first.old first.new (λ f. (f ≡ fault rule_.Mismatch spot) × NoTest (option_map type_of_value (option_map texpr_tree e))) }
-    ensures gives { option_map texpr_tree result ≡ option_and_then test_of (option_map texpr_tree e) }
+    ensures { Gives
+        (λ f. (f ≡ fault rule_.Mismatch spot) × NoTest (option_map type_of_value (option_map texpr_tree e)))
+        (option_and_then test_of (option_map texpr_tree e))
+        first.old
+        first.new
+        (option_map texpr_tree result) }
 {
-    let e = e?;
+    let Some(e) = e else {
+        return None;
+    };
     if !is_bool(ty_of(&e)) {
         discard(e);
         note(first, Rule::Mismatch, spot);
@@ -88,10 +95,16 @@ fn tested(e: Option<TExpr>, spot: Spot, first: &mut Option<Fault>) -> Option<TEx
 
 // The selector, if it isn't of BOOL.
 fn selector(e: Option<TExpr>, spot: Spot, first: &mut Option<Fault>) -> Option<TExpr>
-    ensures notes { Notes first.old first.new (λ f. (f ≡ fault rule_.Mismatch spot) × IsBool (option_map type_of_value (option_map texpr_tree e))) }
-    ensures gives { option_map texpr_tree result ≡ option_and_then selector_of (option_map texpr_tree e) }
+    ensures { Gives
+        (λ f. (f ≡ fault rule_.Mismatch spot) × IsBool (option_map type_of_value (option_map texpr_tree e)))
+        (option_and_then selector_of (option_map texpr_tree e))
+        first.old
+        first.new
+        (option_map texpr_tree result) }
 {
-    let e = e?;
+    let Some(e) = e else {
+        return None;
+    };
     if is_bool(ty_of(&e)) {
         discard(e);
         note(first, Rule::Mismatch, spot);
@@ -165,7 +178,9 @@ fn for_of(turning: Option<Turning>, body: Option<TStmts>, spot: Spot) -> Option<
         discard_body(body);
         return None;
     };
-    let body = body?;
+    let Some(body) = body else {
+        return None;
+    };
     Some(TStmt::for_(of.slot, of.first, of.by, of.turns, body, spot))
 }
 
@@ -174,7 +189,9 @@ fn if_of(arms: Option<TArms>, other: Option<Option<TStmts>>) -> Option<TStmt>
     ensures { option_map tstmt_tree result
         ≡ both if_of (option_map (λ a. tarm_trees (tarm_items a)) arms) (option_map tother_tree other) }
 {
-    let arms = arms?;
+    let Some(arms) = arms else {
+        return None;
+    };
     let Some(other) = other else {
         discard_arms(arms);
         return None;
@@ -192,7 +209,9 @@ fn case_of(
     ensures { option_map tstmt_tree result
         ≡ case_of spot (option_map texpr_tree on) (option_map (λ b. tbranch_trees (tbranch_items b)) branches) (option_map tother_tree other) }
 {
-    let on = on?;
+    let Some(on) = on else {
+        return None;
+    };
     let Some(branches) = branches else {
         discard(on);
         return None;

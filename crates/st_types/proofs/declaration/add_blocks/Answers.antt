@@ -1,13 +1,15 @@
-use Rattle.std.proofs.Common.{◌≡◌, ◌+◌, drop, map, [], ◌∷◌, subst, sym, arith}
-use Rattle.std.proofs.lemmas.Grind.{common_steps}
+use Rattle.std.proofs.Common.{◌≡◌, ◌+◌, drop, map, [], ◌∷◌, subst, sym}
+use Rattle.std.proofs.lemmas.List.{drop_all}
 use Rattle.st_tree.specs.ProgramViews.{block_tree, decl_tree}
 use Rattle.st_types.specs.DeclSteps.{made_by, MakesBlocks, MakesDecls}
+use Rattle.st_types.proofs.Items.{from-item}
 use Rattle.st_types.proofs.DeclNodes.{no-blocks, one-block}
 use Rattle.st_types.proofs.declaration.add_blocks.Goals as goal
 
 pub each-preserved : goal.each-preserved
 each-preserved c =
-    let e : drop c.each.b-index c.args.blocks.now ≡ c.b-item.result ∷ drop (c.each.b-index + 1) c.args.blocks.now = grind (arith, common_steps) in
+    let e : drop c.each.b-index c.args.blocks.now ≡ c.b-item.result ∷ drop (c.each.b-index + 1) c.args.blocks.now =
+    from-item _ _ _ c.each-test.true c.b-item.is in
     let made = subst
     (λ xs. MakesDecls c.b-item.result.section (map decl_tree xs) (made_by c.each.made)
     (made_by c.add_declarations.new.made) c.each.first c.add_declarations.new.first) c.deref.ensures.value c.in_ok-add_declarations.ensures in
@@ -19,7 +21,7 @@ each-preserved c =
 
 pub returns : goal.returns
 returns c =
-    let e : drop c.each.b-index c.args.blocks.now ≡ [] = grind (arith, common_steps) in
+    let e : drop c.each.b-index c.args.blocks.now ≡ [] = drop_all _ _ c.each-test.false in
     c.each.invariant (made_by c.each.made) c.each.first
     (subst (λ bs. MakesBlocks (map block_tree bs) (made_by c.each.made) (made_by c.each.made) c.each.first c.each.first) (sym e)
     (no-blocks (made_by c.each.made) c.each.first))

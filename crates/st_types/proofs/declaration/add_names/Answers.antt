@@ -1,15 +1,17 @@
-use Rattle.std.proofs.Common.{◌≡◌, ◌+◌, drop, map, [], ◌∷◌, subst, sym, arith}
-use Rattle.std.proofs.lemmas.Grind.{common_steps}
+use Rattle.std.proofs.Common.{◌≡◌, ◌+◌, drop, map, [], ◌∷◌, subst, sym}
+use Rattle.std.proofs.lemmas.List.{drop_all}
 use Rattle.st_tree.specs.ProgramViews.{declared_tree}
 use Rattle.st_types.specs.DeclTyping.{value_or_zero}
 use Rattle.st_types.specs.DeclSteps.{made_by, MakesNames}
+use Rattle.st_types.proofs.Items.{from-item}
 use Rattle.st_types.proofs.DeclNodes.{no-names, one-name}
 use Rattle.st_types.proofs.declaration.add_names.Goals as goal
 
 pub each-preserved : goal.each-preserved
 each-preserved c =
     let k = c.args.kind in
-    let e : drop c.each.d-index c.args.names.now ≡ c.d-item.result ∷ drop (c.each.d-index + 1) c.args.names.now = grind (arith, common_steps) in
+    let e : drop c.each.d-index c.args.names.now ≡ c.d-item.result ∷ drop (c.each.d-index + 1) c.args.names.now =
+    from-item _ _ _ c.each-test.true c.d-item.is in
     λ n end h. c.each.invariant n end
     (subst (λ ds. MakesNames k.section k.ty k.init (map declared_tree ds) (made_by c.each.made) n c.each.first end) (sym e)
     (one-name k.section k.ty (value_or_zero k.init) k.init (declared_tree c.d-item.result) (map declared_tree (drop (c.each.d-index + 1) c.args.names.now))
@@ -19,7 +21,7 @@ each-preserved c =
 pub returns : goal.returns
 returns c =
     let k = c.args.kind in
-    let e : drop c.each.d-index c.args.names.now ≡ [] = grind (arith, common_steps) in
+    let e : drop c.each.d-index c.args.names.now ≡ [] = drop_all _ _ c.each-test.false in
     c.each.invariant (made_by c.each.made) c.each.first
     (subst (λ ds. MakesNames k.section k.ty k.init (map declared_tree ds) (made_by c.each.made) (made_by c.each.made) c.each.first c.each.first) (sym e)
     (no-names k.section k.ty (value_or_zero k.init) k.init (made_by c.each.made) c.each.first))

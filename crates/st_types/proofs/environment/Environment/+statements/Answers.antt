@@ -1,6 +1,6 @@
 use Rattle.std.proofs.Common.{◌≡◌, IfOk, [], ◌∷◌, ◌+◌, option_map, Some, sym, ap, ◌∙◌, subst, arith, drop}
 use Rattle.std.proofs.lemmas.Result.{IfOk-weaker}
-use Rattle.std.proofs.lemmas.Grind.{common_steps}
+use Rattle.std.proofs.lemmas.List.{drop_all}
 use Rattle.st_tree.specs.StmtTree.{assign, if_, case, for_}
 use Rattle.st_tree.specs.ExprViews.{expr_tree, expr_tree_or_none}
 use Rattle.st_tree.specs.StmtViews.{label_trees, stmt_tree, stmt_trees, arm_trees, branch_trees, other_tree}
@@ -10,6 +10,7 @@ use Rattle.vcp_typed.specs.TStmtViews.{tstmt_tree, tstmt_trees, tother_tree}
 use Rattle.st_types.specs.ExprTyping.{both}
 use Rattle.st_types.specs.StmtTyping.{arm_of, branch_of}
 use Rattle.st_types.specs.StmtSteps.{TypesLabels, TypesStmt, TypesStmts, TypesArms, TypesBranches, TypesOther}
+use Rattle.st_types.proofs.Items.{from-item}
 use Rattle.st_types.proofs.Weight.{stmt_weight, stmts_weight, other_weight}
 use Rattle.st_types.proofs.Lighter.{stmt-lighter, arm-lighter, branch-lighter}
 use Rattle.st_types.proofs.StmtNodes.{if-types, case-types, for-types, stmt_cons, more-stmts, no-more-stmts, stmts-on, stmts-end, more-arms, no-more-arms}
@@ -112,7 +113,8 @@ type_stmts-type_stmt-requires t c =
 
 pub type_stmts-each-preserved : goal.type_stmts-each-preserved
 type_stmts-each-preserved t c = λ end r h.
-    let d : drop c.each.s-index c.args.stmts.now ≡ c.s-item.result ∷ drop (c.each.s-index + 1) c.args.stmts.now = grind (arith, common_steps) in
+    let d : drop c.each.s-index c.args.stmts.now ≡ c.s-item.result ∷ drop (c.each.s-index + 1) c.args.stmts.now =
+    from-item _ _ _ c.each-test.true c.s-item.is in
     let m = more-stmts c.args.self.now.names.now c.args.self.now.held.now (stmt_tree c.s-item.result)
     (stmt_trees (drop (c.each.s-index + 1) c.args.stmts.now)) c.each.first c.type_stmt.new.first end
     (option_map tstmt_tree c.in_ok-made.made) r c.in_ok-made.ensures h in
@@ -124,7 +126,7 @@ type_stmts-each-preserved t c = λ end r h.
 
 pub type_stmts-returns : goal.type_stmts-returns
 type_stmts-returns t c =
-    let d : drop c.each.s-index c.args.stmts.now ≡ [] = grind (arith, common_steps) in
+    let d : drop c.each.s-index c.args.stmts.now ≡ [] = drop_all _ _ c.each-test.false in
     let n = subst (λ xs. TypesStmts c.args.self.now.names.now c.args.self.now.held.now (stmt_trees xs) c.each.first c.each.first (Some no_tstmts)) (sym d)
     (no-more-stmts c.args.self.now.names.now c.args.self.now.held.now c.each.first) in
     subst (λ q. TypesStmts c.args.self.now.names.now c.args.self.now.held.now (stmt_trees c.args.stmts.now) c.args.first.now c.each.first q) (stmts-end _)
@@ -137,7 +139,8 @@ type_arms-type_stmts-requires t c =
 
 pub type_arms-each-preserved : goal.type_arms-each-preserved
 type_arms-each-preserved t c = λ end r h.
-    let d : drop c.each.arm-index c.args.arms.now ≡ c.arm-item.result ∷ drop (c.each.arm-index + 1) c.args.arms.now = grind (arith, common_steps) in
+    let d : drop c.each.arm-index c.args.arms.now ≡ c.arm-item.result ∷ drop (c.each.arm-index + 1) c.args.arms.now =
+    from-item _ _ _ c.each-test.true c.arm-item.is in
     let body = subst
     (λ xs. TypesStmts c.args.self.now.names.now c.args.self.now.held.now (stmt_trees xs) c.tested-cond.new.first c.type_stmts.new.first
     (option_map (λ b. tstmt_trees b.items.items) c.in_ok-body.body)) c.deref.ensures.value c.in_ok-body.ensures in
@@ -151,7 +154,7 @@ type_arms-each-preserved t c = λ end r h.
 
 pub type_arms-returns : goal.type_arms-returns
 type_arms-returns t c =
-    let d : drop c.each.arm-index c.args.arms.now ≡ [] = grind (arith, common_steps) in
+    let d : drop c.each.arm-index c.args.arms.now ≡ [] = drop_all _ _ c.each-test.false in
     let n = subst (λ xs. TypesArms c.args.self.now.names.now c.args.self.now.held.now (arm_trees xs) c.each.first c.each.first (Some no_tarms)) (sym d)
     (no-more-arms c.args.self.now.names.now c.args.self.now.held.now c.each.first) in
     subst (λ q. TypesArms c.args.self.now.names.now c.args.self.now.held.now (arm_trees c.args.arms.now) c.args.first.now c.each.first q) (arms-end _)
@@ -165,7 +168,7 @@ type_branches-type_stmts-requires t c =
 pub type_branches-each-preserved : goal.type_branches-each-preserved
 type_branches-each-preserved t c = λ end r h.
     let d : drop c.each.branch-index c.args.branches.now ≡ c.branch-item.result ∷ drop (c.each.branch-index + 1) c.args.branches.now =
-    grind (arith, common_steps) in
+    from-item _ _ _ c.each-test.true c.branch-item.is in
     let labels = subst
     (λ xs. TypesLabels c.args.self.now.names.now c.args.ty (label_trees xs) c.each.first c.type_labels.new.first
     (option_map (λ v. v.items.items) c.in_ok-labels.labels)) c.deref.ensures.value c.in_ok-labels.ensures in
@@ -182,7 +185,7 @@ type_branches-each-preserved t c = λ end r h.
 
 pub type_branches-returns : goal.type_branches-returns
 type_branches-returns t c =
-    let d : drop c.each.branch-index c.args.branches.now ≡ [] = grind (arith, common_steps) in
+    let d : drop c.each.branch-index c.args.branches.now ≡ [] = drop_all _ _ c.each-test.false in
     let n = subst
     (λ xs. TypesBranches c.args.self.now.names.now c.args.self.now.held.now c.args.ty (branch_trees xs) c.each.first c.each.first (Some no_tbranches))
     (sym d) (no-more-branches c.args.self.now.names.now c.args.self.now.held.now c.args.ty c.each.first) in

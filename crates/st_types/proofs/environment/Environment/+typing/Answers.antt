@@ -1,13 +1,14 @@
-use Rattle.std.proofs.Common.{rules, ◌≡◌, IfOk, option_map, Some, None, sym, ap, ◌∙◌, subst, w64, arith, drop, [], ◌∷◌, ◌+◌}
+use Rattle.std.proofs.Common.{rules, ◌≡◌, IfOk, option_map, Some, None, sym, ap, ◌∙◌, subst, w64, drop, [], ◌∷◌, ◌+◌}
 use Rattle.std.proofs.lemmas.Result.{IfOk-weaker}
 use Rattle.std.proofs.lemmas.Int.{to_z-of_z}
-use Rattle.std.proofs.lemmas.Grind.{common_steps}
+use Rattle.std.proofs.lemmas.List.{drop_all}
 use mir.Val.{SFits}
 use Rattle.st_tree.specs.ExprTree.{literal, call}
 use Rattle.st_tree.specs.ExprViews.{expr_tree, expr_trees}
 use Rattle.vcp_typed.specs.TExprViews.{texpr_tree}
 use Rattle.st_types.specs.ExprTyping.{called, count, both}
 use Rattle.st_types.specs.ExprSteps.{Types, TypesAll}
+use Rattle.st_types.proofs.Items.{from-item}
 use Rattle.st_types.proofs.ExprNodes.{cons, binary-types, unary-types, call-types, unknown-call, more-types, none-left}
 use Rattle.st_types.proofs.Wanted.{glue-cons, glue-none, count-trees}
 use Rattle.st_types.proofs.environment.Environment.+typing.Goals as goal
@@ -65,7 +66,7 @@ call-returns-in-Some t c =
 
 pub type_all-each-preserved : goal.type_all-each-preserved
 type_all-each-preserved t c = λ end r h.
-    let d : drop c.each.e-index c.args.args.now ≡ c.e-item.result ∷ drop (c.each.e-index + 1) c.args.args.now = grind (arith, common_steps) in
+    let d : drop c.each.e-index c.args.args.now ≡ c.e-item.result ∷ drop (c.each.e-index + 1) c.args.args.now = from-item _ _ _ c.each-test.true c.e-item.is in
     let m = more-types c.args.self.now.names.now (expr_tree c.e-item.result)
     (expr_trees (drop (c.each.e-index + 1) c.args.args.now)) c.each.first c.type_expression.new.first end
     (option_map texpr_tree c.in-Ok.x) r c.in-Ok.ensures h in
@@ -75,8 +76,20 @@ type_all-each-preserved t c = λ end r h.
 
 pub type_all-returns : goal.type_all-returns
 type_all-returns t c =
-    let d : drop c.each.e-index c.args.args.now ≡ [] = grind (arith, common_steps) in
+    let d : drop c.each.e-index c.args.args.now ≡ [] = drop_all _ _ c.each-test.false in
     let n = subst (λ xs. TypesAll c.args.self.now.names.now (expr_trees xs) c.each.first c.each.first (Some [])) (sym d)
     (none-left c.args.self.now.names.now c.each.first) in
     subst (λ q. TypesAll c.args.self.now.names.now (expr_trees c.args.args.now) c.args.first.now c.each.first q) (glue-none _)
     (c.each.invariant c.each.first (Some []) n)
+
+pub type_all-returns-in-Err : goal.type_all-returns-in-Err
+type_all-returns-in-Err t c = tt
+
+pub type_expression-returns-in-Err : goal.type_expression-returns-in-Err
+type_expression-returns-in-Err t c = tt
+
+pub type_expression-returns-in-Err-type_expression-2 : goal.type_expression-returns-in-Err-type_expression-2
+type_expression-returns-in-Err-type_expression-2 t c = tt
+
+pub type_expression-returns-in-Err-type_expression : goal.type_expression-returns-in-Err-type_expression
+type_expression-returns-in-Err-type_expression t c = tt

@@ -1,8 +1,9 @@
-use Rattle.std.proofs.Common.{◌≡◌, ◌+◌, drop, map, [], ◌∷◌, subst, sym, arith}
-use Rattle.std.proofs.lemmas.Grind.{common_steps}
+use Rattle.std.proofs.Common.{◌≡◌, ◌+◌, drop, map, [], ◌∷◌, subst, sym}
+use Rattle.std.proofs.lemmas.List.{drop_all}
 use Rattle.st_tree.specs.ProgramViews.{block_tree, decl_tree}
 use Rattle.st_types.specs.Notes.{Notes}
 use Rattle.st_types.specs.DeclSteps.{DeclsInside, BlocksInside}
+use Rattle.st_types.proofs.Items.{from-item}
 use Rattle.st_types.proofs.NoteLaws.{quiet, pair}
 use Rattle.st_types.proofs.environment.Environment.inside_blocks.Goals as goal
 
@@ -11,7 +12,8 @@ each-preserved c =
     let all = c.args.self.now.names.now in
     let b = block_tree c.b-item.result in
     let bs = map block_tree (drop (c.each.b-index + 1) c.args.blocks.now) in
-    let e : drop c.each.b-index c.args.blocks.now ≡ c.b-item.result ∷ drop (c.each.b-index + 1) c.args.blocks.now = grind (arith, common_steps) in
+    let e : drop c.each.b-index c.args.blocks.now ≡ c.b-item.result ∷ drop (c.each.b-index + 1) c.args.blocks.now =
+    from-item _ _ _ c.each-test.true c.b-item.is in
     let here = subst
     (λ xs. Notes c.each.first c.inside_declarations.new.first
     (DeclsInside all (map decl_tree xs))) c.deref.ensures.value c.in_ok-inside_declarations.ensures in
@@ -22,7 +24,7 @@ each-preserved c =
 pub returns : goal.returns
 returns c =
     let all = c.args.self.now.names.now in
-    let e : drop c.each.b-index c.args.blocks.now ≡ [] = grind (arith, common_steps) in
+    let e : drop c.each.b-index c.args.blocks.now ≡ [] = drop_all _ _ c.each-test.false in
     c.each.invariant c.each.first
     (subst (λ xs. Notes c.each.first c.each.first (BlocksInside all (map block_tree xs))) (sym e)
     (quiet c.each.first (BlocksInside all []) (λ f h. h)))
