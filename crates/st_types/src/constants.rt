@@ -213,9 +213,13 @@ impl Environment<'_> {
     ) -> Result<Option<i64>, Memory>
         ensures { IfOk result (λ r. Bounds self.now.names.now ty (expr_tree e.now) first.old first.new r) }
     {
-        let found = self.read_number(ty, e, first)?;
-        bound_fault(found.form, spot_of(e), first);
-        Ok(found.value)
+        match self.read_number(ty, e, first) {
+            Ok(found) => {
+                bound_fault(found.form, spot_of(e), first);
+                Ok(found.value)
+            }
+            Err(Memory) => Err(Memory),
+        }
     }
 
     /// The step of a FOR, 1 where none is given: notes its faults, and where it is none.
@@ -231,11 +235,13 @@ impl Environment<'_> {
     {
         match e {
             None => Ok(Some(1)),
-            Some(e) => {
-                let found = self.read_number(ty, e, first)?;
-                bound_fault(form_not_zero(found.form), spot_of(e), first);
-                Ok(not_zero(found.value))
-            }
+            Some(e) => match self.read_number(ty, e, first) {
+                Ok(found) => {
+                    bound_fault(form_not_zero(found.form), spot_of(e), first);
+                    Ok(not_zero(found.value))
+                }
+                Err(Memory) => Err(Memory),
+            },
         }
     }
 }

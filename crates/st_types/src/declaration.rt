@@ -77,13 +77,16 @@ fn add_slot(alloc: Global, slots: &mut Slots, kind: Kind, d: &Declared) -> Resul
     if is_constant(kind.section) {
         return Ok(());
     }
-    slots.push(Slot {
-        name: Text::copy_of(alloc, d.name.bytes())?,
-        spot: d.spot,
-        section: kind.section,
-        ty: kind.ty,
-        init: value_or_zero(kind.init),
-    })
+    match Text::copy_of(alloc, d.name.bytes()) {
+        Ok(name) => slots.push(Slot {
+            name,
+            spot: d.spot,
+            section: kind.section,
+            ty: kind.ty,
+            init: value_or_zero(kind.init),
+        }),
+        Err(Memory) => Err(Memory),
+    }
 }
 
 // Adds a name; one that is declared before is noted, and the first declaration counts.
@@ -105,11 +108,13 @@ fn add_name(
         value: value_or_zero(kind.init),
         slot,
     };
-    if made.names.declare(entry)? {
-        add_slot(alloc, &mut made.slots, kind, d)
-    } else {
-        note(first, Rule::Duplicate, d.spot);
-        Ok(())
+    match made.names.declare(entry) {
+        Ok(true) => add_slot(alloc, &mut made.slots, kind, d),
+        Ok(false) => {
+            note(first, Rule::Duplicate, d.spot);
+            Ok(())
+        }
+        Err(Memory) => Err(Memory),
     }
 }
 
@@ -237,6 +242,8 @@ pub(crate) fn declared(
     ensures { IfOk result (λ r. MakesAll (map block_tree blocks.now) nothing_made (made_by r) first.old first.new) }
 {
     let mut made = nothing(alloc);
-    add_all(alloc, &mut made, blocks, first)?;
-    Ok(made)
+    match add_all(alloc, &mut made, blocks, first) {
+        Ok(()) => Ok(made),
+        Err(Memory) => Err(Memory),
+    }
 }

@@ -127,7 +127,10 @@ impl Environment<'_> {
     {
         match e {
             None => Ok(None),
-            Some(e) => Ok(Some(self.read_number(ty, e, first)?)),
+            Some(e) => match self.read_number(ty, e, first) {
+                Ok(last) => Ok(Some(last)),
+                Err(Memory) => Err(Memory),
+            },
         }
     }
 

@@ -9,8 +9,8 @@ returns-in-None c =
     subst (λ e. TypesLast c.args.self.now.names.now c.args.ty e c.args.first.now c.args.first.now None) (sym (ap expr_tree_or_none c.in-None.is))
     (no-last c.args.self.now.names.now c.args.ty c.args.first.now)
 
-pub returns-in_ok-read_number-in-Some : goal.returns-in_ok-read_number-in-Some
-returns-in_ok-read_number-in-Some c =
-    subst (λ e. TypesLast c.args.self.now.names.now c.args.ty e c.args.first.now c.read_number.new.first (Some c.in_ok-read_number-in-Some.field-0))
+pub returns-in-Ok : goal.returns-in-Ok
+returns-in-Ok c =
+    subst (λ e. TypesLast c.args.self.now.names.now c.args.ty e c.args.first.now c.read_number.new.first (Some c.in-Ok.last))
     (sym (ap expr_tree_or_none c.in-Some.is))
-    (some-last _ _ _ _ _ _ c.in_ok-read_number-in-Some.ensures)
+    (some-last _ _ _ _ _ _ c.in-Ok.ensures)
