@@ -292,6 +292,12 @@ joined_size l = go l.range
 pub alone_fits : (l : TLabel) → alone_size l ≤ label_size l
 alone_fits l = omega (arith, joined_size l)
 
+pub alone_first : (l : TLabel) → 0 + alone_size l ≤ label_size l
+alone_first l = omega (arith, joined_size l)
+
+pub joined_fits : (l : TLabel) → alone_size l + 1 ≤ label_size l
+joined_fits l = omega (arith, joined_size l)
+
 -- a selector's type is one of numbers, which LT compares
 pub orders : (t : Ty) → joined_type t t ≡ Some t → types_fit kind.Lt t ty.Bool ≡ true
 orders ty.Bool h = absurd cc
@@ -315,6 +321,9 @@ label_sum ls i d lt = ap (sum_by label_size) (take_more ls i d lt) ∙ sum_by_pu
 
 pub label_sum_fits : (ls : List TLabel) (i : ℕ) (d : TLabel) → i < length ls → sum_by label_size (take i ls) + label_size (get_or ls i d) ≤ sum_by label_size ls
 label_sum_fits ls i d lt = omega (arith, label_sum ls i d lt, sum_by-take-le label_size ls (i + 1))
+
+pub first_fits : (ls : List TLabel) (d : TLabel) → 0 < length ls → 0 + alone_size (get_or ls 0 d) ≤ sum_by label_size ls
+first_fits ls d lt = omega (arith, label_sum_fits ls 0 d lt, alone_fits (get_or ls 0 d))
 
 pub next_label : Laws → (a b c : State) (t : Ty) (k j r : ℕ) (ls : List TLabel) (i : ℕ) (d : TLabel) → i < length ls → IsA t a.graph.operations k
     → Makes a b ty.Bool (sum_by label_size (take i ls)) (any_labelled k (take i ls)) j →

@@ -12,7 +12,7 @@ use Rattle.flat_expr.specs.Laws.{Laws}
 use Rattle.flat_expr.specs.State.{State, IsState}
 use Rattle.flat_stmt.specs.Moves.{here, Doing, Moves, Any, where_reached, Does}
 use Rattle.flat_stmt.specs.Branches.{branch_of, arm_of, rest_of}
-use Rattle.flat_stmt.proofs.Algebra.{Lasts, then_do, moves_then, moves_same, moves_nothing}
+use Rattle.flat_stmt.proofs.Algebra.{Lasts, repathed, then_do, moves_then, moves_same, moves_nothing}
 use Rattle.flat_stmt.proofs.Branches.{restored}
 use Rattle.flat_stmt.proofs.Turns.{does_nothing, does_same, does_then}
 
@@ -83,6 +83,11 @@ branched_start s Such most whole i = record {
   fits = omega arith;
   same = λ b m. refl;
 }
+
+-- the state now
+pub branched_state : (a b : State) (Such : List ℤ → Type 0) (left most : ℕ) (rest whole : List ℤ → Result (List ℤ) Stop)
+    → Branched a b Such left most rest whole → IsState b
+branched_state a b Such left most rest whole d = repathed (record b { path = a.path }) b.path d.moves.continues.after d.moves.path
 
 pub branched_step : Laws → (a b c : State) (Such : List ℤ → Type 0) (size left left2 most : ℕ) (f : Doing) (rest rest2 whole : List ℤ → Result (List ℤ) Stop)
     → Lasts a Such → Branched a b Such left most rest whole → Moves b c Such size f → size + left2 ≤ left →

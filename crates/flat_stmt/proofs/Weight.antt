@@ -7,8 +7,8 @@ abbrev mutual
   pub stmt_weight : TStmtTree → ℕ
   stmt_weight (assign slot e spot) = 0
   stmt_weight (if_ arms o) = 2 + arms_weight arms + other_weight o
-  stmt_weight (case e branches o spot) = 3 + branches_weight branches + other_weight o
-  stmt_weight (for_ slot first by n body spot) = 4 + stmts_weight body
+  stmt_weight (case e branches o spot) = 2 + branches_weight branches + other_weight o
+  stmt_weight (for_ slot first by n body spot) = 2 + stmts_weight body
 
   pub stmts_weight : TStmtTrees → ℕ
   stmts_weight no_tstmts = 0
@@ -16,12 +16,12 @@ abbrev mutual
 
   pub arms_weight : TArmTrees → ℕ
   arms_weight no_tarms = 0
-  arms_weight (and_tarm e body spot arms) = 3 + stmts_weight body + arms_weight arms
+  arms_weight (and_tarm e body spot arms) = 1 + stmts_weight body + arms_weight arms
 
   pub branches_weight : TBranchTrees → ℕ
   branches_weight no_tbranches = 0
-  branches_weight (and_tbranch ls body branches) = 3 + stmts_weight body + branches_weight branches
+  branches_weight (and_tbranch ls body branches) = 1 + stmts_weight body + branches_weight branches
 
   pub other_weight : TOtherTree → ℕ
   other_weight no_tother = 0
-  other_weight (tother body) = 1 + stmts_weight body
+  other_weight (tother body) = stmts_weight body

@@ -3,3 +3,4 @@ pub mod Conditions
 pub mod Branches
 pub mod Adds
 pub mod Parts
+pub mod Steps

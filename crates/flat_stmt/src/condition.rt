@@ -1,11 +1,11 @@
 //! The operations of conditions and labels. None of them can stop.
 
-ghost use Rattle.std.specs.Prelude.{◌≡◌, ◌<◌, ◌+◌, false, true, Some, IfOk, IfErr, length, sum_by, All};
+ghost use Rattle.std.specs.Prelude.{◌≡◌, ◌<◌, false, true, Some, length, sum_by, All};
 ghost use Rattle.vcp_base.specs.declared.ty.Ty.TheVariants as type_of;
 ghost use Rattle.vcp_base.specs.Code.{admits};
 ghost use Rattle.flat_expr.specs.State.{IsA, IsPlace, Makes};
 ghost use Rattle.flat_stmt.specs.Conditions.{joins, denies, labelled, or_labelled, any_labelled, alone_size};
-ghost use Rattle.flat_stmt.specs.Parts.{Fills};
+ghost use Rattle.flat_stmt.specs.Parts.{Added};
 ghost use Rattle.vcp_typed.specs.Checked.{IsLabel};
 ghost use Rattle.vcp_typed.specs.Rules.{joined as joined_type};
 ghost use Rattle.vcp_typed.specs.Size.{label_size};
@@ -19,8 +19,7 @@ use vcp_typed::TLabel;
 pub fn join(flat: &mut Flat, outer: Option<u32>, k: u32, spot: Spot) -> Result<u32, Build>
     requires outer { IsPlace type_of.Bool flat.old.graph.operations outer }
     requires k { IsA type_of.Bool flat.old.graph.operations k }
-    ensures made { IfOk result (λ j. Makes flat.old flat.new type_of.Bool 1 (joins outer k) j) }
-    ensures fills { IfErr result (λ e. Fills flat.old 1 e) }
+    ensures { Added flat.old 1 (λ j. Makes flat.old flat.new type_of.Bool 1 (joins outer k) j) result }
 {
     laws_of_states();
     let _state = flat.condition();
@@ -33,8 +32,7 @@ pub fn join(flat: &mut Flat, outer: Option<u32>, k: u32, spot: Spot) -> Result<u
 /// NOT of the condition `k`.
 pub fn deny(flat: &mut Flat, k: u32, spot: Spot) -> Result<u32, Build>
     requires { IsA type_of.Bool flat.old.graph.operations k }
-    ensures made { IfOk result (λ j. Makes flat.old flat.new type_of.Bool 1 (denies k) j) }
-    ensures fills { IfErr result (λ e. Fills flat.old 1 e) }
+    ensures { Added flat.old 1 (λ j. Makes flat.old flat.new type_of.Bool 1 (denies k) j) result }
 {
     laws_of_states();
     flat.add(Kind::Not, Ty::Bool, Ty::Bool, k, 0, 0, spot)
@@ -46,8 +44,7 @@ fn equal(flat: &mut Flat, k: u32, ty: Ty, label: TLabel) -> Result<u32, Build>
     requires code { admits flat.old.graph.profile ty ≡ true }
     requires k { IsA ty flat.old.graph.operations k }
     requires label { IsLabel ty label }
-    ensures made { IfOk result (λ j. Makes flat.old flat.new type_of.Bool (alone_size label) (labelled k label) j) }
-    ensures fills { IfErr result (λ e. Fills flat.old (alone_size label) e) }
+    ensures { Added flat.old (alone_size label) (λ j. Makes flat.old flat.new type_of.Bool (alone_size label) (labelled k label) j) result }
 {
     laws_of_states();
     let value = flat.constant(ty, label.first, label.spot)?;
@@ -61,8 +58,7 @@ fn within(flat: &mut Flat, k: u32, ty: Ty, label: TLabel) -> Result<u32, Build>
     requires code { admits flat.old.graph.profile ty ≡ true }
     requires k { IsA ty flat.old.graph.operations k }
     requires label { IsLabel ty label }
-    ensures made { IfOk result (λ j. Makes flat.old flat.new type_of.Bool (alone_size label) (labelled k label) j) }
-    ensures fills { IfErr result (λ e. Fills flat.old (alone_size label) e) }
+    ensures { Added flat.old (alone_size label) (λ j. Makes flat.old flat.new type_of.Bool (alone_size label) (labelled k label) j) result }
 {
     laws_of_states();
     let first = flat.constant(ty, label.first, label.spot)?;
@@ -79,8 +75,7 @@ fn label(flat: &mut Flat, k: u32, ty: Ty, label: TLabel) -> Result<u32, Build>
     requires code { admits flat.old.graph.profile ty ≡ true }
     requires k { IsA ty flat.old.graph.operations k }
     requires label { IsLabel ty label }
-    ensures made { IfOk result (λ j. Makes flat.old flat.new type_of.Bool (alone_size label) (labelled k label) j) }
-    ensures fills { IfErr result (λ e. Fills flat.old (alone_size label) e) }
+    ensures { Added flat.old (alone_size label) (λ j. Makes flat.old flat.new type_of.Bool (alone_size label) (labelled k label) j) result }
 {
     if label.range {
         within(flat, k, ty, label)
@@ -103,8 +98,7 @@ fn label_too(
     requires k { IsA ty flat.old.graph.operations k }
     requires so_far { IsA type_of.Bool flat.old.graph.operations so_far }
     requires label { IsLabel ty next }
-    ensures made { IfOk result (λ j. Makes flat.old flat.new type_of.Bool (label_size next) (or_labelled so_far k next) j) }
-    ensures fills { IfErr result (λ e. Fills flat.old (label_size next) e) }
+    ensures { Added flat.old (label_size next) (λ j. Makes flat.old flat.new type_of.Bool (label_size next) (or_labelled so_far k next) j) result }
 {
     laws_of_states();
     let r = label(flat, k, ty, next)?;
@@ -119,8 +113,7 @@ pub fn labels(flat: &mut Flat, k: u32, ty: Ty, labels: &[TLabel]) -> Result<u32,
     requires code { admits flat.old.graph.profile ty ≡ true }
     requires k { IsA ty flat.old.graph.operations k }
     requires labels { All (IsLabel ty) labels.now }
-    ensures made { IfOk result (λ j. Makes flat.old flat.new type_of.Bool (sum_by label_size labels.now) (any_labelled k labels.now) j) }
-    ensures fills { IfErr result (λ e. Fills flat.old (sum_by label_size labels.now) e) }
+    ensures { Added flat.old (sum_by label_size labels.now) (λ j. Makes flat.old flat.new type_of.Bool (sum_by label_size labels.now) (any_labelled k labels.now) j) result }
 {
     laws_of_states();
     let spot = labels[0].spot;

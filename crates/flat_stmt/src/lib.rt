@@ -1,6 +1,7 @@
 //! The flattening of programs: the graph that means the program.
 #![tactic(auto)]
 
+mod branch;
 mod condition;
 mod program;
 mod stmt;

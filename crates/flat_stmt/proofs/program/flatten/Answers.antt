@@ -19,7 +19,7 @@ returns-in-Ok-clause-means c =
     } in
     let does = subst (λ ss. Does c.in_ok-flat.flat c.add_stmts.new.flat (stmts_size (tstmt_trees c.deref.result.now)) (do_stmts [] ss)) body
     (subst (λ ts. Does c.in_ok-flat.flat c.add_stmts.new.flat (stmts_size (tstmt_trees c.deref.result.now)) (do_stmts ts (tstmt_trees c.deref.result.now)))
-    (no_turns c.in_ok-flat.flat p c.in_ok-flat.ensures) c.in_default.ensures.made) in
+    (no_turns c.in_ok-flat.flat p c.in_ok-flat.ensures) c.in_default.ensures) in
     means p c.in-Ok.graph c.in_ok-flat.flat c.add_stmts.new.flat
     (stmts_size (tstmt_trees c.deref.result.now)) law c.in_ok-flat.ensures does c.in-Ok.ensures.made
 
@@ -27,7 +27,7 @@ pub returns-in-Ok-clause-few : goal.returns-in-Ok-clause-few
 returns-in-Ok-clause-few c =
     let p = c.args.program.now in
     let body = ap tstmt_trees c.deref.ensures.value ∙ c.body.ensures.body in
-    let moves = c.in_default.ensures.made.moves in
+    let moves = c.in_default.ensures.moves in
     let within : whole_size c.add_stmts.new.flat ≤ size p = within_size c.laws_of_states.ensures p c.in_ok-flat.flat c.add_stmts.new.flat
     (stmts_size (tstmt_trees c.deref.result.now)) c.in_ok-flat.ensures moves.continues moves.count (ap stmts_size body) in
     omega (arith, within, c.in-Ok.ensures.made.size)

@@ -18,32 +18,14 @@ decreases-add_stmt l = stmt_weight (tstmt_tree l.s.now)
 abbrev pub decreases-add_stmts : goal.decreases-add_stmts
 decreases-add_stmts l = stmts_weight (tstmt_trees l.ss.now)
 
-abbrev pub decreases-add_branch : goal.decreases-add_branch
-decreases-add_branch l = 1 + stmts_weight (tstmt_trees l.body.now)
-
-abbrev pub decreases-add_arm : goal.decreases-add_arm
-decreases-add_arm l = 2 + stmts_weight (tstmt_trees l.arm.now.body.items.items)
-
 abbrev pub decreases-add_if : goal.decreases-add_if
 decreases-add_if l = 1 + arms_weight (tarm_trees l.arms.now) + other_weight (tother_tree l.other.now)
-
-abbrev pub decreases-add_case_branch : goal.decreases-add_case_branch
-decreases-add_case_branch l = 2 + stmts_weight (tstmt_trees l.branch.now.body.items.items)
 
 abbrev pub decreases-add_branches : goal.decreases-add_branches
 decreases-add_branches l = 1 + branches_weight (tbranch_trees l.branches.now) + other_weight (tother_tree l.other.now)
 
-abbrev pub decreases-add_case : goal.decreases-add_case
-decreases-add_case l = 2 + branches_weight (tbranch_trees l.branches.now) + other_weight (tother_tree l.other.now)
-
-abbrev pub decreases-add_other : goal.decreases-add_other
-decreases-add_other l = other_weight (tother_tree l.other.now)
-
 abbrev pub decreases-add_for : goal.decreases-add_for
-decreases-add_for l = 3 + stmts_weight (tstmt_trees l.body.now)
-
-abbrev pub decreases-add_turn : goal.decreases-add_turn
-decreases-add_turn l = 2 + stmts_weight (tstmt_trees l.body.now)
+decreases-add_for l = 1 + stmts_weight (tstmt_trees l.body.now)
 
 abbrev pub invariant-add_stmts-each : goal.invariant-add_stmts-each
 invariant-add_stmts-each l = record {

@@ -1,25 +1,21 @@
-use Rattle.std.proofs.lemmas.Result.{IfOk-weaker, err_from_is_err_and}
-use Rattle.vcp_typed.specs.TExprViews.{texpr_tree}
-use Rattle.flat_stmt.proofs.Turns.{assigned}
-use Rattle.std.proofs.Common.{◌+◌, subst, arith}
-use Rattle.std.specs.Prelude.{IfErr}
+use Rattle.std.proofs.Common.{◌+◌}
 use Rattle.vcp_typed.specs.Size.{expr_size}
-use Rattle.flat_stmt.specs.Parts.{Fills}
-use Rattle.flat_stmt.proofs.Rooms.{leaves_fills}
+use Rattle.vcp_typed.specs.TExprViews.{texpr_tree}
+use Rattle.flat_expr.specs.State.{reserved}
+use Rattle.flat_stmt.proofs.Rooms.{handed_refusal, last_made, none_more, one_less, one_last}
+use Rattle.flat_stmt.proofs.Turns.{assigned}
 use Rattle.flat_stmt.proofs.stmt.add_assignment.Goals as goal
 
-pub returns-clause-made : goal.returns-clause-made
-returns-clause-made c =
-    IfOk-weaker c.assign.result _ _
+pub returns-in_err-k : goal.returns-in_err-k
+returns-in_err-k c =
+    let n = expr_size (texpr_tree c.args.value.now) in
+    handed_refusal _ c.args.flat.now c.args.flat.now c.expr.new.self _ 0 n (1 + n) c.expr.result c.from_residual.result _ c.in_err-k.was
+    c.from_residual.ensures.1 (none_more (reserved c.args.flat.now)) (one_less n) c.expr.ensures.refuses
+
+pub returns : goal.returns
+returns c =
+    let n = expr_size (texpr_tree c.args.value.now) in
+    last_made _ _ c.args.flat.now c.expr.new.self c.assign.new.self _ n 1 (1 + n) c.assign.result c.in_ok-k.ensures.made.count (one_last n)
+    c.assign.ensures.made c.assign.ensures.refuses
     (λ u g. assigned c.laws_of_states.ensures c.args.flat.now c.expr.new.self c.assign.new.self
-    (texpr_tree c.args.value.now) c.args.slot c.in_ok-k.k c.in_ok-k.ensures.made g) c.assign.ensures.made
-
-pub returns-in_err-k-clause-fills : goal.returns-in_err-k-clause-fills
-returns-in_err-k-clause-fills c =
-    let q = err_from_is_err_and c.from_residual.result c.from_residual.ensures.1 in
-    let h = leaves_fills c.args.flat.now c.args.flat.now c.expr.new.self _ 0 (expr_size (texpr_tree c.args.value.now)) (1 + expr_size (texpr_tree c.args.value.now)) c.expr.result (omega arith) (omega arith) c.expr.ensures.refuses in
-    rw (q.1, q.2) (subst (λ r. IfErr r (λ e. Fills c.args.flat.now (1 + expr_size (texpr_tree c.args.value.now)) e)) c.in_err-k.was h)
-
-pub returns-clause-fills : goal.returns-clause-fills
-returns-clause-fills c =
-    leaves_fills c.args.flat.now c.expr.new.self c.assign.new.self _ (expr_size (texpr_tree c.args.value.now)) 1 (1 + expr_size (texpr_tree c.args.value.now)) c.assign.result c.in_ok-k.ensures.made.count (omega arith) c.assign.ensures.refuses
+    (texpr_tree c.args.value.now) c.args.slot c.in_ok-k.k c.in_ok-k.ensures.made g)
