@@ -1,10 +1,12 @@
 -- What is in a line after a step.
-use Rattle.std.proofs.Common.{◌≡◌, ℕ, List, [], ◌++◌, Option, Result, Ok, Err, OnErr, IsErr, ◌∙◌, refl}
+use Rattle.std.proofs.Common.{◌≡◌, ℕ, ◌+◌, ◌<◌, List, [], ◌∷◌, ◌++◌, length, take, get_or, flat_map, add-one, Option, Result, Ok, Err, OnErr, IsErr, ap, sym, ◌∙◌, refl}
+use Rattle.std.proofs.Math.Seq.{take-suc}
 use Rattle.std.proofs.lemmas.Bool.{false≢true}
-use Rattle.std.proofs.lemmas.List.{append-nil}
+use Rattle.std.proofs.lemmas.List.{append-nil, flat_map_more}
 use Rattle.vcp_outside.specs.declared.failed.Failed.{Failed}
 use Rattle.vcp_outside.specs.Written.{Writes}
-use Rattle.vcp_outside.specs.Gathering.{Gathered, IsGathered}
+use Rattle.vcp_outside.specs.Seen.{SinkSeen}
+use Rattle.vcp_outside.specs.Gathering.{Gathered, IsGathered, GathersTo}
 
 -- what was pending is written
 pub flushed : (start old new : Option (List ℕ)) (before f g : ℕ) (text pending : List ℕ) (line : Gathered) (r : Result (Unit {0}) Failed)
@@ -52,3 +54,12 @@ pub unchanged_on : {A T E : Type 0} (a b c : A) (r s : Result T E) → OnErr r (
 unchanged_on a b c (Ok v) s first failed second = tt
 unchanged_on a b c (Err e) (Ok v) first failed second = absurd (false≢true (failed refl))
 unchanged_on a b c (Err e) (Err f) first failed second = second ∙ first
+
+-- of the elements of a list one more is gathered
+pub gathered_next : {X : Type 0} (f : X → List ℕ) (xs : List X) (i : ℕ) (d : X) (old mid new : SinkSeen) (before between now : Gathered)
+    → i < length xs → GathersTo old mid before between (flat_map f (take i xs)) → GathersTo mid new between now (f (get_or xs i d))
+    → GathersTo old new before now (flat_map f (take (i + 1) xs))
+gathered_next f xs i d old mid new before between now inside so_far next start count text here =
+    let longer : take (i + 1) xs ≡ take i xs ++ get_or xs i d ∷ [] = rw add-one (take-suc xs i d inside) in
+    gathered_same (next start count (text ++ flat_map f (take i xs)) (so_far start count text here))
+    (ap (λ ys. text ++ flat_map f ys) longer ∙ sym (flat_map_more f text (take i xs) (get_or xs i d)))

@@ -1,7 +1,8 @@
 -- What was taken of a file, from what was read of it.
-use Rattle.std.proofs.Common.{◌≡◌, ◌≤◌, ◌⊎◌, inl, ℕ, List, ◌++◌, length, Option, Some, None, IsSome, IfSome, ◌∙◌, ap, refl, arith}
+use Rattle.std.proofs.Common.{◌≡◌, ◌≤◌, ◌⊎◌, inl, inr, ℕ, List, ◌++◌, length, Option, Some, None, IsSome, IfSome, ◌∙◌, ap, sym, subst, refl, arith}
 use Rattle.std.proofs.KnownBytes.{Consumes-trans, Consumes-kept}
 use Rattle.std.specs.Io.KnownBytes.{Consumes, Keeps}
+use Rattle.vcp_outside.specs.Counts.{Rose}
 use Rattle.vcp_outside.specs.Held.{Held}
 use Rattle.vcp_outside.specs.ReadAll.{TakesBetween}
 
@@ -34,3 +35,11 @@ takes_no_more most (Some held) name mid rest front Else reads kept high =
 pub whatever_held : {P : Held → Type 0} (held : Option Held) → ((h : Held) → P h) → IfSome held P
 whatever_held None f = tt
 whatever_held (Some h) f = f h
+
+-- files that broke in the last call broke since the first one
+pub broke_later : (held mid : Option Held) (name : List ℕ) (old before now : ℕ) → held ≡ mid → old ≤ before → IfSome mid (λ h. Rose before now)
+    → IfSome held (λ h. (h name ≡ None) ⊎ Rose old now)
+broke_later None mid name old before now same later rose = tt
+broke_later (Some h) mid name old before now same later rose =
+    let broke : Rose before now = subst (λ m. IfSome m (λ h. Rose before now)) (sym same) rose in
+    inr (omega (arith, later, broke))

@@ -1,6 +1,6 @@
-use Rattle.std.proofs.Common.{take, ◌+◌, arith, inr, refl}
+use Rattle.std.proofs.Common.{take, ◌+◌, ◌∙◌, arith, inr, refl, sym}
 use Rattle.std.proofs.lemmas.Grind.{common_steps}
-use Rattle.vcp_outside.proofs.Taken.{takes_more, takes_no_more, whatever_held}
+use Rattle.vcp_outside.proofs.Taken.{takes_more, takes_no_more, whatever_held, broke_later}
 use Rattle.vcp_outside.proofs.reading.read_all_counting.Goals as goal
 
 -- ---- the file couldn't be begun
@@ -68,3 +68,65 @@ returns-in-Err-extend_from_slice-clause-broken_later g c = omega (arith, c.readi
 
 pub returns-in-Err-extend_from_slice-clause-broken_capped : goal.returns-in-Err-extend_from_slice-clause-broken_capped
 returns-in-Err-extend_from_slice-clause-broken_capped g c = λ within. c.read_counted.ensures.broken_capped (c.reading.invariant.broken_capped within)
+
+pub returns-in-Err-clause-failed : goal.returns-in-Err-clause-failed
+returns-in-Err-clause-failed g c = λ is. c.in-Err.ensures.cause.failed
+
+pub returns-in-Err-clause-stayed : goal.returns-in-Err-clause-stayed
+returns-in-Err-clause-stayed g c = λ differs. absurd (differs refl)
+
+pub returns-in-Err-clause-held : goal.returns-in-Err-clause-held
+returns-in-Err-clause-held g c = c.begin.ensures.held
+
+pub returns-in-Err-clause-later : goal.returns-in-Err-clause-later
+returns-in-Err-clause-later g c = c.in-Err.ensures.cause.later
+
+pub returns-in-Err-clause-capped : goal.returns-in-Err-clause-capped
+returns-in-Err-clause-capped g c = c.in-Err.ensures.cause.capped
+
+pub returns-in-Err-clause-broken_later : goal.returns-in-Err-clause-broken_later
+returns-in-Err-clause-broken_later g c = c.begin.ensures.broken_later
+
+pub returns-in-Err-clause-broken_capped : goal.returns-in-Err-clause-broken_capped
+returns-in-Err-clause-broken_capped g c = c.begin.ensures.broken_capped
+
+pub returns-in-Err-read_counted-clause-reads : goal.returns-in-Err-read_counted-clause-reads
+returns-in-Err-read_counted-clause-reads g c =
+    broke_later _ _ _ _ _ _ (sym c.reading.invariant.held) c.reading.invariant.broken_later c.in-Err-read_counted.ensures.only_broken
+
+pub returns-in-Err-read_counted-clause-failed : goal.returns-in-Err-read_counted-clause-failed
+returns-in-Err-read_counted-clause-failed g c = λ is.
+    omega (arith, c.reading.invariant.stayed, c.in-Err-read_counted.ensures.cause.failed)
+
+pub returns-in-Err-read_counted-clause-stayed : goal.returns-in-Err-read_counted-clause-stayed
+returns-in-Err-read_counted-clause-stayed g c = λ differs. absurd (differs refl)
+
+pub returns-in-Err-read_counted-clause-held : goal.returns-in-Err-read_counted-clause-held
+returns-in-Err-read_counted-clause-held g c = c.read_counted.ensures.held ∙ c.reading.invariant.held
+
+pub returns-in-Ok-eq0-clause-stayed : goal.returns-in-Ok-eq0-clause-stayed
+returns-in-Ok-eq0-clause-stayed g c = λ differs. c.in-Ok-eq0.ensures.cause.stayed ∙ c.reading.invariant.stayed
+
+pub returns-in-Ok-eq0-clause-held : goal.returns-in-Ok-eq0-clause-held
+returns-in-Ok-eq0-clause-held g c = c.read_counted.ensures.held ∙ c.reading.invariant.held
+
+pub returns-in-Err-extend_from_slice-clause-stayed : goal.returns-in-Err-extend_from_slice-clause-stayed
+returns-in-Err-extend_from_slice-clause-stayed g c = λ differs. c.in-Ok-read_counted.ensures.cause.stayed ∙ c.reading.invariant.stayed
+
+pub returns-in-Err-extend_from_slice-clause-held : goal.returns-in-Err-extend_from_slice-clause-held
+returns-in-Err-extend_from_slice-clause-held g c = c.read_counted.ensures.held ∙ c.reading.invariant.held
+
+pub returns-in-Err-extend_from_slice-clause-reads : goal.returns-in-Err-extend_from_slice-clause-reads
+returns-in-Err-extend_from_slice-clause-reads g c = whatever_held _ (λ h. tt)
+
+pub returns-clause-stayed : goal.returns-clause-stayed
+returns-clause-stayed g c = λ differs. c.reading.invariant.stayed
+
+pub returns-clause-held : goal.returns-clause-held
+returns-clause-held g c = c.reading.invariant.held
+
+pub returns-clause-broken_later : goal.returns-clause-broken_later
+returns-clause-broken_later g c = c.reading.invariant.broken_later
+
+pub returns-clause-broken_capped : goal.returns-clause-broken_capped
+returns-clause-broken_capped g c = c.reading.invariant.broken_capped
