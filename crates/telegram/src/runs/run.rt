@@ -18,7 +18,6 @@ use vcp_base::Memory;
 use vcp_outside::Sink;
 
 // How many cycles there are.
-#[tactic(auto, using(crate::proofs::Counting::cycle_more, crate::proofs::Counting::cycle_same, crate::proofs::Counting::none_left))]
 fn cycles_of(events: &Events) -> usize
     ensures { result ≡ length (sent_in events.now) }
 {

@@ -72,7 +72,6 @@ fn wire(line: u32, numbers: &Row) -> Result<Wire, WireFault>
 }
 
 /// The wire of a line of this number.
-#[tactic(auto, using(crate::proofs::Heads::head_is, crate::proofs::Heads::head_refused))]
 pub fn head(alloc: Global, line: u32, text: &[u8]) -> Result<Wire, WireFault>
     ensures wire { IfOk result (λ w. head_of line (words_of text.now) ≡ Ok w) }
     ensures refusal { IfErr result (λ f. f ≢ refusal.Memory → head_of line (words_of text.now) ≡ Err f) }

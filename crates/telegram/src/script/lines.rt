@@ -92,7 +92,6 @@ fn delivery(wire: &Wire, begun: u32, line: u32, numbers: &Row) -> Result<Event, 
 }
 
 /// The event of a line of this number, after so many cycles.
-#[tactic(auto, using(crate::proofs::LinesFit::cycle_is, crate::proofs::LinesFit::cycle_of_fits, crate::proofs::LinesFit::delivery_is, crate::proofs::LinesFit::neither))]
 pub fn event(
     alloc: Global,
     wire: &Wire,

@@ -1,4 +1,5 @@
 use Rattle.std.proofs.Common.{◌≤◌, ◌+◌, ◌*◌, ◌∙◌, ℕ, ℤ, ◌+ℤ◌, List, length, slice_get, Some, Err, arith, refl, ap, sym, subst}
+use Rattle.std.proofs.Math.Nat.{le_refl, le_trans}
 use Rattle.std.proofs.lemmas.List.{drop_all}
 use Rattle.std.proofs.lemmas.Result.{err_from_is_err_and}
 use Rattle.coded_unit.specs.Words.{nearest_word}
@@ -30,7 +31,7 @@ events-init g c =
           subst (λ (s : State). SoFar w es before before old old 0 0 0 s c.in_ok-words.words.items) (sym c.new-receiver.ensures)
           (subst (λ (l : List ℤ). SoFar w es before before old old 0 0 0 (nothing_heard w.listen w.age w.seed w.step) l) (sym c.in_ok-words.ensures.empty)
           (so_far_none w es before old c.requires.sent));
-      faults = omega arith;
+      faults = le_refl _;
       stayed = refl;
       room = c.in_ok-words.ensures.room ∙ ap (λ (n : ℕ). n * w.senders) c.cycles_of.ensures;
     }
@@ -44,7 +45,7 @@ send_all-requires-clause-cycle g c =
     within c.args.script.now.wire c.args.script.now.events (g.U.Unit.seen c.args.unit.now) (g.U.Unit.seen c.events.unit) (g.O.Sink.seen c.args.out.now)
     (g.O.Sink.seen c.events.out) c.events.i c.events.begun c.events.delivered c.events.receiver c.events.words.items c.events.invariant.so_far
     c.in-Cycle.values there in
-    omega (arith, below, c.requires.events.few)
+    le_trans below c.requires.events.few
 
 pub send_all-requires-clause-values : goal.send_all-requires-clause-values
 send_all-requires-clause-values g c =
@@ -113,7 +114,7 @@ word_at-requires-clause-number g c =
     c.in-Deliver.line c.in-Deliver.id c.in-Deliver.number c.in-Deliver.alter (c.at.ensures ∙ ap Some c.in-Deliver.is) in
     let few =
     few_cycles w es before now old new c.events.i c.events.begun c.events.delivered c.events.receiver c.events.words.items c.events.invariant.so_far in
-    omega (arith, sent, few, c.requires.events.few)
+    le_trans (le_trans sent few) c.requires.events.few
 
 pub word_at-requires-clause-id : goal.word_at-requires-clause-id
 word_at-requires-clause-id g c =
@@ -150,7 +151,7 @@ take-receipt-requires g c =
     c.in-Deliver.line c.in-Deliver.id c.in-Deliver.number c.in-Deliver.alter (c.at.ensures ∙ ap Some c.in-Deliver.is) in
     let few =
     few_cycles w es before now old new c.events.i c.events.begun c.events.delivered c.events.receiver c.events.words.items c.events.invariant.so_far in
-    omega (arith, sent, few, c.requires.events.few)
+    le_trans (le_trans sent few) c.requires.events.few
 
 pub returns-in_err-receipt_line-in-Deliver-clause-runs : goal.returns-in_err-receipt_line-in-Deliver-clause-runs
 returns-in_err-receipt_line-in-Deliver-clause-runs g c =
@@ -216,7 +217,7 @@ events-preserved g c =
           let later = t.receipt_line.ensures.cause.later in
           record {
             so_far = rw (t.out-is, t.unit-is, t.words-is, t.receiver-is, t.begun-is, t.delivered-is, t.take-receipt.ensures.receiver) next;
-            faults = rw t.out-is (omega (arith, invariant.faults, later));
+            faults = rw t.out-is (le_trans invariant.faults later);
             stayed = rw t.out-is (t.in_ok-receipt_line-in-Deliver.ensures.cause.stayed ∙ invariant.stayed);
             room = rw t.words-is invariant.room;
           }
@@ -229,7 +230,7 @@ returns-in_err-end_line-clause-runs g c =
     let w = c.args.script.now.wire in
     let es = c.args.script.now.events in
     let p = err_from_is_err_and c.from_residual-in_err-end_line.result c.from_residual-in_err-end_line.ensures.1 in
-    let past : length es ≤ c.events.i = omega (arith, c.events-test.false, c.len-i-end.ensures) in
+    let past : length es ≤ c.events.i = subst (λ n. n ≤ c.events.i) c.len-i-end.ensures c.events-test.false in
     rw (p.1, p.2)
     (end_failed w es (g.U.Unit.seen c.args.unit.now) (g.U.Unit.seen c.events.unit) (g.O.Sink.seen c.args.out.now) (g.O.Sink.seen c.events.out)
     c.events.i c.events.begun c.events.delivered c.events.receiver c.events.words.items c.events.invariant.so_far c.events.invariant.faults
@@ -240,7 +241,7 @@ pub returns-clause-runs : goal.returns-clause-runs
 returns-clause-runs g c =
     let w = c.args.script.now.wire in
     let es = c.args.script.now.events in
-    let past : length es ≤ c.events.i = omega (arith, c.events-test.false, c.len-i-end.ensures) in
+    let past : length es ≤ c.events.i = subst (λ n. n ≤ c.events.i) c.len-i-end.ensures c.events-test.false in
     complete w es (g.U.Unit.seen c.args.unit.now) (g.U.Unit.seen c.events.unit) (g.O.Sink.seen c.args.out.now) (g.O.Sink.seen c.events.out)
     c.events.i c.events.begun c.events.delivered c.events.receiver c.events.words.items c.events.invariant.so_far c.events.invariant.faults
     (c.receipts_follow_the_equation.ensures.run w es c.requires.wire c.requires.events) (drop_all c.events.i es past) (g.O.Sink.seen c.end_line.new.out)
@@ -275,21 +276,21 @@ returns-clause-stayed g c = λ other. c.in_ok-end_line.ensures.cause.stayed ∙ 
 -- ---- that count never falls
 
 pub returns-in_err-words-clause-later : goal.returns-in_err-words-clause-later
-returns-in_err-words-clause-later g c = omega arith
+returns-in_err-words-clause-later g c = le_refl _
 
 pub returns-in_err-unsent_line-in-Cycle-clause-later : goal.returns-in_err-unsent_line-in-Cycle-clause-later
 returns-in_err-unsent_line-in-Cycle-clause-later g c =
-    omega (arith, c.events.invariant.faults, c.in_err-unsent_line-in-Cycle.ensures.cause.later)
+    le_trans c.events.invariant.faults c.in_err-unsent_line-in-Cycle.ensures.cause.later
 
 pub returns-in-Some-clause-later : goal.returns-in-Some-clause-later
-returns-in-Some-clause-later g c = omega (arith, c.events.invariant.faults, c.in_ok-unsent_line-in-Cycle.ensures.cause.later)
+returns-in-Some-clause-later g c = le_trans c.events.invariant.faults c.in_ok-unsent_line-in-Cycle.ensures.cause.later
 
 pub returns-in_err-receipt_line-in-Deliver-clause-later : goal.returns-in_err-receipt_line-in-Deliver-clause-later
 returns-in_err-receipt_line-in-Deliver-clause-later g c =
-    omega (arith, c.events.invariant.faults, c.in_err-receipt_line-in-Deliver.ensures.cause.later)
+    le_trans c.events.invariant.faults c.in_err-receipt_line-in-Deliver.ensures.cause.later
 
 pub returns-in_err-end_line-clause-later : goal.returns-in_err-end_line-clause-later
-returns-in_err-end_line-clause-later g c = omega (arith, c.events.invariant.faults, c.in_err-end_line.ensures.cause.later)
+returns-in_err-end_line-clause-later g c = le_trans c.events.invariant.faults c.in_err-end_line.ensures.cause.later
 
 pub returns-clause-later : goal.returns-clause-later
-returns-clause-later g c = omega (arith, c.events.invariant.faults, c.in_ok-end_line.ensures.cause.later)
+returns-clause-later g c = le_trans c.events.invariant.faults c.in_ok-end_line.ensures.cause.later
