@@ -1,4 +1,5 @@
 use Rattle.std.proofs.Common.{◌≡◌, ◌+◌, ◌++◌, ◌∷◌, [], length, length-append, slice_get, Some, ap, sym, subst, ◌∙◌, arith}
+use Rattle.std.proofs.lemmas.Result.{IfOk-from_err}
 use Rattle.weight_audit.specs.Audit.{IsAudit, IsWhole}
 use Rattle.weight_audit.proofs.Auditing.{audit_of, output_more, is_whole, is_audit}
 use Rattle.weight_audit.proofs.weigh.all_weights.Goals as goal
@@ -34,3 +35,12 @@ returns c =
     let is = subst (λ n. IsAudit g c.args.horizon (audit_of n c.args.horizon c.outputs.outputs.items)) (sym c.len-count.ensures.count)
     (is_audit g c.args.horizon c.outputs.outputs.items many c.outputs.invariant.all) in
     rw c.new.ensures is
+
+pub returns-in_err-outputs : goal.returns-in_err-outputs
+returns-in_err-outputs c = IfOk-from_err c.from_residual.result _ c.from_residual.ensures.0
+
+pub returns-in_err-of_output : goal.returns-in_err-of_output
+returns-in_err-of_output c = IfOk-from_err c.from_residual-in_err-of_output.result _ c.from_residual-in_err-of_output.ensures.0
+
+pub returns-in_err-push : goal.returns-in_err-push
+returns-in_err-push c = IfOk-from_err c.from_residual-in_err-push.result _ c.from_residual-in_err-push.ensures.0

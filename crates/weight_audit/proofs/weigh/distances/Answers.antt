@@ -1,5 +1,8 @@
-use Rattle.std.proofs.Common.{◌≡◌, ◌+◌, suc, ◌++◌, ◌∷◌, [], length, length-append, slice_get, Some, ap, subst, ◌∙◌, arith}
-use Rattle.weight_audit.proofs.Auditing.{one_more}
+use Rattle.std.proofs.Common.{◌≡◌, ◌+◌, suc, List, ◌++◌, ◌∷◌, [], length, length-append, slice_get, Some, ap, sym, subst, ◌∙◌, arith}
+use Rattle.std.proofs.Math.Nat.{le_of_eq}
+use Rattle.std.proofs.lemmas.Result.{IfOk-from_err}
+use Rattle.weight_audit.specs.Audit.{Distance}
+use Rattle.weight_audit.proofs.Auditing.{none_more, one_more}
 use Rattle.weight_audit.proofs.weigh.distances.Goals as goal
 
 pub distance_before-requires-clause-reached : goal.distance_before-requires-clause-reached
@@ -17,3 +20,33 @@ borders-preserved c =
           (c.in_ok-next.ensures c.args.out c.borders.after (i.each c.borders.after c.after.result.now c.after.ensures)) b d
           (subst (λ xs. slice_get xs b ≡ Some d) c.in_ok-push-2.ensures e);
     }
+
+pub borders-init : goal.borders-init
+borders-init c =
+    let first = c.in_ok-first.first in
+    let is = c.in_ok-push.ensures ∙ ap (λ (ds : List Distance). ds ++ first ∷ []) c.in_ok-distances.ensures in
+    record {
+      many = ap length is;
+      each = λ b d e. none_more c.args.graph.now c.args.out first c.in_ok-first.ensures b d (subst (λ xs. slice_get xs b ≡ Some d) is e);
+    }
+
+pub after-requires : goal.after-requires
+after-requires c = le_of_eq (sym c.borders.invariant.many)
+
+pub distance_before-requires-clause-weights : goal.distance_before-requires-clause-weights
+distance_before-requires-clause-weights c = (c.borders.invariant.each c.borders.after c.after.result.now c.after.ensures).weights.many
+
+pub returns-in_err-distances : goal.returns-in_err-distances
+returns-in_err-distances c = IfOk-from_err c.from_residual.result _ c.from_residual.ensures.0
+
+pub returns-in_err-first : goal.returns-in_err-first
+returns-in_err-first c = IfOk-from_err c.from_residual-in_err-first.result _ c.from_residual-in_err-first.ensures.0
+
+pub returns-in_err-push : goal.returns-in_err-push
+returns-in_err-push c = IfOk-from_err c.from_residual-in_err-push.result _ c.from_residual-in_err-push.ensures.0
+
+pub returns-in_err-next : goal.returns-in_err-next
+returns-in_err-next c = IfOk-from_err c.from_residual-in_err-next.result _ c.from_residual-in_err-next.ensures.0
+
+pub returns-in_err-push-2 : goal.returns-in_err-push-2
+returns-in_err-push-2 c = IfOk-from_err c.from_residual-in_err-push-2.result _ c.from_residual-in_err-push-2.ensures.0
