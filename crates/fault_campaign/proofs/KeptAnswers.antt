@@ -1,6 +1,6 @@
 -- KeptAnswers: the answers of a run, and the words that are kept of them.
 use Rattle.std.proofs.Common.{◌≡◌, ◌≢◌, ℕ, zero, suc, ◌+◌, ◌*◌, ◌<◌, ◌≤◌, true, false, List, [], ◌∷◌, ◌++◌, length, take, drop, slice_get, slice_index_or, Option, Some, None, ℤ, refl, sym, ap, subst, ◌∙◌, arith}
-use Rattle.std.proofs.lemmas.List.{append-nil, length-drop, take-append-le, drop-append-le}
+use Rattle.std.proofs.lemmas.List.{append-nil, length-append, length-drop, take-append-le, drop-append-le}
 use Rattle.vcp_base.specs.declared.kind.StopKind.{StopKind}
 use Rattle.vcp_base.specs.declared.kind.StopKind.TheVariants as stop
 use Rattle.coded_unit.specs.declared.call.Answer.{Answer}
@@ -90,6 +90,27 @@ front_ends (answer.Range ∷ answers) zero is = refl
 front_ends (answer.DivZero ∷ answers) zero is = refl
 front_ends (answer.Operand ∷ answers) zero is = refl
 front_ends (a ∷ answers) (suc k) is = front_ends answers k is
+
+-- ---- how many words are kept of a cycle, and room for them
+
+pub nothing_more : (n : ℕ) → n ≡ n + 0
+nothing_more n = omega arith
+
+pub one_counted : (len old k : ℕ) → len ≡ old + k → len + 1 ≡ old + (k + 1)
+one_counted len old k is = omega (arith, is)
+
+pub whole_drop : (answers : List Answer) → answers ≡ drop 0 answers
+whole_drop [] = refl
+whole_drop (a ∷ answers) = refl
+
+pub room_next : (len old k n cap now : ℕ) → len ≡ old + k → k < n → old + n ≤ cap → cap ≤ now → len < now
+room_next len old k n cap now is below room more = omega (arith, is, below, room, more)
+
+pub fewer_words : (old words front : List ℤ) (k n : ℕ) → old ++ front ≡ words → length words ≡ length old + k → k < n → length front < n
+fewer_words old words front k n is count below = omega (arith, ap length is, length-append old front, count, below)
+
+pub all_words : (old words front : List ℤ) (k n : ℕ) → old ++ front ≡ words → length words ≡ length old + k → n ≤ k → k ≤ n → length front ≡ n
+all_words old words front k n is count past few = omega (arith, ap length is, length-append old front, count, past, few)
 
 -- ---- the cycles that are kept
 

@@ -15,7 +15,7 @@ use Rattle.coded_machine.specs.CycleEnds.{end_of, end_or, first_outside, first_r
 use Rattle.coded_machine.specs.Honest.{stop_answer}
 use Rattle.coded_machine.specs.Laws.{RunLaws}
 use Rattle.coded_machine.specs.Runs.{AllCycles, Outcome, RunSoFar, Turn, calls_over}
-use Rattle.coded_machine.specs.State.{State}
+use Rattle.coded_machine.specs.State.{State, fresh}
 use Rattle.fault_campaign.specs.Kept.{front_words, stop_kind}
 use Rattle.fault_campaign.specs.References.{RanOver, words_answered, kept_cycles}
 use Rattle.fault_campaign.proofs.KeptAnswers.{words_split, words_counted, whole_words, stop_split, stop_there, kept_more, kept_whole, kept_stop, calls_front, all_ended}
@@ -153,3 +153,50 @@ pub width_there : (rows : List (List ℤ)) (n i : ℕ) (row : List ℤ) → All 
 width_there rows n i row all there =
     subst (λ (r : List ℤ). length r ≡ n) (get_or_from_slice_get rows i row row there)
     (All-get_or (λ (r : List ℤ). length r ≡ n) rows i row (slice_get_within rows i row there) all)
+
+-- ---- room for the words, and the rows that are left
+
+row_words : (i size : ℕ) → (i + 1) * size ≡ i * size + size
+row_words i size = grind arith
+
+fewer : (m n size : ℕ) → m ≤ n → m * size ≤ n * size
+fewer zero n size h = let none : 0 * size ≡ 0 = grind arith in omega (arith, none)
+fewer (suc m) zero size h = absurd (omega (arith, h))
+fewer (suc m) (suc n) size h =
+    let before = fewer m n size (omega (arith, h)) in
+    let one : suc m * size ≡ m * size + size = grind arith in
+    let other : suc n * size ≡ n * size + size = grind arith in
+    omega (arith, before, one, other)
+
+-- of words of so many whole cycles there is room for those of one more
+pub room_for : (len size i rows cap : ℕ) → len ≡ i * size → i < rows → rows * size ≤ cap → len + size ≤ cap
+room_for len size i rows cap is below room =
+    let most = fewer (i + 1) rows size (omega (arith, below)) in omega (arith, is, room, most, row_words i size)
+
+pub flat_more : (len size i more : ℕ) → len ≡ i * size → more ≡ size → len + more ≡ (i + 1) * size
+flat_more len size i more is same = omega (arith, is, same, row_words i size)
+
+pub nothing_flat : (words : List ℤ) (size : ℕ) → words ≡ [] → length words ≡ 0 * size
+nothing_flat words size none = let nothing : 0 * size ≡ 0 = grind arith in omega (arith, ap length none, nothing)
+
+take_few : (i : ℕ) (rows : List (List ℤ)) → length (take i rows) ≤ i
+take_few zero [] = omega arith
+take_few zero (row ∷ rows) = omega arith
+take_few (suc i) [] = omega arith
+take_few (suc i) (row ∷ rows) = omega (arith, take_few i rows)
+
+-- before a row the cycles are fewer than a run may have
+pub cycles_below : (rows : List (List ℤ)) (i cycles kept most : ℕ) → length (take i rows) ≡ kept → cycles ≡ kept → i < length rows → length rows ≤ most
+    → cycles < most
+cycles_below rows i cycles kept most taken count below few = omega (arith, take_few i rows, taken, count, below, few)
+
+none_taken : (rows : List (List ℤ)) → [] ≡ take 0 rows
+none_taken [] = refl
+none_taken (row ∷ rows) = refl
+
+-- before the first cycle
+pub run_first : (laws : RunLaws) (rows : List (List ℤ)) (words : List ℤ) (m : State) (x : Option (List Entry)) (a : ℕ) → m ≡ fresh m.graph m.table
+    → RunSoFar m.graph m.table (take 0 rows) (kept_cycles (length m.graph.operations) 0 words None) m x x a a
+run_first laws rows words m x a is =
+    subst (λ (rs : List (List ℤ)). RunSoFar m.graph m.table rs [] m x x a a) (none_taken rows)
+    (subst (λ (s : State). RunSoFar m.graph m.table [] [] s x x a a) (sym is) (laws.starts m.graph m.table x a))

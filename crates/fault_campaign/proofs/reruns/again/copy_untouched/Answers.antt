@@ -1,4 +1,5 @@
 use Rattle.std.proofs.Common.{◌∷◌, [], sym, subst, ap, ◌∙◌, arith, get_or, length, refl, slice_get}
+use Rattle.std.proofs.Math.Nat.{le_trans}
 use Rattle.std.proofs.lemmas.List.{length-append}
 use Rattle.coded_unit.specs.declared.call.Answer.TheVariants as answer
 use Rattle.coded_machine.specs.Calls.{AllWords}
@@ -32,5 +33,5 @@ words-preserved c =
       there = i.there;
       within = i.within;
       few = omega (arith, longer, i.count, i.within, c.words-test.true);
-      room = omega (arith, i.room, c.append.ensures.capacity);
+      room = le_trans i.room c.append.ensures.capacity;
     }

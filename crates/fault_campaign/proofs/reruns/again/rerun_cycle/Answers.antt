@@ -1,4 +1,5 @@
 use Rattle.std.proofs.Common.{◌≡◌, ◌+◌, ℕ, ◌∷◌, ◌++◌, [], List, Option, sym, subst, ap, ◌∙◌, arith, length, slice_get}
+use Rattle.std.proofs.Math.Nat.{le_trans}
 use Rattle.std.proofs.lemmas.List.{length-append}
 use Rattle.coded_unit.specs.declared.call.Answer.{Answer}
 use Rattle.coded_machine.specs.Calls.{AllWords}
@@ -21,7 +22,7 @@ operations-init g c =
           (subst (λ (own : List Answer). GoesOver b own now) c.requires.empty over.over);
       words = over.words (subst AllWords (sym c.requires.empty) tt);
       few = over.few;
-      room = omega (arith, over.capacity);
+      room = over.capacity;
       all = c.len-count.ensures.count;
     }
 
@@ -51,7 +52,7 @@ operations-preserved g c =
           (subst (λ (us : List Answer). GoesOver b us c.copy_untouched-in-operations.new.own.items) c.append.ensures.items over.over);
       words = over.words (subst AllWords (sym c.append.ensures.items) (words_more own a i.words word));
       few = over.few;
-      room = omega (arith, i.room, c.append.ensures.capacity, over.capacity);
+      room = le_trans (le_trans i.room c.append.ensures.capacity) over.capacity;
       all = i.all;
     }
 
@@ -118,7 +119,7 @@ returns-then-not-is_word-clause-few g c =
     omega (arith, longer, c.operations.invariant.all, c.len.ensures, c.operations-test.true)
 
 pub returns-then-not-is_word-clause-capacity : goal.returns-then-not-is_word-clause-capacity
-returns-then-not-is_word-clause-capacity g c = omega (arith, c.operations.invariant.room, c.append.ensures.capacity)
+returns-then-not-is_word-clause-capacity g c = le_trans c.operations.invariant.room c.append.ensures.capacity
 
 pub copy_untouched-requires-in-operations-clause-few : goal.copy_untouched-requires-in-operations-clause-few
 copy_untouched-requires-in-operations-clause-few g c =

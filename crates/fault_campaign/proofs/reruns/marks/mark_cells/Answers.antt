@@ -1,4 +1,5 @@
 use Rattle.std.proofs.Common.{◌≡◌, ℕ, ◌+◌, ◌++◌, ◌∷◌, [], Bool, List, sym, ap, ◌∙◌, arith, drop, get_or, length, map}
+use Rattle.std.proofs.Math.Nat.{le_trans}
 use Rattle.std.proofs.lemmas.List.{append_assoc, append-nil, length-append}
 use Rattle.fault_campaign.specs.Touched.{mark}
 use Rattle.fault_campaign.proofs.ListsOfReruns.{drop_behind, drop_read}
@@ -21,7 +22,7 @@ cells-preserved c =
           ∙ (ap (λ (b : Bool). marks ++ b ∷ later) told
           ∙ (sym (append_assoc marks (c.mark.result ∷ []) later) ∙ ap (λ (ms : List Bool). ms ++ later) (sym c.append.ensures.items))));
       marked = ap length c.append.ensures.items ∙ (length-append marks (c.mark.result ∷ []) ∙ omega (arith, i.marked));
-      room = omega (arith, i.room, c.append.ensures.capacity);
+      room = le_trans i.room c.append.ensures.capacity;
       stores = i.stores;
     }
 

@@ -1,4 +1,5 @@
 use Rattle.std.proofs.Common.{◌≡◌, ◌∷◌, [], false, List, Bool, ℕ, sym, subst, ap, ◌∙◌, arith, length}
+use Rattle.std.proofs.Math.Nat.{le_trans}
 use Rattle.std.proofs.lemmas.List.{length-append}
 use Rattle.fault_script.specs.Changes.{acts_of}
 use Rattle.fault_campaign.specs.Touched.{BeginMarks, mark}
@@ -25,5 +26,5 @@ front-preserved c =
       none = subst (λ (ms : List Bool). (k : ℕ) → mark ms k ≡ false) (sym c.append.ensures.items) (none_more marks i.none);
       marked = ap length c.append.ensures.items ∙ (longer ∙ omega (arith, i.marked));
       within = i.within;
-      room = omega (arith, i.room, c.append.ensures.capacity);
+      room = le_trans i.room c.append.ensures.capacity;
     }

@@ -1,4 +1,5 @@
 use Rattle.std.proofs.Common.{◌≡◌, ◌+◌, ◌++◌, ◌∷◌, [], Bool, List, ℕ, sym, subst, ap, ◌∙◌, arith, drop, length}
+use Rattle.std.proofs.Math.Nat.{le_trans}
 use Rattle.std.proofs.lemmas.List.{length-append}
 use Rattle.op_graph.specs.declared.op.Op.{Op}
 use Rattle.fault_script.specs.Changes.{acts_of}
@@ -43,7 +44,7 @@ operations-preserved c =
           ∙ (ap (λ (b : Bool). given_marks other acts cells (marks ++ b ∷ []) (k + 1) rest) told
           ∙ ap (λ (ms : List Bool). given_marks other acts cells ms (k + 1) rest) (sym c.append.ensures.items)));
       marked = ap length c.append.ensures.items ∙ (length-append marks (c.touched-marked.result ∷ []) ∙ omega (arith, i.marked));
-      room = omega (arith, i.room, c.append.ensures.capacity);
+      room = le_trans i.room c.append.ensures.capacity;
       all = i.all;
     }
 

@@ -1,4 +1,5 @@
-use Rattle.std.proofs.Common.{[], sym, ◌∙◌, arith}
+use Rattle.std.proofs.Common.{[], sym, ◌∙◌}
+use Rattle.std.proofs.Math.Nat.{le_trans}
 use Rattle.std.proofs.lemmas.Option.{get_or_from_slice_get}
 use Rattle.fault_campaign.specs.Begun.{answers_in}
 use Rattle.fault_campaign.specs.References.{KeptRun}
@@ -13,7 +14,7 @@ copy_answers-requires c =
     let few =
     whole_few r.graph.operations other
     (whole_there r.graph r.table 0 r.rows r.answers c.args.n other c.cycles-sound.ensures.sound.5 c.cycle-answers.ensures) in
-    omega (arith, few, c.requires.room)
+    le_trans few c.requires.room
 
 pub returns-clause-items : goal.returns-clause-items
 returns-clause-items c =

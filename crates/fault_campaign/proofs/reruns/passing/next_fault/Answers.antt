@@ -1,4 +1,5 @@
-use Rattle.std.proofs.Common.{false, refl, ◌∙◌, arith}
+use Rattle.std.proofs.Common.{false, refl, ◌∙◌}
+use Rattle.std.proofs.Math.Nat.{le_trans}
 use Rattle.fault_campaign.proofs.Acts.{acts_passed}
 use Rattle.fault_campaign.proofs.reruns.passing.next_fault.Goals as goal
 
@@ -8,8 +9,8 @@ faults-preserved c =
     let found = c.earlier-next.ensures in
     record {
       from = found.from;
-      within = omega (arith, found.within, i.within);
+      within = le_trans found.within i.within;
       passed = λ m k above below.
-          i.passed m k above (omega (arith, below, found.within))
+          i.passed m k above (le_trans below found.within)
           ∙ acts_passed c.args.group.now c.faults.i m c.at-fault.result false c.at-fault.ensures (found.passed m above below) refl k;
     }

@@ -1,4 +1,5 @@
 use Rattle.std.proofs.Common.{◌≡◌, ℕ, ◌+◌, ◌++◌, ◌∷◌, [], ℤ, List, sym, ap, ◌∙◌, arith, drop, get_or, length, map}
+use Rattle.std.proofs.Math.Nat.{le_trans}
 use Rattle.std.proofs.lemmas.List.{append_assoc, append-nil, length-append}
 use Rattle.coded_machine.specs.Calls.{word_at}
 use Rattle.fault_campaign.specs.Begun.{answers_in}
@@ -22,7 +23,7 @@ cells-preserved c =
           ∙ (ap (λ (b : ℤ). marks ++ b ∷ later) told
           ∙ (sym (append_assoc marks (c.other_word.result ∷ []) later) ∙ ap (λ (ms : List ℤ). ms ++ later) (sym c.append.ensures.items))));
       stored = ap length c.append.ensures.items ∙ (length-append marks (c.other_word.result ∷ []) ∙ omega (arith, i.stored));
-      room = omega (arith, i.room, c.append.ensures.capacity);
+      room = le_trans i.room c.append.ensures.capacity;
       stores = i.stores;
     }
 

@@ -1,4 +1,5 @@
-use Rattle.std.proofs.Common.{◌≤◌, vec_capacity, List, Bool, sym, subst, ap, ◌∙◌, arith, length}
+use Rattle.std.proofs.Common.{◌≤◌, vec_capacity, List, Bool, sym, subst, ap, ◌∙◌, length}
+use Rattle.std.proofs.Math.Nat.{le_trans}
 use Rattle.fault_script.specs.Changes.{acts_of}
 use Rattle.fault_campaign.specs.Begun.{answers_in}
 use Rattle.fault_campaign.specs.Touched.{StaysMarked, cycle_marks}
@@ -16,7 +17,7 @@ returns-clause-room c =
     record {
       own = room.own;
       past = room.past;
-      touched = omega (arith, room.touched, c.mark_operations.ensures.capacity);
+      touched = le_trans room.touched c.mark_operations.ensures.capacity;
       past_held = room.past_held;
       cell_marks = subst (λ v. length g.stores ≤ vec_capacity v) (sym c.swap.ensures.x_after) room.marked_by;
       marked_by = subst (λ v. length g.stores ≤ vec_capacity v) (sym c.swap.ensures.y_after) room.cell_marks;

@@ -1,4 +1,5 @@
 use Rattle.std.proofs.Common.{sym, ap, ◌∙◌, arith}
+use Rattle.std.proofs.Math.Nat.{le_trans}
 use Rattle.fault_script.specs.Changes.{acts_of}
 use Rattle.fault_campaign.proofs.Acts.{acts_beside, acts_in}
 use Rattle.fault_campaign.proofs.ListsOfReruns.{drop_behind}
@@ -10,9 +11,9 @@ faults-preserved c =
     let s = c.args.standing.now in
     let found = c.earlier_op-first.ensures in
     record {
-      within = omega (arith, found.within, i.within);
+      within = le_trans found.within i.within;
       passed = λ k below.
-          i.passed k (omega (arith, below, found.within))
+          i.passed k (le_trans below found.within)
           ∙ acts_beside s.faults.now c.faults.i s.cycle k c.fault_at-fault.result c.fault_at-fault.ensures (found.passed k below);
     }
 

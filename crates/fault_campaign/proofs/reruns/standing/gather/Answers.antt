@@ -1,4 +1,5 @@
 use Rattle.std.proofs.Common.{◌+◌, ◌++◌, ap, refl, sym, ◌∙◌, arith, drop}
+use Rattle.std.proofs.Math.Nat.{le_trans}
 use Rattle.std.proofs.lemmas.List.{append-nil}
 use Rattle.fault_script.specs.declared.act.Fault.{Fault}
 use Rattle.fault_campaign.specs.Standing.{faults_in}
@@ -16,7 +17,7 @@ faults-preserved c =
           ∙ (gathered n c.args.group.now c.faults.i f c.faults.faults.items _ c.at.ensures refl
           ∙ ap (λ xs. xs ++ faults_in n (drop (c.faults.i + 1) c.args.group.now)) (sym c.append_in.ensures.items));
       few = omega (arith, i.few, c.append_in.ensures.few);
-      room = omega (arith, i.room, c.append_in.ensures.capacity);
+      room = le_trans i.room c.append_in.ensures.capacity;
     }
 
 pub returns-clause-faults : goal.returns-clause-faults

@@ -1,0 +1,26 @@
+use Rattle.std.proofs.lemmas.Result.{IfOk-from_err}
+use Rattle.fault_campaign.proofs.reruns.reference.run_room.Goals as goal
+
+pub returns-in_err-inputs : goal.returns-in_err-inputs
+returns-in_err-inputs c = record {
+  inputs = IfOk-from_err c.from_residual.result _ c.from_residual.ensures.0;
+  outputs = IfOk-from_err c.from_residual.result _ c.from_residual.ensures.0;
+  empty = IfOk-from_err c.from_residual.result _ c.from_residual.ensures.0;
+  room = IfOk-from_err c.from_residual.result _ c.from_residual.ensures.0;
+}
+
+pub returns-in_err-outputs : goal.returns-in_err-outputs
+returns-in_err-outputs c = record {
+  inputs = IfOk-from_err c.from_residual-in_err-outputs.result _ c.from_residual-in_err-outputs.ensures.0;
+  outputs = IfOk-from_err c.from_residual-in_err-outputs.result _ c.from_residual-in_err-outputs.ensures.0;
+  empty = IfOk-from_err c.from_residual-in_err-outputs.result _ c.from_residual-in_err-outputs.ensures.0;
+  room = IfOk-from_err c.from_residual-in_err-outputs.result _ c.from_residual-in_err-outputs.ensures.0;
+}
+
+pub returns-in_err-words : goal.returns-in_err-words
+returns-in_err-words c = record {
+  inputs = IfOk-from_err c.from_residual-in_err-words.result _ c.from_residual-in_err-words.ensures.0;
+  outputs = IfOk-from_err c.from_residual-in_err-words.result _ c.from_residual-in_err-words.ensures.0;
+  empty = IfOk-from_err c.from_residual-in_err-words.result _ c.from_residual-in_err-words.ensures.0;
+  room = IfOk-from_err c.from_residual-in_err-words.result _ c.from_residual-in_err-words.ensures.0;
+}
