@@ -183,7 +183,6 @@ struct Doing {
 }
 
 /// One call through the faults.
-#[tactic(auto, using(crate::proofs::Carrying::one_call))]
 fn carried_out<U: Unit>(unit: &mut U, carried: &[Carried], call: &Call) -> Answer
     requires { Asked call.now }
     ensures performed { Performed (faults_of carried.now) (keeps_of carried.now) call.now result
