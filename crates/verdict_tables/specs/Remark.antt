@@ -1,13 +1,24 @@
 -- Remark: which image a script is for, by the remark in its first line.
-use Rattle.std.specs.Prelude.{ℕ, Bool, true, ◌&&◌, cond, List, [], ◌∷◌, bytes_eq, codes, Option, Some, None}
+use Rattle.std.specs.Prelude.{ℕ, Bool, true, cond, List, [], ◌∷◌, bytes_eq, codes, drop, Option, Some, None}
 use Rattle.std.specs.Str.Lines.{lines}
 use Rattle.vcp_base.specs.Words.{words}
+use Rattle.fault_sites.specs.NextWord.{first_is}
+
+-- what comes behind this word, which has to be the first
+abbrev pub behind_word : List ℕ → (List (List ℕ) → Option (List ℕ)) → List (List ℕ) → Option (List ℕ)
+behind_word name next words = cond (first_is name words) (next (drop 1 words)) None
+
+abbrev pub first_word : List (List ℕ) → Option (List ℕ)
+first_word [] = None
+first_word (word ∷ more) = Some word
+
+abbrev pub behind_class : List (List ℕ) → Option (List ℕ)
+behind_class [] = None
+behind_class (class ∷ more) = behind_word (codes "of") first_word more
 
 -- the digits of a digest in the words of a remark: `# sites CLASS of DIGEST`
 abbrev pub digest_in : List (List ℕ) → Option (List ℕ)
-digest_in (mark ∷ word ∷ class ∷ of ∷ digest ∷ more) =
-    cond (bytes_eq mark (codes "#") && (bytes_eq word (codes "sites") && bytes_eq of (codes "of"))) (Some digest) None
-digest_in _ = None
+digest_in words = behind_word (codes "#") (behind_word (codes "sites") behind_class) words
 
 abbrev pub first_digest : List (List ℕ) → Option (List ℕ)
 first_digest [] = None

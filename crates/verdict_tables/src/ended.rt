@@ -1,12 +1,12 @@
 //! The table that distinguishes the groups of which no output shows anything.
 
-ghost use Rattle.std.specs.Prelude.{◌≡◌, ◌<◌, ◌≤◌, ◌+◌, ◌++◌, codes, length, All};
+ghost use Rattle.std.specs.Prelude.{◌≡◌, ◌<◌, ◌≤◌, ◌+◌, length, All};
 ghost use Rattle.vcp_outside.specs.Gathering.{GathersTo};
 ghost use Rattle.fault_script.specs.ScriptOf.{most_faults};
 ghost use Rattle.verdict_tables.specs.Parts.{most_parts};
 ghost use Rattle.verdict_tables.specs.SumText.{row_text};
 ghost use Rattle.verdict_tables.specs.SameEndings.{ending_number as ending_number_of, is_ended as is_ended_of, one_if as one_if_of, ended_count};
-ghost use Rattle.verdict_tables.specs.SameEndings.{all_endings, ending_name as ending_name_of, same_only as same_only_of, ended_row, endings_text};
+ghost use Rattle.verdict_tables.specs.SameEndings.{all_endings, ending_name as ending_name_of, ended_row, endings_text};
 
 use crate::SameEnding;
 use crate::endings::{Endings, EndingsOfParts};
@@ -69,19 +69,6 @@ fn count_ended(n: u32, endings: &EndingsOfParts) -> u32
     count
 }
 
-/// The totals of so many verdicts `same`.
-fn same_only(count: u32) -> Totals
-    ensures { result ≡ same_only_of count }
-{
-    Totals {
-        same: count,
-        wrong: 0,
-        ran_on: 0,
-        refused: 0,
-        stopped: 0,
-    }
-}
-
 /// What row `n` counts.
 fn ending_name(n: u32) -> &'static [u8]
     ensures { result.now ≡ ending_name_of n }
@@ -114,7 +101,13 @@ fn then_ended_row<O: Sink>(line: &mut Line, out: &mut O, n: u32, endings: &Endin
     requires few { length endings.now ≤ most_parts }
     ensures { GathersTo (O.seen out.old) (O.seen out.new) line.old line.new (ended_row n (all_endings endings.now)) }
 {
-    let totals = same_only(count_ended(n, endings));
+    let totals = Totals {
+        same: count_ended(n, endings),
+        wrong: 0,
+        ran_on: 0,
+        refused: 0,
+        stopped: 0,
+    };
     then_named_row(line, out, ending_name(n), &totals);
 }
 

@@ -194,8 +194,13 @@ pub fn endings_of(
     'groups: for i in 0..script.len() {
         let verdict = verdicts.at(i);
         let group = script.at(i);
-        let ending = ending_if(alloc, graph, table, rows, &without, group, verdict)?;
-        endings.push(ending)?;
+        match ending_if(alloc, graph, table, rows, &without, group, verdict) {
+            Ok(ending) => match endings.push(ending) {
+                Ok(()) => {}
+                Err(Memory) => return Err(Memory),
+            },
+            Err(Memory) => return Err(Memory),
+        }
     }
     Ok(endings)
 }

@@ -1,36 +1,32 @@
 //! Which image a script is for.
 
 ghost use Rattle.std.specs.Prelude.{◌≡◌, option_map};
-ghost use Rattle.std.specs.List.{list_any};
 ghost use Rattle.vcp_base.specs.Words.{words as words_of};
 ghost use Rattle.verdict_tables.specs.Remark.{digest_in, digest_of, is_for as is_for_of};
 
-use vcp_base::{WordsLeft, first_line, same_bytes};
+use fault_sites::next_is;
+use vcp_base::{WordsLeft, first_line};
 
 /// The digits of the digest in a remark of sites.
 fn digest(line: &[u8]) -> Option<&[u8]>
     ensures { option_map (λ w. w.now) result ≡ digest_in (words_of line.now) }
 {
     let mut words = WordsLeft::new(line);
-    let Some(mark) = words.next() else {
+    if !next_is(&mut words, b"#") {
         return None;
-    };
-    let Some(word) = words.next() else {
+    }
+    if !next_is(&mut words, b"sites") {
         return None;
-    };
+    }
     let Some(_) = words.next() else {
         return None;
     };
-    let Some(of) = words.next() else {
+    if !next_is(&mut words, b"of") {
         return None;
-    };
-    let Some(digest) = words.next() else {
-        return None;
-    };
-    if same_bytes(mark, b"#") && same_bytes(word, b"sites") && same_bytes(of, b"of") {
-        Some(digest)
-    } else {
-        None
+    }
+    match words.next() {
+        Some(digest) => Some(digest),
+        None => None,
     }
 }
 

@@ -1,6 +1,6 @@
 //! The rows of tables.
 
-ghost use Rattle.std.specs.Prelude.{◌≡◌, ◌<◌, ◌≤◌, ◌++◌, codes, length, All};
+ghost use Rattle.std.specs.Prelude.{◌≡◌, ◌<◌, ◌≤◌, length, All};
 ghost use Rattle.vcp_outside.specs.Gathering.{GathersTo};
 ghost use Rattle.verdict_tables.specs.Parts.{most_parts, IsWhole};
 ghost use Rattle.verdict_tables.specs.Tables.{rows as rows_of};

@@ -1,11 +1,9 @@
 //! The groups whose difference is still in a cell at the end.
 
-ghost use Rattle.std.specs.Prelude.{◌≡◌, ◌<◌, ◌++◌, Some, codes, decimal, flat_map, length, slice_get, All};
+ghost use Rattle.std.specs.Prelude.{◌≡◌, ◌<◌, Some, length, All};
 ghost use Rattle.vcp_outside.specs.Gathering.{GathersTo};
-ghost use Rattle.fault_script.specs.Groups.{GroupFits, line_of};
-ghost use Rattle.verdict_tables.specs.Parts.{PartFits, mark_text};
-ghost use Rattle.verdict_tables.specs.SumText.{fault_text};
-ghost use Rattle.verdict_tables.specs.SameEndings.{stands as stands_of, standing_text, standing_below, standing_parts, AreOf};
+ghost use Rattle.verdict_tables.specs.Parts.{PartFits};
+ghost use Rattle.verdict_tables.specs.SameEndings.{standing_text, standing_below, standing_parts, AreOf};
 
 use crate::SameEnding;
 use crate::ended::is_ended;
@@ -16,32 +14,7 @@ use fault_script::Group;
 use op_graph::Graph;
 use vcp_outside::{Line, Sink};
 
-/// Whether a group is one of these.
-fn stands(ending: Option<SameEnding>) -> bool
-    ensures { result ≡ stands_of ending }
-{
-    is_ended(2, ending)
-}
-
-/// Goes on with the line of one of these groups, and its faults.
-fn then_named<O: Sink>(
-    line: &mut Line,
-    out: &mut O,
-    graph: &Graph,
-    mark: Option<u64>,
-    group: &Group,
-)
-    requires { 0 < length group.now }
-    ensures { GathersTo (O.seen out.old) (O.seen out.new) line.old line.new
-        (mark_text mark ++ (decimal (line_of group.now) ++ (codes " stands in a cell\n" ++ flat_map (fault_text graph.now) group.now))) }
-{
-    then_mark(line, out, mark);
-    line.count(out, group.line() as u64);
-    line.text(out, b" stands in a cell\n");
-    then_faults(line, out, graph, group);
-}
-
-/// Goes on with a group, where it is one of these.
+/// Goes on with the line of a group and its faults, where it is one of these.
 fn then_standing<O: Sink>(
     line: &mut Line,
     out: &mut O,
@@ -53,8 +26,11 @@ fn then_standing<O: Sink>(
     requires { 0 < length group.now }
     ensures { GathersTo (O.seen out.old) (O.seen out.new) line.old line.new (standing_text graph.now mark (Some group.now) (Some ending)) }
 {
-    if stands(ending) {
-        then_named(line, out, graph, mark, group);
+    if is_ended(2, ending) {
+        then_mark(line, out, mark);
+        line.count(out, group.line() as u64);
+        line.text(out, b" stands in a cell\n");
+        then_faults(line, out, graph, group);
     }
 }
 

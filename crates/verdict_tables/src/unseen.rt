@@ -1,11 +1,9 @@
 //! The faults that are not seen.
 
-ghost use Rattle.std.specs.Prelude.{◌≡◌, ◌<◌, ◌++◌, Some, codes, flat_map, length, slice_get, All};
+ghost use Rattle.std.specs.Prelude.{◌≡◌, ◌<◌, Some, flat_map, length, All};
 ghost use Rattle.vcp_outside.specs.Gathering.{GathersTo};
-ghost use Rattle.fault_script.specs.Groups.{GroupFits, line_of};
 ghost use Rattle.fault_injector.specs.Names.{Names};
-ghost use Rattle.fault_injector.specs.FaultLines.{verdict_text};
-ghost use Rattle.verdict_tables.specs.Parts.{IsWhole, PartFits, mark_text};
+ghost use Rattle.verdict_tables.specs.Parts.{IsWhole, PartFits};
 ghost use Rattle.verdict_tables.specs.SumText.{fault_text, is_unseen as is_unseen_of, unseen_text, unseen_below, unseen_parts};
 
 use crate::names::then_operation;
@@ -39,28 +37,6 @@ pub(crate) fn then_faults<O: Sink>(line: &mut Line, out: &mut O, graph: &Graph, 
     'faults: for i in 0..group.len() {
         then_fault(line, out, graph, group.at(i));
     }
-}
-
-/// Goes on with a verdict and its group.
-fn then_judged<O: Sink>(
-    line: &mut Line,
-    out: &mut O,
-    graph: &Graph,
-    mark: Option<u64>,
-    group: &Group,
-    verdict: Verdict,
-)
-    requires some { 0 < length group.now }
-    requires names { Names (length graph.now.outputs) (length graph.now.operations) verdict }
-    ensures { GathersTo (O.seen out.old) (O.seen out.new) line.old line.new
-        (mark_text mark ++ (verdict_text graph.now (line_of group.now) verdict ++ flat_map (fault_text graph.now) group.now)) }
-{
-    then_mark(line, out, mark);
-    line.count(out, group.line() as u64);
-    line.text(out, b" ");
-    then_verdict(line, out, graph, &verdict);
-    line.text(out, b"\n");
-    then_faults(line, out, graph, group);
 }
 
 /// Whether a verdict is `wrong` or `ran-on`.
@@ -104,7 +80,12 @@ fn then_unseen<O: Sink>(
     ensures { GathersTo (O.seen out.old) (O.seen out.new) line.old line.new (unseen_text graph.now mark (Some group.now) (Some verdict)) }
 {
     if is_unseen(verdict) {
-        then_judged(line, out, graph, mark, group, verdict);
+        then_mark(line, out, mark);
+        line.count(out, group.line() as u64);
+        line.text(out, b" ");
+        then_verdict(line, out, graph, &verdict);
+        line.text(out, b"\n");
+        then_faults(line, out, graph, group);
     }
 }
 

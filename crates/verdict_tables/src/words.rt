@@ -32,19 +32,12 @@ pub(crate) struct Shown {
     pub numbers: Numbers,
 }
 
-/// The number of 64 bits that a word writes.
-fn value(word: &[u8]) -> Option<i64>
-    ensures { result ≡ value_of word.now }
-{
-    number_in(Ty::Lint, word)
-}
-
 /// The numbers that two words write.
 fn two_values(a: &[u8], b: &[u8]) -> Option<Numbers>
     ensures { result ≡ option_and_then (λ first. option_map (numbers first) (value_of b.now)) (value_of a.now) }
 {
-    match value(a) {
-        Some(first) => match value(b) {
+    match number_in(Ty::Lint, a) {
+        Some(first) => match number_in(Ty::Lint, b) {
             Some(second) => Some(Numbers { first, second }),
             None => None,
         },
@@ -122,30 +115,6 @@ fn shown_at(graph: &Graph, words: &mut WordsLeft<'_>) -> Option<Shown>
             numbers,
         }),
         None => None,
-    }
-}
-
-/// An output is released with a wrong value.
-fn wrong(shown: Shown) -> Verdict
-    ensures { result ≡ as_wrong shown }
-{
-    Verdict::Wrong {
-        cycle: shown.cycle,
-        output: shown.output,
-        got: shown.numbers.first,
-        want: shown.numbers.second,
-    }
-}
-
-/// An output is refused by its residue.
-fn refused(shown: Shown) -> Verdict
-    ensures { result ≡ as_refused shown }
-{
-    Verdict::Refused {
-        cycle: shown.cycle,
-        output: shown.output,
-        found: shown.numbers.first.unsigned_abs(),
-        expected: shown.numbers.second.unsigned_abs(),
     }
 }
 
@@ -227,24 +196,34 @@ fn ran_on(words: &mut WordsLeft<'_>) -> Option<Verdict>
     }
 }
 
-/// The words behind `wrong`.
-fn wrong_of(graph: &Graph, words: &mut WordsLeft<'_>) -> Option<Verdict>
+/// The words behind `wrong`: an output is released with a wrong value.
+fn wrong(graph: &Graph, words: &mut WordsLeft<'_>) -> Option<Verdict>
     ensures value { result ≡ option_map as_wrong (shown_of graph.now words.old) }
     ensures names { IfSome result (Names (length graph.now.outputs) (length graph.now.operations)) }
 {
     match shown_at(graph, words) {
-        Some(shown) => Some(wrong(shown)),
+        Some(shown) => Some(Verdict::Wrong {
+            cycle: shown.cycle,
+            output: shown.output,
+            got: shown.numbers.first,
+            want: shown.numbers.second,
+        }),
         None => None,
     }
 }
 
-/// The words behind `refused`.
-fn refused_of(graph: &Graph, words: &mut WordsLeft<'_>) -> Option<Verdict>
+/// The words behind `refused`: an output is refused by its residue.
+fn refused(graph: &Graph, words: &mut WordsLeft<'_>) -> Option<Verdict>
     ensures value { result ≡ option_map as_refused (shown_of graph.now words.old) }
     ensures names { IfSome result (Names (length graph.now.outputs) (length graph.now.operations)) }
 {
     match shown_at(graph, words) {
-        Some(shown) => Some(refused(shown)),
+        Some(shown) => Some(Verdict::Refused {
+            cycle: shown.cycle,
+            output: shown.output,
+            found: shown.numbers.first.unsigned_abs(),
+            expected: shown.numbers.second.unsigned_abs(),
+        }),
         None => None,
     }
 }
@@ -261,13 +240,13 @@ pub(crate) fn meant(graph: &Graph, words: &mut WordsLeft<'_>) -> Option<Verdict>
         return Some(Verdict::Same);
     }
     if same_bytes(first, b"wrong") {
-        return wrong_of(graph, words);
+        return wrong(graph, words);
     }
     if same_bytes(first, b"ran-on") {
         return ran_on(words);
     }
     if same_bytes(first, b"refused") {
-        return refused_of(graph, words);
+        return refused(graph, words);
     }
     if same_bytes(first, b"stopped") {
         return stopped(graph, words);

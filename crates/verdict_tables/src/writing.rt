@@ -1,6 +1,6 @@
 //! The tables of a campaign's verdicts.
 
-ghost use Rattle.std.specs.Prelude.{◌≡◌, ◌≤◌, ◌++◌, length, All};
+ghost use Rattle.std.specs.Prelude.{◌≤◌, length, All};
 ghost use Rattle.vcp_outside.specs.Written.{WritesTo};
 ghost use Rattle.vcp_outside.specs.Gathering.{GathersTo};
 ghost use Rattle.verdict_tables.specs.Parts.{most_parts, IsWhole, PartFits};

@@ -87,17 +87,6 @@ impl Work {
     }
 }
 
-/// Appends a word where there is room.
-fn append(words: &mut Vec<Word>, word: Word)
-    requires { length words.old.items < vec_capacity words.old }
-    ensures items { words.new.items ≡ words.old.items ++ word ∷ [] }
-    ensures capacity { vec_capacity words.old ≤ vec_capacity words.new }
-{
-    if words.push(word).is_err() {
-        unreachable!()
-    }
-}
-
 /// Copies words to where there is room for them.
 fn copy_words(from: &[Word], to: &mut Vec<Word>)
     requires { length from.now ≤ vec_capacity to.old }
@@ -105,8 +94,8 @@ fn copy_words(from: &[Word], to: &mut Vec<Word>)
     ensures capacity { vec_capacity to.old ≤ vec_capacity to.new }
 {
     to.clear();
-    'words: for i in 0..from.len() {
-        append(to, from[i]);
+    if to.extend_from_slice(from).is_err() {
+        unreachable!()
     }
 }
 

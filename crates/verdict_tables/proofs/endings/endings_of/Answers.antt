@@ -13,9 +13,9 @@ groups-preserved c =
     let vs = c.args.verdicts.now in
     let i = c.groups.i in
     c.groups.invariant
-    ∙ (one_ended t g rows groups vs i c.at-group.result.now c.at-verdict.result c.in_ok-ending.ending c.groups.endings c.at-group.ensures
-    c.at-verdict.ensures c.in_ok-ending.ensures
-    ∙ ap (λ (es : List (Option SameEnding)). es ++ endings_for t g rows (drop (i + 1) groups) (drop (i + 1) vs)) (sym c.in_ok-push.ensures.ok))
+    ∙ (one_ended t g rows groups vs i c.at-group.result.now c.at-verdict.result c.in-Ok.ending c.groups.endings c.at-group.ensures
+    c.at-verdict.ensures c.in-Ok.ensures
+    ∙ ap (λ (es : List (Option SameEnding)). es ++ endings_for t g rows (drop (i + 1) groups) (drop (i + 1) vs)) (sym c.in-Ok-push.ensures.ok))
 
 pub returns : goal.returns
 returns c =
