@@ -1,5 +1,5 @@
 -- Steps: what loops over the cells keep.
-use Rattle.std.proofs.Common.{◌≡◌, ℕ, zero, suc, ◌+◌, ◌<◌, ℤ, pos, List, [], ◌∷◌, ◌++◌, length, map, get_or, slice_get, Option, option_map, Some, IfSome, Result, IfOk, refl, sym, ap, subst, ◌∙◌, arith, below_more}
+use Rattle.std.proofs.Common.{◌≡◌, ℕ, zero, suc, ◌+◌, ◌<◌, ℤ, pos, List, [], ◌∷◌, ◌++◌, length, map, slice_get, Option, option_map, Some, IfSome, Result, IfOk, refl, sym, ap, subst, ◌∙◌, arith, below_more}
 use Rattle.std.proofs.lemmas.List.{length_push}
 use Rattle.std.proofs.lemmas.Result.{IfOk-weaker}
 use Rattle.std.proofs.lemmas.Option.{slice_get_within, get_or_from_slice_get, slice_get-map}
@@ -29,10 +29,6 @@ some_is P o x h is = subst (λ q. IfSome q P) is h
 -- what follows from what holds of a value holds of it
 pub and_so : {X E : Type 0} {P Q : X → Type 0} (r : Result X E) → IfOk r P → ((x : X) → P x → Q x) → IfOk r Q
 and_so {P = P} {Q = Q} r h f = IfOk-weaker r P Q f h
-
--- what a list has at a place is what is read there
-pub item_is : {X : Type 0} (xs : List X) (i : ℕ) (x y : X) → x ≡ get_or xs i x → slice_get xs i ≡ Some y → x ≡ y
-item_is xs i x y is there = is ∙ get_or_from_slice_get xs i y x there
 
 -- so many items, and what holds of each at its place
 pub record AllAt {X : Type 0} (P : ℕ → X → Type 0) (xs : List X) (count : ℕ) : Type 0 where

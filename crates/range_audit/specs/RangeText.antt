@@ -123,8 +123,12 @@ able_below g zero = 0
 able_below g (suc i) = able_below g i + cond (is_able (slice_get g.operations i)) 1 0
 
 -- how many operations may stop, of how many that can by their kinds and types
+abbrev pub counts_text : ℕ → ℕ → List ℕ
+counts_text named able = codes "may stop " ++ (decimal named ++ (codes " of " ++ decimal able))
+
+-- the last line
 abbrev pub sum_text : ℕ → ℕ → List ℕ
-sum_text named able = codes "may stop " ++ (decimal named ++ (codes " of " ++ (decimal able ++ codes "\n")))
+sum_text named able = counts_text named able ++ codes "\n"
 
 -- the most operations of a graph in which it is searched closer for those that may stop
 abbrev pub most_searched : ℕ

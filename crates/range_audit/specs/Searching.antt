@@ -123,6 +123,10 @@ pub record NarrowsTo (ops : List Op) (cells : List Range) (n : ℕ) (r : Range) 
 abbrev pub Box : Type 0
 Box = Vec Range Global
 
+-- box k has these ranges
+abbrev pub IsBoxAt : List Box → ℕ → List Range → Type 0
+IsBoxAt boxes k cells = (b : Box) × (slice_get boxes k ≡ Some b) × (b.items ≡ cells)
+
 -- the cells, so many, hold values in a box: in a range for each of them
 abbrev pub IsInBox : ℕ → List Range → List ℤ → Type 0
 IsInBox many cells held = (length cells ≡ many) × Hold cells held

@@ -1,15 +1,13 @@
 //! Why one operation may stop, by what the operations before it gave in the same cycle, and which values a BOOL output has: by cases of conditions.
 
-ghost use Rattle.std.specs.Prelude.{◌≡◌, ◌<◌, ◌≤◌, ℕ, ℤ, List, length, slice_get, Some, IfOk};
-ghost use Rattle.range_walk.specs.Intervals.{Fit, Hold};
+ghost use Rattle.std.specs.Prelude.{◌≡◌, ◌<◌, length, IfOk};
+ghost use Rattle.range_walk.specs.Intervals.{Hold};
 ghost use Rattle.range_audit.specs.Searching.{IsAllFound, IsAlwaysIn, StopsFrom, StopsIn};
-ghost use Rattle.range_walk.specs.Walking.{Given, IsWalk};
-ghost use Rattle.range_walk.specs.declared.range.Range.{Range as Interval};
-ghost use Rattle.range_walk.specs.declared.range.Stops.{Stops as Reasons};
+ghost use Rattle.range_walk.specs.Walking.{IsWalk};
 
 use crate::boxes::{Cycle, has_none};
 use crate::cases::{CONDITIONS, cases_of, narrowed, range_by_cases, spend};
-use crate::naming::{joined_stops, stops_at};
+use crate::naming::joined_stops;
 use op_graph::Graph;
 use range_walk::{Range, Ranges, Stops, both_hold, earlier_range, first_ranges, tell};
 use vcp_base::{Kind, Memory, Ty};
@@ -90,15 +88,13 @@ fn stops_of(
     requires walk { IsWalk cycle.now.graph.now.operations cycle.now.cells.now inputs.now told.now }
     ensures { IfOk result (λ s. StopsFrom cycle.now.graph.now.operations inputs.now (Hold cycle.now.cells.now) i s) }
 {
-    let known = told.known();
-    let stops = told.stops();
     if asked {
         let enough = spend(cycle.graph, left);
         if enough {
-            return stops_after(cycle, known, i, left);
+            return stops_after(cycle, told.known(), i, left);
         }
     }
-    let plain = stops_at(stops, i as usize);
+    let plain = told.stops_at(i as usize);
     Ok(plain)
 }
 
@@ -133,47 +129,6 @@ fn output_range(cycle: &Cycle<'_>, known: &[Range], i: u32, left: &mut u64) -> R
     range_by_cases(cycle, &ranges, i, Range::only(0), CASES, left)
 }
 
-/// The ranges of the operations in a cycle from cells in these ranges, where they are in those: closer of BOOL outputs.
-fn closer_ranges(cycle: &Cycle<'_>, known: &[Range], left: &mut u64) -> Result<Vec<Range>, Memory>
-    requires { length known.now ≡ length cycle.now.graph.now.operations }
-    ensures many { IfOk result (λ rs. length rs.items ≡ length cycle.now.graph.now.operations) }
-    ensures each { IfOk result (λ rs. (k : ℕ) (r : Interval) → slice_get rs.items k ≡ Some r
-        → IsAlwaysIn cycle.now.graph.now.operations cycle.now.cells.now known.now k r) }
-{
-    let count = cycle.graph.len();
-    let mut ranges = Vec::with_capacity(cycle.alloc, count as usize)?;
-    'operations: for i in 0..count {
-        let range = output_range(cycle, known, i, left)?;
-        ranges.push(range)?;
-    }
-    Ok(ranges)
-}
-
-/// Why each operation may stop in a cycle from cells in these ranges, on a row whose inputs are in these, of which `told` tells: closer for
-/// those that may, that are wanted and not done with.
-fn closer_stops(
-    cycle: &Cycle<'_>,
-    inputs: &[Range],
-    told: &Ranges,
-    wanted: &[Stops],
-    done: &[Stops],
-    left: &mut u64,
-) -> Result<Vec<Stops>, Memory>
-    requires { IsWalk cycle.now.graph.now.operations cycle.now.cells.now inputs.now told.now }
-    ensures many { IfOk result (λ ss. length ss.items ≡ length cycle.now.graph.now.operations) }
-    ensures each { IfOk result (λ ss. (k : ℕ) (s : Reasons) → slice_get ss.items k ≡ Some s
-        → StopsFrom cycle.now.graph.now.operations inputs.now (Hold cycle.now.cells.now) k s) }
-{
-    let count = cycle.graph.len();
-    let mut all = Vec::with_capacity(cycle.alloc, count as usize)?;
-    'operations: for i in 0..count {
-        let asked = is_asked(told.stops(), wanted, done, i as usize);
-        let stops = stops_of(cycle, inputs, told, i, asked, left)?;
-        all.push(stops)?;
-    }
-    Ok(all)
-}
-
 /// What is found of each operation in a cycle from cells in these ranges, on a row whose inputs are in these, of which `told` tells: why it
 /// may stop, closer for those that may, that are wanted and not done with, and which values BOOL outputs have.
 pub(crate) fn closer_found(
@@ -187,7 +142,13 @@ pub(crate) fn closer_found(
     requires walk { IsWalk cycle.now.graph.now.operations cycle.now.cells.now inputs.now told.now }
     ensures { IfOk result (IsAllFound cycle.now.graph.now.operations inputs.now (Hold cycle.now.cells.now)) }
 {
-    let known = closer_ranges(cycle, told.known(), &mut left.answers)?;
-    let found = closer_stops(cycle, inputs, told, wanted, done, &mut left.stops)?;
-    Ok(Ranges::new(known, found))
+    let count = cycle.graph.len();
+    let mut found = Ranges::with_capacity(cycle.alloc, count as usize)?;
+    'operations: for i in 0..count {
+        let range = output_range(cycle, told.known(), i, &mut left.answers)?;
+        let asked = is_asked(told.stops(), wanted, done, i as usize);
+        let why = stops_of(cycle, inputs, told, i, asked, &mut left.stops)?;
+        found.push(range, why)?;
+    }
+    Ok(found)
 }

@@ -1,9 +1,9 @@
 //! Boxes of cells: lists of ranges, one range for each cell.
 
-ghost use Rattle.std.specs.Prelude.{◌≡◌, ◌<◌, ◌≤◌, ◌+◌, ℤ, true, false, List, length, IfOk};
+ghost use Rattle.std.specs.Prelude.{◌≡◌, ◌<◌, ◌≤◌, ◌+◌, ℤ, true, false, List, [], ◌∷◌, ◌++◌, length, IfOk};
 ghost use Rattle.op_graph.specs.GraphRun.{stored};
 ghost use Rattle.range_walk.specs.Intervals.{Fit, Hold};
-ghost use Rattle.range_audit.specs.Searching.{IsInBox, InBox};
+ghost use Rattle.range_audit.specs.Searching.{IsBoxAt, IsInBox, InBox};
 
 use crate::cells::stored_range;
 use op_graph::{Graph, entries_keep_their_rules};
@@ -21,6 +21,62 @@ pub(crate) struct Cycle<'a> {
     /// The ranges of the cells.
     pub(crate) cells: &'a [Range],
     ghost many: { length cells.now ≡ length graph.now.stores },
+}
+
+/// Boxes of cells.
+pub(crate) struct Boxes {
+    /// The ranges of the cells of each.
+    pub(crate) list: Vec<Vec<Range>>,
+}
+
+impl Drop for Boxes {
+    fn drop(self) {
+        let Boxes { list: _ } = self;
+    }
+}
+
+impl Boxes {
+    /// No box.
+    pub(crate) fn new(alloc: Global) -> Boxes
+        ensures { result.list.items ≡ [] }
+    {
+        Boxes {
+            list: Vec::new(alloc),
+        }
+    }
+
+    /// One box.
+    pub(crate) fn one(alloc: Global, cells: Vec<Range>) -> Result<Boxes, Memory>
+        ensures { IfOk result (λ boxes. boxes.list.items ≡ cells ∷ []) }
+    {
+        let mut boxes = Boxes::new(alloc);
+        boxes.push(cells)?;
+        Ok(boxes)
+    }
+
+    /// How many there are.
+    pub(crate) fn len(&self) -> usize
+        ensures { result ≡ length self.now.list.items }
+    {
+        self.list.len()
+    }
+
+    /// The ranges of the cells of box `k`.
+    pub(crate) fn at(&self, k: usize) -> &[Range]
+        requires { k < length self.now.list.items }
+        ensures { IsBoxAt self.now.list.items k result.now }
+    {
+        let list = self.list.as_slice();
+        &list[k]
+    }
+
+    /// Appends a box.
+    pub(crate) fn push(&mut self, cells: Vec<Range>) -> Result<(), Memory>
+        ensures { IfOk result (λ _. self.new.list.items ≡ self.old.list.items ++ cells ∷ []) }
+    {
+        self.list.push(cells)?;
+        Ok(())
+    }
 }
 
 /// How many cells a graph has.
@@ -50,11 +106,11 @@ fn is_inside(cells: &[Range], other: &[Range]) -> bool
 }
 
 /// Whether the ranges are inside one of the boxes.
-pub(crate) fn is_in_one(cells: &[Range], boxes: &[Vec<Range>]) -> bool
-    ensures { result ≡ true → (held : List ℤ) → Hold cells.now held → InBox boxes.now (length cells.now) held }
+pub(crate) fn is_in_one(cells: &[Range], boxes: &Boxes) -> bool
+    ensures { result ≡ true → (held : List ℤ) → Hold cells.now held → InBox boxes.now.list.items (length cells.now) held }
 {
     'boxes: for k in 0..boxes.len() {
-        let is = is_inside(cells, &boxes[k]);
+        let is = is_inside(cells, boxes.at(k));
         if is {
             return true;
         }

@@ -6,7 +6,7 @@ ghost use Rattle.range_walk.specs.Intervals.{Fit};
 ghost use Rattle.range_audit.specs.Searching.{AreHalves, IsValueIn, NarrowsTo, InBox, EndsIn};
 ghost use Rattle.range_walk.specs.Walking.{Narrows};
 
-use crate::boxes::{Cycle, cell_count, has_none, is_in_one, stored_cells};
+use crate::boxes::{Boxes, Cycle, cell_count, has_none, is_in_one, stored_cells};
 use crate::cells::store_at;
 use crate::questions::{box_of, open_condition, wanted_at};
 use op_graph::Graph;
@@ -34,17 +34,15 @@ pub(crate) fn narrowed(cycle: &Cycle<'_>, ranges: &[Range]) -> Result<Vec<Range>
     Ok(copy)
 }
 
-/// The ranges of the operations of a cycle, of all or of the first ones, in which the value of operation `n` is in `r`.
-fn part(cycle: &Cycle<'_>, ranges: &[Range], n: u32, r: Range) -> Result<Vec<Range>, Memory>
-    requires there { n < length ranges.now }
-    requires many { length ranges.now ≤ length cycle.now.graph.now.operations }
-    ensures many { IfOk result (λ part. length part.items ≡ length ranges.now) }
-    ensures fits { IfOk result (λ part. NarrowsTo cycle.now.graph.now.operations cycle.now.cells.now n r ranges.now part.items) }
+/// Makes the ranges of the operations of a cycle, of all or of the first ones, narrower where the value of operation `n` is in `r`.
+fn narrow_to(cycle: &Cycle<'_>, ranges: &mut [Range], n: u32, r: Range)
+    requires there { n < length ranges.old }
+    requires many { length ranges.old ≤ length cycle.now.graph.now.operations }
+    ensures many { length ranges.new ≡ length ranges.old }
+    ensures fits { NarrowsTo cycle.now.graph.now.operations cycle.now.cells.now n r ranges.old ranges.new }
 {
-    let mut first = copied(cycle.alloc, ranges)?;
-    put(&mut first, n, r);
-    let part = narrowed(cycle, &first)?;
-    Ok(part)
+    put(ranges, n, r);
+    narrow(cycle.graph, cycle.cells, ranges);
 }
 
 /// The ranges of the operations of a cycle, of all or of the first ones, in the two cases of the value of one.
@@ -68,10 +66,10 @@ fn halved(cycle: &Cycle<'_>, ranges: &[Range], q: u32, m: i64) -> Result<Halves,
     ensures { IfOk result (λ h. AreHalves cycle.now.graph.now.operations cycle.now.cells.now ranges.now h.low.items h.high.items) }
 {
     let r = earlier_range(ranges, q);
-    let at_most = r.up_to(m);
-    let rest = r.above(m);
-    let low = part(cycle, ranges, q, at_most)?;
-    let high = part(cycle, ranges, q, rest)?;
+    let mut low = copied(cycle.alloc, ranges)?;
+    let mut high = copied(cycle.alloc, ranges)?;
+    narrow_to(cycle, &mut low, q, r.up_to(m));
+    narrow_to(cycle, &mut high, q, r.above(m));
     Ok(Halves { low, high })
 }
 
@@ -108,10 +106,7 @@ pub(crate) fn cases_of(
         return Ok(None);
     }
     let q = open_condition(cycle.graph, ranges, j);
-    if q >= count_of(cycle.graph, ranges) {
-        return Ok(None);
-    }
-    if !spend(cycle.graph, left) {
+    if q >= count_of(cycle.graph, ranges) || !spend(cycle.graph, left) {
         return Ok(None);
     }
     let two = halved(cycle, ranges, q, 0)?;
@@ -192,12 +187,12 @@ fn narrow_stores(
 pub(crate) fn ends(
     cycle: &Cycle<'_>,
     ranges: &[Range],
-    boxes: &[Vec<Range>],
-    missed: &mut Vec<Vec<Range>>,
+    boxes: &Boxes,
+    missed: &mut Boxes,
 ) -> Result<bool, Memory>
     requires many { length ranges.now ≡ length cycle.now.graph.now.operations }
     ensures { IfOk result (λ is. is ≡ true → (vs : List ℤ) → length vs ≡ length cycle.now.graph.now.operations → Fit ranges.now vs
-        → InBox boxes.now (length cycle.now.graph.now.stores) (stored cycle.now.graph.now vs)) }
+        → InBox boxes.now.list.items (length cycle.now.graph.now.stores) (stored cycle.now.graph.now vs)) }
 {
     let none = has_none(ranges);
     if none {
@@ -217,13 +212,13 @@ pub(crate) fn ends(
 fn ends_closely(
     cycle: &Cycle<'_>,
     ranges: &mut [Range],
-    boxes: &[Vec<Range>],
+    boxes: &Boxes,
     n: u32,
     left: &mut u64,
-    missed: &mut Vec<Vec<Range>>,
+    missed: &mut Boxes,
 ) -> Result<bool, Memory>
     requires many { length ranges.old ≡ length cycle.now.graph.now.operations }
-    ensures { IfOk result (λ is. is ≡ true → EndsIn cycle.now.graph.now cycle.now.cells.now ranges.old boxes.now) }
+    ensures { IfOk result (λ is. is ≡ true → EndsIn cycle.now.graph.now cycle.now.cells.now ranges.old boxes.now.list.items) }
 {
     let wanted = box_of(cycle.graph, ranges, boxes, n);
     narrow_stores(cycle, ranges, wanted, left)?;
@@ -234,15 +229,15 @@ fn ends_closely(
 pub(crate) fn ends_by_cases(
     cycle: &Cycle<'_>,
     ranges: &mut [Range],
-    boxes: &[Vec<Range>],
+    boxes: &Boxes,
     n: u32,
     depth: u32,
     left: &mut u64,
-    missed: &mut Vec<Vec<Range>>,
+    missed: &mut Boxes,
 ) -> Result<bool, Memory>
     requires there { n < length cycle.now.graph.now.operations }
     requires many { length ranges.old ≡ length cycle.now.graph.now.operations }
-    ensures { IfOk result (λ is. is ≡ true → EndsIn cycle.now.graph.now cycle.now.cells.now ranges.old boxes.now) }
+    ensures { IfOk result (λ is. is ≡ true → EndsIn cycle.now.graph.now cycle.now.cells.now ranges.old boxes.now.list.items) }
 {
     if depth == 0 {
         return ends_closely(cycle, ranges, boxes, n, left, missed);

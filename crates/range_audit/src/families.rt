@@ -2,10 +2,10 @@
 
 ghost use Rattle.std.specs.Prelude.{◌≡◌, ◌<◌, ℕ, true, List, length, slice_get, Some, IfOk, IfSome};
 ghost use Rattle.range_walk.specs.declared.range.Range.{Range as Interval};
-ghost use Rattle.range_audit.specs.Searching.{Box as Boxed, IsSound, InBox, EndsFrom, Always};
+ghost use Rattle.range_audit.specs.Searching.{Box as Boxed, IsSound, InBox, EndsFrom, EndsIn, Always};
 
 use crate::asking::Asking;
-use crate::boxes::{Cycle, cell_count, has_values, is_in_one};
+use crate::boxes::{Boxes, Cycle, cell_count, has_values, is_in_one};
 use crate::cases::{ends, ends_by_cases, narrowed};
 use crate::cells::{Step, loaded_cells, step_of, store_at, widened};
 use crate::naming::{found_by, found_from};
@@ -36,27 +36,42 @@ const ANSWERS: u64 = 4_194_304;
 pub(crate) const MOST_SEARCHED: u32 = 8_192;
 
 /// How much may still be searched, and the numbers at which the range of a cell may come to rest.
-#[derive(Drop)]
-struct Budget<'a> {
+struct Budget {
     /// How many operations may be gone through in cases of all cells.
     left: u64,
     /// How many where single ones are asked.
     asking: Asking,
     /// The numbers that comparisons read, and their neighbours.
-    numbers: &'a [i64],
+    numbers: Vec<i64>,
+}
+
+impl Drop for Budget {
+    fn drop(self) {
+        let Budget {
+            left: _,
+            asking: _,
+            numbers: _,
+        } = self;
+    }
 }
 
 /// What may be gone through, where it is searched, and where it is searched for closer ranges too.
-fn budget_of(numbers: &[i64], searched: bool, closely: bool) -> Budget<'_> {
+fn budget_of(
+    alloc: Global,
+    graph: &Graph,
+    searched: bool,
+    closely: bool,
+) -> Result<Budget, Memory> {
+    let numbers = thresholds(alloc, graph)?;
     let asking = Asking {
         stops: if searched { STEPS } else { 0 },
         answers: if searched && closely { ANSWERS } else { 0 },
     };
-    Budget {
+    Ok(Budget {
         left: STEPS,
         asking,
         numbers,
-    }
+    })
 }
 
 /// The values of the cell at a place that boxes tell apart: so many from the least on.
@@ -74,20 +89,39 @@ const ONE: Values = Values {
     count: 1,
 };
 
+/// Whether each whole cycle with values in these ranges ends in one of the boxes, by the cases of the value of operation `n`, which stores the
+/// cell whose values the boxes tell apart. Where that isn't seen, the ranges in which it ends are appended to `missed`.
+fn ends_by_values(
+    cycle: &Cycle<'_>,
+    known: &[Range],
+    boxes: &Boxes,
+    n: u32,
+    left: &mut u64,
+    missed: &mut Boxes,
+) -> Result<bool, Memory>
+    requires there { n < length cycle.now.graph.now.operations }
+    requires many { length known.now ≡ length cycle.now.graph.now.operations }
+    ensures { IfOk result (λ is. is ≡ true → EndsIn cycle.now.graph.now cycle.now.cells.now known.now boxes.now.list.items) }
+{
+    let mut ranges = narrowed(cycle, known)?;
+    let depth = if boxes.len() == 1 { 0 } else { VALUES };
+    ends_by_cases(cycle, &mut ranges, boxes, n, depth, left, missed)
+}
+
 /// Whether each whole cycle from cells in this box ends in one of the boxes, by the cases of the value of operation `pivot`; of cycles as they
 /// are gone through where there is none. The ranges in which they end are appended to `missed` where that isn't seen.
 fn is_box_kept(
     alloc: Global,
     graph: &Graph,
     inputs: &[Range],
-    boxes: &[Vec<Range>],
+    boxes: &Boxes,
     cells: &[Range],
     pivot: Option<u32>,
     left: &mut u64,
-    missed: &mut Vec<Vec<Range>>,
+    missed: &mut Boxes,
 ) -> Result<bool, Memory>
     requires there { IfSome pivot (λ n. n < length graph.now.operations) }
-    ensures { IfOk result (λ is. is ≡ true → EndsFrom graph.now inputs.now boxes.now cells.now) }
+    ensures { IfOk result (λ is. is ≡ true → EndsFrom graph.now inputs.now boxes.now.list.items cells.now) }
 {
     let any = has_values(graph, cells);
     if !any {
@@ -99,13 +133,10 @@ fn is_box_kept(
         cells,
     };
     let told = walk(alloc, graph, cycle.cells, inputs)?;
-    let known = told.known();
-    let Some(n) = pivot else {
-        return ends(&cycle, known, boxes, missed);
-    };
-    let mut ranges = narrowed(&cycle, known)?;
-    let depth = if boxes.len() == 1 { 0 } else { VALUES };
-    ends_by_cases(&cycle, &mut ranges, boxes, n, depth, left, missed)
+    match pivot {
+        None => ends(&cycle, told.known(), boxes, missed),
+        Some(n) => ends_by_values(&cycle, told.known(), boxes, n, left, missed),
+    }
 }
 
 /// Whether that is so of each of the boxes in `from`.
@@ -113,39 +144,42 @@ fn are_boxes_kept(
     alloc: Global,
     graph: &Graph,
     inputs: &[Range],
-    boxes: &[Vec<Range>],
-    from: &[Vec<Range>],
+    boxes: &Boxes,
+    from: &Boxes,
     pivot: Option<u32>,
     left: &mut u64,
-    missed: &mut Vec<Vec<Range>>,
+    missed: &mut Boxes,
 ) -> Result<bool, Memory>
     requires there { IfSome pivot (λ n. n < length graph.now.operations) }
-    ensures { IfOk result (λ is. is ≡ true → (k : ℕ) (b : Boxed) → slice_get from.now k ≡ Some b → EndsFrom graph.now inputs.now boxes.now b.items) }
+    ensures { IfOk result (λ is. is ≡ true → (k : ℕ) (b : Boxed) → slice_get from.now.list.items k ≡ Some b
+        → EndsFrom graph.now inputs.now boxes.now.list.items b.items) }
 {
     let mut all = true;
     'boxes: for k in 0..from.len() {
-        let kept = is_box_kept(alloc, graph, inputs, boxes, &from[k], pivot, left, missed)?;
+        let kept = is_box_kept(alloc, graph, inputs, boxes, from.at(k), pivot, left, missed)?;
         let both = both_hold(all, kept);
         all = both;
     }
     Ok(all)
 }
 
-/// Whether the cells are always in one of the boxes, as far as that is seen.
+/// Whether the cells are always in one of the boxes, as far as that is seen; the ranges in which cycles from these boxes end, where that isn't
+/// seen to be in one of them, are told by `missed`.
 fn is_family(
     alloc: Global,
     graph: &Graph,
     inputs: &[Range],
-    boxes: &[Vec<Range>],
+    boxes: &Boxes,
     pivot: Option<u32>,
     left: &mut u64,
-    missed: &mut Vec<Vec<Range>>,
+    missed: &mut Boxes,
 ) -> Result<bool, Memory>
     requires there { IfSome pivot (λ n. n < length graph.now.operations) }
-    ensures { IfOk result (λ is. is ≡ true → Always graph.now inputs.now (InBox boxes.now (length graph.now.stores))) }
+    ensures { IfOk result (λ is. is ≡ true → Always graph.now inputs.now (InBox boxes.now.list.items (length graph.now.stores))) }
 {
     operands_are_in_their_types();
     let _operations = graph.len();
+    *missed = Boxes::new(alloc);
     let first = loaded_cells(alloc, graph, false)?;
     let begins = is_in_one(&first, boxes);
     let kept = are_boxes_kept(alloc, graph, inputs, boxes, boxes, pivot, left, missed)?;
@@ -154,8 +188,8 @@ fn is_family(
 }
 
 /// So many boxes without a value.
-fn empty_boxes(alloc: Global, graph: &Graph, count: u32) -> Result<Vec<Vec<Range>>, Memory> {
-    let mut boxes = Vec::new(alloc);
+fn empty_boxes(alloc: Global, graph: &Graph, count: u32) -> Result<Boxes, Memory> {
+    let mut boxes = Boxes::new(alloc);
     'boxes: for _ in 0..count {
         boxes.push(vec![in alloc; Range::none(); cell_count(graph)]?)?;
     }
@@ -193,43 +227,25 @@ fn grow_box(graph: &Graph, cells: &mut [Range], more: &[Range], step: Step, numb
 /// Widens the boxes by the ranges that are missed.
 fn grow(
     graph: &Graph,
-    boxes: &mut [Vec<Range>],
-    missed: &[Vec<Range>],
+    boxes: &mut Boxes,
+    missed: &Boxes,
     values: Values,
     step: Step,
     numbers: &[i64],
 ) {
     'missed: for i in 0..missed.len() {
-        let k = box_number(&missed[i], values);
+        let more = missed.at(i);
+        let k = box_number(more, values);
         if k < boxes.len() {
-            grow_box(graph, &mut boxes[k], &missed[i], step, numbers);
+            grow_box(graph, &mut boxes.list[k], more, step, numbers);
         }
     }
 }
 
 /// The box of the initial values of the cells.
-fn first_box(alloc: Global, graph: &Graph) -> Result<Vec<Vec<Range>>, Memory> {
-    let mut boxes = Vec::new(alloc);
-    boxes.push(loaded_cells(alloc, graph, false)?)?;
-    Ok(boxes)
-}
-
-/// Whether the cells are always in one of the boxes, as far as that is seen; the ranges in which cycles from these boxes end, where that isn't
-/// seen to be in one of them, are told by `missed`.
-fn is_kept(
-    alloc: Global,
-    graph: &Graph,
-    inputs: &[Range],
-    boxes: &[Vec<Range>],
-    pivot: Option<u32>,
-    left: &mut u64,
-    missed: &mut Vec<Vec<Range>>,
-) -> Result<bool, Memory>
-    requires there { IfSome pivot (λ n. n < length graph.now.operations) }
-    ensures { IfOk result (λ is. is ≡ true → Always graph.now inputs.now (InBox boxes.now (length graph.now.stores))) }
-{
-    *missed = Vec::new(alloc);
-    is_family(alloc, graph, inputs, boxes, pivot, left, missed)
+fn first_box(alloc: Global, graph: &Graph) -> Result<Boxes, Memory> {
+    let cells = loaded_cells(alloc, graph, false)?;
+    Boxes::one(alloc, cells)
 }
 
 /// Boxes in one of which the cells always are, one for each of these values, by the cases of operation `pivot`, which stores them; None where
@@ -241,10 +257,10 @@ fn family(
     values: Values,
     pivot: Option<u32>,
     rounds: u32,
-    budget: &mut Budget<'_>,
-) -> Result<Option<Vec<Vec<Range>>>, Memory>
+    budget: &mut Budget,
+) -> Result<Option<Boxes>, Memory>
     requires there { IfSome pivot (λ n. n < length graph.now.operations) }
-    ensures { IfOk result (λ found. IfSome found (λ boxes. Always graph.now inputs.now (InBox boxes.items (length graph.now.stores)))) }
+    ensures { IfOk result (λ found. IfSome found (λ boxes. Always graph.now inputs.now (InBox boxes.list.items (length graph.now.stores)))) }
 {
     let mut boxes = empty_boxes(alloc, graph, values.count)?;
     let mut missed = first_box(alloc, graph)?;
@@ -254,8 +270,8 @@ fn family(
             return Ok(None);
         }
         let step = step_of(round.saturating_sub(1));
-        grow(graph, &mut boxes, &missed, values, step, budget.numbers);
-        let is = is_kept(
+        grow(graph, &mut boxes, &missed, values, step, &budget.numbers);
+        let is = is_family(
             alloc,
             graph,
             inputs,
@@ -273,18 +289,13 @@ fn family(
 
 /// The box of the values with which cells begin and of those that are stored where they are in this one, where the cells are always in it too;
 /// else this one. It is narrower where a round took an end of the type that no value comes to.
-fn nearest(
-    alloc: Global,
-    graph: &Graph,
-    inputs: &[Range],
-    boxes: Vec<Vec<Range>>,
-) -> Result<Vec<Vec<Range>>, Memory>
-    requires { Always graph.now inputs.now (InBox boxes.items (length graph.now.stores)) }
-    ensures { IfOk result (λ next. Always graph.now inputs.now (InBox next.items (length graph.now.stores))) }
+fn nearest(alloc: Global, graph: &Graph, inputs: &[Range], boxes: Boxes) -> Result<Boxes, Memory>
+    requires { Always graph.now inputs.now (InBox boxes.list.items (length graph.now.stores)) }
+    ensures { IfOk result (λ next. Always graph.now inputs.now (InBox next.list.items (length graph.now.stores))) }
 {
     let mut next = first_box(alloc, graph)?;
     let mut left = 0;
-    let mut stored = Vec::new(alloc);
+    let mut stored = Boxes::new(alloc);
     let _kept = are_boxes_kept(
         alloc,
         graph,
@@ -304,29 +315,22 @@ fn nearest(
 }
 
 /// The box of the types of the cells.
-fn typed_box(alloc: Global, graph: &Graph) -> Result<Vec<Vec<Range>>, Memory>
-    ensures { IfOk result (λ boxes. (inputs : List Interval) → Always graph.now inputs (InBox boxes.items (length graph.now.stores))) }
+fn typed_box(alloc: Global, graph: &Graph) -> Result<Boxes, Memory>
+    ensures { IfOk result (λ boxes. (inputs : List Interval) → Always graph.now inputs (InBox boxes.list.items (length graph.now.stores))) }
 {
     // Each cell always has a value of its type.
     operands_are_in_their_types();
     let _operations = graph.len();
     let cells = loaded_cells(alloc, graph, true)?;
-    let mut boxes = Vec::new(alloc);
-    boxes.push(cells)?;
-    Ok(boxes)
+    Boxes::one(alloc, cells)
 }
 
 /// One box in which the cells are always, on rows whose inputs are in these ranges. Where none is found in the rounds that are tried, it is
 /// that of their types.
-pub(crate) fn settled(
-    alloc: Global,
-    graph: &Graph,
-    inputs: &[Range],
-) -> Result<Vec<Vec<Range>>, Memory>
-    ensures { IfOk result (λ boxes. Always graph.now inputs.now (InBox boxes.items (length graph.now.stores))) }
+pub(crate) fn settled(alloc: Global, graph: &Graph, inputs: &[Range]) -> Result<Boxes, Memory>
+    ensures { IfOk result (λ boxes. Always graph.now inputs.now (InBox boxes.list.items (length graph.now.stores))) }
 {
-    let numbers = thresholds(alloc, graph)?;
-    let mut budget = budget_of(&numbers, false, false);
+    let mut budget = budget_of(alloc, graph, false, false)?;
     let found = family(alloc, graph, inputs, ONE, None, PLAIN_ROUNDS, &mut budget)?;
     match found {
         Some(boxes) => nearest(alloc, graph, inputs, boxes),
@@ -344,17 +348,16 @@ fn with_family(
     graph: &Graph,
     inputs: &[Range],
     ranges: &Ranges,
-    boxes: &[Vec<Range>],
-    budget: &mut Budget<'_>,
+    boxes: &Boxes,
+    budget: &mut Budget,
 ) -> Result<Ranges, Memory>
-    requires always { Always graph.now inputs.now (InBox boxes.now (length graph.now.stores)) }
+    requires always { Always graph.now inputs.now (InBox boxes.now.list.items (length graph.now.stores)) }
     requires sound { IsSound graph.now inputs.now ranges.now }
     ensures { IfOk result (λ a. IsSound graph.now inputs.now a) }
 {
     let named = ranges.stops();
     let boxed = found_from(alloc, graph, inputs, boxes, named, &mut budget.asking)?;
-    let told = found_by(alloc, true, ranges, &boxed)?;
-    Ok(told)
+    found_by(alloc, true, ranges, &boxed)
 }
 
 /// Whether an operation is named.
@@ -422,7 +425,7 @@ fn closer_by(
     inputs: &[Range],
     ranges: Ranges,
     values: Values,
-    budget: &mut Budget<'_>,
+    budget: &mut Budget,
 ) -> Result<Ranges, Memory>
     requires sound { IsSound graph.now inputs.now ranges }
     ensures { IfOk result (λ a. IsSound graph.now inputs.now a) }
@@ -448,7 +451,7 @@ fn closer_by_each(
     inputs: &[Range],
     ranges: Ranges,
     tries: &[Values],
-    budget: &mut Budget<'_>,
+    budget: &mut Budget,
 ) -> Result<Ranges, Memory>
     requires sound { IsSound graph.now inputs.now ranges }
     ensures { IfOk result (λ a. IsSound graph.now inputs.now a) }
@@ -468,16 +471,15 @@ pub(crate) fn closer(
     graph: &Graph,
     inputs: &[Range],
     ranges: &Ranges,
-    boxes: &[Vec<Range>],
+    boxes: &Boxes,
     closely: bool,
 ) -> Result<Ranges, Memory>
     requires sound { IsSound graph.now inputs.now ranges.now }
-    requires always { Always graph.now inputs.now (InBox boxes.now (length graph.now.stores)) }
+    requires always { Always graph.now inputs.now (InBox boxes.now.list.items (length graph.now.stores)) }
     ensures { IfOk result (λ a. IsSound graph.now inputs.now a) }
 {
     let searched = graph.len() <= MOST_SEARCHED;
-    let numbers = thresholds(alloc, graph)?;
-    let mut budget = budget_of(&numbers, searched, closely);
+    let mut budget = budget_of(alloc, graph, searched, closely)?;
     let here = with_family(alloc, graph, inputs, ranges, boxes, &mut budget)?;
     if !searched {
         return Ok(here);

@@ -1,17 +1,13 @@
 //! What is found of the operations over several boxes of cells, and by two searches.
 
-ghost use Rattle.std.specs.Prelude.{◌≡◌, ◌≤ℤ◌, ◌<◌, ℕ, ℤ, cond, ◌&&◌, ◌||◌, List, true, length, slice_get, IfOk, Some};
-ghost use Rattle.vcp_base.specs.declared.kind.StopKind.{StopKind};
-ghost use Rattle.op_graph.specs.declared.op.Op.{Op as Operation};
-ghost use Rattle.range_walk.specs.Intervals.{IsIn, Fit};
-ghost use Rattle.range_walk.specs.Known.{is_named, LieInTypes};
-ghost use Rattle.range_walk.specs.Walking.{Parts};
+ghost use Rattle.std.specs.Prelude.{◌≡◌, ◌≤ℤ◌, ℤ, cond, ◌&&◌, ◌||◌, length, IfOk};
+ghost use Rattle.range_walk.specs.Intervals.{IsIn};
 ghost use Rattle.range_audit.specs.Searching.{InBox, IsAllFound, IsFoundBy, IsMore, IsCloser, IsJoined};
 
 use crate::asking::{Asking, closer_found};
-use crate::boxes::{Cycle, has_values};
+use crate::boxes::{Boxes, Cycle, has_values};
 use op_graph::Graph;
-use range_walk::{Range, Ranges, Stops, both_hold, either_holds, range_at, walk};
+use range_walk::{Range, Ranges, Stops, both_hold, either_holds, walk};
 use std::alloc::Global;
 use vcp_base::Memory;
 
@@ -32,14 +28,6 @@ pub(crate) fn joined_stops(both: bool, a: Stops, b: Stops) -> Stops
     let range = joined(both, a.range, b.range);
     let div_zero = joined(both, a.div_zero, b.div_zero);
     Stops { range, div_zero }
-}
-
-/// Why the operation at place `i` may stop.
-pub(crate) fn stops_at(stops: &[Stops], i: usize) -> Stops
-    requires { i < length stops.now }
-    ensures { slice_get stops.now i ≡ Some result }
-{
-    stops[i]
 }
 
 /// The second of two ranges where it lies between the ends of the first, and else the first.
@@ -75,19 +63,17 @@ pub(crate) fn found_by(alloc: Global, both: bool, a: &Ranges, b: &Ranges) -> Res
     ensures { IfOk result (λ r. IsFoundBy both a.now b.now r) }
 {
     let count = a.known().len();
-    let mut known = Vec::with_capacity(alloc, count)?;
-    let mut stops = Vec::with_capacity(alloc, count)?;
+    let mut found = Ranges::with_capacity(alloc, count)?;
     'operations: for i in 0..count {
-        let first = range_at(a.known(), i);
-        let second = range_at(b.known(), i);
+        let first = a.range_at(i);
+        let second = b.range_at(i);
         let range = range_by(both, first, second);
-        known.push(range)?;
-        let before = stops_at(a.stops(), i);
-        let other = stops_at(b.stops(), i);
-        let named = joined_stops(both, before, other);
-        stops.push(named)?;
+        let before = a.stops_at(i);
+        let other = b.stops_at(i);
+        let why = joined_stops(both, before, other);
+        found.push(range, why)?;
     }
-    Ok(Ranges::new(known, stops))
+    Ok(found)
 }
 
 /// No value and no reason to stop of each operation.
@@ -127,8 +113,7 @@ fn with_box(
     };
     let told = walk(alloc, graph, cycle.cells, inputs)?;
     let here = closer_found(&cycle, inputs, &told, wanted, found.stops(), left)?;
-    let more = found_by(alloc, false, &found, &here)?;
-    Ok(more)
+    found_by(alloc, false, &found, &here)
 }
 
 /// What is found of a cycle from cells in one of these boxes, on a row whose inputs are in these ranges. The operations that are wanted are looked
@@ -137,15 +122,15 @@ pub(crate) fn found_from(
     alloc: Global,
     graph: &Graph,
     inputs: &[Range],
-    boxes: &[Vec<Range>],
+    boxes: &Boxes,
     wanted: &[Stops],
     left: &mut Asking,
 ) -> Result<Ranges, Memory>
-    ensures { IfOk result (IsAllFound graph.now.operations inputs.now (InBox boxes.now (length graph.now.stores))) }
+    ensures { IfOk result (IsAllFound graph.now.operations inputs.now (InBox boxes.now.list.items (length graph.now.stores))) }
 {
     let mut found = nothing_found(alloc, graph)?;
     'boxes: for k in 0..boxes.len() {
-        let more = with_box(alloc, graph, inputs, &boxes[k], found, wanted, left)?;
+        let more = with_box(alloc, graph, inputs, boxes.at(k), found, wanted, left)?;
         found = more;
     }
     Ok(found)

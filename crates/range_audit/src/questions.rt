@@ -2,6 +2,7 @@
 
 ghost use Rattle.std.specs.Prelude.{◌<◌, length};
 
+use crate::boxes::Boxes;
 use op_graph::Graph;
 use range_walk::Range;
 use vcp_base::{Kind, Ty};
@@ -81,12 +82,7 @@ pub(crate) fn open_condition(graph: &Graph, ranges: &[Range], i: u32) -> u32 {
 }
 
 /// The box in which the cell that operation `n` stores has its value; one of no cells where there is none.
-pub(crate) fn box_of<'a>(
-    graph: &Graph,
-    ranges: &[Range],
-    boxes: &'a [Vec<Range>],
-    n: u32,
-) -> &'a [Range] {
+pub(crate) fn box_of<'a>(graph: &Graph, ranges: &[Range], boxes: &'a Boxes, n: u32) -> &'a [Range] {
     let value = range_or(ranges, n as usize);
     let place = if n < graph.len() {
         graph.operation(n).imm.unsigned_abs() as usize
@@ -94,7 +90,7 @@ pub(crate) fn box_of<'a>(
         0
     };
     'boxes: for k in 0..boxes.len() {
-        let cells = &boxes[k];
+        let cells = boxes.at(k);
         if boxes.len() == 1 || value.is_inside(range_or(cells, place)) {
             return cells;
         }

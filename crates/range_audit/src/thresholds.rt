@@ -13,9 +13,8 @@ fn push_number(numbers: &mut Vec<i64>, graph: &Graph, n: u32) -> Result<(), Memo
     }
     let op = graph.operation(n);
     if op.kind == Kind::Const {
-        numbers.push(op.imm.saturating_sub(1))?;
-        numbers.push(op.imm)?;
-        numbers.push(op.imm.saturating_add(1))?;
+        let near = [op.imm.saturating_sub(1), op.imm, op.imm.saturating_add(1)];
+        numbers.extend_from_slice(&near)?;
     }
     Ok(())
 }

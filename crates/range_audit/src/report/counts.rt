@@ -1,12 +1,12 @@
 //! How many operations may stop, and how many can by their kinds and types.
 
-ghost use Rattle.std.specs.Prelude.{◌≡◌, ◌<◌, Some, cond, length, slice_get};
+ghost use Rattle.std.specs.Prelude.{◌≡◌, Some, cond, length};
 ghost use Rattle.range_audit.specs.Audit.{named_below};
 ghost use Rattle.range_audit.specs.RangeText.{is_able as is_able_of, able_below};
 
 use graph_passes::can_stop;
 use op_graph::{Graph, Op};
-use range_walk::{Ranges, Stops};
+use range_walk::Ranges;
 use vcp_base::Kind;
 
 /// One where it holds.
@@ -16,15 +16,6 @@ fn one_if(holds: bool) -> u32
     if holds { 1 } else { 0 }
 }
 
-/// Why operation `i` may stop.
-pub(crate) fn stops_of(ranges: &Ranges, i: u32) -> Stops
-    requires { i < length ranges.now.stops }
-    ensures { slice_get ranges.now.stops i ≡ Some result }
-{
-    let stops = ranges.stops();
-    stops[i as usize]
-}
-
 /// How many operations of a graph may stop.
 pub fn count_named(graph: &Graph, ranges: &Ranges) -> u32
     requires { length ranges.now.stops ≡ length graph.now.operations }
@@ -32,7 +23,7 @@ pub fn count_named(graph: &Graph, ranges: &Ranges) -> u32
 {
     let mut named = 0;
     'operations: for i in 0..graph.len() {
-        named += one_if(stops_of(ranges, i).are_any());
+        named += one_if(ranges.stops_at(i as usize).are_any());
     }
     named
 }

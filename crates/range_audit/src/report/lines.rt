@@ -1,6 +1,6 @@
 //! The lines of an operation.
 
-ghost use Rattle.std.specs.Prelude.{◌≡◌, [], ◌++◌, Some, cond, codes, slice_get, unsigned_abs};
+ghost use Rattle.std.specs.Prelude.{◌≡◌, [], Some, cond, slice_get, unsigned_abs};
 ghost use Rattle.run_report.specs.Variables.{variable_of as name_of_variable};
 ghost use Rattle.vcp_outside.specs.Gathering.{GathersTo};
 ghost use Rattle.range_audit.specs.RangeText.{ends_text, range_text, there_text, spaced, short_text, operation_name, read_text, operand_text};
@@ -32,30 +32,15 @@ fn then_range<O: Sink>(line: &mut Line, out: &mut O, range: Range)
     }
 }
 
-/// Goes on with a range behind a space.
-fn then_spaced_range<O: Sink>(line: &mut Line, out: &mut O, range: Range)
-    ensures { GathersTo (O.seen out.old) (O.seen out.new) line.old line.new (codes " " ++ range_text range) }
-{
-    line.text(out, b" ");
-    then_range(line, out, range);
-}
-
 /// Goes on with the range of operation `n` behind a space, where it is there.
 pub(crate) fn then_there<O: Sink>(line: &mut Line, out: &mut O, known: &[Range], n: u32)
     ensures { GathersTo (O.seen out.old) (O.seen out.new) line.old line.new (there_text (slice_get known.now n)) }
 {
     let place = n as usize;
     if place < known.len() {
-        then_spaced_range(line, out, known[place]);
+        line.text(out, b" ");
+        then_range(line, out, known[place]);
     }
-}
-
-/// Goes on with a space and a name.
-fn then_name<O: Sink>(line: &mut Line, out: &mut O, name: &[u8])
-    ensures { GathersTo (O.seen out.old) (O.seen out.new) line.old line.new (codes " " ++ name.now) }
-{
-    line.text(out, b" ");
-    line.text(out, name);
 }
 
 /// Goes on with a name behind a space, where there is one.
@@ -63,7 +48,8 @@ fn then_spaced<O: Sink>(line: &mut Line, out: &mut O, name: &[u8])
     ensures { GathersTo (O.seen out.old) (O.seen out.new) line.old line.new (spaced name.now) }
 {
     if name.len() != 0 {
-        then_name(line, out, name);
+        line.text(out, b" ");
+        line.text(out, name);
     }
 }
 
@@ -102,23 +88,6 @@ fn then_operation_name<O: Sink>(line: &mut Line, out: &mut O, graph: &Graph, i: 
     then_source(line, out, graph, i);
 }
 
-/// Goes on with a word, operation `n`, which is `op`, in short, and its range.
-fn then_op<O: Sink>(
-    line: &mut Line,
-    out: &mut O,
-    graph: &Graph,
-    known: &[Range],
-    n: u32,
-    op: &Op,
-    word: &[u8],
-)
-    ensures { GathersTo (O.seen out.old) (O.seen out.new) line.old line.new (read_text graph.now known.now n word.now (Some op.now)) }
-{
-    line.text(out, word);
-    then_short(line, out, graph, n, op);
-    then_there(line, out, known, n);
-}
-
 /// Goes on with a word, operation `n` in short, and its range, where it is there.
 fn then_read<O: Sink>(
     line: &mut Line,
@@ -131,7 +100,10 @@ fn then_read<O: Sink>(
     ensures { GathersTo (O.seen out.old) (O.seen out.new) line.old line.new (read_text graph.now known.now n word.now (slice_get graph.now.operations n)) }
 {
     if n < graph.len() {
-        then_op(line, out, graph, known, n, &graph.operation(n), word);
+        let op = graph.operation(n);
+        line.text(out, word);
+        then_short(line, out, graph, n, &op);
+        then_there(line, out, known, n);
     }
 }
 

@@ -3,10 +3,11 @@
 ghost use Rattle.std.specs.Prelude.{◌≡◌, ◌<◌, length, slice_get};
 ghost use Rattle.vcp_outside.specs.Written.{WritesTo};
 ghost use Rattle.vcp_outside.specs.Gathering.{GathersTo};
-ghost use Rattle.range_audit.specs.RangeText.{lines_of, lines_below, search_text, ranges_text};
+ghost use Rattle.range_audit.specs.Audit.{named_below};
+ghost use Rattle.range_audit.specs.RangeText.{able_below, counts_text, lines_of, lines_below, search_text, ranges_text};
 
 use crate::families::MOST_SEARCHED;
-use crate::report::counts::{count_able, count_named, stops_of};
+use crate::report::counts::{count_able, count_named};
 use crate::report::lines::{then_known, then_named};
 use crate::report::variables::then_variables;
 use op_graph::Graph;
@@ -29,7 +30,7 @@ fn then_operation<O: Sink>(
         (lines_of all graph.now ranges.now.known i (slice_get graph.now.operations i) (slice_get ranges.now.stops i)) }
 {
     let op = graph.operation(i);
-    let stops = stops_of(ranges, i);
+    let stops = ranges.stops_at(i as usize);
     let known = ranges.known();
     then_known(line, out, graph, known, i, &op, all);
     then_named(
@@ -73,6 +74,18 @@ fn then_search<O: Sink>(line: &mut Line, out: &mut O, graph: &Graph)
     }
 }
 
+/// Goes on with how many operations may stop, of how many that can by their kinds and types.
+fn then_counts<O: Sink>(line: &mut Line, out: &mut O, graph: &Graph, ranges: &Ranges)
+    requires { length ranges.now.stops ≡ length graph.now.operations }
+    ensures { GathersTo (O.seen out.old) (O.seen out.new) line.old line.new
+        (counts_text (named_below ranges.now.stops (length graph.now.operations)) (able_below graph.now (length graph.now.operations))) }
+{
+    line.text(out, b"may stop ");
+    line.count(out, count_named(graph, ranges) as u64);
+    line.text(out, b" of ");
+    line.count(out, count_able(graph) as u64);
+}
+
 /// Writes a line for each way in which an operation may stop, in order, and before these, where `all` are wanted, one with the range of
 /// each operation, and first of all one of each output and of each variable that is kept; at last how many may stop, of how many that can
 /// by their kinds and types, and before that a line where the graph has too many operations to be searched closer. It takes no memory. After
@@ -94,9 +107,6 @@ pub fn write_ranges<O: Sink>(
     then_variables(&mut line, out, graph, known, all);
     then_operations(&mut line, out, graph, ranges, all);
     then_search(&mut line, out, graph);
-    line.text(out, b"may stop ");
-    line.count(out, count_named(graph, ranges) as u64);
-    line.text(out, b" of ");
-    line.count(out, count_able(graph) as u64);
+    then_counts(&mut line, out, graph, ranges);
     line.end(out)
 }

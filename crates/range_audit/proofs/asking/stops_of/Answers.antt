@@ -1,4 +1,4 @@
-use Rattle.std.proofs.Common.{◌≡◌, true, slice_get, Some, sym, ap, subst, ◌∙◌}
+use Rattle.std.proofs.Common.{◌≡◌, true, slice_get, Some, sym, subst}
 use Rattle.range_walk.specs.Known.{is_named}
 use Rattle.range_walk.specs.Intervals.{Fit}
 use Rattle.range_audit.proofs.Steps.{and_so}
@@ -6,7 +6,7 @@ use Rattle.range_audit.proofs.asking.stops_of.Goals as goal
 
 pub returns-then-enough : goal.returns-then-enough
 returns-then-enough c = and_so c.stops_after.result c.stops_after.ensures (λ s is held row vs op why hold row_in given whole there own no e.
-    let fit = subst (λ ks. Fit ks vs) (sym c.known-known.ensures) (c.requires.walk.fits held row vs hold row_in given) in
+    let fit = subst (λ ks. Fit ks vs) (sym c.known.ensures) (c.requires.walk.fits held row vs hold row_in given) in
     is held row vs op why hold given whole fit there own no e)
 
 pub returns : goal.returns
@@ -14,5 +14,4 @@ returns c = λ held row vs op why hold row_in given whole there own no e.
     let here = subst (λ k. slice_get c.args.cycle.now.graph.now.operations k ≡ Some op) (sym whole) there in
     let named = c.requires.walk.names held row vs op why hold row_in given here own no e in
     let at_place = subst (λ k. is_named why (slice_get c.args.told.now.stops k) ≡ true) whole named in
-    let is = ap (λ ss. slice_get ss c.args.i) (sym c.stops-stops.ensures) ∙ c.stops_at-plain.ensures in
-    subst (λ o. is_named why o ≡ true) is at_place
+    subst (λ o. is_named why o ≡ true) c.stops_at-plain.ensures at_place

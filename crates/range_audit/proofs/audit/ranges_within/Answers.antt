@@ -1,16 +1,9 @@
-use Rattle.std.proofs.Common.{length, sym, subst}
-use Rattle.range_audit.specs.Searching.{Always, InBox}
 use Rattle.range_audit.proofs.Cycles.{audit}
 use Rattle.range_audit.proofs.NoneNamed.{never_within}
 use Rattle.range_audit.proofs.audit.ranges_within.Goals as goal
 
 pub closer-requires : goal.closer-requires
-closer-requires c =
-    let g = c.args.graph.now in
-    record {
-      sound = c.in_ok-typed.ensures;
-      always = subst (λ bs. Always g c.args.inputs.now (InBox bs (length g.stores))) (sym c.deref.ensures.value) c.in_ok-boxes.ensures;
-    }
+closer-requires c = record { sound = c.in_ok-typed.ensures; always = c.in_ok-boxes.ensures }
 
 pub returns : goal.returns
 returns c =

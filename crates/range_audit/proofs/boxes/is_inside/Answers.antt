@@ -1,5 +1,5 @@
-use Rattle.std.proofs.Common.{◌≡◌, below_more, arith, rules}
-use Rattle.std.proofs.lemmas.Option.{slice_get_within}
+use Rattle.std.proofs.Common.{sym, ◌∙◌, below_more, arith, rules}
+use Rattle.std.proofs.lemmas.Option.{slice_get_within, same_Some}
 use Rattle.vcp_base.specs.Values.{at}
 use Rattle.range_audit.proofs.Boxed.{InsideAt, inside_same}
 use Rattle.range_audit.proofs.Steps.{get_there}
@@ -8,10 +8,8 @@ use Rattle.range_audit.proofs.boxes.is_inside.Goals as goal
 pub cells-preserved : goal.cells-preserved
 cells-preserved c =
     let here : InsideAt c.args.cells.now c.args.other.now c.cells.j = λ s r a b.
-    let one = c.range_at-cell.ensures in
-    let two = c.range_at-wide.ensures in
-    let s_is : c.range_at-cell.result ≡ s = cc in
-    let r_is : c.range_at-wide.result ≡ r = cc in
+    let s_is = same_Some c.range_at-cell.result s (sym c.range_at-cell.ensures ∙ a) in
+    let r_is = same_Some c.range_at-wide.result r (sym c.range_at-wide.ensures ∙ b) in
     inside_same c.range_at-cell.result s c.range_at-wide.result r s_is r_is (c.is_inside-is.ensures (search rules)) in
     below_more (InsideAt c.args.cells.now c.args.other.now) c.cells.j c.cells.invariant here
 

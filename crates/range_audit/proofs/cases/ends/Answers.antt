@@ -13,4 +13,4 @@ returns-then-is c = λ e vs whole fit.
     let g = c.args.cycle.now.graph.now in
     let hold = c.in_ok-cells.ensures.holds vs whole fit in
     let at_end = c.is_in_one-is.ensures c.if-is.true (stored g vs) (subst (λ rs. Hold rs (stored g vs)) (sym c.deref.ensures.value) hold) in
-    subst (λ n. InBox c.args.boxes.now n (stored g vs)) (ap length c.deref.ensures.value ∙ c.in_ok-cells.ensures.many) at_end
+    subst (λ n. InBox c.args.boxes.now.list.items n (stored g vs)) (ap length c.deref.ensures.value ∙ c.in_ok-cells.ensures.many) at_end

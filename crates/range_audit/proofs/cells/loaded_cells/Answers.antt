@@ -1,5 +1,5 @@
-use Rattle.std.proofs.Common.{◌≡◌, ℤ, subst, arith}
-use Rattle.std.proofs.lemmas.Option.{slice_get_within}
+use Rattle.std.proofs.Common.{ℤ, sym, subst, ◌∙◌, arith}
+use Rattle.std.proofs.lemmas.Option.{slice_get_within, same_Some}
 use Rattle.op_graph.specs.declared.op.Loaded.{Loaded}
 use Rattle.vcp_base.specs.Values.{at}
 use Rattle.range_walk.specs.Intervals.{IsIn}
@@ -16,8 +16,7 @@ cells-preserved c =
     let range = c.loaded_range-range.result in
     let loaded = c.load_of-load.result in
     let here : LoadedAt c.args.typed c.args.graph.now.loads c.cells.k range = λ m there.
-    let load_there = c.load_of-load.ensures in
-    let same : loaded ≡ m = cc in
+    let same = same_Some loaded m (sym c.load_of-load.ensures ∙ there) in
     subst (λ (l : Loaded). (v : ℤ) → Loads c.args.typed l v → IsIn range v) same c.loaded_range-range.ensures in
     one_more _ _ _ range c.cells.k c.cells.invariant here c.in_ok-push.ensures.items
 

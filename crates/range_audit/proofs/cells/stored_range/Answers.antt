@@ -1,4 +1,5 @@
-use Rattle.std.proofs.Common.{◌≡◌, ◌<◌, length, slice_get, Some, subst, arith}
+use Rattle.std.proofs.Common.{◌≡◌, ◌<◌, length, slice_get, Some, sym, subst, ◌∙◌, arith}
+use Rattle.std.proofs.lemmas.Option.{same_Some}
 use Rattle.range_audit.proofs.cells.stored_range.Goals as goal
 
 pub range_at-requires : goal.range_at-requires
@@ -10,6 +11,5 @@ range_at-requires c =
 
 pub returns : goal.returns
 returns c = λ n there.
-    let here = c.store_of-store.ensures in
-    let same : c.store_of-store.result ≡ n = cc in
+    let same = same_Some c.store_of-store.result n (sym c.store_of-store.ensures ∙ there) in
     subst (λ m. slice_get c.args.known.now m ≡ Some c.range_at.result) same c.range_at.ensures

@@ -3,4 +3,5 @@ use Rattle.range_audit.specs.Searching.{Box, EndsFrom}
 use Rattle.range_audit.proofs.families.are_boxes_kept.Given as goal
 
 abbrev pub invariant-boxes : goal.invariant-boxes
-invariant-boxes l = l.all ≡ true → (j : ℕ) → j < l.k → (b : Box) → slice_get l.from j ≡ Some b → EndsFrom l.graph l.inputs l.boxes b.items
+invariant-boxes l = l.all ≡ true → (j : ℕ) → j < l.k → (b : Box) → slice_get l.from.list.items j ≡ Some b
+    → EndsFrom l.graph l.inputs l.boxes.list.items b.items

@@ -1,8 +1,4 @@
-use Rattle.std.proofs.Common.{length, subst}
-use Rattle.range_audit.specs.Searching.{Always, InBox}
 use Rattle.range_audit.proofs.families.family.Goals as goal
 
 pub returns-then-is : goal.returns-then-is
-returns-then-is c =
-    let g = c.args.graph.now in
-    subst (λ rs. Always g c.args.inputs.now (InBox rs (length g.stores))) c.deref-in-rounds.ensures.value (c.in_ok-is.ensures c.if-is.true)
+returns-then-is c = c.in_ok-is.ensures c.if-is.true

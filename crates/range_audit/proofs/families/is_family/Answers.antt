@@ -10,7 +10,7 @@ use Rattle.range_audit.proofs.families.is_family.Goals as goal
 pub returns : goal.returns
 returns c = λ e.
     let g = c.args.graph.now in
-    let boxes = c.args.boxes.now in
+    let boxes = c.args.boxes.now.list.items in
     let both : (c.is_in_one-begins.result && c.in_ok-kept.kept) ≡ true = sym c.both_hold-both.ensures ∙ e in
     let parts = and_parts c.is_in_one-begins.result c.in_ok-kept.kept both in
     let first = subst (λ rs. Hold rs (initial g)) (sym c.deref.ensures.value) (c.in_ok-first.ensures.holds (initial g) (initial_loaded g)) in

@@ -1,4 +1,5 @@
 use Rattle.std.proofs.Common.{length, refl, sym, ◌∙◌}
+use Rattle.range_audit.proofs.Steps.{and_so}
 use Rattle.range_audit.proofs.families.with_family.Goals as goal
 
 pub found_by-requires : goal.found_by-requires
@@ -9,11 +10,10 @@ found_by-requires c = record {
 }
 
 pub returns : goal.returns
-returns c =
+returns c = and_so c.found_by.result c.found_by.ensures (λ told is.
     let g = c.args.graph.now in
     let sound = c.requires.sound in
     let found = c.in_ok-boxed.ensures.found in
-    let is = c.in_ok-told.ensures in
     record {
       known = is.known ∙ sound.known;
       stops = is.stops ∙ sound.known;
@@ -28,4 +28,4 @@ returns c =
       };
       able = λ i op why there may. sound.able i op why there (is.first refl why i may);
       types = is.types refl g.operations sound.types;
-    }
+    })

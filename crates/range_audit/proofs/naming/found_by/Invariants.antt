@@ -5,6 +5,6 @@ use Rattle.range_audit.proofs.naming.found_by.Given as goal
 
 abbrev pub invariant-operations : goal.invariant-operations
 invariant-operations l = record {
-  known : AllAt (CloserAt l.both l.a.known l.b.known) l.known.items l.i;
-  stops : AllAt (JoinedAt l.both l.a.stops l.b.stops) l.stops.items l.i;
+  known : AllAt (CloserAt l.both l.a.known l.b.known) l.found.known l.i;
+  stops : AllAt (JoinedAt l.both l.a.stops l.b.stops) l.found.stops l.i;
 }

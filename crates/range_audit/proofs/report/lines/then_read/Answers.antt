@@ -1,10 +1,10 @@
 use Rattle.std.proofs.Common.{◌≤◌, length, arith}
 use Rattle.std.proofs.lemmas.Option.{slice_get_past}
-use Rattle.range_audit.proofs.Going.{unmoved}
+use Rattle.range_audit.proofs.Going.{and_then, unmoved}
 use Rattle.range_audit.proofs.report.lines.then_read.Goals as goal
 
 pub returns-then-n-len : goal.returns-then-n-len
-returns-then-n-len g c = rw c.operation.ensures c.then_op.ensures
+returns-then-n-len g c = rw c.operation-op.ensures (and_then c.text.ensures.gathers (and_then c.then_short.ensures c.then_there.ensures))
 
 pub returns-else-n-len : goal.returns-else-n-len
 returns-else-n-len g c =

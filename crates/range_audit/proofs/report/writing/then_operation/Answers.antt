@@ -3,5 +3,5 @@ use Rattle.range_audit.proofs.report.writing.then_operation.Goals as goal
 
 pub returns : goal.returns
 returns g c =
-    rw (c.operation-op.ensures, c.stops_of-stops.ensures, ← c.known-known.ensures)
+    rw (c.operation-op.ensures, c.stops_at-stops.ensures, ← c.known-known.ensures)
     (and_then c.then_known.ensures (and_then c.then_named.ensures c.then_named-2.ensures))

@@ -1,5 +1,0 @@
-use Rattle.range_audit.proofs.Going.{and_then}
-use Rattle.range_audit.proofs.report.lines.then_spaced_range.Goals as goal
-
-pub returns : goal.returns
-returns g c = and_then c.text.ensures.gathers c.then_range.ensures
