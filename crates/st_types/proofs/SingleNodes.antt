@@ -4,8 +4,9 @@ use Rattle.vcp_base.specs.declared.spot.Spot.{Spot}
 use Rattle.vcp_base.specs.declared.ty.Ty.{Ty}
 use Rattle.vcp_base.specs.Types.{is_bool, within}
 use Rattle.st_tree.specs.declared.expr.BinOp.{BinOp}
+use Rattle.st_tree.specs.declared.expr.UnOp.{UnOp}
 use Rattle.vcp_typed.specs.declared.expr.TExpr.{TExpr}
-use Rattle.vcp_typed.specs.Rules.{common}
+use Rattle.vcp_typed.specs.Rules.{common, signed}
 use Rattle.vcp_typed.specs.TExprTree as typed
 use Rattle.vcp_typed.specs.TStmtTree as checked
 use Rattle.vcp_typed.specs.TExprViews.{texpr_tree}
@@ -17,7 +18,7 @@ use Rattle.st_types.specs.Faults.{fault, IsLeast}
 use Rattle.st_types.specs.Notes.{Notes}
 use Rattle.st_types.specs.Scope.{Entry}
 use Rattle.st_types.specs.ExprTyping.{both, widened}
-use Rattle.st_types.specs.ExprSteps.{Operates}
+use Rattle.st_types.specs.ExprSteps.{Operates, Signs}
 use Rattle.st_types.specs.StmtTyping.{entry_type, is_free, Narrows, NoTest, IsBool, assign_of, test_of, selector_of}
 use Rattle.st_types.specs.StmtSteps.{Gives}
 use Rattle.st_types.proofs.NoteLaws.{quiet, note-always}
@@ -173,6 +174,32 @@ pub is-number : (p : Spot) (e : Option TExpr) (v : TExpr) (u : Ty) (a : Option F
 is-number p e v u a is is_u w = subst (λ z. Selects p z a a (Some (texpr_tree v))) (sym is) (record {
   notes = quiet a _ (λ f h. true-false (sym h.1.2 ∙ sym (ap is_bool (same-type _ h.1.0 h.1.1)) ∙ own-type v u false is_u w));
   gives = sym (ap (λ c. cond c None (Some (texpr_tree v))) (own-type v u false is_u w));
+})
+
+-- ---- an operator before its operand
+
+abbrev pub SignsOf : UnOp → Spot → Option TExpr → Option Fault → Option Fault → Option typed.TExprTree → Type 0
+SignsOf op p e a b r = Signs op p (option_map texpr_tree e) a b r
+
+-- u is the type that was found of the operand
+own-signed : (op : UnOp) (v : TExpr) (u : Ty) (t : Option Ty) → u ≡ ty_of (texpr_tree v) → t ≡ signed op u → signed op (ty_of (texpr_tree v)) ≡ t
+own-signed op v u t is_u is = sym (is ∙ ap (signed op) is_u)
+
+pub no-operand : (op : UnOp) (p : Spot) (e : Option TExpr) (a : Option Fault) → e ≡ None → SignsOf op p e a a None
+no-operand op p e a is = subst (λ z. SignsOf op p z a a None) (sym is) (record { notes = quiet a _ (λ f h. none-some _ h.1.1); gives = refl })
+
+pub sign-clashes : (op : UnOp) (p : Spot) (e : Option TExpr) (v : TExpr) (u : Ty) (a b : Option Fault) → e ≡ Some v → u ≡ ty_of (texpr_tree v)
+    → None ≡ signed op u → Notes a b (λ f. f ≡ fault rule.Mismatch p) → SignsOf op p e a b None
+sign-clashes op p e v u a b is is_u clash n = subst (λ z. SignsOf op p z a b None) (sym is) (record {
+  notes = note-always a b _ _ n (ty_of (texpr_tree v), refl, own-signed op v u None is_u clash);
+  gives = sym (ap (option_map (λ t. typed.unary op t (texpr_tree v) p)) (own-signed op v u None is_u clash));
+})
+
+pub signed-is : (op : UnOp) (p : Spot) (e : Option TExpr) (v : TExpr) (u t : Ty) (z : typed.TExprTree) (a : Option Fault) → e ≡ Some v
+    → u ≡ ty_of (texpr_tree v) → Some t ≡ signed op u → z ≡ typed.unary op t (texpr_tree v) p → SignsOf op p e a a (Some z)
+signed-is op p e v u t z a is is_u fits made = subst (λ y. SignsOf op p y a a (Some z)) (sym is) (record {
+  notes = quiet a _ (λ f h. none-some t (sym h.1.2 ∙ sym (ap (signed op) (same-type _ h.1.0 h.1.1)) ∙ own-signed op v u (Some t) is_u fits));
+  gives = ap (λ x. Some x) made ∙ sym (ap (option_map (λ s. typed.unary op s (texpr_tree v) p)) (own-signed op v u (Some t) is_u fits));
 })
 
 -- ---- an operator between its operands

@@ -152,10 +152,9 @@ fn turning_of(
     requires some { IfSome by (λ v. v ≢ pos 0) }
     ensures { result ≡ turning_of held.now (option_map (λ y. y.now) x.entry) first last by }
 {
-    let x = x?;
-    let first = first?;
-    let last = last?;
-    let by = by?;
+    let (Some(x), Some(first), Some(last), Some(by)) = (x, first, last, by) else {
+        return None;
+    };
     if !is_free(held, x) {
         return None;
     }
