@@ -463,8 +463,10 @@ impl Environment<'_> {
             names: self.names,
             held: &held,
         };
-        let made = inner.type_stmts(body, first)?;
-        Ok(for_of(turning, made, name_spot))
+        match inner.type_stmts(body, first) {
+            Ok(made) => Ok(for_of(turning, made, name_spot)),
+            Err(Memory) => Err(Memory),
+        }
     }
 
     /// Types statements inside FORs over the slots `held`: notes their faults, and gives the checked statements, none
@@ -535,10 +537,10 @@ impl Environment<'_> {
     {
         match other {
             None => Ok(Some(None)),
-            Some(body) => {
-                let made = self.type_stmts(&body.items, first)?;
-                Ok(with_else(made))
-            }
+            Some(body) => match self.type_stmts(&body.items, first) {
+                Ok(made) => Ok(with_else(made)),
+                Err(Memory) => Err(Memory),
+            },
         }
     }
 }

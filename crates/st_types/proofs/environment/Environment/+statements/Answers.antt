@@ -100,11 +100,11 @@ type_stmt-returns-in-For t c =
 pub type_for-type_stmts-requires : goal.type_for-type_stmts-requires
 type_for-type_stmts-requires t c = omega arith
 
-pub type_for-returns : goal.type_for-returns
-type_for-returns t c = λ spot.
+pub type_for-returns-in-Ok : goal.type_for-returns-in-Ok
+type_for-returns-in-Ok t c = λ spot.
     let body = subst
     (λ h. TypesStmts c.args.self.now.names.now h (stmt_trees c.args.body.now) c.step.new.first c.type_stmts.new.first
-    (option_map (λ b. tstmt_trees b.items.items) c.in_ok-made.made)) c.deref.ensures.value c.in_ok-made.ensures in
+    (option_map (λ b. tstmt_trees b.items.items) c.in-Ok.made)) c.deref.ensures.value c.in-Ok.ensures in
     for-types _ _ _ _ spot _ _ _ _ _ _ _ _ _ _ _ _ _ _ _ _ _ _ _ _ c.find-x.ensures c.entry_type-ty.ensures c.in_ok-held.ensures c.name_fault.ensures c.bool_fault.ensures c.in_ok-low.ensures c.in_ok-high.ensures c.in_ok-step_by.ensures.is body c.turning_of-turning.ensures c.for_of.ensures
 
 pub type_stmts-type_stmt-requires : goal.type_stmts-type_stmt-requires
@@ -201,11 +201,11 @@ pub type_other-type_stmts-requires : goal.type_other-type_stmts-requires
 type_other-type_stmts-requires t c =
     omega (arith, ap (λ o. other_weight (other_tree o)) c.in-Some.is, ap (λ xs. stmts_weight (stmt_trees xs)) c.deref.ensures.value)
 
-pub type_other-returns-in_ok-made-in-Some : goal.type_other-returns-in_ok-made-in-Some
-type_other-returns-in_ok-made-in-Some t c =
+pub type_other-returns-in-Ok : goal.type_other-returns-in-Ok
+type_other-returns-in-Ok t c =
     let body = subst
     (λ xs. TypesStmts c.args.self.now.names.now c.args.self.now.held.now (stmt_trees xs) c.args.first.now c.type_stmts.new.first
-    (option_map (λ b. tstmt_trees b.items.items) c.in_ok-made-in-Some.made)) c.deref.ensures.value c.in_ok-made-in-Some.ensures in
+    (option_map (λ b. tstmt_trees b.items.items) c.in-Ok.made)) c.deref.ensures.value c.in-Ok.ensures in
     subst (λ o. TypesOther c.args.self.now.names.now c.args.self.now.held.now o c.args.first.now c.type_stmts.new.first
     (option_map tother_tree c.with_else.result)) (sym (ap other_tree c.in-Some.is))
     (some-else _ _ _ _ _ _ _ body c.with_else.ensures)
