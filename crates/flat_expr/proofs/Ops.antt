@@ -10,10 +10,10 @@ use Rattle.vcp_base.specs.declared.kind.Kind.TheVariants as kind
 use Rattle.vcp_base.specs.Types.{within}
 use Rattle.op_graph.specs.declared.op.Op.{Op}
 use Rattle.op_graph.specs.Building.{nowhere}
-use Rattle.op_graph.specs.Rules.{kind_fits, entry_of, imm_fits, reads_as}
+use Rattle.op_graph.specs.Rules.{kind_fits, entry_of, imm_fits, reads_as, operand_fits, types_fit, is_number}
 use Rattle.vcp_base.specs.Values.{at}
 use Rattle.op_graph.specs.GraphRun.{own, read}
-use Rattle.flat_expr.specs.State.{IsA, IsPlace, is_plain, reads}
+use Rattle.flat_expr.specs.State.{IsA, IsPlace, is_plain, is_arithmetic, is_comparison, reads}
 
 -- what the rules and the run say of a plain kind
 pub record Plain (k : Kind) : Type 0 where
@@ -100,3 +100,40 @@ isa_last t ops op k e h = isa t (ops ++ op ∷ []) k op (ap (slice_get (ops ++ o
 pub place_push : (t : Ty) (ops : List Op) (op : Op) (o : Option ℕ) → IsPlace t ops o → IsPlace t (ops ++ op ∷ []) o
 place_push t ops op None h = h
 place_push t ops op (Some k) h = isa_push t ops op k h
+
+-- ---- what an addition requires
+
+pub less_types : (t : Ty) → is_number t ≡ true → types_fit kind.Lt t ty.Bool ≡ true
+less_types t h = ap (λ b. b && true) h
+
+pub sel_types : (t : Ty) → types_fit kind.Sel t t ≡ true
+sel_types ty.Bool = refl
+sel_types ty.Int = refl
+sel_types ty.Dint = refl
+sel_types ty.Lint = refl
+
+pub neg_types : (t : Ty) → is_number t ≡ true → types_fit kind.Neg t t ≡ true
+neg_types ty.Bool h = absurd cc
+neg_types ty.Int h = refl
+neg_types ty.Dint h = refl
+neg_types ty.Lint h = refl
+
+-- arithmetic, and a comparison, of two operands in their type
+pub record OfTwo (k : Kind) (from to : Ty) : Type 0 where
+  pub plain : is_plain k ≡ true
+  pub types : types_fit k from to ≡ true
+  pub reads : (ops : List Op) (a b : ℕ) → IsA from ops a → IsA from ops b
+      → (operand_fits ops (reads k from 0) a ≡ true) × (operand_fits ops (reads k from 1) b ≡ true) × (operand_fits ops (reads k from 2) 0 ≡ true)
+
+pub arithmetic_of_two : (k : Kind) (t : Ty) → is_arithmetic k ≡ true → is_number t ≡ true → OfTwo k t t
+arithmetic_of_two kind.Add t h n = record { plain = refl; types = neg_types t n; reads = λ ops a b ha hb. (ha, hb, refl) }
+arithmetic_of_two kind.Sub t h n = record { plain = refl; types = neg_types t n; reads = λ ops a b ha hb. (ha, hb, refl) }
+arithmetic_of_two kind.Mul t h n = record { plain = refl; types = neg_types t n; reads = λ ops a b ha hb. (ha, hb, refl) }
+arithmetic_of_two kind.Div t h n = record { plain = refl; types = neg_types t n; reads = λ ops a b ha hb. (ha, hb, refl) }
+arithmetic_of_two kind.Mod t h n = record { plain = refl; types = neg_types t n; reads = λ ops a b ha hb. (ha, hb, refl) }
+arithmetic_of_two _ t h n = absurd cc
+
+pub comparison_of_two : (k : Kind) (t : Ty) → is_comparison k ≡ true → types_fit k t ty.Bool ≡ true → OfTwo k t ty.Bool
+comparison_of_two kind.Eq t h n = record { plain = refl; types = n; reads = λ ops a b ha hb. (ha, hb, refl) }
+comparison_of_two kind.Lt t h n = record { plain = refl; types = n; reads = λ ops a b ha hb. (ha, hb, refl) }
+comparison_of_two _ t h n = absurd cc

@@ -69,3 +69,7 @@ more_leaves p q old new n m (Err e) fewer le h = record {
 
 pub more_refuses : (old new : State) (n m : ℕ) (r : Result ℕ Build) → n ≤ m → IfErr r (λ e. Refuses old new n e) → IfErr r (λ e. Refuses old new m e)
 more_refuses old new n m r le h = more_leaves no_slot no_slot old new n m r (λ slot no. no) le h
+
+-- a part of a number
+pub at_least : (n k m : ℕ) → m ≡ n + k → n ≤ m
+at_least n k m is = omega (arith, is)

@@ -4,7 +4,7 @@ use Rattle.std.proofs.lemmas.Int.{to_z-of_z}
 use Rattle.vcp_typed.specs.TExprTree.{literal, get, unary, binary}
 use Rattle.vcp_typed.specs.TExprViews.{texpr_tree}
 use Rattle.vcp_typed.specs.Checked.{IsExpr, HasType}
-use Rattle.flat_expr.specs.State.{Flattens, Reads}
+use Rattle.flat_expr.specs.State.{Flattens, Reads, IsA}
 use Rattle.flat_expr.proofs.Exprs.{literal_made, get_made, unary_made, binary_made}
 use Rattle.std.specs.Prelude.{IfErr}
 use Rattle.std.proofs.lemmas.Result.{err_from_is_err_and}
@@ -23,7 +23,7 @@ use Rattle.flat_expr.specs.State.{FlattensOne, Follows, argument, one_size}
 use Rattle.flat_expr.specs.State.{Allows, last_type}
 use Rattle.vcp_typed.specs.Wide.{is_lint, expr_is_wide, exprs_are_wide}
 use Rattle.std.specs.Prelude.{◌||◌}
-use Rattle.flat_expr.proofs.Codes.{still, allows_at, allows_second, call_admitted, argument_code}
+use Rattle.flat_expr.proofs.Codes.{still, admitted, allows_at, allows_first, allows_second, allows_three, call_admitted, argument_code}
 use Rattle.flat_expr.proofs.Weight.{expr_weight}
 use Rattle.flat_expr.proofs.Arguments.{call_made, call_fits, one_follows, one_count, one_unread, unread_argument, first_follows, sizes, argument_is}
 use Rattle.flat_expr.proofs.Arguments.{argument_none, argument_expr}
@@ -422,3 +422,71 @@ expr-returns-in_err-a-in-Binary-clause-made t c =
 pub expr-returns-in_err-b-in-Binary-clause-made : goal.expr-returns-in_err-b-in-Binary-clause-made
 expr-returns-in_err-b-in-Binary-clause-made t c =
     rw (err_from_is_err_and c.from_residual-in_err-b-in-Binary.result c.from_residual-in_err-b-in-Binary.ensures.1).1 tt
+
+-- ---- what the calls require
+
+pub expr-expr-requires-in-Unary : goal.expr-expr-requires-in-Unary
+expr-expr-requires-in-Unary t c =
+    let a = texpr_tree c.deref-in-Unary.result.now in
+    let tree : texpr_tree c.args.e.now ≡ unary c.in-Unary.op c.in-Unary.ty a c.in-Unary.spot =
+    ap texpr_tree c.in-Unary.is ∙ ap (λ x. unary c.in-Unary.op c.in-Unary.ty (texpr_tree x) c.in-Unary.spot) (sym c.deref-in-Unary.ensures) in
+    let parts = subst (IsExpr c.args.self.now.slots) tree c.requires.checked in
+    let code = subst (λ x. Allows c.args.self.now.graph.profile (expr_is_wide x)) tree c.requires.code in
+    (omega (arith, ap expr_weight tree), (parts.0, allows_second c.args.self.now.graph.profile (is_lint c.in-Unary.ty) (expr_is_wide a) code))
+
+pub expr-sign-requires : goal.expr-sign-requires
+expr-sign-requires t c =
+    let a = texpr_tree c.deref-in-Unary.result.now in
+    let tree : texpr_tree c.args.e.now ≡ unary c.in-Unary.op c.in-Unary.ty a c.in-Unary.spot =
+    ap texpr_tree c.in-Unary.is ∙ ap (λ x. unary c.in-Unary.op c.in-Unary.ty (texpr_tree x) c.in-Unary.spot) (sym c.deref-in-Unary.ensures) in
+    let parts = subst (IsExpr c.args.self.now.slots) tree c.requires.checked in
+    let code = subst (λ x. Allows c.args.self.now.graph.profile (expr_is_wide x)) tree c.requires.code in
+    let made = c.in_ok-a-in-Unary.ensures.made in
+    let own = admitted c.args.self.now.graph.profile c.in-Unary.ty (allows_first c.args.self.now.graph.profile (is_lint c.in-Unary.ty) (expr_is_wide a) code) in record { types = parts.2; code = still _ _ c.in-Unary.ty made.follows.profile own; a = subst (λ u. IsA u c.expr-in-Unary.new.self.graph.operations c.in_ok-a-in-Unary.a) parts.1 made.place }
+
+pub expr-expr-requires-in-Binary : goal.expr-expr-requires-in-Binary
+expr-expr-requires-in-Binary t c =
+    let l = texpr_tree c.deref-in-Binary.result.now in
+    let tree : texpr_tree c.args.e.now ≡ binary c.in-Binary.op c.in-Binary.ty l (texpr_tree c.in-Binary.right.value) c.in-Binary.spot =
+    ap texpr_tree c.in-Binary.is
+    ∙ ap (λ x. binary c.in-Binary.op c.in-Binary.ty (texpr_tree x) (texpr_tree c.in-Binary.right.value) c.in-Binary.spot) (sym c.deref-in-Binary.ensures) in
+    let parts = subst (IsExpr c.args.self.now.slots) tree c.requires.checked in
+    let code = subst (λ x. Allows c.args.self.now.graph.profile (expr_is_wide x)) tree c.requires.code in (
+      omega (arith, ap expr_weight tree),
+      (
+        parts.0,
+        (allows_three c.args.self.now.graph.profile (is_lint c.in-Binary.ty) (expr_is_wide l) (expr_is_wide (texpr_tree c.in-Binary.right.value)) code).1,
+      ),
+    )
+
+pub expr-expr-requires-in-Binary-2 : goal.expr-expr-requires-in-Binary-2
+expr-expr-requires-in-Binary-2 t c =
+    let l = texpr_tree c.deref-in-Binary.result.now in
+    let r = texpr_tree c.deref-in-Binary-2.result.now in
+    let tree : texpr_tree c.args.e.now ≡ binary c.in-Binary.op c.in-Binary.ty l r c.in-Binary.spot =
+    ap texpr_tree c.in-Binary.is ∙ ap₂ (λ x y. binary c.in-Binary.op c.in-Binary.ty (texpr_tree x) (texpr_tree y) c.in-Binary.spot)
+    (sym c.deref-in-Binary.ensures) (sym c.deref-in-Binary-2.ensures) in
+    let parts = subst (IsExpr c.args.self.now.slots) tree c.requires.checked in
+    let code = subst (λ x. Allows c.args.self.now.graph.profile (expr_is_wide x)) tree c.requires.code in
+    let f = c.in_ok-a-in-Binary.ensures.made.follows in (
+      omega (arith, ap expr_weight tree),
+      (
+        subst (λ slots. IsExpr slots r) (sym f.slots) parts.1,
+        allows_at c.args.self.now.graph.profile c.expr-in-Binary.new.self.graph.profile (expr_is_wide r) f.profile
+            (allows_three c.args.self.now.graph.profile (is_lint c.in-Binary.ty) (expr_is_wide l) (expr_is_wide r) code).2,
+      ),
+    )
+
+pub expr-operate-requires : goal.expr-operate-requires
+expr-operate-requires t c =
+    let l = texpr_tree c.deref-in-Binary.result.now in
+    let r = texpr_tree c.deref-in-Binary-2.result.now in
+    let tree : texpr_tree c.args.e.now ≡ binary c.in-Binary.op c.in-Binary.ty l r c.in-Binary.spot =
+    ap texpr_tree c.in-Binary.is ∙ ap₂ (λ x y. binary c.in-Binary.op c.in-Binary.ty (texpr_tree x) (texpr_tree y) c.in-Binary.spot)
+    (sym c.deref-in-Binary.ensures) (sym c.deref-in-Binary-2.ensures) in
+    let parts = subst (IsExpr c.args.self.now.slots) tree c.requires.checked in
+    let code = subst (λ x. Allows c.args.self.now.graph.profile (expr_is_wide x)) tree c.requires.code in
+    let made = c.in_ok-a-in-Binary.ensures.made in
+    let next = c.in_ok-b-in-Binary.ensures.made in
+    let own = admitted c.args.self.now.graph.profile c.in-Binary.ty
+    (allows_three c.args.self.now.graph.profile (is_lint c.in-Binary.ty) (expr_is_wide l) (expr_is_wide r) code).0 in record { types = parts.4; code = still _ _ c.in-Binary.ty (next.follows.profile ∙ made.follows.profile) own; a = next.follows.typed c.in-Binary.ty c.in_ok-a-in-Binary.a (subst (λ u. IsA u c.expr-in-Binary.new.self.graph.operations c.in_ok-a-in-Binary.a) parts.2 made.place); b = subst (λ u. IsA u c.expr-in-Binary-2.new.self.graph.operations c.in_ok-b-in-Binary.b) parts.3 next.place }

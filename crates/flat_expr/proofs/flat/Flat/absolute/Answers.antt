@@ -1,3 +1,8 @@
+use Rattle.vcp_base.specs.declared.ty.Ty.TheVariants as ty
+use Rattle.flat_expr.proofs.Operators.{int_as}
+use Rattle.flat_expr.proofs.Codes.{still}
+use Rattle.flat_expr.proofs.Ops.{less_types, neg_types, sel_types}
+use Rattle.std.proofs.Common.{refl, ◌∙◌}
 use Rattle.std.proofs.lemmas.Result.{IfOk-weaker}
 use Rattle.flat_expr.proofs.Absolute.{absolute_made}
 use Rattle.std.proofs.Common.{◌+◌, subst, arith}
@@ -70,3 +75,32 @@ returns-in_err-r-clause-made c = rw (err_from_is_err_and c.from_residual-in_err-
 
 pub returns-in_err-n-clause-made : goal.returns-in_err-n-clause-made
 returns-in_err-n-clause-made c = rw (err_from_is_err_and c.from_residual-in_err-n.result c.from_residual-in_err-n.ensures.1).1 tt
+
+-- ---- what the calls require
+
+pub mask-requires : goal.mask-requires
+mask-requires c = record { there = c.requires.a; number = c.requires.number; code = c.requires.code }
+
+pub add-requires : goal.add-requires
+add-requires c =
+    let m = c.in_ok-m.ensures.made in
+    let z = c.in_ok-z.ensures.made in
+    let code = still _ _ c.args.ty (z.follows.profile ∙ m.follows.profile) c.requires.code in record { plain = refl; types = less_types c.args.ty c.requires.number; from = code; ty = refl; a = z.follows.typed c.args.ty c.in_ok-m.m m.place; b = int_as c.args.ty c.neutral.new.self.graph.operations c.in_ok-z.z c.requires.number z.place; c = refl }
+
+pub add-requires-2 : goal.add-requires-2
+add-requires-2 c =
+    let m = c.in_ok-m.ensures.made in
+    let z = c.in_ok-z.ensures.made in
+    let r = c.in_ok-r.ensures.made in
+    let code = still _ _ c.args.ty (r.follows.profile ∙ z.follows.profile ∙ m.follows.profile) c.requires.code in
+    record { plain = refl; types = neg_types c.args.ty c.requires.number; from = code; ty = code; a = r.follows.typed c.args.ty c.in_ok-m.m (z.follows.typed c.args.ty c.in_ok-m.m m.place); b = refl; c = refl }
+
+pub add-requires-3 : goal.add-requires-3
+add-requires-3 c =
+    let m = c.in_ok-m.ensures.made in
+    let z = c.in_ok-z.ensures.made in
+    let r = c.in_ok-r.ensures.made in
+    let n = c.in_ok-n.ensures.made in
+    let code = still _ _ c.args.ty (n.follows.profile ∙ r.follows.profile ∙ z.follows.profile ∙ m.follows.profile) c.requires.code in
+    let there = n.follows.typed c.args.ty c.in_ok-m.m (r.follows.typed c.args.ty c.in_ok-m.m (z.follows.typed c.args.ty c.in_ok-m.m m.place)) in
+    record { plain = refl; types = sel_types c.args.ty; from = code; ty = code; a = n.follows.typed ty.Bool c.in_ok-r.r r.place; b = there; c = n.place }

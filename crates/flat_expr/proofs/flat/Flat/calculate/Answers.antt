@@ -1,3 +1,6 @@
+use Rattle.flat_expr.proofs.Codes.{still}
+use Rattle.flat_expr.proofs.Ops.{arithmetic_of_two}
+use Rattle.std.proofs.Common.{◌∙◌}
 use Rattle.std.proofs.Common.{◌+◌, subst, arith}
 use Rattle.std.proofs.lemmas.Result.{IfOk-weaker}
 use Rattle.flat_expr.proofs.Operators.{calculated}
@@ -32,3 +35,23 @@ returns-in_err-first-clause-refuses c =
     let q = err_from_is_err_and c.from_residual.result c.from_residual.ensures.1 in
     let h = more_refuses c.args.self.now c.mask.new.self 1 3 c.mask.result (omega arith) c.mask.ensures.refuses in
     rw (q.1, q.2) (subst (λ r. IfErr r (λ e. Refuses c.args.self.now c.mask.new.self 3 e)) c.in_err-first.was h)
+
+-- ---- what the calls require
+
+pub mask-requires : goal.mask-requires
+mask-requires c = record { there = c.requires.a; number = c.requires.number; code = c.requires.code }
+
+pub mask-requires-2 : goal.mask-requires-2
+mask-requires-2 c =
+    let f = c.in_ok-first.ensures.made.follows in
+    record { there = f.typed c.args.ty c.args.b c.requires.b; number = c.requires.number; code = still _ _ c.args.ty f.profile c.requires.code }
+
+pub add-requires : goal.add-requires
+add-requires c =
+    let first = c.in_ok-first.ensures.made in
+    let second = c.in_ok-second.ensures.made in
+    let two = arithmetic_of_two c.args.kind c.args.ty c.requires.kind c.requires.number in
+    let code = still _ _ c.args.ty (second.follows.profile ∙ first.follows.profile) c.requires.code in
+    let reads = two.reads c.mask-2.new.self.graph.operations c.in_ok-first.first c.in_ok-second.second
+    (second.follows.typed c.args.ty c.in_ok-first.first first.place) second.place in
+    record { plain = two.plain; types = two.types; from = code; ty = code; a = reads.0; b = reads.1; c = reads.2 }

@@ -1,3 +1,4 @@
+use Rattle.std.proofs.Common.{refl}
 use Rattle.std.proofs.lemmas.Result.{IfOk-weaker}
 use Rattle.flat_expr.proofs.Operators.{copied}
 use Rattle.std.proofs.Common.{arith}
@@ -11,3 +12,6 @@ returns-clause-made c =
 
 pub returns-clause-refuses : goal.returns-clause-refuses
 returns-clause-refuses c = more_refuses c.args.self.now c.add.new.self 1 2 c.add.result (omega arith) c.add.ensures.refuses
+
+pub add-requires : goal.add-requires
+add-requires c = record { plain = refl; types = c.requires.types; from = c.requires.from; ty = c.requires.to; a = c.requires.a; b = refl; c = refl }

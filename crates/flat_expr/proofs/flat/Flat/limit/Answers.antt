@@ -1,3 +1,4 @@
+use Rattle.flat_expr.proofs.Codes.{still}
 use Rattle.std.proofs.lemmas.Result.{IfOk-weaker, err_from_is_err_and}
 use Rattle.flat_expr.proofs.Operators.{limited}
 use Rattle.std.proofs.Common.{◌+◌, arith, subst}
@@ -21,3 +22,14 @@ returns-in_err-m-clause-refuses c =
     let q = err_from_is_err_and c.from_residual.result c.from_residual.ensures.1 in
     let h = more_refuses c.args.self.now c.pick.new.self 2 6 c.pick.result (omega arith) c.pick.ensures.refuses in
     rw (q.1, q.2) (subst (λ r. IfErr r (λ e. Refuses c.args.self.now c.pick.new.self 6 e)) c.in_err-m.was h)
+
+-- ---- what the calls require
+
+pub pick-requires : goal.pick-requires
+pick-requires c = record { number = c.requires.number; code = c.requires.code; x = c.requires.a; y = c.requires.low; a = c.requires.a; b = c.requires.low }
+
+pub pick-requires-2 : goal.pick-requires-2
+pick-requires-2 c =
+    let m = c.in_ok-m.ensures.made in
+    let high = m.follows.typed c.args.ty c.args.high c.requires.high in
+    record { number = c.requires.number; code = still _ _ c.args.ty m.follows.profile c.requires.code; x = high; y = m.place; a = m.place; b = high }

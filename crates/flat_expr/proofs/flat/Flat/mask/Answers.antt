@@ -1,3 +1,9 @@
+use Rattle.vcp_base.specs.declared.ty.Ty.TheVariants as ty
+use Rattle.flat_expr.specs.State.{IsPlace}
+use Rattle.flat_expr.proofs.Operators.{int_as}
+use Rattle.flat_expr.proofs.Codes.{still}
+use Rattle.flat_expr.proofs.Ops.{sel_types}
+use Rattle.std.proofs.Common.{refl}
 use Rattle.std.proofs.Common.{◌≡◌, Some, sym, ap, ◌∙◌, subst, arith}
 use Rattle.std.proofs.lemmas.Result.{IfOk-weaker, err_from_is_err_and}
 use Rattle.flat_expr.specs.State.{State, Refuses}
@@ -21,3 +27,11 @@ returns-in_err-other-clause-refuses c =
     let q = err_from_is_err_and c.from_residual.result c.from_residual.ensures.1 in
     let h = more_refuses c.args.self.now c.neutral.new.self 0 1 c.neutral.result (omega arith) c.neutral.ensures.refuses in
     rw (q.1, q.2) (subst (λ r. IfErr r (λ e. Refuses c.args.self.now c.neutral.new.self 1 e)) c.in_err-other.was h)
+
+pub add-requires : goal.add-requires
+add-requires c =
+    let path : c.args.self.now.path ≡ Some c.in-Some.path = sym (ap (λ (s : State). s.path) c.self.view_is) ∙ c.in-Some.is in
+    let other = c.in_ok-other.ensures.made in
+    let f = other.follows in
+    let code = still _ _ c.args.ty f.profile c.requires.code in
+    let there = f.typed ty.Bool c.in-Some.path (subst (IsPlace ty.Bool c.args.self.now.graph.operations) path f.before.path) in record { plain = refl; types = sel_types c.args.ty; from = code; ty = code; a = there; b = int_as c.args.ty c.neutral.new.self.graph.operations c.in_ok-other.other c.requires.number other.place; c = f.typed c.args.ty c.args.k c.requires.there }

@@ -1,3 +1,5 @@
+use Rattle.flat_expr.proofs.Codes.{still}
+use Rattle.std.proofs.Common.{refl}
 use Rattle.std.proofs.lemmas.Result.{IfOk-weaker, err_from_is_err_and}
 use Rattle.flat_expr.proofs.Operators.{narrowed}
 use Rattle.std.proofs.Common.{◌+◌, arith, subst}
@@ -21,3 +23,12 @@ returns-in_err-m-clause-refuses c =
     let q = err_from_is_err_and c.from_residual.result c.from_residual.ensures.1 in
     let h = more_refuses c.args.self.now c.mask.new.self 1 2 c.mask.result (omega arith) c.mask.ensures.refuses in
     rw (q.1, q.2) (subst (λ r. IfErr r (λ e. Refuses c.args.self.now c.mask.new.self 2 e)) c.in_err-m.was h)
+
+-- ---- what the calls require
+
+pub mask-requires : goal.mask-requires
+mask-requires c = record { there = c.requires.a; number = c.requires.number; code = c.requires.from }
+
+pub add-requires : goal.add-requires
+add-requires c =
+    let m = c.in_ok-m.ensures.made in record { plain = refl; types = c.requires.types; from = still _ _ c.args.from m.follows.profile c.requires.from; ty = still _ _ c.args.to m.follows.profile c.requires.to; a = m.place; b = refl; c = refl }

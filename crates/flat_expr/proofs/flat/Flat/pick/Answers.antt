@@ -1,3 +1,6 @@
+use Rattle.flat_expr.proofs.Codes.{still}
+use Rattle.flat_expr.proofs.Ops.{less_types, sel_types}
+use Rattle.std.proofs.Common.{refl}
 use Rattle.std.proofs.lemmas.Result.{IfOk-weaker, err_from_is_err_and}
 use Rattle.flat_expr.proofs.Operators.{picked}
 use Rattle.std.proofs.Common.{◌+◌, arith, subst}
@@ -21,3 +24,14 @@ returns-in_err-r-clause-refuses c =
     let q = err_from_is_err_and c.from_residual.result c.from_residual.ensures.1 in
     let h = more_refuses c.args.self.now c.add.new.self 1 2 c.add.result (omega arith) c.add.ensures.refuses in
     rw (q.1, q.2) (subst (λ r. IfErr r (λ e. Refuses c.args.self.now c.add.new.self 2 e)) c.in_err-r.was h)
+
+-- ---- what the calls require
+
+pub add-requires : goal.add-requires
+add-requires c = record { plain = refl; types = less_types c.args.ty c.requires.number; from = c.requires.code; ty = refl; a = c.requires.x; b = c.requires.y; c = refl }
+
+pub add-requires-2 : goal.add-requires-2
+add-requires-2 c =
+    let r = c.in_ok-r.ensures.made in
+    let code = still _ _ c.args.ty r.follows.profile c.requires.code in
+    record { plain = refl; types = sel_types c.args.ty; from = code; ty = code; a = r.place; b = r.follows.typed c.args.ty c.args.a c.requires.a; c = r.follows.typed c.args.ty c.args.b c.requires.b }

@@ -1,3 +1,5 @@
+use Rattle.flat_expr.proofs.Ops.{sel_types}
+use Rattle.std.proofs.Common.{refl}
 use Rattle.std.proofs.lemmas.Result.{IfOk-weaker}
 use Rattle.flat_expr.proofs.Operators.{selected}
 use Rattle.std.proofs.Common.{arith}
@@ -11,3 +13,6 @@ returns-clause-made c =
 
 pub returns-clause-refuses : goal.returns-clause-refuses
 returns-clause-refuses c = more_refuses c.args.self.now c.add.new.self 1 3 c.add.result (omega arith) c.add.ensures.refuses
+
+pub add-requires : goal.add-requires
+add-requires c = record { plain = refl; types = sel_types c.args.ty; from = c.requires.code; ty = c.requires.code; a = c.requires.g; b = c.requires.a; c = c.requires.b }

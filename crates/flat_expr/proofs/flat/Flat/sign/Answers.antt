@@ -1,3 +1,7 @@
+use Rattle.op_graph.specs.Rules.{is_number}
+use Rattle.flat_expr.proofs.Codes.{still}
+use Rattle.flat_expr.proofs.Ops.{neg_types}
+use Rattle.std.proofs.Common.{true}
 use Rattle.std.proofs.Common.{◌≡◌, Some, refl, sym, subst}
 use Rattle.std.proofs.lemmas.Result.{IfOk-weaker}
 use Rattle.vcp_base.specs.declared.ty.Ty.TheVariants as ty
@@ -35,3 +39,25 @@ returns-in-Not-clause-made c =
 pub returns-in_ok-m-in-Neg-clause-refuses : goal.returns-in_ok-m-in-Neg-clause-refuses
 returns-in_ok-m-in-Neg-clause-refuses c = later_refuses c.args.self.now c.mask.new.self c.add.new.self 1 1 c.add.result
     c.in_ok-m-in-Neg.ensures.made.follows c.in_ok-m-in-Neg.ensures.made.unread c.in_ok-m-in-Neg.ensures.made.count c.add.ensures.refuses
+
+number_of : (t : Ty) → signed un.Neg t ≡ Some t → is_number t ≡ true
+number_of ty.Bool h = absurd cc
+number_of ty.Int h = refl
+number_of ty.Dint h = refl
+number_of ty.Lint h = refl
+
+pub mask-requires : goal.mask-requires
+mask-requires c =
+    record { there = c.requires.a; number = number_of c.args.ty (subst (λ (op : UnOp). signed op c.args.ty ≡ Some c.args.ty) c.in-Neg.is c.requires.types); code = c.requires.code }
+
+pub add-requires : goal.add-requires
+add-requires c =
+    let m = c.in_ok-m-in-Neg.ensures.made in
+    let number = number_of c.args.ty (subst (λ (op : UnOp). signed op c.args.ty ≡ Some c.args.ty) c.in-Neg.is c.requires.types) in
+    let code = still _ _ c.args.ty m.follows.profile c.requires.code in
+    record { plain = refl; types = neg_types c.args.ty number; from = code; ty = code; a = m.place; b = refl; c = refl }
+
+pub add-requires-in-Not : goal.add-requires-in-Not
+add-requires-in-Not c =
+    let t : c.args.ty ≡ ty.Bool = bool_of c.args.ty (subst (λ (op : UnOp). signed op c.args.ty ≡ Some c.args.ty) c.in-Not.is c.requires.types) in
+    record { plain = refl; types = refl; from = refl; ty = refl; a = subst (λ u. IsA u c.args.self.now.graph.operations c.args.a) t c.requires.a; b = refl; c = refl }
