@@ -8,6 +8,7 @@ pub mod Rows
 pub mod Senders
 pub mod Worked
 pub mod Heads
+pub mod InRange
 pub mod LinesFit
 pub mod NumbersRead
 pub mod Reading

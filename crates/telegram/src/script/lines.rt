@@ -11,7 +11,7 @@ ghost use Rattle.telegram.specs.Forms.{cycle_of, delivery_if as delivery_if_of, 
 ghost use Rattle.telegram.specs.Reads.{EventFits};
 ghost use Rattle.telegram.specs.declared.script.wire_fault.WireFault.TheVariants as refusal;
 
-use crate::script::numbers::{is_below, numbers};
+use crate::script::numbers::{number_below, numbers};
 use crate::script::wire_fault::WireFault;
 use crate::{Event, Wire};
 use std::alloc::Global;
@@ -61,13 +61,16 @@ fn delivery_if(
     if !is_addend(alter) {
         return Err(WireFault::Range { line });
     }
-    if !is_below(wire.senders as i64, id) || !is_below(begun as i64, number) {
+    let Some(id) = number_below(wire.senders, id) else {
         return Err(WireFault::Unsent { line });
-    }
+    };
+    let Some(number) = number_below(begun, number) else {
+        return Err(WireFault::Unsent { line });
+    };
     Ok(Event::Deliver {
         line,
-        id: id as u32,
-        number: number as u32,
+        id,
+        number,
         alter,
     })
 }

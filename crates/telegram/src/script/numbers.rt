@@ -33,8 +33,8 @@ fn is_between(least: u32, most: u32, v: i64) -> bool
     least as i64 <= v && v <= most as i64
 }
 
-/// Whether a number is one of so many, counted from 0.
-pub fn is_below(many: i64, v: i64) -> bool
+// Whether a number is one of so many, counted from 0.
+fn is_below(many: i64, v: i64) -> bool
     ensures { result ≡ is_below_of many v }
 {
     0 <= v && v < many
