@@ -1,5 +1,7 @@
-use Rattle.std.proofs.Common.{◌≡◌, ◌∙◌, refl, ap, arith, length, Err}
+use Rattle.std.proofs.Common.{◌≡◌, ◌∙◌, refl, ap, sym, subst, arith, length, Err}
+use Rattle.std.proofs.Math.Nat.{le_of_eq, le_trans}
 use Rattle.std.proofs.lemmas.Result.{err_from_is_err_and}
+use Rattle.vcp_outside.specs.Counts.{Rose}
 use Rattle.fault_campaign.proofs.SoFar.{group_fits}
 use Rattle.fault_campaign.specs.GroupLines.{groups_in}
 use Rattle.fault_campaign.proofs.PairsTelling.{many_counted}
@@ -84,3 +86,27 @@ returns-in_err-pair_totals_line-clause-stayed g c = λ other.
 
 pub returns-clause-stayed : goal.returns-clause-stayed
 returns-clause-stayed g c = λ other. c.in_ok-pair_totals_line.ensures.cause.stayed ∙ c.groups.invariant.stayed
+
+pub returns-in_err-verdict-clause-later : goal.returns-in_err-verdict-clause-later
+returns-in_err-verdict-clause-later g c = le_of_eq (sym c.groups.invariant.stayed)
+
+pub returns-in_err-group_line-clause-later : goal.returns-in_err-group_line-clause-later
+returns-in_err-group_line-clause-later g c = le_trans (le_of_eq (sym c.groups.invariant.stayed)) c.in_err-group_line.ensures.cause.later
+
+pub returns-in_err-pair_totals_line-clause-later : goal.returns-in_err-pair_totals_line-clause-later
+returns-in_err-pair_totals_line-clause-later g c = le_trans (le_of_eq (sym c.groups.invariant.stayed)) c.in_err-pair_totals_line.ensures.cause.later
+
+pub returns-clause-later : goal.returns-clause-later
+returns-clause-later g c = le_trans (le_of_eq (sym c.groups.invariant.stayed)) c.in_ok-pair_totals_line.ensures.cause.later
+
+pub returns-in_err-group_line-clause-write : goal.returns-in_err-group_line-clause-write
+returns-in_err-group_line-clause-write g c = λ is. subst (λ n. Rose n (g.O.Sink.seen c.group_line.new.out).faults) c.groups.invariant.stayed c.in_err-group_line.ensures.cause.failed
+
+pub returns-in_err-pair_totals_line-clause-write : goal.returns-in_err-pair_totals_line-clause-write
+returns-in_err-pair_totals_line-clause-write g c = λ is. subst (λ n. Rose n (g.O.Sink.seen c.pair_totals_line.new.out).faults) c.groups.invariant.stayed c.in_err-pair_totals_line.ensures.cause.failed
+
+pub returns-in_err-pair_totals_line-clause-never_falls : goal.returns-in_err-pair_totals_line-clause-never_falls
+returns-in_err-pair_totals_line-clause-never_falls g c = c.groups.invariant.so_far.later
+
+pub returns-clause-never_falls : goal.returns-clause-never_falls
+returns-clause-never_falls g c = c.groups.invariant.so_far.later

@@ -1,11 +1,12 @@
-use Rattle.std.proofs.Common.{◌≡◌, List, [], None, refl, ℤ, sym, ap, subst, ◌∙◌, arith, length, slice_get, slice_index_or}
+use Rattle.std.proofs.Common.{◌≡◌, ◌<◌, ◌≤◌, All, List, [], None, refl, ℤ, sym, ap, subst, ◌∙◌, arith, length, slice_get, slice_index_or}
+use Rattle.std.proofs.Math.Nat.{le_trans}
 use Rattle.std.proofs.lemmas.Option.{get_or_from_slice_get}
 use Rattle.coded_unit.specs.declared.call.Answer.{Answer}
 use Rattle.op_graph.specs.Lists.{Lists}
 use Rattle.coded_machine.specs.CycleEnds.{end_of, first_outside, stored_words}
 use Rattle.fault_script.specs.Changes.{acts_of}
 use Rattle.fault_campaign.specs.Begun.{RanAgain, answers_in}
-use Rattle.fault_campaign.specs.Crossing.{past_of}
+use Rattle.fault_campaign.specs.Crossing.{past_of, Room}
 use Rattle.fault_campaign.specs.References.{KeptRun}
 use Rattle.fault_campaign.specs.Reruns.{CycleAgain, cycle_again, stop_in}
 use Rattle.fault_campaign.specs.Touched.{held_marks}
@@ -98,3 +99,21 @@ returns-clause-ran g c = λ row there other answered.
           c.graph-graph.ensures c.table-table.ensures (c.deref-6.ensures.value ∙ sym past) (c.deref-7.ensures.value ∙ sym past) same_other
           c.end_of_answers-end.ensures other_end;
     }
+
+pub get-requires-clause-there : goal.get-requires-clause-there
+get-requires-clause-there g c =
+    let r : KeptRun = c.args.reference.now in
+    let cycles = c.cycles-cycles.ensures in
+    subst (λ (rows : List (List ℤ)). c.args.n < length rows) (sym c.rows.ensures)
+    (le_trans c.requires.there (subst (λ k. k ≤ length r.rows) cycles.count cycles.few))
+
+pub get-requires-clause-width : goal.get-requires-clause-width
+get-requires-clause-width g c =
+    let r : KeptRun = c.args.reference.now in
+    let w : Work = c.args.work.now in
+    subst (λ (rows : List (List ℤ)). All (λ (row : List ℤ). length row ≡ length w.inputs) rows) (sym c.rows.ensures)
+    (subst (λ k. All (λ (row : List ℤ). length row ≡ k) r.rows) (sym c.requires.room.inputs) c.cycles-cycles.ensures.sound.4)
+
+pub returns-clause-room : goal.returns-clause-room
+returns-clause-room g c =
+    subst (λ (h : Lists). Room h c.cross.new.work) c.graph-graph.ensures c.cross.ensures.room
