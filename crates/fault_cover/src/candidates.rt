@@ -1,7 +1,7 @@
 //! Where the faults of a class at an operation stand: in rows, mostly one for each operand, and columns, one for each value.
 
 ghost use Rattle.std.specs.Option.{option_to_list};
-ghost use Rattle.std.specs.Prelude.{◌≡◌, ◌<◌, ◌≤◌, ◌+◌, ◌^◌, ◌-◌, cond, length, map, slice_get};
+ghost use Rattle.std.specs.Prelude.{◌≡◌, ◌<◌, ◌+◌, ◌^◌, ◌-◌, cond, length, map, slice_get};
 ghost use Rattle.op_graph.specs.Rules.{is_out as is_out_of};
 ghost use Rattle.fault_cover.specs.Candidates.{addition as addition_of, candidate as candidate_of, columns as columns_of, rows as rows_of};
 ghost use Rattle.fault_cover.specs.Classes.{late_one};

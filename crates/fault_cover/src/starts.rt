@@ -4,7 +4,7 @@ ghost use Rattle.std.specs.Prelude.{◌≡◌, ◌<◌, ◌≤◌, ◌^◌, ◌+
 ghost use Rattle.std.specs.Prelude.{IfOk, OnOk};
 ghost use Rattle.vcp_base.specs.Code.{modulus as modulus_of};
 ghost use Rattle.vcp_base.specs.Kinds.{multiplier as multiplier_of};
-ghost use Rattle.coded_unit.specs.Words.{Small as Moderate, modulo};
+ghost use Rattle.coded_unit.specs.Words.{Small as Moderate};
 ghost use Rattle.op_graph.specs.Reads.{named as named_of};
 ghost use Rattle.signature_table.specs.Signatures.{signature, stored_signature};
 ghost use Rattle.fault_script.specs.Differences.{made, origin as origin_of, exchanged as exchanged_of};

@@ -6,7 +6,7 @@ ghost use Rattle.op_graph.specs.Rules.{IsGraph};
 ghost use Rattle.signature_table.specs.Signatures.{IsTableOf};
 ghost use Rattle.weight_audit.specs.Audit.{most_weights, weights_up_to, IsAudit};
 ghost use Rattle.weight_audit.specs.declared.kept.AuditFault.TheVariants as fault;
-ghost use Rattle.fault_cover.specs.Surveys.{AreAble, AreMaps, AreNumbers, AreOutputs, AreOuts, AreStops, IsMapped, IsSurveyOf};
+ghost use Rattle.fault_cover.specs.Surveys.{AreAble, AreNumbers, AreOutputs, AreOuts, AreStops, IsMapped, IsSurveyOf};
 
 use crate::nearest::{Nearest, find_nearest};
 use crate::rests::{Rests, word_rests};

@@ -1,6 +1,6 @@
 //! How many faults are reported as what.
 
-ghost use Rattle.std.specs.Prelude.{◌≡◌, ◌+◌, ◌<◌, ◌^◌, [], not, ◌==◌};
+ghost use Rattle.std.specs.Prelude.{◌≡◌, ◌+◌, ◌<◌, ◌^◌, []};
 ghost use Rattle.fault_cover.specs.CoverText.{leaves_any as leaves_any_of, refused_only as refused_only_of, sum_of, tally};
 ghost use Rattle.fault_cover.specs.Counts.{counted, together};
 

@@ -1,6 +1,6 @@
 //! What a fault is reported as.
 
-ghost use Rattle.std.specs.Prelude.{◌≡◌, ◌<◌, ◌≤◌, ◌^◌, ℕ, List, Some, None, true, false, pos, ◌+ℤ◌, ◌*ℤ◌, ◌≤ℤ◌, cond, nat_le, drop, map, length, slice_get};
+ghost use Rattle.std.specs.Prelude.{◌≡◌, ◌<◌, ◌≤◌, ◌^◌, List, Some, None, true, false, pos, ◌+ℤ◌, ◌≤ℤ◌, drop, map, length, slice_get};
 ghost use Rattle.vcp_base.specs.Code.{modulus as modulus_of};
 ghost use Rattle.coded_unit.specs.Words.{modulo};
 ghost use Rattle.op_graph.specs.declared.op.Op.{Op as Operation};
@@ -15,7 +15,7 @@ ghost use Rattle.fault_cover.specs.Sited.{IsSited};
 ghost use Rattle.fault_cover.specs.Firsts.{IsFirstOf, IsToldAt, NoneRefuses, OneRefuses, before as before_of, behind as behind_of, outlook_of as outlook_is};
 ghost use Rattle.fault_cover.specs.Sources.{Refuses, Source, as_source, comes as comes_of, is_any as is_any_of, part, readings, sources};
 ghost use Rattle.fault_cover.specs.Surveys.{IsMapped, IsSurvey};
-ghost use Rattle.fault_cover.specs.Telling.{Tells, TellsOf, copies as copies_of, does_as as does_as_of, does_the_same as does_the_same_of};
+ghost use Rattle.fault_cover.specs.Telling.{Tells, TellsOf, copies as copies_of, does_the_same as does_the_same_of};
 ghost use Rattle.fault_cover.specs.Telling.{gives_own as gives_own_of, subject};
 ghost use Rattle.fault_cover.specs.Walks.{AreWithin, further as further_of, kept};
 
@@ -73,26 +73,19 @@ fn first_of(profile: Profile, found: &[Option<Nearest>], starts: &[Start]) -> Op
     first
 }
 
-/// What an operation that may stop is reported to do, where it is reached within the horizon and no output is.
-fn runs_on(horizon: u32, stop: Nearest) -> Effect
-    ensures { result ≡ cond (nat_le stop.borders horizon) (told.RunsOn stop.borders stop.op) told.Beyond }
-{
-    if stop.borders <= horizon {
-        Effect::RunsOn {
-            borders: stop.borders,
-            op: stop.op,
-        }
-    } else {
-        Effect::Beyond
-    }
-}
-
 /// Where no output is reached within the horizon.
 fn behind(horizon: u32, output: Option<Nearest>, stop: Option<Nearest>) -> Effect
     ensures { result ≡ behind_of horizon output stop }
 {
     match stop {
-        Some(near) => runs_on(horizon, near),
+        Some(first) => if first.borders <= horizon {
+            Effect::RunsOn {
+                borders: first.borders,
+                op: first.op,
+            }
+        } else {
+            Effect::Beyond
+        },
         None => if output.is_some() {
             Effect::Beyond
         } else {
@@ -308,19 +301,14 @@ fn copies(kind: Kind) -> bool
     }
 }
 
-/// Whether the two kinds have the same multipliers and the same function.
-fn does_as(one: Kind, other: Kind) -> bool
-    ensures { result ≡ does_as_of one other }
-{
-    gives_own(one) && gives_own(other) || copies(one) && copies(other)
-}
-
-/// Whether the operation is done as one of another kind that does the same.
+/// Whether the operation is done as one of another kind that does the same: that has the same multipliers and the same function.
 fn does_the_same(own: Kind, disturbance: &Disturbance) -> bool
     ensures { result ≡ does_the_same_of own disturbance.now }
 {
     match *disturbance {
-        Disturbance::Does(Act::Operator { kind }) => does_as(own, kind),
+        Disturbance::Does(Act::Operator { kind }) => {
+            gives_own(own) && gives_own(kind) || copies(own) && copies(kind)
+        }
         _ => false,
     }
 }

@@ -2,13 +2,12 @@
 
 ghost use Rattle.std.specs.Prelude.{◌≡◌, ◌<◌, ◌≤◌, ◌^◌, List, All, IfOk, flat_map, length};
 ghost use Rattle.vcp_outside.specs.Gathering.{GathersTo};
-ghost use Rattle.vcp_outside.specs.Written.{WritesTo};
 ghost use Rattle.range_walk.specs.declared.range.Stops.{Stops};
 ghost use Rattle.signature_table.specs.Signatures.{IsTableOf};
 ghost use Rattle.fault_sites.specs.Sites.{each_below};
 ghost use Rattle.fault_cover.specs.Classes.{classes_of};
 ghost use Rattle.fault_cover.specs.Counts.{AreCounted};
-ghost use Rattle.fault_cover.specs.CoverText.{Covered, count_told, cover_text, delay_row, heard_at, heard_of, is_shown, shows_text, tables_text};
+ghost use Rattle.fault_cover.specs.CoverText.{Covered, count_told, delay_row, heard_at, heard_of, is_shown, shows_text, tables_text};
 ghost use Rattle.fault_cover.specs.CoverText.{tally as tally_of};
 ghost use Rattle.fault_cover.specs.Leftovers.{AreCovered, lines_at};
 ghost use Rattle.fault_cover.specs.Surveys.{IsMapped, IsSurvey};
@@ -183,40 +182,8 @@ fn then_found<O: Sink>(
     then_totals(line, out, all);
 }
 
-/// Writes what is found.
-fn write_found<O: Sink>(
-    out: &mut O,
-    subject: &Subject<'_>,
-    classes: CoverClasses,
-    list: &[CoverClass],
-    digest: &[u8],
-    found: &Found,
-) -> Result<(), Failed>
-    requires table { IsTableOf subject.now.table.now subject.now.graph.now }
-    requires mapped { IsMapped subject.now.graph.now subject.now.survey.now }
-    ensures { (stops : List Stops)
-        → IsSurvey (subject_of subject.now.graph.now subject.now.table.now subject.now.survey.now.horizon stops) subject.now.survey.now
-        → (is : IsFound (subject_of subject.now.graph.now subject.now.table.now subject.now.survey.now.horizon stops) list.now found.now.counts.items
-        found.now.all found.now.lines.items)
-        → WritesTo (O.seen out.old) (O.seen out.new) (cover_text subject.now.graph.now subject.now.survey.now.horizon is.covered classes digest.now) result }
-{
-    let mut line = Line::new();
-    let survey = subject.survey;
-    then_remark(&mut line, out, classes, survey.horizon(), digest);
-    then_found(
-        &mut line,
-        out,
-        subject,
-        list,
-        &found.counts,
-        &found.all,
-        &found.lines,
-    );
-    line.end(out)
-}
-
 /// Writes the cover that is found of these classes, which are `list`.
-fn write_or_fail<O: Sink>(
+fn write_found<O: Sink>(
     out: &mut O,
     subject: &Subject<'_>,
     classes: CoverClasses,
@@ -235,7 +202,19 @@ fn write_or_fail<O: Sink>(
         (O.seen out.new) result }
 {
     let left = found.all.leaves_any();
-    match write_found(out, subject, classes, list, digest, found) {
+    let mut line = Line::new();
+    let survey = subject.survey;
+    then_remark(&mut line, out, classes, survey.horizon(), digest);
+    then_found(
+        &mut line,
+        out,
+        subject,
+        list,
+        &found.counts,
+        &found.all,
+        &found.lines,
+    );
+    match line.end(out) {
         Ok(()) => Ok(left),
         Err(Failed) => Err(Uncovered::Failed),
     }
@@ -260,7 +239,7 @@ fn write_classes<O: Sink>(
         (O.seen out.new) result }
 {
     match find(alloc, subject, list) {
-        Ok(found) => write_or_fail(out, subject, classes, list, digest, &found),
+        Ok(found) => write_found(out, subject, classes, list, digest, &found),
         Err(_) => Err(Uncovered::Memory),
     }
 }
