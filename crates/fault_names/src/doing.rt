@@ -1,7 +1,6 @@
 //! What a line does, and to what.
 
 ghost use Rattle.std.specs.Prelude.{◌≡◌, ◌<◌, IfOk, length};
-ghost use Rattle.vcp_base.specs.Words.{words as words_of};
 ghost use Rattle.fault_names.specs.Lines.{with_rest, place_at as place_at_of, place_of, operand_of, target_of, add_of};
 ghost use Rattle.fault_names.specs.Lines.{read_of, operator_of, doing_of};
 

@@ -1,9 +1,9 @@
 //! What a line means.
 
-ghost use Rattle.std.specs.Prelude.{◌≡◌, ◌<◌, ◌^◌, pos, length};
+ghost use Rattle.std.specs.Prelude.{◌≡◌, ◌<◌, length};
 ghost use Rattle.vcp_base.specs.Words.{words as words_of};
 ghost use Rattle.fault_sites.specs.Sites.{adding as adding_of};
-ghost use Rattle.fault_names.specs.Lines.{act_of, acts_of, is_together as is_together_of, fitted as fitted_of, ended as ended_of, timed as timed_of};
+ghost use Rattle.fault_names.specs.Lines.{act_of, acts_of, fitted as fitted_of, ended as ended_of, timed as timed_of};
 ghost use Rattle.fault_names.specs.Lines.{meant_of, both_flips as both_flips_of, flips_of, plain_acts as plain_acts_of};
 
 use crate::doing::{Doing, Target, take_doing, take_target};

@@ -5,7 +5,7 @@ ghost use Rattle.std.specs.Str.Lines.{lines};
 ghost use Rattle.vcp_base.specs.Limits.{most_source_bytes};
 ghost use Rattle.vcp_base.specs.Words.{words as words_of};
 ghost use Rattle.fault_script.specs.ScriptOf.{most_faults};
-ghost use Rattle.fault_names.specs.Entries.{image_named as image_named_of, names_other as names_other_of, other_count};
+ghost use Rattle.fault_names.specs.Entries.{image_named as image_named_of, names_other as names_other_of};
 ghost use Rattle.fault_names.specs.Entries.{fault_count as fault_count_of, counted as counted_of, taken as taken_of, lines_checked, checked};
 ghost use Rattle.vcp_base.specs.Lines.{read_lines};
 ghost use Rattle.fault_names.specs.Script.{cycles_of};

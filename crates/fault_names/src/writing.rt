@@ -9,7 +9,7 @@ ghost use Rattle.vcp_base.specs.Lines.{read_lines};
 ghost use Rattle.vcp_base.specs.Words.{words as words_of};
 ghost use Rattle.fault_sites.specs.SiteText.{site_lines, site_text};
 ghost use Rattle.fault_names.specs.Lines.{meant_of};
-ghost use Rattle.fault_names.specs.Script.{sites_over, other_sites, sites_meant, begin_text, end_text, meant_text, entry_text, entry_texts, entries, entry_of};
+ghost use Rattle.fault_names.specs.Script.{sites_over, other_sites, sites_meant, meant_text, entry_text, entry_texts, entries, entry_of};
 ghost use Rattle.fault_names.specs.Entries.{text_of_script};
 
 use crate::meant::{Meant, meaning};
