@@ -9,7 +9,6 @@ use std::alloc::Global;
 use std::marker::Model;
 
 /// One input or output: its name as declared, and its type.
-#[derive(Drop)]
 pub struct Column {
     /// The name as it was declared; `same_name` compares names.
     pub name: Text,
@@ -17,10 +16,21 @@ pub struct Column {
     pub ty: Ty,
 }
 
+impl Drop for Column {
+    fn drop(self) {
+        let Column { name: _, ty: _ } = self;
+    }
+}
+
 /// Inputs or outputs in order, seen as a list.
-#[derive(Drop)]
 pub struct Columns {
     columns: Vec<Column>,
+}
+
+impl Drop for Columns {
+    fn drop(self) {
+        let Columns { columns: _ } = self;
+    }
 }
 
 impl Model for Columns {

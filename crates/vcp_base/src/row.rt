@@ -7,9 +7,14 @@ use std::alloc::Global;
 use std::marker::Model;
 
 /// One value per input or output, seen as a list of integers.
-#[derive(Drop)]
 pub struct Row {
     values: Vec<i64>,
+}
+
+impl Drop for Row {
+    fn drop(self) {
+        let Row { values: _ } = self;
+    }
 }
 
 impl Model for Row {

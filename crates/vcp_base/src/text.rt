@@ -8,9 +8,14 @@ use std::alloc::Global;
 use std::marker::Model;
 
 /// A text, seen as the list of its bytes.
-#[derive(Drop)]
 pub struct Text {
     content: Vec<u8>,
+}
+
+impl Drop for Text {
+    fn drop(self) {
+        let Text { content: _ } = self;
+    }
 }
 
 impl Model for Text {

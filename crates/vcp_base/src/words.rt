@@ -8,10 +8,15 @@ use std::alloc::Global;
 use std::marker::Model;
 
 /// Words, seen as a list of texts.
-#[derive(Drop)]
 pub struct Words {
     words: Vec<Text>,
     alloc: Global,
+}
+
+impl Drop for Words {
+    fn drop(self) {
+        let Words { words: _, alloc: _ } = self;
+    }
 }
 
 impl Model for Words {
