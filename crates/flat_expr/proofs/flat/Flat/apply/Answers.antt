@@ -1,4 +1,5 @@
-use Rattle.std.proofs.Common.{◌≡◌, pos, true, cond, refl, sym, ◌∙◌, subst, arith}
+use Rattle.flat_expr.proofs.Refusals.{more_refuses, at_least}
+use Rattle.std.proofs.Common.{◌≡◌, pos, true, cond, refl, sym, ap, ◌∙◌, subst, arith}
 use Rattle.std.specs.Prelude.{IfErr}
 use Rattle.std.proofs.lemmas.Result.{IfOk-weaker}
 use Rattle.vcp_base.specs.declared.ty.Ty.{Ty}
@@ -7,7 +8,7 @@ use Rattle.vcp_base.specs.Kinds.{same}
 use Rattle.vcp_base.specs.Values.{at}
 use Rattle.vcp_typed.specs.Meaning.{lesser, greater}
 use Rattle.vcp_typed.specs.Size.{function_size}
-use Rattle.flat_expr.specs.State.{Makes, Refuses, applies}
+use Rattle.flat_expr.specs.State.{Makes, Refuses, FunFits, applies}
 use Rattle.flat_expr.proofs.Conversions.{conversion_fits, conversion_last, conversion_size, argument_fits, converted}
 use Rattle.flat_expr.proofs.Operators.{total_step}
 use Rattle.flat_expr.proofs.flat.Flat.apply.Goals as goal
@@ -79,3 +80,55 @@ pub returns-in-Some-clause-refuses : goal.returns-in-Some-clause-refuses
 returns-in-Some-clause-refuses c =
     let two = conversion_size c.args.fun (c.in-Some.from, c.in-Some.to) (sym c.conversion.ensures ∙ c.in-Some.is) in
     subst (λ n. IfErr c.convert.result (λ e. Refuses c.args.self.now c.convert.new.self n e)) (sym two) c.convert.ensures.refuses
+
+-- ---- what the calls require, and their refusals
+
+pub absolute-requires : goal.absolute-requires
+absolute-requires c =
+    let f = subst (λ f. FunFits f c.args.ty c.args.self.now.graph.operations c.args.a c.args.b c.args.c) c.in-Abs.is c.requires.arguments in
+    record { number = f.0; code = c.requires.ty; a = f.1 }
+
+pub returns-in-Abs-clause-refuses : goal.returns-in-Abs-clause-refuses
+returns-in-Abs-clause-refuses c =
+    more_refuses c.args.self.now c.absolute.new.self 5 (function_size c.args.fun) c.absolute.result
+    (at_least 5 0 (function_size c.args.fun) (ap function_size c.in-Abs.is)) c.absolute.ensures.refuses
+
+pub pick-requires : goal.pick-requires
+pick-requires c =
+    let f = subst (λ f. FunFits f c.args.ty c.args.self.now.graph.operations c.args.a c.args.b c.args.c) c.in-Min.is c.requires.arguments in
+    record { number = f.0; code = c.requires.ty; x = f.2; y = f.1; a = f.1; b = f.2 }
+
+pub returns-in-Min-clause-refuses : goal.returns-in-Min-clause-refuses
+returns-in-Min-clause-refuses c =
+    more_refuses c.args.self.now c.pick.new.self 2 (function_size c.args.fun) c.pick.result
+    (at_least 2 1 (function_size c.args.fun) (ap function_size c.in-Min.is)) c.pick.ensures.refuses
+
+pub pick-requires-in-Max : goal.pick-requires-in-Max
+pick-requires-in-Max c =
+    let f = subst (λ f. FunFits f c.args.ty c.args.self.now.graph.operations c.args.a c.args.b c.args.c) c.in-Max.is c.requires.arguments in
+    record { number = f.0; code = c.requires.ty; x = f.1; y = f.2; a = f.1; b = f.2 }
+
+pub returns-in-Max-clause-refuses : goal.returns-in-Max-clause-refuses
+returns-in-Max-clause-refuses c =
+    more_refuses c.args.self.now c.pick-in-Max.new.self 2 (function_size c.args.fun) c.pick-in-Max.result
+    (at_least 2 1 (function_size c.args.fun) (ap function_size c.in-Max.is)) c.pick-in-Max.ensures.refuses
+
+pub limit-requires : goal.limit-requires
+limit-requires c =
+    let f = subst (λ f. FunFits f c.args.ty c.args.self.now.graph.operations c.args.a c.args.b c.args.c) c.in-Limit.is c.requires.arguments in
+    record { number = f.0; code = c.requires.ty; low = f.1; a = f.2; high = f.3 }
+
+pub returns-in-Limit-clause-refuses : goal.returns-in-Limit-clause-refuses
+returns-in-Limit-clause-refuses c =
+    more_refuses c.args.self.now c.limit.new.self 6 (function_size c.args.fun) c.limit.result
+    (at_least 6 0 (function_size c.args.fun) (ap function_size c.in-Limit.is)) c.limit.ensures.refuses
+
+pub select-requires : goal.select-requires
+select-requires c =
+    let f = subst (λ f. FunFits f c.args.ty c.args.self.now.graph.operations c.args.a c.args.b c.args.c) c.in-Sel.is c.requires.arguments in
+    record { code = c.requires.ty; g = f.0; a = f.1; b = f.2 }
+
+pub returns-in-Sel-clause-refuses : goal.returns-in-Sel-clause-refuses
+returns-in-Sel-clause-refuses c =
+    more_refuses c.args.self.now c.select.new.self 3 (function_size c.args.fun) c.select.result
+    (at_least 3 0 (function_size c.args.fun) (ap function_size c.in-Sel.is)) c.select.ensures.refuses
