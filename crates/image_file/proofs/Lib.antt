@@ -7,6 +7,7 @@ pub mod Kept
 pub mod Found
 pub mod Worked
 pub mod Appended
+mod Chains
 pub mod Admits
 pub mod FittingLists
 pub mod FittingOperations

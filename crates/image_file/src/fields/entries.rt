@@ -101,7 +101,6 @@ fn store_after(
 }
 
 /// The next input, after others: its name is there and above theirs, and its type is of the code.
-#[tactic(auto, unfolding(crate::specs::Entries::input_piece))]
 pub fn input_of(
     profile: Profile,
     names: u32,
@@ -116,7 +115,6 @@ pub fn input_of(
 }
 
 /// The next output, after others: its name and its operation are there and above theirs, and its type is of the code.
-#[tactic(auto, unfolding(crate::specs::Entries::output_piece))]
 pub fn output_of(
     profile: Profile,
     names: u32,
@@ -134,7 +132,6 @@ pub fn output_of(
 
 /// The next cell, after others: its name is there, its type is of the code, its initial value is in its type,
 /// and its LOAD and its STORE, which comes later, are there and above theirs.
-#[tactic(auto, unfolding(crate::specs::Entries::cell_piece))]
 pub fn cell_of(
     profile: Profile,
     names: u32,

@@ -33,3 +33,10 @@ returns-clause-rising c =
     c.entries.bytes.left.now
     (many c.args.count (λ b. (output_piece c.args.profile c.args.names c.args.operations b).read) [] c.args.bytes.now.left.now)
     (omega (arith, c.entries-test)) c.entries.invariant)).1.1)
+
+pub returns-clause-is : goal.returns-clause-is
+returns-clause-is c =
+    is_done (λ b. (output_piece c.args.profile c.args.names c.args.operations b).read) c.entries.found.items c.args.count c.entries.counter
+    c.entries.bytes.left.now
+    (many c.args.count (λ b. (output_piece c.args.profile c.args.names c.args.operations b).read) [] c.args.bytes.now.left.now)
+    (omega (arith, c.entries-test)) c.entries.invariant
