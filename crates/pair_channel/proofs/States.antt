@@ -74,6 +74,9 @@ closed_by (pair.Stopped k why) first between = (λ h. absurd cc, between)
 closed_by (pair.Parted e f) first between = (λ h. absurd cc, between)
 closed_by (pair.Differ i x y) first between = (λ h. absurd cc, between)
 
+pub few_more : (n : ℕ) → n ≤ n + 1
+few_more n = omega arith
+
 pub counted : (p : PairEnd) (n : ℕ) → cycles_after p n ≤ n + 1
 counted pair.Released n = omega arith
 counted (pair.Stopped k why) n = omega arith

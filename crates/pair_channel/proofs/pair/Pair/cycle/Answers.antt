@@ -1,11 +1,12 @@
-use Rattle.std.proofs.Common.{◌≡◌, ◌<◌, ◌≤◌, ◌+◌, ◌^◌, None, length, sym, ap, subst, refl, ◌∙◌}
+use Rattle.std.proofs.Common.{◌≡◌, ◌<◌, ◌≤◌, ◌+◌, ◌^◌, None, length, sym, ap, subst, refl, ◌∙◌, IfSome}
+use Rattle.std.proofs.lemmas.Option.{none-some}
 use Rattle.vcp_base.specs.Limits.{most_cycles}
 use Rattle.op_graph.specs.Lists.{Lists}
 use Rattle.coded_machine.specs.State.{State, with_answers}
 use Rattle.pair_channel.specs.PairStates.{PairState}
 use Rattle.pair_channel.specs.PairTurns.{PairTurn}
 use Rattle.pair_channel.specs.SoundPair.{SoundPair, Together}
-use Rattle.pair_channel.proofs.States.{left_by, pair_left, unchanged_row, closed_between, counted}
+use Rattle.pair_channel.proofs.States.{few_more, left_by, pair_left, unchanged_row, closed_between, counted}
 use Rattle.pair_channel.proofs.pair.Pair.cycle.Goals as goal
 
 pub cycle-one-requires-clause-cycle : goal.cycle-one-requires-clause-cycle
@@ -108,8 +109,20 @@ returns-clause-cycles g c =
 pub returns-clause-graph : goal.returns-clause-graph
 returns-clause-graph g c = c.cycle-one.ensures.graph ∙ ap (λ (q : PairState). q.first.graph) c.self.view_is
 
-pub returns-in-Some-clause-between : goal.returns-in-Some-clause-between
-returns-in-Some-clause-between g c =
+pub returns-in-Some : goal.returns-in-Some
+returns-in-Some g c =
     let s = c.self.inside in
     let p : PairState = record { first = s.first; second = s.second; cycles = s.cycles; ended = s.ended } in
-    sym (ap (λ (q : PairState). q.first.under_way) c.self.view_is) ∙ closed_between p s.ours s.theirs c.in-Some.end c.self.invariant c.in-Some.is
+    let m : PairState = c.args.self.now in
+    let end = c.in-Some.end in
+    let out = c.args.out.now in
+    let is = sym (ap (λ (q : PairState). q.ended) c.self.view_is) ∙ c.in-Some.is in
+    record {
+      turn = λ going. absurd (none-some end (sym going ∙ is));
+      repeats = subst (λ o. IfSome o (λ e. (end ≡ e) × (m ≡ m) × (out ≡ out) × (c.args.first.now ≡ c.args.first.now) × (c.args.second.now ≡ c.args.second.now))) (sym is) (refl, refl, refl, refl, refl);
+      unchanged = λ apart. refl;
+      between = sym (ap (λ (q : PairState). q.first.under_way) c.self.view_is) ∙ closed_between p s.ours s.theirs end c.self.invariant c.in-Some.is;
+      graph = refl;
+      cycles = few_more m.cycles;
+      width = refl;
+    }

@@ -1,4 +1,5 @@
-use Rattle.std.proofs.Common.{◌≡◌, ◌<◌, ◌≤◌, ◌+◌, ◌^◌, List, ℤ, None, length, sym, ap, subst, refl, ◌∙◌}
+use Rattle.std.proofs.Common.{◌≡◌, ◌<◌, ◌≤◌, ◌+◌, ◌^◌, List, ℤ, None, length, sym, ap, subst, refl, ◌∙◌, IfSome}
+use Rattle.std.proofs.lemmas.Option.{none-some}
 use Rattle.vcp_base.specs.Limits.{most_cycles}
 use Rattle.op_graph.specs.Lists.{Lists}
 use Rattle.coded_unit.specs.declared.call.Answer.{Answer}
@@ -8,7 +9,7 @@ use Rattle.pair_channel.specs.PairEnds.{both, PairCause}
 use Rattle.pair_channel.specs.PairStates.{PairState, pair_row_after}
 use Rattle.pair_channel.specs.PairTurns.{PairConcluded}
 use Rattle.pair_channel.specs.SoundPair.{SoundPair, Together}
-use Rattle.pair_channel.proofs.States.{left_by, pair_left, first_finished, unchanged_row, closed_between, counted}
+use Rattle.pair_channel.proofs.States.{few_more, left_by, pair_left, first_finished, unchanged_row, closed_between, counted}
 use Rattle.pair_channel.proofs.pair.Pair.end.Goals as goal
 
 pub end-one-requires-clause-cycle : goal.end-one-requires-clause-cycle
@@ -114,8 +115,20 @@ returns-clause-cycles g c =
 pub returns-clause-graph : goal.returns-clause-graph
 returns-clause-graph g c = c.end-one.ensures.graph ∙ ap (λ (q : PairState). q.first.graph) c.self.view_is
 
-pub returns-in-Some-clause-between : goal.returns-in-Some-clause-between
-returns-in-Some-clause-between g c =
+pub returns-in-Some : goal.returns-in-Some
+returns-in-Some g c =
     let s = c.self.inside in
     let p : PairState = record { first = s.first; second = s.second; cycles = s.cycles; ended = s.ended } in
-    sym (ap (λ (q : PairState). q.first.under_way) c.self.view_is) ∙ closed_between p s.ours s.theirs c.in-Some.end c.self.invariant c.in-Some.is
+    let m : PairState = c.args.self.now in
+    let end = c.in-Some.end in
+    let out = c.args.out.now in
+    let is = sym (ap (λ (q : PairState). q.ended) c.self.view_is) ∙ c.in-Some.is in
+    record {
+      concluded = λ going. absurd (none-some end (sym going ∙ is));
+      repeats = subst (λ o. IfSome o (λ e. (end ≡ e) × (m ≡ m) × (out ≡ out) × (c.args.second.now ≡ c.args.second.now))) (sym is) (refl, refl, refl, refl);
+      unchanged = λ apart. refl;
+      between = sym (ap (λ (q : PairState). q.first.under_way) c.self.view_is) ∙ closed_between p s.ours s.theirs end c.self.invariant c.in-Some.is;
+      graph = refl;
+      cycles = few_more m.cycles;
+      width = refl;
+    }

@@ -1,4 +1,5 @@
 use Rattle.std.proofs.Common.{length, arith, sym, ap, ◌∙◌}
+use Rattle.std.proofs.lemmas.Result.{IfOk-from_err}
 use Rattle.std.proofs.lemmas.List.{length-replicate}
 use Rattle.coded_machine.specs.State.{State}
 use Rattle.pair_channel.proofs.pair.Pair.new.Goals as goal
@@ -23,3 +24,12 @@ invariant_of-result c =
       };
       closed = tt;
     }
+
+pub returns-in_err-ours : goal.returns-in_err-ours
+returns-in_err-ours c = record { fresh = IfOk-from_err c.from_residual.result _ c.from_residual.ensures.0 }
+
+pub returns-in_err-theirs : goal.returns-in_err-theirs
+returns-in_err-theirs c = record { fresh = IfOk-from_err c.from_residual-in_err-theirs.result _ c.from_residual-in_err-theirs.ensures.0 }
+
+pub returns-in_err-machine : goal.returns-in_err-machine
+returns-in_err-machine c = record { fresh = IfOk-from_err c.from_residual-in_err-machine.result _ c.from_residual-in_err-machine.ensures.0 }
