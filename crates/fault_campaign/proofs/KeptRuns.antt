@@ -1,10 +1,11 @@
 -- KeptRuns: a run over rows, cycle by cycle, beside the words that are kept of it.
-use Rattle.std.proofs.Common.{◌≡◌, ◌≢◌, ℕ, zero, suc, ◌+◌, ◌*◌, ◌<◌, ◌≤◌, Bool, true, false, All, List, [], ◌∷◌, ◌++◌, length, take, drop, slice_get, Option, Some, None, ℤ, refl, sym, ap, subst, ◌∙◌, arith}
-use Rattle.std.proofs.lemmas.List.{append_assoc, length-append}
+use Rattle.std.proofs.Common.{◌≡◌, ◌≢◌, ℕ, zero, suc, ◌+◌, ◌*◌, ◌<◌, ◌≤◌, Bool, true, false, All, List, [], ◌∷◌, ◌++◌, length, take, drop, get_or, slice_get, Option, Some, None, ℤ, refl, sym, ap, subst, ◌∙◌, arith}
+use Rattle.std.proofs.lemmas.List.{append_assoc, length-append, length-map}
 use Rattle.std.proofs.lemmas.List.Elements.{All-get_or}
 use Rattle.std.proofs.lemmas.Option.{get_or_from_slice_get, slice_get_within}
 use Rattle.vcp_base.specs.declared.kind.StopKind.{StopKind}
 use Rattle.coded_unit.specs.declared.call.Answer.{Answer}
+use Rattle.coded_unit.specs.declared.call.Answer.TheVariants as answer
 use Rattle.coded_unit.specs.Log.{Entry}
 use Rattle.op_graph.specs.Lists.{Lists}
 use Rattle.signature_table.specs.Signatures.{Numbers}
@@ -179,7 +180,7 @@ flat_more len size i more is same = omega (arith, is, same, row_words i size)
 pub nothing_flat : (words : List ℤ) (size : ℕ) → words ≡ [] → length words ≡ 0 * size
 nothing_flat words size none = let nothing : 0 * size ≡ 0 = grind arith in omega (arith, ap length none, nothing)
 
-take_few : (i : ℕ) (rows : List (List ℤ)) → length (take i rows) ≤ i
+pub take_few : {X : Type 0} (i : ℕ) (rows : List X) → length (take i rows) ≤ i
 take_few zero [] = omega arith
 take_few zero (row ∷ rows) = omega arith
 take_few (suc i) [] = omega arith
@@ -200,3 +201,28 @@ pub run_first : (laws : RunLaws) (rows : List (List ℤ)) (words : List ℤ) (m 
 run_first laws rows words m x a is =
     subst (λ (rs : List (List ℤ)). RunSoFar m.graph m.table rs [] m x x a a) (none_taken rows)
     (subst (λ (s : State). RunSoFar m.graph m.table [] [] s x x a a) (sym is) (laws.starts m.graph m.table x a))
+
+-- ---- the words of a cycle, copied as answers
+
+-- one word more
+pub one_answered : (words : List ℤ) (i : ℕ) (w : ℤ) → i < length words → w ≡ get_or words i w
+    → words_answered (take (i + 1) words) ≡ words_answered (take i words) ++ answer.Word w ∷ []
+one_answered [] i w below is = absurd (omega (arith, below))
+one_answered (x ∷ words) zero w below is = ap (λ (y : ℤ). answer.Word y ∷ []) (sym is)
+one_answered (x ∷ words) (suc i) w below is =
+    let on : suc i + 1 ≡ suc (i + 1) = omega arith in
+    ap (λ (n : ℕ). words_answered (take n (x ∷ words))) on
+    ∙ ap (λ (answers : List Answer). answer.Word x ∷ answers) (one_answered words i w (omega (arith, below)) is)
+
+pub take_past : (i : ℕ) (words : List ℤ) → length words ≤ i → take i words ≡ words
+take_past zero [] past = refl
+take_past zero (x ∷ words) past = absurd (omega (arith, past))
+take_past (suc i) [] past = refl
+take_past (suc i) (x ∷ words) past = ap (λ (more : List ℤ). x ∷ more) (take_past i words (omega (arith, past)))
+
+pub room_answered : (words : List ℤ) (i : ℕ) (stop : Option StopKind) (copied : List Answer) (cap now : ℕ) → copied ≡ words_answered (take i words)
+    → i < length words → length (words_answered words ++ stop_answer stop) ≤ cap → cap ≤ now → length copied < now
+room_answered words i stop copied cap now is below few more =
+    let front = length-map (take i words) (λ w. answer.Word w) in
+    let all = length-map words (λ w. answer.Word w) in
+    omega (arith, ap length is, front, take_few i words, below, length-append (words_answered words) (stop_answer stop), all, few, more)

@@ -1,9 +1,21 @@
-use Rattle.std.proofs.Common.{◌∙◌, ap, length}
+use Rattle.std.proofs.Common.{◌∙◌, ap, length, refl}
 use Rattle.std.proofs.lemmas.List.{length-replicate}
 use Rattle.fault_campaign.proofs.pairs.group_run.paired.Goals as goal
 
-pub carry_rows-requires-clause-inputs : goal.carry_rows-requires-clause-inputs
-carry_rows-requires-clause-inputs g c = ap length c.in_ok-inputs.ensures ∙ (length-replicate _ _ ∙ c.inputs.ensures)
+pub carry_rows-requires : goal.carry_rows-requires
+carry_rows-requires g c = record {
+  fresh = c.in-Ok.ensures.fresh;
+  table = c.requires.table;
+  width = c.requires.width;
+  few = c.requires.few;
+  inputs = ap length c.in_ok-inputs.ensures ∙ (length-replicate _ _ ∙ c.inputs.ensures);
+  outputs = ap length c.in_ok-outputs.ensures ∙ (length-replicate _ _ ∙ c.outputs.ensures);
+  faults = c.requires.faults;
+  kept = c.requires.kept;
+}
 
-pub carry_rows-requires-clause-outputs : goal.carry_rows-requires-clause-outputs
-carry_rows-requires-clause-outputs g c = ap length c.in_ok-outputs.ensures ∙ (length-replicate _ _ ∙ c.outputs.ensures)
+pub returns-in-Ok : goal.returns-in-Ok
+returns-in-Ok g c = record { same = c.carry_rows.ensures.same; ran = c.carry_rows.ensures.ran; none = tt }
+
+pub returns : goal.returns
+returns g c = record { same = refl; ran = tt; none = refl }
