@@ -1,5 +1,5 @@
 -- Following: a machine's cycle, where its answers stand for the graph's cycle on plain integers.
-use Rattle.std.proofs.Common.{ℕ, ◌+◌, ◌≡◌, false, refl, sym, ap, subst, ◌∙◌, List, length, Option, Some, None, ℤ}
+use Rattle.std.proofs.Common.{ℕ, ◌+◌, ◌≤◌, ◌≡◌, ◌≢◌, arith, false, refl, sym, ap, subst, ◌∙◌, List, length, Option, Some, None, ℤ}
 use Rattle.vcp_base.specs.declared.kind.StopKind.{StopKind}
 use Rattle.vcp_base.specs.declared.kind.StopKind.TheVariants as stop
 use Rattle.coded_unit.specs.declared.call.Answer.{Answer}
@@ -121,3 +121,20 @@ told_carried P old mid new e same all machine =
       λ h. subst (λ (m : State). P m.graph m.table m.cycles new.answers) same (subst (P mid.graph mid.table mid.cycles) kept h),
       λ h. subst (P mid.graph mid.table mid.cycles) (sym kept) (subst (λ (m : State). P m.graph m.table m.cycles new.answers) (sym same) h),
     )
+
+-- ---- an end that is repeated
+
+pub closed_same : (m : State) (e : CycleEnd) → e ≢ end.Released → m.ended ≡ Some e → m.under_way ≡ false → m ≡ after_end m e
+closed_same m end.Released not is between = absurd (not refl)
+closed_same m (end.Stopped k why) not is between =
+    ap (λ b. record m { under_way = b; ended = m.ended }) between ∙ ap (λ o. record m { under_way = false; ended = o }) is
+closed_same m (end.Refused k found wanted) not is between =
+    ap (λ b. record m { under_way = b; ended = m.ended }) between ∙ ap (λ o. record m { under_way = false; ended = o }) is
+
+pub row_kept : (m : State) (e : CycleEnd) (row : List ℤ) → e ≢ end.Released → row ≡ row_after m e row
+row_kept m end.Released row not = absurd (not refl)
+row_kept m (end.Stopped k why) row not = refl
+row_kept m (end.Refused k found wanted) row not = refl
+
+pub one_more_few : (n : ℕ) → n ≤ n + 1
+one_more_few n = omega arith
