@@ -1,4 +1,5 @@
 use Rattle.std.proofs.Common.{arith}
+use Rattle.std.proofs.lemmas.Result.{IfOk-from_err}
 use Rattle.telegram.proofs.LinesFit.{cycle_is, cycle_of_fits, delivery_is, neither}
 use Rattle.telegram.proofs.script.lines.event.Goals as goal
 
@@ -25,3 +26,15 @@ returns-then-eq-2-clause-refusal c = grind (arith, delivery_is)
 
 pub returns-clause-refusal : goal.returns-clause-refusal
 returns-clause-refusal c = grind (arith, neither)
+
+pub returns-in_err-values-clause-event : goal.returns-in_err-values-clause-event
+returns-in_err-values-clause-event c = IfOk-from_err c.from_residual.result _ c.from_residual.ensures.0
+
+pub returns-in_err-values-clause-fits : goal.returns-in_err-values-clause-fits
+returns-in_err-values-clause-fits c = IfOk-from_err c.from_residual.result _ c.from_residual.ensures.0
+
+pub returns-in_err-numbers-clause-event : goal.returns-in_err-numbers-clause-event
+returns-in_err-numbers-clause-event c = IfOk-from_err c.from_residual-in_err-numbers.result _ c.from_residual-in_err-numbers.ensures.0
+
+pub returns-in_err-numbers-clause-fits : goal.returns-in_err-numbers-clause-fits
+returns-in_err-numbers-clause-fits c = IfOk-from_err c.from_residual-in_err-numbers.result _ c.from_residual-in_err-numbers.ensures.0

@@ -1,6 +1,7 @@
 use Rattle.std.proofs.Common.{◌≡◌, ◌<◌, ◌+◌, List, length, sym, subst, ◌∙◌, arith}
 use Rattle.std.specs.Str.Lines.{lines}
 use Rattle.vcp_base.specs.Lines.{Line, read_lines}
+use Rattle.std.proofs.lemmas.Result.{IfOk-from_err}
 use Rattle.telegram.specs.declared.event.Event.{Event}
 use Rattle.telegram.specs.Reads.{behind}
 use Rattle.telegram.specs.ScriptOf.{events_of}
@@ -30,3 +31,21 @@ lines-preserved c =
       few = omega (arith, room, some, c.begins-begun.ensures.few);
       room = λ left. let feed = c.in-Some.ensures.feed left in omega (arith, room, feed, c.begins-begun.ensures.few);
     }
+
+pub returns-in_err-event-clause-events : goal.returns-in_err-event-clause-events
+returns-in_err-event-clause-events c = IfOk-from_err c.from_residual.result _ c.from_residual.ensures.0
+
+pub returns-in_err-event-clause-fits : goal.returns-in_err-event-clause-fits
+returns-in_err-event-clause-fits c = IfOk-from_err c.from_residual.result _ c.from_residual.ensures.0
+
+pub returns-in_err-event-clause-sent : goal.returns-in_err-event-clause-sent
+returns-in_err-event-clause-sent c = IfOk-from_err c.from_residual.result _ c.from_residual.ensures.0
+
+pub returns-in_err-push-clause-events : goal.returns-in_err-push-clause-events
+returns-in_err-push-clause-events c = IfOk-from_err c.from_residual-in_err-push.result _ c.from_residual-in_err-push.ensures.0
+
+pub returns-in_err-push-clause-fits : goal.returns-in_err-push-clause-fits
+returns-in_err-push-clause-fits c = IfOk-from_err c.from_residual-in_err-push.result _ c.from_residual-in_err-push.ensures.0
+
+pub returns-in_err-push-clause-sent : goal.returns-in_err-push-clause-sent
+returns-in_err-push-clause-sent c = IfOk-from_err c.from_residual-in_err-push.result _ c.from_residual-in_err-push.ensures.0
