@@ -1,4 +1,5 @@
 use Rattle.std.proofs.Common.{sym, ap, ◌∙◌, ◌++◌, ◌∷◌, [], ◌+◌, arith, drop, map, length, length-append, append_assoc}
+use Rattle.std.proofs.lemmas.Result.{IfOk-from_err}
 use Rattle.coded_unit.specs.Words.{coded}
 use Rattle.op_graph.specs.declared.op.Cell.{Cell}
 use Rattle.op_graph.specs.Lists.{cells}
@@ -32,3 +33,9 @@ cells-preserved c =
           ∙ sym (append_assoc c.cells.held.items (c.first_word.result ∷ []) later)
           ∙ ap (λ xs. xs ++ later) (sym c.in_ok-push.ensures.items);
     }
+
+pub returns-in_err-held : goal.returns-in_err-held
+returns-in_err-held c = record { words = IfOk-from_err c.from_residual.result _ c.from_residual.ensures.0; count = IfOk-from_err c.from_residual.result _ c.from_residual.ensures.0 }
+
+pub returns-in_err-push : goal.returns-in_err-push
+returns-in_err-push c = record { words = IfOk-from_err c.from_residual-in_err-push.result _ c.from_residual-in_err-push.ensures.0; count = IfOk-from_err c.from_residual-in_err-push.result _ c.from_residual-in_err-push.ensures.0 }

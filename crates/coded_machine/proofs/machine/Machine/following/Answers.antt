@@ -1,4 +1,5 @@
 use Rattle.std.proofs.Common.{◌≡◌, ap, subst, sym, ◌∙◌, arith, [], cond, true, false, Some, slice_get, vec_capacity, length}
+use Rattle.std.proofs.lemmas.Option.{none-some}
 use Rattle.coded_machine.specs.Calls.{Next, call_of}
 use Rattle.coded_machine.specs.Runs.{setting_at}
 use Rattle.coded_machine.specs.State.{State, setting, given}
@@ -15,23 +16,29 @@ returns-then-self c =
     subst (λ b. Sound c.args.self.now b (vec_capacity c.self.inside.answers)) c.if-self.true sound in
     record { none = λ e. halted_finished c.args.self.now _ halted; some = tt; next = tt; asked = tt; own = tt }
 
-pub returns-then-answered-len-clause-none : goal.returns-then-answered-len-clause-none
-returns-then-answered-len-clause-none c = λ e.
+pub returns-then-answered-len : goal.returns-then-answered-len
+returns-then-answered-len c =
     let m : State = c.args.self.now in
     let sound : Sound m c.self.inside.halted (vec_capacity c.self.inside.answers) =
     subst (λ n. Sound n c.self.inside.halted (vec_capacity c.self.inside.answers)) c.self.view_is c.self.invariant in
     let going : Sound m false (vec_capacity c.self.inside.answers) = subst (λ b. Sound m b (vec_capacity c.self.inside.answers)) c.if-self.false sound in
     let given_is : given m ≡ m.answers = ap (λ b. cond b m.answers []) c.requires.way in
-    all_finished m _ going
-    (omega (
-      arith,
-      ap length given_is,
-      ap (λ (n : State). length n.answers) c.self.view_is,
-      ap (λ (n : State). length n.graph.operations) c.self.view_is,
-      c.len-answered.ensures,
-      c.len.ensures.count,
-      c.if-answered-len.true,
-    ))
+    record {
+      none = λ e. all_finished m _ going
+          (omega (
+            arith,
+            ap length given_is,
+            ap (λ (n : State). length n.answers) c.self.view_is,
+            ap (λ (n : State). length n.graph.operations) c.self.view_is,
+            c.len-answered.ensures,
+            c.len.ensures.count,
+            c.if-answered-len.true,
+          ));
+      some = tt;
+      next = tt;
+      asked = tt;
+      own = tt;
+    }
 
 pub returns-clause-next : goal.returns-clause-next
 returns-clause-next c =
@@ -49,3 +56,9 @@ returns-clause-next c =
     ap (λ xs. slice_get m.graph.operations (length xs)) given_is ∙ sym (ap (λ (n : State). slice_get n.graph.operations (length n.answers)) c.self.view_is)
     ∙ ap (slice_get c.self.inside.graph.now.operations) many ∙ c.operation-op.ensures in
     subst (λ call. Next (setting m row) (given m) call) (sym call_is) (next_is (setting m row) (given m) op here)
+
+pub returns-clause-none : goal.returns-clause-none
+returns-clause-none c = λ e. absurd (none-some _ (sym e))
+
+pub returns-clause-asked : goal.returns-clause-asked
+returns-clause-asked c = c.call_after_words.ensures.asked
