@@ -1,5 +1,5 @@
 -- Steps: what loops over the cells keep.
-use Rattle.std.proofs.Common.{◌≡◌, ℕ, zero, suc, ◌+◌, ◌<◌, ℤ, pos, List, [], ◌∷◌, ◌++◌, length, map, slice_get, Option, option_map, Some, IfSome, Result, IfOk, refl, sym, ap, subst, ◌∙◌, arith, below_more}
+use Rattle.std.proofs.Common.{◌≡◌, ℕ, zero, suc, ◌+◌, ◌<◌, ◌≤◌, ℤ, pos, List, [], ◌∷◌, ◌++◌, length, map, slice_get, Option, option_map, Some, IfSome, Result, IfOk, refl, sym, ap, subst, ◌∙◌, arith, below_more}
 use Rattle.std.proofs.lemmas.List.{length_push}
 use Rattle.std.proofs.lemmas.Result.{IfOk-weaker}
 use Rattle.std.proofs.lemmas.Option.{slice_get_within, get_or_from_slice_get, slice_get-map}
@@ -29,6 +29,13 @@ some_is P o x h is = subst (λ q. IfSome q P) is h
 -- what follows from what holds of a value holds of it
 pub and_so : {X E : Type 0} {P Q : X → Type 0} (r : Result X E) → IfOk r P → ((x : X) → P x → Q x) → IfOk r Q
 and_so {P = P} {Q = Q} r h f = IfOk-weaker r P Q f h
+
+-- what has as many as there are below a number has no more than what has more
+pub no_more_than : (k i m : ℕ) → k ≡ i → i < m → k ≤ m
+no_more_than k i m e h = omega (arith, e, h)
+
+pub as_many : (k m : ℕ) → k ≡ m → k ≤ m
+as_many k m e = omega (arith, e)
 
 -- so many items, and what holds of each at its place
 pub record AllAt {X : Type 0} (P : ℕ → X → Type 0) (xs : List X) (count : ℕ) : Type 0 where

@@ -1,8 +1,14 @@
 use Rattle.std.proofs.Common.{◌≡◌, ◌⊎◌, true, inl, inr, sym, subst, ◌∙◌, arith}
 use Rattle.range_walk.specs.Known.{may_stop}
 use Rattle.range_walk.specs.Intervals.{Fit}
-use Rattle.range_audit.proofs.Steps.{some_is}
+use Rattle.range_audit.proofs.Steps.{no_more_than, some_is}
 use Rattle.range_audit.proofs.asking.+stops_by_cases.Goals as goal
+
+pub tell-told-requires : goal.tell-told-requires
+tell-told-requires t c = record { there = c.requires.there; many = c.requires.many; cells = c.args.cycle.now.many }
+
+pub cases_of-requires : goal.cases_of-requires
+cases_of-requires t c = no_more_than _ _ _ c.requires.many c.requires.there
 
 pub returns-then-none : goal.returns-then-none
 returns-then-none t c = λ held row vs op why hold given whole fit there own no e.

@@ -1,7 +1,14 @@
-use Rattle.std.proofs.Common.{◌≡◌, ◌&&◌, true, inl, inr, sym, subst, ◌∙◌, arith}
+use Rattle.std.proofs.Common.{◌≡◌, ◌&&◌, ◌<◌, true, inl, inr, sym, subst, ◌∙◌, arith}
 use Rattle.std.proofs.lemmas.Bool.{and_parts}
 use Rattle.range_walk.specs.Intervals.{Fit}
+use Rattle.range_audit.proofs.Steps.{as_many}
 use Rattle.range_audit.proofs.cases.+ends_by_cases.Goals as goal
+
+pub earlier_range-least-requires : goal.earlier_range-least-requires
+earlier_range-least-requires t c = subst (λ m. c.args.n < m) (sym c.requires.many) c.requires.there
+
+pub halved-requires : goal.halved-requires
+halved-requires t c = record { there = subst (λ m. c.args.n < m) (sym c.requires.many) c.requires.there; many = as_many _ _ c.requires.many }
 
 pub returns-then-none : goal.returns-then-none
 returns-then-none t c = λ e held row vs hold given whole fit.
