@@ -1,12 +1,12 @@
 -- Bits: an integer that is passed on in its bits is the same integer.
 use Rattle.std.proofs.Common.{◌≡◌, ℤ, pos, negsuc, neg_ℤ, ◌≤ℤ◌, ◌<ℤ◌, ◌+ℤ◌, ◌-ℤ◌, Bool, true, sym, ap, subst, ◌∙◌, to_z, of_z, SFits, w64, arith}
 use Rattle.std.specs.Int.{int_max, int_min}
-use Rattle.std.specs.Prelude.{int_le}
+use Rattle.std.specs.Prelude.{int_div, int_le}
 use Rattle.std.proofs.lemmas.Int.{to_z-of_z, ints, clamps}
 use mir.Syntax.{Width, w128}
 use Rattle.vcp_base.specs.declared.ty.Ty.{Ty}
 use Rattle.vcp_base.specs.Types.{fits, least, greatest}
-use Rattle.range_walk.proofs.Integers.{le_trans}
+use Rattle.range_walk.proofs.Integers.{le_trans, sized}
 use Rattle.range_walk.proofs.ValueBounds.{tested, between_fits}
 use Rattle.range_walk.specs.Intervals.{Between}
 
@@ -79,6 +79,25 @@ less_high b x y f h k = omega (arith, ints)
 pub more_low : (a x y : ℤ) → SFits w64 a → a ≤ℤ x → x <ℤ y → to_z w128 (of_z w128 (wide a +ℤ pos 1)) ≤ℤ y
 more_low a x y f h k = omega (arith, ints)
 
+-- ---- quotients
+
+-- what is no greater in size than one of 64 bits
+small_fits : (v : ℤ) → neg_ℤ (pos 9223372036854775808) ≤ℤ v → v ≤ℤ pos 9223372036854775808 → SFits w128 v
+small_fits (pos n) least most = record { sfits = omega (arith, ints) }
+small_fits (negsuc n) least most = record { sfits = omega (arith, ints) }
+
+quotient_fits : (x k : ℤ) → SFits w64 x → SFits w128 (int_div x k)
+quotient_fits x k f =
+    let is = sized x k (pos 9223372036854775808) (omega (arith, ints)) (omega (arith, ints)) in small_fits (int_div x k) is.at_least is.at_most
+
+pub quotient_is : (x k : ℤ) → SFits w64 x → SFits w64 k → to_z w128 (of_z w128 (int_div (wide x) (wide k))) ≡ int_div x k
+quotient_is x k f g =
+    ap (λ z. to_z w128 (of_z w128 z)) (ap (λ z. int_div z (wide k)) (wide_is x f) ∙ ap (int_div x) (wide_is k g))
+    ∙ to_z-of_z w128 (int_div x k) (quotient_fits x k f)
+
+pub zero_in_bits : (k : ℤ) → SFits w64 k → of_z w64 k ≡ 0 → k ≡ pos 0
+zero_in_bits k f e = sym (to_z-of_z w64 k f) ∙ ap (λ n. to_z w64 n) e
+
 -- ---- the greater and the lesser of two
 
 pub greater_low : (a b r v : ℤ) → SFits w64 a → SFits w64 b → r ≡ int_max (to_z w64 (of_z w64 a)) (to_z w64 (of_z w64 b)) → SFits w64 r → a ≤ℤ v → b ≤ℤ v
@@ -88,6 +107,26 @@ greater_low a b r v f g e k first second = omega (arith, ints, clamps)
 pub lesser_high : (a b r v : ℤ) → SFits w64 a → SFits w64 b → r ≡ int_min (to_z w64 (of_z w64 a)) (to_z w64 (of_z w64 b)) → SFits w64 r → v ≤ℤ a → v ≤ℤ b
     → v ≤ℤ to_z w64 (of_z w64 r)
 lesser_high a b r v f g e k first second = omega (arith, ints, clamps)
+
+-- an end that is moved into a range of 64 bits
+pub clamped_low : (low b r v : ℤ) → SFits w64 low → SFits w128 b → SFits w128 r
+    → r ≡ int_max (wide low) (int_min (to_z w128 (of_z w128 b)) (pos 9223372036854775807)) → low ≤ℤ v → b ≤ℤ v
+    → to_z w64 (of_z w64 (to_z w128 (of_z w128 r))) ≤ℤ v
+clamped_low low b r v f g k e first second = omega (arith, ints, clamps)
+
+pub clamped_high : (high b r v : ℤ) → SFits w64 high → SFits w128 b → SFits w128 r
+    → r ≡ int_max (negsuc 9223372036854775807) (int_min (to_z w128 (of_z w128 b)) (wide high)) → v ≤ℤ high → v ≤ℤ b
+    → v ≤ℤ to_z w64 (of_z w64 (to_z w128 (of_z w128 r)))
+clamped_high high b r v f g k e first second = omega (arith, ints, clamps)
+
+-- an end that is moved nearer to 0 than a size
+pub near_low : (m s r v : ℤ) → SFits w64 m → SFits w128 s → SFits w128 r → negsuc 9223372036854775807 ≤ℤ s → s ≤ℤ pos 9223372036854775808
+    → r ≡ int_max (wide m) (to_z w128 (of_z w128 (pos 1 -ℤ to_z w128 (of_z w128 s)))) → m ≤ℤ v → (pos 1 -ℤ s) ≤ℤ v → to_z w128 (of_z w128 r) ≤ℤ v
+near_low m s r v f g k least most e first second = omega (arith, ints, clamps)
+
+pub near_high : (m s r v : ℤ) → SFits w64 m → SFits w128 s → SFits w128 r → negsuc 9223372036854775807 ≤ℤ s → s ≤ℤ pos 9223372036854775808
+    → r ≡ int_min (wide m) (to_z w128 (of_z w128 (to_z w128 (of_z w128 s) -ℤ pos 1))) → v ≤ℤ m → v ≤ℤ (s -ℤ pos 1) → v ≤ℤ to_z w128 (of_z w128 r)
+near_high m s r v f g k least most e first second = omega (arith, ints, clamps)
 
 -- what is no more than an end is no more than what is above that
 pub below_low : (a r v : ℤ) → SFits w64 a → r ≤ℤ to_z w64 (of_z w64 a) → a ≤ℤ v → r ≤ℤ v

@@ -1,8 +1,7 @@
-use Rattle.std.proofs.Common.{SFits, w64, rules, arith}
+use Rattle.std.proofs.Common.{SFits, w64, rules}
 use mir.Syntax.{w128}
-use Rattle.std.proofs.lemmas.Int.{ints, clamps}
 use Rattle.std.specs.Prelude.{int_rem}
-use Rattle.range_walk.proofs.Bits.{below_low, above_high}
+use Rattle.range_walk.proofs.Bits.{below_low, above_high, near_low, near_high}
 use Rattle.range_walk.proofs.Integers.{rest_sized, rest_shrinks}
 use Rattle.range_walk.proofs.values.rest.Goals as goal
 
@@ -19,5 +18,6 @@ returns c = λ x y i j some.
     let high : SFits w128 c.min-2.result = search rules in
     let small = rest_sized x y c.size-below.result some (c.size-below.ensures.low y j) (c.size-below.ensures.high y j) in
     let near = rest_shrinks x y c.min.result c.max-2.result c.min.ensures.other_bound c.max-2.ensures.other_bound under over in
-    c.between.ensures (int_rem x y) (let one = small.at_least in let other = near.at_least in omega (arith, ints, clamps))
-    (let one = small.at_most in let other = near.at_most in omega (arith, ints, clamps))
+    let bounds = c.size-below.ensures in
+    c.between.ensures (int_rem x y) (near_low _ _ _ _ first size low bounds.least bounds.most c.max.ensures.value near.at_least small.at_least)
+    (near_high _ _ _ _ last size high bounds.least bounds.most c.min-2.ensures.value near.at_most small.at_most)
