@@ -75,19 +75,21 @@ fn is_any_at(stops: &[Stops], i: usize) -> bool {
 }
 
 /// Why operation `i` may stop in a cycle from cells in these ranges, on a row whose inputs are in these, of which `told` tells: closer where
-/// that is asked for.
+/// it may, is wanted and isn't done with.
 fn stops_of(
     cycle: &Cycle<'_>,
     inputs: &[Range],
     told: &Ranges,
     i: u32,
-    asked: bool,
+    wanted: &[Stops],
+    done: &[Stops],
     left: &mut u64,
 ) -> Result<Stops, Memory>
     requires there { i < length cycle.now.graph.now.operations }
     requires walk { IsWalk cycle.now.graph.now.operations cycle.now.cells.now inputs.now told.now }
     ensures { IfOk result (λ s. StopsFrom cycle.now.graph.now.operations inputs.now (Hold cycle.now.cells.now) i s) }
 {
+    let asked = is_asked(told.stops(), wanted, done, i as usize);
     if asked {
         let enough = spend(cycle.graph, left);
         if enough {
@@ -146,8 +148,7 @@ pub(crate) fn closer_found(
     let mut found = Ranges::with_capacity(cycle.alloc, count as usize)?;
     'operations: for i in 0..count {
         let range = output_range(cycle, told.known(), i, &mut left.answers)?;
-        let asked = is_asked(told.stops(), wanted, done, i as usize);
-        let why = stops_of(cycle, inputs, told, i, asked, &mut left.stops)?;
+        let why = stops_of(cycle, inputs, told, i, wanted, done, &mut left.stops)?;
         found.push(range, why)?;
     }
     Ok(found)

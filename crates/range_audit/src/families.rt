@@ -265,9 +265,8 @@ fn family(
     let mut boxes = empty_boxes(alloc, graph, values.count)?;
     let mut missed = first_box(alloc, graph)?;
     'rounds: for round in 0..rounds {
-        let spent = budget.left == 0;
-        if spent {
-            return Ok(None);
+        if budget.left == 0 {
+            break;
         }
         let step = step_of(round.saturating_sub(1));
         grow(graph, &mut boxes, &missed, values, step, &budget.numbers);
