@@ -1,3 +1,5 @@
+use Rattle.std.proofs.Common.{ℕ, ◌≤◌, ◌*◌, ◌∙◌, ap, subst, length, vec_capacity}
+use Rattle.std.proofs.lemmas.List.{length-replicate}
 use Rattle.std.proofs.lemmas.Result.{IfOk-from_err}
 use Rattle.fault_campaign.proofs.reruns.reference.run_room.Goals as goal
 
@@ -23,4 +25,14 @@ returns-in_err-words c = record {
   outputs = IfOk-from_err c.from_residual-in_err-words.result _ c.from_residual-in_err-words.ensures.0;
   empty = IfOk-from_err c.from_residual-in_err-words.result _ c.from_residual-in_err-words.ensures.0;
   room = IfOk-from_err c.from_residual-in_err-words.result _ c.from_residual-in_err-words.ensures.0;
+}
+
+pub returns : goal.returns
+returns c = record {
+  inputs = ap length c.in_ok-inputs.ensures ∙ (length-replicate _ _ ∙ c.inputs.ensures);
+  outputs = ap length c.in_ok-outputs.ensures ∙ (length-replicate _ _ ∙ c.outputs.ensures);
+  empty = c.in_ok-words.ensures.items;
+  room = subst (λ (n : ℕ). n ≤ vec_capacity c.in_ok-words.words)
+      (ap (λ (n : ℕ). n * c.len-operations.result) c.len.ensures.length
+      ∙ ap (λ (n : ℕ). length c.args.rows.now * n) c.len-operations.ensures.count) c.in_ok-words.ensures.capacity;
 }
