@@ -1,9 +1,11 @@
-use Rattle.std.proofs.Common.{subst, sym, ap, ◌∙◌}
+use Rattle.std.proofs.Common.{refl, subst, sym, ap, ◌∙◌}
 use Rattle.signature_table.specs.Signatures.{IsTable}
+use Rattle.coded_machine.specs.declared.rows.fault.RunFault.TheVariants as fault
 use Rattle.pair_channel.specs.PairStates.{PairState, fresh_pair}
 use Rattle.pair_channel.specs.PairDone.{PairRunsTo}
 use Rattle.pair_channel.specs.PairMoments.{pair_moment}
 use Rattle.pair_channel.proofs.Done.{nothing_done}
+use Rattle.pair_channel.proofs.Ended.{no_end}
 use Rattle.pair_channel.proofs.run.run_pair.Goals as goal
 
 pub print_run-requires-clause-fresh : goal.print_run-requires-clause-fresh
@@ -26,3 +28,15 @@ returns-in-Ok-clause-ran g c =
 
 pub returns-in-Err-clause-ran : goal.returns-in-Err-clause-ran
 returns-in-Err-clause-ran g c = nothing_done c.pairs_follow_their_answers.ensures c.args.graph.now c.args.table.now c.args.other.now (g.S.RowReader.left c.args.rows.now) _
+
+pub returns-in-Ok-clause-stayed : goal.returns-in-Ok-clause-stayed
+returns-in-Ok-clause-stayed g c = c.print_run.ensures.stayed
+
+pub returns-in-Ok-clause-stopped : goal.returns-in-Ok-clause-stopped
+returns-in-Ok-clause-stopped g c = c.print_run.ensures.stopped
+
+pub returns-in-Err-clause-stayed : goal.returns-in-Err-clause-stayed
+returns-in-Err-clause-stayed g c = λ other. refl
+
+pub returns-in-Err-clause-stopped : goal.returns-in-Err-clause-stopped
+returns-in-Err-clause-stopped g c = λ op why h. absurd (no_end _ fault.Memory _ refl h)
