@@ -75,24 +75,17 @@ fn has_same_graph(alloc: Global, text: &Text, program: &Typed) -> Result<bool, M
     }
 }
 
-/// Whether a text is the canonical text of a program with this one's graph, but for places, as far as is found.
-fn is_text_for(alloc: Global, text: &Text, program: &Typed) -> Result<bool, Memory>
-    ensures { IfOk result (λ is. IsTrue is → IsTextFor program.now text.now) }
-{
-    if !is_canonical(alloc, text)? {
-        return Ok(false);
-    }
-    has_same_graph(alloc, text, program)
-}
-
-/// A text, where it is one for this program, as far as is found; None where it isn't.
+/// A text, where it is the canonical text of a program with this one's graph, but for places, as far as is found; None where it isn't.
 fn if_text_for(alloc: Global, text: Text, program: &Typed) -> Result<Option<Text>, Memory>
     ensures { IfOk result (λ found. IfSome found (IsTextFor program.now)) }
 {
-    if is_text_for(alloc, &text, program)? {
-        Ok(Some(text))
-    } else {
-        Ok(None)
+    if !is_canonical(alloc, &text)? {
+        return Ok(None);
+    }
+    match has_same_graph(alloc, &text, program) {
+        Ok(true) => Ok(Some(text)),
+        Ok(false) => Ok(None),
+        Err(Memory) => Err(Memory),
     }
 }
 

@@ -112,24 +112,6 @@ fn load_table<'a, F: Files>(
     }
 }
 
-/// Writes which operations of an image's graph may stop, on rows whose inputs are in the ranges of the table under a name; whether one may.
-fn ranges_in_table<'a, F: Files, O: Sink>(
-    alloc: Global,
-    image: &Image,
-    all: bool,
-    name: &'a Text,
-    files: &mut F,
-    out: &mut O,
-) -> Result<bool, Fault<'a>>
-    ensures { IsAtEnd (F.seen files.old).rest → (m : List ℕ) → Studies (StudyOf (ranges all (Some name.now)) m image.now)
-        (F.seen files.old) (F.seen files.new) (O.seen out.old) (O.seen out.new) (told_line result) (told_status result) }
-{
-    match load_table(alloc, image, name, files) {
-        Ok(inputs) => write_ranges(alloc, &image.graph, &inputs, all, out),
-        Err(why) => Err(why),
-    }
-}
-
 /// Writes which operations of an image's graph may stop, on rows whose inputs are in the ranges of a table, where one is named; whether one may.
 pub(crate) fn ranges_of_image<'a, F: Files, O: Sink>(
     alloc: Global,
@@ -143,7 +125,10 @@ pub(crate) fn ranges_of_image<'a, F: Files, O: Sink>(
         (F.seen files.old) (F.seen files.new) (O.seen out.old) (O.seen out.new) (told_line result) (told_status result) }
 {
     match inputs {
-        Some(name) => ranges_in_table(alloc, image, all, name, files, out),
+        Some(name) => match load_table(alloc, image, name, files) {
+            Ok(inputs) => write_ranges(alloc, &image.graph, &inputs, all, out),
+            Err(why) => Err(why),
+        },
         None => write_ranges(alloc, &image.graph, &[], all, out),
     }
 }

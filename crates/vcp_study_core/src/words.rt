@@ -4,12 +4,11 @@ ghost use Rattle.std.specs.Prelude.{ℕ, List, ◌≡◌, ◌≤◌, IfSome, Som
 ghost use Rattle.std.specs.Option.{option_map};
 ghost use Rattle.vcp_base.specs.Limits.{most_cycles, most_horizon};
 ghost use Rattle.vcp_study_core.specs.Forms.{list_image, list_text};
-ghost use Rattle.vcp_study_core.specs.Forms.{form, form_of, named_form, waves, waves_form, last_name as last_name_of, last_period as last_period_of};
+ghost use Rattle.vcp_study_core.specs.Forms.{form, form_of, named_form, waves, waves_form, last_name as last_name_of};
 ghost use Rattle.vcp_study_core.specs.Forms.{study, study_of, fault_study_of, graph, dot, last_horizon as last_horizon_of, alone, as_ranges, ranges_form};
 ghost use Rattle.vcp_study_core.specs.Forms.{all_form, inputs_form, cover_form, IsSound, IsSoundStudy};
-ghost use Rattle.vcp_study_core.specs.Forms.{last_class as last_class_of, faults_form, sites_form, behind_form, class_form, cycles_in as cycles_in_of};
+ghost use Rattle.vcp_study_core.specs.Forms.{faults_form, sites_form, behind_form, class_form, cycles_in as cycles_in_of};
 ghost use Rattle.vcp_study_core.specs.Forms.{rest_form, run_sites, names_of, next_by, next_of, behind_of, sum_with, sum_form, script_form, chosen_of};
-ghost use Rattle.vcp_study_core.specs.Forms.{number_word, part_of};
 ghost use Rattle.vcp_study_core.specs.SumSteps.{as_next, as_behind, ended_of, IsFew, FewBehind};
 ghost use Rattle.verdict_tables.specs.Parts.{most_parts};
 ghost use Rattle.vcp_inputs.specs.Forms.{rows_of, AreFew, code_of, is_end};
@@ -75,32 +74,25 @@ fn waves_words<'a>(file: &'a Text, words: &mut CommandWords<'_>) -> Option<Study
     }
 }
 
-/// The time that a cycle takes, where it is said behind FILE.
+/// The time that a cycle takes, where it is said behind FILE: `--cycle-time`, and TIME as the last word.
 fn period_said(words: &mut CommandWords<'_>) -> Option<Option<Period>>
     ensures { (file : List ℕ) → option_map (waves file) result ≡ waves_form file words.old }
 {
-    match words.next() {
-        Some(word) => if same_bytes(word.bytes(), b"--cycle-time") {
-            match last_period(words) {
-                Some(period) => Some(Some(period)),
-                None => None,
-            }
+    let Some(option) = words.next() else {
+        return Some(None);
+    };
+    if !same_bytes(option.bytes(), b"--cycle-time") {
+        return None;
+    }
+    let Some(time) = words.next() else {
+        return None;
+    };
+    match period_named(time.bytes()) {
+        Some(period) => if words.is_end() {
+            Some(Some(period))
         } else {
             None
         },
-        None => Some(None),
-    }
-}
-
-/// Behind `--cycle-time`: TIME, as the last word.
-fn last_period(words: &mut CommandWords<'_>) -> Option<Period>
-    ensures { result ≡ last_period_of words.old }
-{
-    let Some(word) = words.next() else {
-        return None;
-    };
-    match period_named(word.bytes()) {
-        Some(period) => if words.is_end() { Some(period) } else { None },
         None => None,
     }
 }
@@ -302,68 +294,48 @@ fn ranges_words<'a>(words: &mut CommandWords<'a>) -> Option<ImageStudy<'a>>
     }
 }
 
-/// Of `cover`, CLASS, as the last word.
-fn last_class(words: &mut CommandWords<'_>) -> Option<CoverClasses>
-    ensures { result ≡ last_class_of words.old }
-{
-    let Some(word) = words.next() else {
-        return None;
-    };
-    match cover_classes_named(word.bytes()) {
-        Some(classes) => if words.is_end() { Some(classes) } else { None },
-        None => None,
-    }
-}
-
 /// The words of `cover`: HORIZON and CLASS.
 fn cover_words(words: &mut CommandWords<'_>) -> Option<AloneStudy>
     ensures form { option_map alone result ≡ cover_form words.old }
     ensures sound { IfSome result (λ s. IsSoundStudy (alone s)) }
 {
-    match words.number(0, MOST_HORIZON) {
-        Some(horizon) => match last_class(words) {
-            Some(classes) => Some(AloneStudy::Cover { horizon, classes }),
-            None => None,
+    let Some(horizon) = words.number(0, MOST_HORIZON) else {
+        return None;
+    };
+    let Some(class) = words.next() else {
+        return None;
+    };
+    match cover_classes_named(class.bytes()) {
+        Some(classes) => if words.is_end() {
+            Some(AloneStudy::Cover { horizon, classes })
+        } else {
+            None
         },
         None => None,
     }
 }
 
-/// Whether only the number is wanted: `--count` says so.
-fn number_chosen(word: &Text) -> Option<Chosen>
-    ensures { result ≡ number_word word.now }
-{
-    if same_bytes(word.bytes(), b"--count") {
-        Some(Chosen::Number)
-    } else {
-        None
-    }
-}
-
-/// A part: how many sites are before it, FROM, and the most that it has, COUNT.
-fn part_chosen(from: &Text, count: &Text) -> Option<Chosen>
-    ensures { result ≡ part_of from.now count.now }
-{
-    let skip = numeral(from.bytes())?;
-    let left = numeral(count.bytes())?;
-    Some(Chosen::Part(Part { skip, left }))
-}
-
-/// What is written of the sites: without more words the script of all.
+/// What is written of the sites: without more words the script of all, `--count` their number, and FROM COUNT a part: how many are before it, and the
+/// most that it has.
 fn chosen_words(words: &mut CommandWords<'_>) -> Option<Chosen>
     ensures { result ≡ chosen_of words.old }
 {
-    match words.next() {
-        None => Some(Chosen::All),
-        Some(first) => match words.next() {
-            None => number_chosen(first),
-            Some(second) => if words.is_end() {
-                part_chosen(first, second)
-            } else {
-                None
-            },
-        },
+    let Some(first) = words.next() else {
+        return Some(Chosen::All);
+    };
+    let Some(second) = words.next() else {
+        return if same_bytes(first.bytes(), b"--count") {
+            Some(Chosen::Number)
+        } else {
+            None
+        };
+    };
+    if !words.is_end() {
+        return None;
     }
+    let skip = numeral(first.bytes())?;
+    let left = numeral(second.bytes())?;
+    Some(Chosen::Part(Part { skip, left }))
 }
 
 /// CYCLES, where a file's name may be too.
