@@ -1,6 +1,8 @@
 use Rattle.std.proofs.Common.{◌≡◌, ◌∙◌, ap, sym, refl, subst, length, List, Err, arith}
+use Rattle.std.proofs.Math.Nat.{le_of_eq, le_trans}
 use Rattle.op_graph.specs.Lists.{Lists}
 use Rattle.std.specs.Io.KnownBytes.{Appends}
+use Rattle.vcp_outside.specs.Counts.{Rose}
 use Rattle.vcp_outside.specs.Written.{AppendsPart}
 use Rattle.fault_campaign.specs.References.{KeptRun}
 use Rattle.coded_unit.specs.Seen.{UnitSeen}
@@ -113,3 +115,33 @@ returns-in-Err-totals_line-clause-stayed g c = λ other.
 
 pub returns-in-Ok-totals_line-clause-stayed : goal.returns-in-Ok-totals_line-clause-stayed
 returns-in-Ok-totals_line-clause-stayed g c = λ other. c.in-Ok-totals_line.ensures.cause.stayed ∙ c.groups.invariant.stayed
+
+pub returns-in-Err-clause-later : goal.returns-in-Err-clause-later
+returns-in-Err-clause-later g c = le_of_eq (sym c.groups.invariant.stayed)
+
+pub returns-in-Err-clause-never_falls : goal.returns-in-Err-clause-never_falls
+returns-in-Err-clause-never_falls g c = le_trans c.groups.invariant.never_falls c.verdict.ensures.never_falls
+
+pub returns-in-Err-verdict_line-clause-never_falls : goal.returns-in-Err-verdict_line-clause-never_falls
+returns-in-Err-verdict_line-clause-never_falls g c = le_trans c.groups.invariant.never_falls c.verdict.ensures.never_falls
+
+pub returns-in-Err-verdict_line-clause-later : goal.returns-in-Err-verdict_line-clause-later
+returns-in-Err-verdict_line-clause-later g c = le_trans (le_of_eq (sym c.groups.invariant.stayed)) c.in-Err-verdict_line.ensures.cause.later
+
+pub returns-in-Err-totals_line-clause-later : goal.returns-in-Err-totals_line-clause-later
+returns-in-Err-totals_line-clause-later g c = le_trans (le_of_eq (sym c.groups.invariant.stayed)) c.in-Err-totals_line.ensures.cause.later
+
+pub returns-in-Ok-totals_line-clause-later : goal.returns-in-Ok-totals_line-clause-later
+returns-in-Ok-totals_line-clause-later g c = le_trans (le_of_eq (sym c.groups.invariant.stayed)) c.in-Ok-totals_line.ensures.cause.later
+
+pub returns-in-Err-verdict_line-clause-write : goal.returns-in-Err-verdict_line-clause-write
+returns-in-Err-verdict_line-clause-write g c = λ is. subst (λ n. Rose n (g.O.Sink.seen c.verdict_line.new.out).faults) c.groups.invariant.stayed c.in-Err-verdict_line.ensures.cause.failed
+
+pub returns-in-Err-totals_line-clause-write : goal.returns-in-Err-totals_line-clause-write
+returns-in-Err-totals_line-clause-write g c = λ is. subst (λ n. Rose n (g.O.Sink.seen c.totals_line.new.out).faults) c.groups.invariant.stayed c.in-Err-totals_line.ensures.cause.failed
+
+pub returns-in-Err-totals_line-clause-never_falls : goal.returns-in-Err-totals_line-clause-never_falls
+returns-in-Err-totals_line-clause-never_falls g c = c.groups.invariant.never_falls
+
+pub returns-in-Ok-totals_line-clause-never_falls : goal.returns-in-Ok-totals_line-clause-never_falls
+returns-in-Ok-totals_line-clause-never_falls g c = c.groups.invariant.never_falls

@@ -1,4 +1,5 @@
 use Rattle.std.proofs.Common.{[], List, refl, ap, ℤ}
+use Rattle.std.proofs.Math.Nat.{le_refl}
 use Rattle.std.proofs.lemmas.Result.{err_from_is_err_and}
 use Rattle.op_graph.specs.Lists.{Lists}
 use Rattle.signature_table.specs.Signatures.{Numbers}
@@ -39,3 +40,12 @@ returns-in_err-reference-clause-stayed g c = λ other. refl
 
 pub returns-clause-stayed : goal.returns-clause-stayed
 returns-clause-stayed g c = c.judge_groups.ensures.stayed
+
+pub returns-clause-write : goal.returns-clause-write
+returns-clause-write g c = c.judge_groups.ensures.write
+
+pub returns-clause-later : goal.returns-clause-later
+returns-clause-later g c = c.judge_groups.ensures.later
+
+pub returns-in_err-reference-clause-later : goal.returns-in_err-reference-clause-later
+returns-in_err-reference-clause-later g c = le_refl _
