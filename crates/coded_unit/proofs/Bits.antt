@@ -6,6 +6,8 @@ use Rattle.std.proofs.Math.IntN.{*ℤ_comm}
 use Rattle.std.proofs.lemmas.Int.{ints, to_z-of_z, to_z_pos}
 use Rattle.vcp_base.specs.declared.code.Profile.{Profile}
 use Rattle.vcp_base.specs.Code.{modulus}
+use Rattle.vcp_base.specs.declared.kind.Kind.{Kind}
+use Rattle.vcp_base.specs.Kinds.{value}
 use Rattle.coded_unit.specs.Words.{coded, Short, Middle, Small}
 use Rattle.coded_unit.specs.Multiples.{multiple, Wide}
 use Rattle.coded_unit.proofs.Multiples.{is_wide}
@@ -223,3 +225,10 @@ cut_once z h l s a b = omega (arith, ints)
 pub cut_twice : (z h l s m r v x : ℤ) → z ≡ pos (2 ^ 61) *ℤ h +ℤ l → s ≡ h +ℤ l → s ≡ pos (2 ^ 61) *ℤ m +ℤ r → v ≡ h +ℤ m → x ≡ m +ℤ r
     → z ≡ pos 2305843009213693951 *ℤ v +ℤ x
 cut_twice z h l s m r v x a b d e f = omega (arith, ints)
+
+-- ---- what a kind gives
+
+-- a multiple of what a kind gives, where the kind is known, as it is read back
+pub given_by : (p : Profile) (k known : Kind) (imm a b c z : ℤ) → SFits w128 z → k ≡ known → z ≡ multiple p (value known imm a b c)
+    → back w128 z ≡ multiple p (value k imm a b c)
+given_by p k known imm a b c z fits is e = to_z-of_z w128 z fits ∙ e ∙ ap (λ kind. multiple p (value kind imm a b c)) (sym is)
