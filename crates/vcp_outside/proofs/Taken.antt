@@ -1,7 +1,8 @@
 -- What was taken of a file, from what was read of it.
-use Rattle.std.proofs.Common.{◌≡◌, ◌≤◌, ◌⊎◌, inl, inr, ℕ, List, ◌++◌, length, Option, Some, None, IsSome, IfSome, ◌∙◌, ap, sym, subst, refl, arith}
+use Rattle.std.proofs.Common.{◌≡◌, ◌≤◌, ◌⊎◌, ◌+◌, ◌<◌, inl, inr, ℕ, List, [], ◌++◌, take, length, Option, Some, None, IsSome, IfSome, ◌∙◌, ap, sym, subst, refl, arith, append-nil, length-append, min, ◌-◌}
+use Rattle.std.proofs.lemmas.Grind.{common_steps}
 use Rattle.std.proofs.KnownBytes.{Consumes-trans, Consumes-kept}
-use Rattle.std.specs.Io.KnownBytes.{Consumes, Keeps}
+use Rattle.std.specs.Io.KnownBytes.{Consumes, Keeps, IsAtEnd}
 use Rattle.vcp_outside.specs.Counts.{Rose}
 use Rattle.vcp_outside.specs.Held.{Held}
 use Rattle.vcp_outside.specs.ReadAll.{TakesBetween}
@@ -43,3 +44,72 @@ broke_later None mid name old before now same later rose = tt
 broke_later (Some h) mid name old before now same later rose =
     let broke : Rose before now = subst (λ m. IfSome m (λ h. Rose before now)) (sym same) rose in
     inr (omega (arith, later, broke))
+
+-- ---- counts
+
+-- what stayed and then didn't fall
+pub later_on : {a m b : ℕ} → m ≡ a → m ≤ b → a ≤ b
+later_on same later = rw same at later
+
+-- nor rose above the last value
+pub capped_on : {a m b most : ℕ} → m ≡ a → (m ≤ most → b ≤ most) → a ≤ most → b ≤ most
+capped_on same capped = rw same at capped
+
+-- a count that stayed and then rose
+pub rose_on : {a m b : ℕ} → m ≡ a → Rose m b → Rose a b
+rose_on same rose = rw same at rose
+
+-- as many reads as bytes
+pub no_reads : (reads limit : ℕ) → reads ≤ reads + limit + 1
+no_reads reads limit = omega arith
+
+pub few_reads : (before reads limit len : ℕ) → reads ≤ before + len → len ≤ limit + 1 → reads ≤ before + limit + 1
+few_reads before reads limit len few within = omega arith
+
+pub one_more_read : (before reads now limit len shown : ℕ) → reads ≤ before + len → now ≡ reads + 1 → shown ≡ len → shown ≤ limit → now ≤ before + limit + 1
+one_more_read before reads now limit len shown few more is within = omega arith
+
+-- what is shown of a length
+pub within_test : {shown len limit : ℕ} → shown ≡ len → shown ≤ limit → len ≤ limit
+within_test is within = rw is at within
+
+-- ---- the whole file
+
+all_of : (limit : ℕ) (held : Held) (name : List ℕ) (bytes mid rest : Option (List ℕ)) (front text : List ℕ)
+    → held name ≡ bytes → IsSome bytes → Consumes bytes mid front → Consumes mid rest [] → IsAtEnd rest → text ≡ front → length front ≤ limit
+    → ((held name ≡ Some text) × (length text ≤ limit)) × TakesBetween (length text) limit held name rest
+all_of limit held name None mid rest front text is some reads more end same within = absurd (cc)
+all_of limit held name (Some bytes) None rest front text is some reads more end same within = absurd reads
+all_of limit held name (Some bytes) (Some left) None front text is some reads more end same within = absurd more
+all_of limit held name (Some bytes) (Some left) (Some none) front text is some reads more end same within =
+    let whole : held name ≡ Some (text ++ none) = rw (is, same, reads, more) refl in
+    let text_is : held name ≡ Some text = rw (end, append-nil text) at whole in
+    rw same ((rw (same) at text_is, within), (front, none, rw (same) at whole, refl, omega arith, within))
+
+-- a piece that was read for which there was room
+pub piece_within : (limit shown room count : ℕ) (front buf chunk : List ℕ) → (count ≤ length buf) × (count ≡ length (take count buf)) → ¬ (count ≡ 0)
+    → length buf ≡ length (take room chunk) → room ≡ min (limit + 1 - shown) 4096 → shown ≡ length front → shown ≤ limit
+    → (1 ≤ length (front ++ take count buf)) × (length (front ++ take count buf) ≤ limit + 1)
+piece_within limit shown room count front buf chunk bound some kept most is within =
+    let short : length (take room chunk) ≤ room = grind (arith, common_steps) in
+    let joined = length-append front (take count buf) in
+    (omega (arith, joined, bound.1, some), omega (arith, joined, bound, kept, most, is, within, short))
+
+-- nothing was read at the end
+pub read_whole : (limit count : ℕ) (held : Option Held) (name : List ℕ) (mid rest : Option (List ℕ)) (front text buf : List ℕ)
+    → IfSome held (λ h. IsSome (h name) × Consumes (h name) mid front) → Consumes mid rest (take count buf) → count ≡ 0 → IsAtEnd rest → text ≡ front
+    → length front ≤ limit
+    → IfSome held (λ h. (h name ≡ Some text) × (length text ≤ limit)) × IfSome held (λ h. TakesBetween (length text) limit h name rest)
+read_whole limit count None name mid rest front text buf reads more none end same within = (tt, tt)
+read_whole limit count (Some held) name mid rest front text buf reads more none end same within =
+    let read : Consumes mid rest [] = rw none at more in
+    all_of limit held name (held name) mid rest front text refl reads.0 reads.1 read end same within
+
+-- one byte more than the limit was read
+pub read_too_much : (limit len : ℕ) (held : Option Held) (name : List ℕ) (rest : Option (List ℕ)) (front : List ℕ)
+    → IfSome held (λ h. IsSome (h name) × Consumes (h name) rest front) → len ≡ length front → limit < len → length front ≤ limit + 1
+    → IfSome held (λ h. (bytes : List ℕ) × (h name ≡ Some bytes) × (limit < length bytes)) × IfSome held (λ h. TakesBetween (limit + 1) (limit + 1) h name rest)
+read_too_much limit len None name rest front reads is more within = (tt, tt)
+read_too_much limit len (Some held) name rest front reads is more within =
+    let takes = takes_front (limit + 1) (limit + 1) held name (held name) rest front refl reads.0 reads.1 (omega arith) (omega arith) in
+    ((takes.0 ++ takes.1, takes.2, omega (arith, length-append takes.0 takes.1, takes.4)), takes)
