@@ -1,3 +1,4 @@
+pub mod Causes
 pub mod Entries
 pub mod Numbers
 pub mod Steps
