@@ -2,6 +2,7 @@ pub mod Flat
 pub mod Fuel
 pub mod Headers
 pub mod Lefts
+pub mod Nexts
 pub mod Orders
 pub mod Placing
 pub mod Reading
