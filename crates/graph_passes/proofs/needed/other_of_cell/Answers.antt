@@ -1,13 +1,22 @@
-use Rattle.std.proofs.Common.{◌≡◌, false, Some, slice_get, sym, ap, subst, ◌∙◌, rules, w64, arith}
-use mir.Val.{SFits}
+use Rattle.std.proofs.Common.{ℕ, ◌<◌, ◌≤◌, w32, ◌≡◌, false, Some, slice_get, sym, ap, subst, ◌∙◌, rules, w64, arith}
+use mir.Val.{Fits, SFits}
 use Rattle.std.proofs.lemmas.Int.{to_z-of_z}
 use Rattle.std.specs.Prelude.{unsigned_abs}
 use Rattle.std.proofs.lemmas.Grind.{common_steps}
+use Rattle.vcp_base.specs.Limits.{most_cells}
 use Rattle.vcp_base.specs.declared.kind.Kind.TheVariants as kind
 use Rattle.op_graph.specs.Rules.{is_load, is_store}
 use Rattle.graph_passes.proofs.CellOperations.{load_inside, store_inside, joined_long, other_of_load, other_of_store, other_of_none}
 use Rattle.graph_passes.proofs.Copies.{cell_parts}
 use Rattle.graph_passes.proofs.needed.other_of_cell.Goals as goal
+
+-- the number of a cell has 32 bits
+small_cell : {v u n : ℕ} → v ≡ u → u < n → n ≤ most_cells → Fits w32 v
+small_cell is there few = record { fits = omega (arith, is, there, few) }
+
+-- and is that of a cell with its store
+cell_there : {v u n m : ℕ} → v ≡ u → u < n → m ≡ n → v < m
+cell_there is there long = rw (is, long) there
 
 pub overflow_cast-unsigned_abs : goal.overflow_cast-unsigned_abs
 overflow_cast-unsigned_abs c =
@@ -20,7 +29,7 @@ overflow_cast-unsigned_abs c =
     let is : op.kind ≡ kind.Load = c.in-Load.is in
     let inside = load_inside entries walks g c.requires.graph c.args.q op c.operation-op.ensures is in
     let few = c.requires.graph.part.few_cells in
-    omega (arith, inside, few, value)
+    small_cell value inside few
 
 pub cell-requires : goal.cell-requires
 cell-requires c =
@@ -32,8 +41,7 @@ cell-requires c =
     let value : c.unsigned_abs.result ≡ unsigned_abs op.imm = c.unsigned_abs.ensures.value ∙ ap unsigned_abs (to_z-of_z w64 op.imm fit) in
     let is : op.kind ≡ kind.Load = c.in-Load.is in
     let inside = load_inside entries walks g c.requires.graph c.args.q op c.operation-op.ensures is in
-    let long = joined_long g.loads g.stores c.requires.graph.all_stored in
-    omega (arith, inside, long, value)
+    cell_there value inside (joined_long g.loads g.stores c.requires.graph.all_stored)
 
 pub overflow_cast-unsigned_abs-in-Store : goal.overflow_cast-unsigned_abs-in-Store
 overflow_cast-unsigned_abs-in-Store c =
@@ -46,7 +54,7 @@ overflow_cast-unsigned_abs-in-Store c =
     let is : op.kind ≡ kind.Store = c.in-Store.is in
     let inside = store_inside entries walks g c.requires.graph c.args.q op c.operation-op.ensures is in
     let few = c.requires.graph.part.few_cells in
-    omega (arith, inside, few, value)
+    small_cell value inside few
 
 pub cell-requires-in-Store : goal.cell-requires-in-Store
 cell-requires-in-Store c =
@@ -58,8 +66,7 @@ cell-requires-in-Store c =
     let value : c.unsigned_abs-in-Store.result ≡ unsigned_abs op.imm = c.unsigned_abs-in-Store.ensures.value ∙ ap unsigned_abs (to_z-of_z w64 op.imm fit) in
     let is : op.kind ≡ kind.Store = c.in-Store.is in
     let inside = store_inside entries walks g c.requires.graph c.args.q op c.operation-op.ensures is in
-    let long = joined_long g.loads g.stores c.requires.graph.all_stored in
-    omega (arith, inside, long, value)
+    cell_there value inside (joined_long g.loads g.stores c.requires.graph.all_stored)
 
 pub returns-in-Load : goal.returns-in-Load
 returns-in-Load c =
