@@ -1,5 +1,6 @@
 -- What a call for the next row gives, by its ends.
-use Rattle.std.proofs.Common.{◌≡◌, ◌≢◌, ◌∙◌, refl, sym, ap, ℕ, ◌-◌, zero, suc, Bool, true, false, List, [], ◌∷◌, length, get_or, drop, ℤ, sub-one, nat_le, tests, rules}
+use Rattle.std.proofs.Common.{◌≡◌, ◌≢◌, ◌∙◌, refl, sym, ap, ℕ, ◌-◌, zero, suc, Bool, true}
+use Rattle.std.proofs.Common.{false, List, [], ◌∷◌, length, get_or, drop, ℤ, sub-one, nat_le, tests, rules}
 use Rattle.std.proofs.Common.{Option, Some, None, Result, Ok, IfOk, IfErr, OnErr}
 use Rattle.std.proofs.lemmas.Bool.{true≢false, false≢true}
 use Rattle.vcp_base.specs.declared.ty.Ty.{Ty}

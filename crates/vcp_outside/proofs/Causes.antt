@@ -1,5 +1,6 @@
 -- What a call writes after others, and how its count stands.
-use Rattle.std.proofs.Common.{◌≡◌, ◌≤◌, ◌<◌, ◌∙◌, ap, sym, ℕ, List, ◌++◌, length, take, drop, append_assoc, take-append-drop, length-append, arith, Option, Result, Ok, Err, IsErr}
+use Rattle.std.proofs.Common.{◌≡◌, ◌≤◌, ◌<◌, ◌∙◌, ap, sym, ℕ, List, ◌++◌, length}
+use Rattle.std.proofs.Common.{take, drop, append_assoc, take-append-drop, length-append, arith, Option, Result, Ok, Err, IsErr}
 use Rattle.std.proofs.KnownBytes.{Appends-trans, Appends-kept}
 use Rattle.std.proofs.Math.Seq.{take-length}
 use Rattle.std.proofs.lemmas.Bool.{false≢true}
@@ -84,6 +85,12 @@ pub written_part : (old mid new : Option (List ℕ)) (before between now at : �
 written_part old mid new before between now at piece why (Ok done) failed some bytes same kept cause = absurd (false≢true failed)
 written_part old mid new before between now at piece why (Err again) failed some bytes same kept cause = record {
   whole = tt;
-  part = (take at piece, drop at piece, sym (take-append-drop at piece), omega (arith, length-drop at piece, some), Appends-kept old mid new (take at piece) bytes kept);
+  part = (
+    take at piece,
+    drop at piece,
+    sym (take-append-drop at piece),
+    omega (arith, length-drop at piece, some),
+    Appends-kept old mid new (take at piece) bytes kept,
+  );
   cause = record { later = later_on same cause.later; capped = capped_on same cause.capped; stayed = tt; failed = rose_on same cause.failed };
 }

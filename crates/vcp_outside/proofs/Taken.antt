@@ -1,5 +1,6 @@
 -- What was taken of a file, from what was read of it.
-use Rattle.std.proofs.Common.{◌≡◌, ◌≤◌, ◌⊎◌, ◌+◌, ◌<◌, inl, inr, ℕ, List, [], ◌++◌, take, length, Option, Some, None, IsSome, IfSome, ◌∙◌, ap, sym, subst, refl, arith, append-nil, length-append, min, ◌-◌}
+use Rattle.std.proofs.Common.{◌≡◌, ◌≤◌, ◌⊎◌, ◌+◌, ◌<◌, inl, inr, ℕ, List, [], ◌++◌, take, length, Option}
+use Rattle.std.proofs.Common.{Some, None, IsSome, IfSome, ◌∙◌, ap, sym, subst, refl, arith, append-nil, length-append, min, ◌-◌}
 use Rattle.std.proofs.lemmas.Grind.{common_steps}
 use Rattle.std.proofs.KnownBytes.{Consumes-trans, Consumes-kept}
 use Rattle.std.specs.Io.KnownBytes.{Consumes, Keeps, IsAtEnd}

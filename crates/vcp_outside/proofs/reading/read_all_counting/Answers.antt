@@ -1,6 +1,7 @@
 use Rattle.std.proofs.Common.{le_trans, le_of_eq, take, ◌+◌, ◌∙◌, arith, inr, refl, sym}
 use Rattle.std.proofs.lemmas.Grind.{common_steps}
-use Rattle.vcp_outside.proofs.Taken.{takes_more, takes_no_more, whatever_held, broke_later, later_on, capped_on, rose_on, no_reads, few_reads, one_more_read, within_test, piece_within, read_whole, read_too_much}
+use Rattle.vcp_outside.proofs.Taken.{takes_more, takes_no_more, whatever_held, broke_later, later_on, capped_on, rose_on}
+use Rattle.vcp_outside.proofs.Taken.{no_reads, few_reads, one_more_read, within_test, piece_within, read_whole, read_too_much}
 use Rattle.vcp_outside.proofs.reading.read_all_counting.Goals as goal
 
 -- ---- the file couldn't be begun

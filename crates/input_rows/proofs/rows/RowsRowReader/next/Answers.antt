@@ -32,7 +32,8 @@ returns-in-Ok-false c =
     let s = c.self.inside in
     let is = left_is c.args.self.now s.rows s.wanted _ c.self.view_is c.in-All.is in
     end_given c.args.self.now _ _ c.args.out.now c.next.new.out None _ c.end.ensures.answer c.end.ensures.ended
-    (types_kept s.wanted s.rows c.next.new.self _ c.self.view_is c.next.ensures.types) (goes_on _ _ is c.self.invariant) (λ other. rw is (c.in-Ok-false.ensures.end c.in-Ok-false.field-0-test))
+    (types_kept s.wanted s.rows c.next.new.self _ c.self.view_is c.next.ensures.types)
+    (goes_on _ _ is c.self.invariant) (λ other. rw is (c.in-Ok-false.ensures.end c.in-Ok-false.field-0-test))
     (c.in-Ok-false.ensures.stays c.in-Ok-false.field-0-test)
 
 pub returns-in-Err : goal.returns-in-Err
@@ -40,7 +41,8 @@ returns-in-Err c =
     let s = c.self.inside in
     let is = left_is c.args.self.now s.rows s.wanted _ c.self.view_is c.in-All.is in
     end_given c.args.self.now _ _ c.args.out.now c.next.new.out (Some c.in-Err.why) _ c.end-in-Err.ensures.answer c.end-in-Err.ensures.ended
-    (types_kept s.wanted s.rows c.next.new.self _ c.self.view_is c.next.ensures.types) (goes_on _ _ is c.self.invariant) (refused _ _ c.in-Err.why is c.in-Err.ensures.refusal) c.in-Err.ensures.out
+    (types_kept s.wanted s.rows c.next.new.self _ c.self.view_is c.next.ensures.types)
+    (goes_on _ _ is c.self.invariant) (refused _ _ c.in-Err.why is c.in-Err.ensures.refusal) c.in-Err.ensures.out
 
 pub returns-in-First-eq0-default : goal.returns-in-First-eq0-default
 returns-in-First-eq0-default c =
@@ -50,7 +52,8 @@ returns-in-First-eq0-default c =
     let is : c.args.self.now ≡ first_rows 0 f.behind s.rows =
     left_is c.args.self.now s.rows s.wanted _ c.self.view_is f.is ∙ ap (λ n. first_rows n f.behind s.rows) none in
     end_given c.args.self.now _ c.args.self.now.types c.args.out.now c.args.out.now f.behind _ c.end-in-First-eq0-default.ensures.answer
-    c.end-in-First-eq0-default.ensures.ended refl (goes_on _ _ is c.self.invariant) (λ other. rw is (first_none f.behind s.rows)) refl
+    c.end-in-First-eq0-default.ensures.ended refl
+    (goes_on _ _ is c.self.invariant) (λ other. rw is (first_none f.behind s.rows)) refl
 
 pub returns-in-Ok-true-next : goal.returns-in-Ok-true-next
 returns-in-Ok-true-next c =
@@ -70,8 +73,10 @@ returns-in-Ok-false-next c =
     let some : ¬ (f.rows ≡ 0) = rw f.is at f.rows-test.1 in
     let is = left_is c.args.self.now s.rows s.wanted _ c.self.view_is f.is in
     let end = c.in-Ok-false-next.ensures.end c.in-Ok-false-next.field-0-test in
-    end_given c.args.self.now _ _ c.args.out.now c.next-in-First.new.out (Some Cycle) _ c.end-in-Ok-false-next.ensures.answer c.end-in-Ok-false-next.ensures.ended
-    (types_kept s.wanted s.rows c.next-in-First.new.self _ c.self.view_is c.next-in-First.ensures.types) (goes_on _ _ is c.self.invariant) (λ other. rw is (first_end f.rows f.behind _ s.rows some end.0 (rw end.1 refl)))
+    end_given c.args.self.now _ _ c.args.out.now c.next-in-First.new.out (Some Cycle) _
+    c.end-in-Ok-false-next.ensures.answer c.end-in-Ok-false-next.ensures.ended
+    (types_kept s.wanted s.rows c.next-in-First.new.self _ c.self.view_is c.next-in-First.ensures.types)
+    (goes_on _ _ is c.self.invariant) (λ other. rw is (first_end f.rows f.behind _ s.rows some end.0 (rw end.1 refl)))
     (c.in-Ok-false-next.ensures.stays c.in-Ok-false-next.field-0-test)
 
 pub returns-in-Err-next : goal.returns-in-Err-next
@@ -80,7 +85,8 @@ returns-in-Err-next c =
     let f = c.in-First in
     let some : ¬ (f.rows ≡ 0) = rw f.is at f.rows-test.1 in
     let is = left_is c.args.self.now s.rows s.wanted _ c.self.view_is f.is in
-    end_given c.args.self.now _ _ c.args.out.now c.next-in-First.new.out (Some c.in-Err-next.why) _ c.end-in-Err-next.ensures.answer c.end-in-Err-next.ensures.ended
+    end_given c.args.self.now _ _ c.args.out.now c.next-in-First.new.out (Some c.in-Err-next.why) _
+    c.end-in-Err-next.ensures.answer c.end-in-Err-next.ensures.ended
     (types_kept s.wanted s.rows c.next-in-First.new.self _ c.self.view_is c.next-in-First.ensures.types) (goes_on _ _ is c.self.invariant)
     (λ other. let end = c.in-Err-next.ensures.refusal (λ e. other (ap Some e)) in rw is (first_end f.rows f.behind _ s.rows some end.0 (rw end.1 refl)))
     c.in-Err-next.ensures.out
@@ -88,4 +94,5 @@ returns-in-Err-next c =
 pub returns-in-Ended : goal.returns-in-Ended
 returns-in-Ended c =
     let s = c.self.inside in
-    again_given c.args.self.now s.rows c.args.out.now c.in-Ended.behind _ c.answer.ensures (left_is c.args.self.now s.rows s.wanted _ c.self.view_is c.in-Ended.is)
+    again_given c.args.self.now s.rows c.args.out.now c.in-Ended.behind _ c.answer.ensures
+    (left_is c.args.self.now s.rows s.wanted _ c.self.view_is c.in-Ended.is)
