@@ -21,8 +21,7 @@ pub fn header_line<O: Sink>(out: &mut O, names: &Columns) -> Result<(), Failed>
     let mut line = Line::new();
     line.text(out, b"cycle");
     'names: for i in 0..names.len() {
-        line.text(out, b",");
-        line.text(out, names.at(i).name.bytes());
+        line.texts(out, b",", names.at(i).name.bytes());
     }
     line.end(out)
 }
@@ -113,16 +112,14 @@ pub(crate) fn then_place<O: Sink>(line: &mut Line, out: &mut O, spot: Spot)
     ensures { GathersTo (O.seen out.old) (O.seen out.new) line.old line.new (place_text spot) }
 {
     line.count(out, spot.line as u64);
-    line.text(out, b":");
-    line.count(out, spot.col as u64);
+    line.numbered(out, b":", spot.col as u64);
 }
 
 /// Goes on with why a run stopped, and the place in the source.
 pub fn then_cause<O: Sink>(line: &mut Line, out: &mut O, kind: StopKind, spot: Spot)
     ensures { GathersTo (O.seen out.old) (O.seen out.new) line.old line.new (cause_text kind spot) }
 {
-    line.text(out, stop_name(kind));
-    line.text(out, b" ");
+    line.texts(out, stop_name(kind), b" ");
     then_place(line, out, spot);
 }
 
@@ -141,8 +138,7 @@ pub(crate) fn then_turn<O: Sink>(line: &mut Line, out: &mut O, name: &Text, valu
     ensures { GathersTo (O.seen out.old) (O.seen out.new) line.old line.new
         (turn_text (record { name = name.now; value = value })) }
 {
-    line.text(out, b" ");
-    line.text(out, name.bytes());
+    line.texts(out, b" ", name.bytes());
     line.text(out, b"=");
     line.value(out, value);
 }
@@ -192,14 +188,10 @@ pub fn then_refused<O: Sink>(
     ensures { GathersTo (O.seen out.old) (O.seen out.new) line.old line.new
         (refused_front cycle name.now found expected) }
 {
-    line.text(out, b"refused ");
-    line.count(out, cycle as u64);
-    line.text(out, b" ");
-    line.text(out, name.bytes());
-    line.text(out, b" found ");
-    line.count(out, found);
-    line.text(out, b" expected ");
-    line.count(out, expected);
+    line.numbered(out, b"refused ", cycle as u64);
+    line.texts(out, b" ", name.bytes());
+    line.numbered(out, b" found ", found);
+    line.numbered(out, b" expected ", expected);
 }
 
 /// Writes that an output is refused in a cycle, which is counted from 0, with the residue that was

@@ -22,12 +22,9 @@ fn begin_operation<O: Sink>(out: &mut O, i: u32, op: &Op) -> Line
     ensures { IsGathered (O.seen out.old).written (O.seen out.new).written (O.seen out.old).faults (O.seen out.new).faults (operation_front i op.now) result }
 {
     let mut line = begin(out, b"", i);
-    line.text(out, b" ");
-    line.text(out, kind_name(op.kind));
-    line.text(out, b" ");
-    line.text(out, ty_name(op.from));
-    line.text(out, b" ");
-    line.text(out, ty_name(op.ty));
+    line.texts(out, b" ", kind_name(op.kind));
+    line.texts(out, b" ", ty_name(op.from));
+    line.texts(out, b" ", ty_name(op.ty));
     line
 }
 
@@ -47,8 +44,7 @@ fn then_numbers<O: Sink>(line: &mut Line, out: &mut O, numbers: &[u32])
     ensures { GathersTo (O.seen out.old) (O.seen out.new) line.old line.new (flat_map number_cell numbers.now) }
 {
     'numbers: for i in 0..numbers.len() {
-        line.text(out, b" ");
-        line.count(out, numbers[i] as u64);
+        line.numbered(out, b" ", numbers[i] as u64);
     }
 }
 
@@ -86,10 +82,8 @@ fn then_code<O: Sink>(line: &mut Line, out: &mut O, table: &Table, i: u32)
     requires { i < length table.now.corrections }
     ensures { GathersTo (O.seen out.old) (O.seen out.new) line.old line.new (code_text table.now i) }
 {
-    line.text(out, b" sig ");
-    line.count(out, table.signature(i));
-    line.text(out, b" cor ");
-    line.count(out, table.correction(i));
+    line.numbered(out, b" sig ", table.signature(i));
+    line.numbered(out, b" cor ", table.correction(i));
 }
 
 /// Goes on with the place of operation `i` in the source, and the turns round it, outermost first.
@@ -127,8 +121,7 @@ fn then_parts<O: Sink>(line: &mut Line, out: &mut O, profile: Profile, word: Wor
 {
     let (value, residue) = word.split(profile);
     line.long_value(out, value);
-    line.text(out, b" ");
-    line.count(out, residue);
+    line.numbered(out, b" ", residue);
 }
 
 /// Writes the word that operation `i` of a graph and its table gave in a cycle, which is counted from
@@ -150,13 +143,11 @@ pub fn trace_line<O: Sink>(
         (trace_text graph.now.profile table.now i cycle op.kind word) result) }
 {
     let mut line = begin(out, b"", i);
-    line.text(out, b" ");
-    line.text(out, kind_name(graph.operation(i).kind));
+    line.texts(out, b" ", kind_name(graph.operation(i).kind));
     line.text(out, b" ");
     line.long_value(out, word.get());
     line.text(out, b" ");
     then_parts(&mut line, out, graph.profile(), word);
-    line.text(out, b" ");
-    line.count(out, table.expected(i, cycle));
+    line.numbered(out, b" ", table.expected(i, cycle));
     line.end(out)
 }

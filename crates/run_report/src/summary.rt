@@ -17,8 +17,7 @@ pub fn summary_line<O: Sink>(
     ensures { WritesTo (O.seen out.old) (O.seen out.new) (summary_text number cycles last sum) result }
 {
     let mut line = begin(out, b"demo ", number);
-    line.text(out, b" cycles ");
-    line.count(out, cycles as u64);
+    line.numbered(out, b" cycles ", cycles as u64);
     line.text(out, b" last ");
     line.value(out, last);
     line.text(out, b" sum ");

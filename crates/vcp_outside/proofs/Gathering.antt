@@ -1,12 +1,12 @@
 -- What is in a line after a step.
-use Rattle.std.proofs.Common.{◌≡◌, ℕ, ◌+◌, ◌<◌, List, [], ◌∷◌, ◌++◌, length, take, get_or, flat_map, add-one, Option, Result, Ok, Err, OnErr, IsErr, ap, sym, ◌∙◌, refl}
+use Rattle.std.proofs.Common.{◌≡◌, ℕ, ◌+◌, ◌<◌, List, [], ◌∷◌, ◌++◌, length, take, get_or, flat_map, add-one, Option, Result, Ok, Err, OnErr, IsErr, ap, sym, ◌∙◌, refl, append_assoc}
 use Rattle.std.proofs.Math.Seq.{take-suc}
 use Rattle.std.proofs.lemmas.Bool.{false≢true}
 use Rattle.std.proofs.lemmas.List.{append-nil, flat_map_more}
 use Rattle.vcp_outside.specs.declared.failed.Failed.{Failed}
 use Rattle.vcp_outside.specs.Written.{Writes}
 use Rattle.vcp_outside.specs.Seen.{SinkSeen}
-use Rattle.vcp_outside.specs.Gathering.{Gathered, IsGathered, GathersTo}
+use Rattle.vcp_outside.specs.Gathering.{Gathered, Gathers, IsGathered, GathersTo}
 
 -- what was pending is written
 pub flushed : (start old new : Option (List ℕ)) (before f g : ℕ) (text pending : List ℕ) (line : Gathered) (r : Result (Unit {0}) Failed)
@@ -54,6 +54,11 @@ pub unchanged_on : {A T E : Type 0} (a b c : A) (r s : Result T E) → OnErr r (
 unchanged_on a b c (Ok v) s first failed second = tt
 unchanged_on a b c (Err e) (Ok v) first failed second = absurd (false≢true (failed refl))
 unchanged_on a b c (Err e) (Err f) first failed second = second ∙ first
+
+-- a piece and another one
+pub gathers_both : {a b c : Option (List ℕ)} {f g h : ℕ} {l m n : Gathered} {s t : List ℕ} → Gathers a b f g l m s → Gathers b c g h m n t
+    → Gathers a c f h l n (s ++ t)
+gathers_both {s = s} {t = t} first second start before text is = rw (← (append_assoc text s t)) (second start before _ (first start before text is))
 
 -- of the elements of a list one more is gathered
 pub gathered_next : {X : Type 0} (f : X → List ℕ) (xs : List X) (i : ℕ) (d : X) (old mid new : SinkSeen) (before between now : Gathered)

@@ -1,9 +1,9 @@
-use Rattle.std.proofs.Common.{◌≡◌, arith, codes, refl, take}
+use Rattle.std.proofs.Common.{◌≡◌, arith, codes, take}
 use Rattle.std.proofs.lemmas.List.{take_all}
 use Rattle.std.proofs.lemmas.List.Folds.{flat_map-map}
 use Rattle.vcp_base.specs.declared.columns.Column.{Column}
 use Rattle.run_report.specs.Lines.{name_cell}
-use Rattle.run_report.proofs.Texts.{flat_map-next_two}
+use Rattle.run_report.proofs.Texts.{flat_map-next}
 use Rattle.run_report.proofs.lines.header_line.Goals as goal
 
 pub names-init : goal.names-init
@@ -11,10 +11,9 @@ names-init g c = c.text.ensures.gathers _ _ _ (c.new-line.ensures.begun _ _)
 
 pub names-preserved : goal.names-preserved
 names-preserved g c =
-    let is = c.text-in-names-2.ensures.gathers _ _ _ (c.text-in-names.ensures.gathers _ _ _ c.names.invariant) in
+    let is = c.texts.ensures.gathers _ _ _ c.names.invariant in
     let named = rw c.bytes.ensures at is in
-    rw (flat_map-next_two (λ (column : Column). name_cell column.name) (codes "cycle") c.args.names.now c.names.i c.at.result.now
-    (codes ",") c.at.result.now.name c.at.ensures refl) named
+    rw (flat_map-next (λ (column : Column). name_cell column.name) (codes "cycle") c.args.names.now c.names.i c.at.result.now c.at.ensures) named
 
 pub returns : goal.returns
 returns g c =

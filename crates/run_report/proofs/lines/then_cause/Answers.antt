@@ -3,5 +3,5 @@ use Rattle.run_report.proofs.lines.then_cause.Goals as goal
 
 pub returns : goal.returns
 returns g c start before text is =
-    let kind = rw c.stop_name.ensures at (c.text.ensures.gathers start before text is) in
-    simp append_assoc at (c.then_place.ensures _ _ _ (c.text-2.ensures.gathers _ _ _ kind))
+    let kind = rw c.stop_name.ensures at (c.texts.ensures.gathers start before text is) in
+    simp append_assoc at (c.then_place.ensures _ _ _ kind)

@@ -6,6 +6,6 @@ use Rattle.run_report.proofs.lines.then_turn.Goals as goal
 pub returns : goal.returns
 returns g c start before text is =
     let fits : SFits w64 c.args.value = search rules in
-    let named = c.text-2.ensures.gathers _ _ _ (c.text.ensures.gathers start before text is) in
-    let all = c.value.ensures.gathers _ _ _ (c.text-3.ensures.gathers _ _ _ named) in
+    let named = c.texts.ensures.gathers start before text is in
+    let all = c.value.ensures.gathers _ _ _ (c.text.ensures.gathers _ _ _ named) in
     simp append_assoc at (rw (to_z-of_z {w = w64} {z = c.args.value} fits, c.bytes.ensures) at all)

@@ -4,8 +4,8 @@ use Rattle.run_report.proofs.operations.then_code.Goals as goal
 
 pub returns : goal.returns
 returns g c start before text is =
-    let own = rw c.signature.ensures.value at (c.count.ensures.gathers _ _ _ (c.text.ensures.gathers start before text is)) in
-    let all = c.count-2.ensures.gathers _ _ _ (c.text-2.ensures.gathers _ _ _ own) in
+    let own = rw c.signature.ensures.value at (c.numbered.ensures.gathers start before text is) in
+    let all = c.numbered-2.ensures.gathers _ _ _ own in
     let there : slice_index_or c.args.table.now.corrections c.args.i 0 ≡ c.correction.result =
     get_or_from_slice_get c.args.table.now.corrections c.args.i c.correction.result 0 c.correction.ensures.value in
     rw there (simp append_assoc at all)

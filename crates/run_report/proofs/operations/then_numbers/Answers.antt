@@ -1,8 +1,8 @@
-use Rattle.std.proofs.Common.{◌≡◌, ◌<◌, arith, codes, decimal, get_or, length, refl, take}
+use Rattle.std.proofs.Common.{◌≡◌, ◌<◌, arith, get_or, length, take}
 use Rattle.std.proofs.lemmas.List.{append-nil, take_all}
 use Rattle.std.proofs.lemmas.Option.{slice_get-get_or}
 use Rattle.run_report.specs.OperationLines.{number_cell}
-use Rattle.run_report.proofs.Texts.{flat_map-next_two}
+use Rattle.run_report.proofs.Texts.{flat_map-next}
 use Rattle.run_report.proofs.operations.then_numbers.Goals as goal
 
 pub numbers-init : goal.numbers-init
@@ -13,8 +13,8 @@ numbers-preserved g c start before text is =
     let numbers = c.args.numbers.now in
     let inside : c.numbers.i < length numbers = omega arith in
     let next = get_or numbers c.numbers.i 0 in
-    rw (flat_map-next_two number_cell text numbers c.numbers.i next (codes " ") (decimal next) (slice_get-get_or numbers c.numbers.i 0 inside) refl)
-    (c.count.ensures.gathers _ _ _ (c.text.ensures.gathers _ _ _ (c.numbers.invariant start before text is)))
+    rw (flat_map-next number_cell text numbers c.numbers.i next (slice_get-get_or numbers c.numbers.i 0 inside))
+    (c.numbered.ensures.gathers _ _ _ (c.numbers.invariant start before text is))
 
 pub returns : goal.returns
 returns g c start before text is =

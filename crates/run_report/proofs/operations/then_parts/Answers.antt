@@ -9,5 +9,5 @@ returns g c start before text is =
     let parts = c.split-value in
     let fits : SFits w128 parts.result.0 = search rules in
     let value = rw (to_z-of_z {w = w128} {z = parts.result.0} fits, parts.ensures.value) at (c.long_value.ensures.gathers start before text is) in
-    let residue = rw parts.ensures.residue at (c.count.ensures.gathers _ _ _ (c.text.ensures.gathers _ _ _ value)) in
+    let residue = rw parts.ensures.residue at (c.numbered.ensures.gathers _ _ _ value) in
     simp append_assoc at residue

@@ -7,16 +7,15 @@ use Rattle.run_report.proofs.operations.trace_line.Goals as goal
 
 pieces : (number kind word parts wanted : List ℕ)
     → number ++ (codes " " ++ (kind ++ (codes " " ++ (word ++ (codes " " ++ (parts ++ (codes " " ++ (wanted ++ codes "\n"))))))))
-    ≡ number ++ codes " " ++ kind ++ codes " " ++ word ++ codes " " ++ parts ++ codes " " ++ wanted ++ codes "\n"
+    ≡ number ++ (codes " " ++ kind) ++ codes " " ++ word ++ codes " " ++ parts ++ (codes " " ++ wanted) ++ codes "\n"
 pieces number kind word parts wanted = simp append_assoc
 
 pub returns : goal.returns
 returns g c =
-    let head = c.text.ensures.gathers _ _ _ c.begin-line.ensures in
-    let kind = rw c.kind_name.ensures at (c.text-2.ensures.gathers _ _ _ head) in
+    let kind = rw c.kind_name.ensures at (c.texts.ensures.gathers _ _ _ c.begin-line.ensures) in
     let fits : SFits w128 c.get.result = search rules in
-    let word = rw (to_z-of_z {w = w128} {z = c.get.result} fits) at (c.long_value.ensures.gathers _ _ _ (c.text-3.ensures.gathers _ _ _ kind)) in
-    let parts = c.then_parts.ensures _ _ _ (c.text-4.ensures.gathers _ _ _ word) in
-    let wanted = c.count.ensures.gathers _ _ _ (c.text-5.ensures.gathers _ _ _ parts) in
+    let word = rw (to_z-of_z {w = w128} {z = c.get.result} fits) at (c.long_value.ensures.gathers _ _ _ (c.text.ensures.gathers _ _ _ kind)) in
+    let parts = c.then_parts.ensures _ _ _ (c.text-2.ensures.gathers _ _ _ word) in
+    let wanted = c.numbered.ensures.gathers _ _ _ parts in
     let told = rw (c.get.ensures.value, c.profile.ensures.value, c.expected.ensures.value) at wanted in
     rw c.operation.ensures (written_same (c.end.ensures.writes _ _ _ told) (pieces (decimal c.args.i) _ _ _ _))

@@ -6,14 +6,14 @@ use Rattle.run_report.proofs.summary.summary_line.Goals as goal
 
 pieces : (number cycles last sum : List ℕ)
     → codes "demo " ++ (number ++ (codes " cycles " ++ (cycles ++ (codes " last " ++ (last ++ (codes " sum " ++ (sum ++ codes "\n")))))))
-    ≡ codes "demo " ++ number ++ codes " cycles " ++ cycles ++ codes " last " ++ last ++ codes " sum " ++ sum ++ codes "\n"
+    ≡ codes "demo " ++ number ++ (codes " cycles " ++ cycles) ++ codes " last " ++ last ++ codes " sum " ++ sum ++ codes "\n"
 pieces number cycles last sum = simp append_assoc
 
 pub returns : goal.returns
 returns g c =
     let last_fits : SFits w64 c.args.last = search rules in
     let sum_fits : SFits w128 c.args.sum = search rules in
-    let cycles = c.count.ensures.gathers _ _ _ (c.text.ensures.gathers _ _ _ c.begin-line.ensures) in
-    let last = rw (to_z-of_z {w = w64} {z = c.args.last} last_fits) at (c.value.ensures.gathers _ _ _ (c.text-2.ensures.gathers _ _ _ cycles)) in
-    let sum = rw (to_z-of_z {w = w128} {z = c.args.sum} sum_fits) at (c.long_value.ensures.gathers _ _ _ (c.text-3.ensures.gathers _ _ _ last)) in
+    let cycles = c.numbered.ensures.gathers _ _ _ c.begin-line.ensures in
+    let last = rw (to_z-of_z {w = w64} {z = c.args.last} last_fits) at (c.value.ensures.gathers _ _ _ (c.text.ensures.gathers _ _ _ cycles)) in
+    let sum = rw (to_z-of_z {w = w128} {z = c.args.sum} sum_fits) at (c.long_value.ensures.gathers _ _ _ (c.text-2.ensures.gathers _ _ _ last)) in
     rw pieces (c.end.ensures.writes _ _ _ sum)
