@@ -74,22 +74,17 @@ impl Totals {
 fn then_wrong<O: Sink>(line: &mut Line, out: &mut O, cycle: u32, name: &Text, got: i64, want: i64)
     ensures { GathersTo (O.seen out.old) (O.seen out.new) line.old line.new (wrong_text cycle name.now got want) }
 {
-    line.text(out, b"wrong ");
-    line.count(out, cycle as u64);
-    line.text(out, b" ");
-    line.text(out, name.bytes());
-    line.text(out, b" got ");
-    line.value(out, got);
-    line.text(out, b" want ");
-    line.value(out, want);
+    line.numbered(out, b"wrong ", cycle as u64);
+    line.texts(out, b" ", name.bytes());
+    line.signed(out, b" got ", got);
+    line.signed(out, b" want ", want);
 }
 
 // Goes on with the cycle up to which no output was refused.
 fn then_ran_on<O: Sink>(line: &mut Line, out: &mut O, cycle: u32)
     ensures { GathersTo (O.seen out.old) (O.seen out.new) line.old line.new (ran_on_text cycle) }
 {
-    line.text(out, b"ran-on ");
-    line.count(out, cycle as u64);
+    line.numbered(out, b"ran-on ", cycle as u64);
 }
 
 // Goes on with why operation `op` stopped, its place in the source, and the turns round it.
@@ -114,10 +109,8 @@ fn then_stopped<O: Sink>(
     requires { op < length graph.now.operations }
     ensures { GathersTo (O.seen out.old) (O.seen out.new) line.old line.new (stopped_text graph.now cycle op kind) }
 {
-    line.text(out, b"stopped ");
-    line.count(out, cycle as u64);
-    line.text(out, b" ");
-    line.count(out, op as u64);
+    line.numbered(out, b"stopped ", cycle as u64);
+    line.numbered(out, b" ", op as u64);
     line.text(out, b" ");
     then_stopped_at(line, out, kind, graph, op);
 }

@@ -17,8 +17,7 @@ fn then_operation<O: Sink>(line: &mut Line, out: &mut O, op: u32, kind: StopKind
     ensures { GathersTo (O.seen out.old) (O.seen out.new) line.old line.new (operation_text op kind) }
 {
     line.count(out, op as u64);
-    line.text(out, b" ");
-    line.text(out, stop_name(kind));
+    line.texts(out, b" ", stop_name(kind));
 }
 
 // Goes on with an output that is refused, the residue that was found and the expected one.
@@ -31,12 +30,9 @@ fn then_refusal<O: Sink>(
 )
     ensures { GathersTo (O.seen out.old) (O.seen out.new) line.old line.new (refused_output_text name.now found expected) }
 {
-    line.text(out, b"refused ");
-    line.text(out, name.bytes());
-    line.text(out, b" found ");
-    line.count(out, found);
-    line.text(out, b" expected ");
-    line.count(out, expected);
+    line.texts(out, b"refused ", name.bytes());
+    line.numbered(out, b" found ", found);
+    line.numbered(out, b" expected ", expected);
 }
 
 // Goes on with how a channel ended a cycle.
@@ -89,11 +85,8 @@ pub fn differ_line<O: Sink>(
     ensures { WritesTo (O.seen out.old) (O.seen out.new) (differ_text name.now cycle first second) result }
 {
     let mut line = begin(out, b"differ ", cycle);
-    line.text(out, b" ");
-    line.text(out, name.bytes());
-    line.text(out, b" first ");
-    line.value(out, first);
-    line.text(out, b" second ");
-    line.value(out, second);
+    line.texts(out, b" ", name.bytes());
+    line.signed(out, b" first ", first);
+    line.signed(out, b" second ", second);
     line.end(out)
 }

@@ -223,6 +223,16 @@ impl Line {
         self.count(out, n);
     }
 
+    /// Goes on with a text and then a number in decimal digits, after `-` where it is negative.
+    pub fn signed<O: Sink>(&mut self, out: &mut O, text: &[u8], v: i64)
+        ensures gathers { GathersTo (O.seen out.old) (O.seen out.new) self.old self.new (text.now ++ signed_decimal v) }
+        ensures after_failure { OnErr self.old.so_far (out.new ≡ out.old) }
+        ensures stays_failed { IsErr self.old.so_far → IsErr self.new.so_far }
+    {
+        self.text(out, text);
+        self.value(out, v);
+    }
+
     /// Ends the line with LF, and writes what is pending. It fails where a write of the line failed, and then
     /// a part of the line is written. The part comes only where the count of faults rose.
     pub fn end<O: Sink>(mut self, out: &mut O) -> Result<(), Failed>

@@ -22,12 +22,9 @@ pub fn reached_line<O: Sink>(
 {
     let mut line = Line::new();
     line.text(out, name.bytes());
-    line.text(out, b" ");
-    line.count(out, after as u64);
-    line.text(out, b" reached ");
-    line.count(out, reached as u64);
-    line.text(out, b" blind ");
-    line.count(out, blind as u64);
+    line.numbered(out, b" ", after as u64);
+    line.numbered(out, b" reached ", reached as u64);
+    line.numbered(out, b" blind ", blind as u64);
     line.end(out)
 }
 
@@ -37,7 +34,6 @@ pub fn blind_line<O: Sink>(out: &mut O, op: u32, kind: Kind) -> Result<(), Faile
     ensures { WritesTo (O.seen out.old) (O.seen out.new) (blind_text op kind) result }
 {
     let mut line = begin(out, b"blind ", op);
-    line.text(out, b" ");
-    line.text(out, kind_name(kind));
+    line.texts(out, b" ", kind_name(kind));
     line.end(out)
 }

@@ -4,11 +4,10 @@ use Rattle.fault_injector.proofs.lines.then_stopped.Goals as goal
 
 pieces : (text cycle op place : List ℕ)
     → text ++ (codes "stopped " ++ (cycle ++ (codes " " ++ (op ++ (codes " " ++ place)))))
-    ≡ text ++ codes "stopped " ++ cycle ++ codes " " ++ op ++ codes " " ++ place
+    ≡ text ++ (codes "stopped " ++ cycle) ++ (codes " " ++ op) ++ codes " " ++ place
 pieces text cycle op place = simp append_assoc
 
 pub returns : goal.returns
 returns g c start before text is =
-    let cycle = c.count.ensures.gathers _ _ _ (c.text.ensures.gathers start before text is) in
-    let op = c.count-2.ensures.gathers _ _ _ (c.text-2.ensures.gathers _ _ _ cycle) in
-    gathered_same (c.then_stopped_at.ensures _ _ _ (c.text-3.ensures.gathers _ _ _ op)) (pieces text (decimal c.args.cycle) (decimal c.args.op) _)
+    let op = c.numbered-2.ensures.gathers _ _ _ (c.numbered.ensures.gathers start before text is) in
+    gathered_same (c.then_stopped_at.ensures _ _ _ (c.text.ensures.gathers _ _ _ op)) (pieces text (decimal c.args.cycle) (decimal c.args.op) _)

@@ -6,15 +6,14 @@ use Rattle.fault_injector.proofs.lines.then_wrong.Goals as goal
 
 pieces : (text cycle name got want : List ℕ)
     → text ++ (codes "wrong " ++ (cycle ++ (codes " " ++ (name ++ (codes " got " ++ (got ++ (codes " want " ++ want)))))))
-    ≡ text ++ codes "wrong " ++ cycle ++ codes " " ++ name ++ codes " got " ++ got ++ codes " want " ++ want
+    ≡ text ++ (codes "wrong " ++ cycle) ++ (codes " " ++ name) ++ (codes " got " ++ got) ++ (codes " want " ++ want)
 pieces text cycle name got want = simp append_assoc
 
 pub returns : goal.returns
 returns g c start before text is =
     let got_fits : SFits w64 c.args.got = search rules in
     let want_fits : SFits w64 c.args.want = search rules in
-    let head = c.text-2.ensures.gathers _ _ _ (c.count.ensures.gathers _ _ _ (c.text.ensures.gathers start before text is)) in
-    let named = rw c.bytes.ensures at (c.text-3.ensures.gathers _ _ _ head) in
-    let got = rw (to_z-of_z {w = w64} {z = c.args.got} got_fits) at (c.value.ensures.gathers _ _ _ (c.text-4.ensures.gathers _ _ _ named)) in
-    let all = rw (to_z-of_z {w = w64} {z = c.args.want} want_fits) at (c.value-2.ensures.gathers _ _ _ (c.text-5.ensures.gathers _ _ _ got)) in
+    let named = rw c.bytes.ensures at (c.texts.ensures.gathers _ _ _ (c.numbered.ensures.gathers start before text is)) in
+    let got = rw (to_z-of_z {w = w64} {z = c.args.got} got_fits) at (c.signed.ensures.gathers _ _ _ named) in
+    let all = rw (to_z-of_z {w = w64} {z = c.args.want} want_fits) at (c.signed-2.ensures.gathers _ _ _ got) in
     gathered_same all (pieces text (decimal c.args.cycle) c.args.name.now _ _)

@@ -4,6 +4,5 @@ use Rattle.pair_channel.proofs.lines.then_operation.Goals as goal
 
 pub returns : goal.returns
 returns g c start before text is =
-    let op = c.text.ensures.gathers _ _ _ (c.count.ensures.gathers start before text is) in
-    let kind = rw c.stop_name.ensures at (c.text-2.ensures.gathers _ _ _ op) in
+    let kind = rw c.stop_name.ensures at (c.texts.ensures.gathers _ _ _ (c.count.ensures.gathers start before text is)) in
     gathered_same kind (simp append_assoc)

@@ -4,12 +4,11 @@ use Rattle.pair_channel.proofs.lines.then_refusal.Goals as goal
 
 pieces : (text name found expected : List ℕ)
     → text ++ (codes "refused " ++ (name ++ (codes " found " ++ (found ++ (codes " expected " ++ expected)))))
-    ≡ text ++ codes "refused " ++ name ++ codes " found " ++ found ++ codes " expected " ++ expected
+    ≡ text ++ (codes "refused " ++ name) ++ (codes " found " ++ found) ++ (codes " expected " ++ expected)
 pieces text name found expected = simp append_assoc
 
 pub returns : goal.returns
 returns g c start before text is =
-    let name = rw c.bytes.ensures at (c.text-2.ensures.gathers _ _ _ (c.text.ensures.gathers start before text is)) in
-    let found = c.count.ensures.gathers _ _ _ (c.text-3.ensures.gathers _ _ _ name) in
-    let all = c.count-2.ensures.gathers _ _ _ (c.text-4.ensures.gathers _ _ _ found) in
+    let name = rw c.bytes.ensures at (c.texts.ensures.gathers start before text is) in
+    let all = c.numbered-2.ensures.gathers _ _ _ (c.numbered.ensures.gathers _ _ _ name) in
     gathered_same all (pieces text c.args.name.now (decimal c.args.found) (decimal c.args.expected))

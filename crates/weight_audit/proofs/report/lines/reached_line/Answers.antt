@@ -4,13 +4,11 @@ use Rattle.weight_audit.proofs.report.lines.reached_line.Goals as goal
 
 pieces : (name after reached blind : List ℕ)
     → name ++ (codes " " ++ (after ++ (codes " reached " ++ (reached ++ (codes " blind " ++ (blind ++ codes "\n"))))))
-    ≡ name ++ codes " " ++ after ++ codes " reached " ++ reached ++ codes " blind " ++ blind ++ codes "\n"
+    ≡ name ++ (codes " " ++ after) ++ (codes " reached " ++ reached) ++ (codes " blind " ++ blind) ++ codes "\n"
 pieces name after reached blind = simp append_assoc
 
 pub returns : goal.returns
 returns g c =
     let named = rw c.bytes.ensures at (c.text.ensures.gathers _ _ _ (c.new-line.ensures.begun _ _)) in
-    let after = c.count.ensures.gathers _ _ _ (c.text-2.ensures.gathers _ _ _ named) in
-    let reached = c.count-2.ensures.gathers _ _ _ (c.text-3.ensures.gathers _ _ _ after) in
-    let all = c.count-3.ensures.gathers _ _ _ (c.text-4.ensures.gathers _ _ _ reached) in
+    let all = c.numbered-3.ensures.gathers _ _ _ (c.numbered-2.ensures.gathers _ _ _ (c.numbered.ensures.gathers _ _ _ named)) in
     written_same (c.end.ensures.writes _ _ _ all) (pieces c.args.name.now (decimal c.args.after) (decimal c.args.reached) (decimal c.args.blind))
