@@ -7,7 +7,7 @@ mod lines;
 mod runs;
 mod verdict;
 
-pub use lines::{Totals, then_count, then_totals, then_verdict, totals_line, verdict_line};
+pub use lines::{Totals, then_totals, then_verdict, totals_line, verdict_line};
 pub use runs::{
     Carried, KeptWords, Past, Scripted, accepted_outputs_are_released, acts_keep_the_step_law,
     answered, carried_of, changed, ends_under_acts_are_read_off_the_answers, is_skip, named,

@@ -2,7 +2,7 @@
 //! sink and takes no memory. It answers `Failed` only where the sink's count of faults rose, and then
 //! a part of the line is written.
 
-ghost use Rattle.std.specs.Prelude.{◌≡◌, ◌<◌, ◌++◌, length, slice_get, decimal};
+ghost use Rattle.std.specs.Prelude.{◌≡◌, ◌<◌, length, slice_get};
 ghost use Rattle.vcp_outside.specs.Written.{WritesTo};
 ghost use Rattle.fault_injector.specs.Names.{Names};
 ghost use Rattle.vcp_outside.specs.Gathering.{GathersTo};
@@ -165,24 +165,16 @@ pub fn verdict_line<O: Sink>(
     text.end(out)
 }
 
-/// Goes on with a word and a number.
-pub fn then_count<O: Sink>(line: &mut Line, out: &mut O, word: &[u8], number: u64)
-    ensures { GathersTo (O.seen out.old) (O.seen out.new) line.old line.new (word.now ++ decimal number) }
-{
-    line.text(out, word);
-    line.count(out, number);
-}
-
 /// Goes on with totals: how many faults a script has, and how many of each verdict.
 pub fn then_totals<O: Sink>(line: &mut Line, out: &mut O, totals: &Totals)
     ensures { GathersTo (O.seen out.old) (O.seen out.new) line.old line.new (totals_front totals.now) }
 {
-    then_count(line, out, b"faults ", totals.faults());
-    then_count(line, out, b" same ", totals.same as u64);
-    then_count(line, out, b" wrong ", totals.wrong as u64);
-    then_count(line, out, b" ran-on ", totals.ran_on as u64);
-    then_count(line, out, b" refused ", totals.refused as u64);
-    then_count(line, out, b" stopped ", totals.stopped as u64);
+    line.numbered(out, b"faults ", totals.faults());
+    line.numbered(out, b" same ", totals.same as u64);
+    line.numbered(out, b" wrong ", totals.wrong as u64);
+    line.numbered(out, b" ran-on ", totals.ran_on as u64);
+    line.numbered(out, b" refused ", totals.refused as u64);
+    line.numbered(out, b" stopped ", totals.stopped as u64);
 }
 
 /// Writes the line of totals. After `Failed` a part of the line is written. The line has their sum and each

@@ -7,7 +7,6 @@ ghost use Rattle.vcp_outside.specs.Gathering.{GathersTo};
 ghost use Rattle.fault_campaign.specs.GroupLines.{shown, group_text, groups_in, counted, no_groups, pair_totals_text};
 
 use crate::pairs::verdict::PairVerdict;
-use fault_injector::then_count;
 use vcp_outside::{Failed, Line, Sink, begin};
 
 /// How many groups of a script have which verdict.
@@ -52,7 +51,7 @@ fn then_verdict<O: Sink>(line: &mut Line, out: &mut O, verdict: &PairVerdict)
 {
     match *verdict {
         PairVerdict::Same => line.text(out, b"same"),
-        PairVerdict::Held { cycle } => then_count(line, out, b"held ", cycle as u64),
+        PairVerdict::Held { cycle } => line.numbered(out, b"held ", cycle as u64),
     }
 }
 
@@ -72,8 +71,8 @@ pub fn pair_totals_line<O: Sink>(out: &mut O, totals: &PairTotals) -> Result<(),
     ensures { WritesTo (O.seen out.old) (O.seen out.new) (pair_totals_text totals.now) result }
 {
     let mut line = Line::new();
-    then_count(&mut line, out, b"pairs ", totals.groups());
-    then_count(&mut line, out, b" same ", totals.same as u64);
-    then_count(&mut line, out, b" held ", totals.held as u64);
+    line.numbered(out, b"pairs ", totals.groups());
+    line.numbered(out, b" same ", totals.same as u64);
+    line.numbered(out, b" held ", totals.held as u64);
     line.end(out)
 }

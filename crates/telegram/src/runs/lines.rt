@@ -1,7 +1,7 @@
 //! The lines of a run over a wire. Each call writes one line to a sink and takes no memory. It answers
 //! `Failed` only where the sink's count of faults rose, and then a part of the line is written.
 
-ghost use Rattle.std.specs.Prelude.{◌++◌, ℕ, decimal};
+ghost use Rattle.std.specs.Prelude.{ℕ};
 ghost use Rattle.telegram.specs.declared.receipt.Receipt.TheVariants as receipt;
 ghost use Rattle.vcp_outside.specs.Written.{WritesTo};
 ghost use Rattle.vcp_outside.specs.Gathering.{GathersTo};
@@ -11,29 +11,20 @@ use crate::Receipt;
 use vcp_base::Residue;
 use vcp_outside::{Failed, Line, Sink, begin};
 
-// Goes on with a word and a number.
-fn then_count<O: Sink>(line: &mut Line, out: &mut O, word: &[u8], number: u64)
-    ensures { GathersTo (O.seen out.old) (O.seen out.new) line.old line.new (word.now ++ decimal number) }
-{
-    line.text(out, word);
-    line.count(out, number);
-}
-
 // Goes on with a delivered value, after its telegram's number.
 fn then_delivered<O: Sink>(line: &mut Line, out: &mut O, number: u32, value: i64)
     ensures { GathersTo (O.seen out.old) (O.seen out.new) line.old line.new (receipt_text number (receipt.Delivered value)) }
 {
-    then_count(line, out, b"delivered ", number as u64);
-    line.text(out, b" ");
-    line.value(out, value);
+    line.numbered(out, b"delivered ", number as u64);
+    line.signed(out, b" ", value);
 }
 
 // Goes on with the residue that was found and the one of the sender that is heard.
 fn then_stray<O: Sink>(line: &mut Line, out: &mut O, found: Residue, expected: Residue)
     ensures { (number : ℕ) → GathersTo (O.seen out.old) (O.seen out.new) line.old line.new (receipt_text number (receipt.Stray found expected)) }
 {
-    then_count(line, out, b"stray found ", found);
-    then_count(line, out, b" expected ", expected);
+    line.numbered(out, b"stray found ", found);
+    line.numbered(out, b" expected ", expected);
 }
 
 // Goes on with what the receiver answered to a telegram of this number.
@@ -42,10 +33,10 @@ fn then_receipt<O: Sink>(line: &mut Line, out: &mut O, number: u32, receipt: &Re
 {
     match *receipt {
         Receipt::Delivered { value } => then_delivered(line, out, number, value),
-        Receipt::Early { begun } => then_count(line, out, b"early ", begun as u64),
+        Receipt::Early { begun } => line.numbered(out, b"early ", begun as u64),
         Receipt::Stray { found, expected } => then_stray(line, out, found, expected),
-        Receipt::Order { last } => then_count(line, out, b"order last ", last as u64),
-        Receipt::Age { cycle } => then_count(line, out, b"age ", cycle as u64),
+        Receipt::Order { last } => line.numbered(out, b"order last ", last as u64),
+        Receipt::Age { cycle } => line.numbered(out, b"age ", cycle as u64),
         Receipt::Value => line.text(out, b"value"),
     }
 }
@@ -70,8 +61,7 @@ pub fn end_line<O: Sink>(out: &mut O, cycles: u32, delivered: u64) -> Result<(),
     ensures { WritesTo (O.seen out.old) (O.seen out.new) (wire_end_text cycles delivered) result }
 {
     let mut line = begin(out, b"end ", cycles);
-    line.text(out, b" delivered ");
-    line.count(out, delivered);
+    line.numbered(out, b" delivered ", delivered);
     line.end(out)
 }
 
@@ -80,6 +70,6 @@ pub fn unsent_line<O: Sink>(out: &mut O, cycle: u32, id: u32) -> Result<(), Fail
     ensures { WritesTo (O.seen out.old) (O.seen out.new) (unsent_text cycle id) result }
 {
     let mut line = begin(out, b"unsent ", cycle);
-    then_count(&mut line, out, b" ", id as u64);
+    line.numbered(out, b" ", id as u64);
     line.end(out)
 }

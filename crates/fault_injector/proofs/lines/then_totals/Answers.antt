@@ -11,8 +11,8 @@ pieces a all b same c wrong d ran_on e refused f stopped = simp append_assoc
 pub returns : goal.returns
 returns g c =
     let t = c.args.totals.now in
-    let all = rw c.faults.ensures at c.then_count.ensures in
-    let last = and_then c.then_count-4.ensures (and_then c.then_count-5.ensures c.then_count-6.ensures) in
-    same (and_then all (and_then c.then_count-2.ensures (and_then c.then_count-3.ensures last)))
+    let all = rw c.faults.ensures at c.numbered.ensures.gathers in
+    let last = and_then c.numbered-4.ensures.gathers (and_then c.numbered-5.ensures.gathers c.numbered-6.ensures.gathers) in
+    same (and_then all (and_then c.numbered-2.ensures.gathers (and_then c.numbered-3.ensures.gathers last)))
     (pieces (codes "faults ") _ (codes " same ") (decimal t.same) (codes " wrong ") (decimal t.wrong) (codes " ran-on ") (decimal t.ran_on) (codes " refused ")
     (decimal t.refused) (codes " stopped ") (decimal t.stopped))

@@ -9,7 +9,7 @@ pieces a all b same c held end = simp append_assoc
 pub returns : goal.returns
 returns g c =
     let t = c.args.totals.now in
-    let all = rw c.groups.ensures at (c.then_count.ensures _ _ _ (c.new-line.ensures.begun _ _)) in
-    let held = c.then_count-3.ensures _ _ _ (c.then_count-2.ensures _ _ _ all) in
+    let all = rw c.groups.ensures at (c.numbered.ensures.gathers _ _ _ (c.new-line.ensures.begun _ _)) in
+    let held = c.numbered-3.ensures.gathers _ _ _ (c.numbered-2.ensures.gathers _ _ _ all) in
     written_same (c.end.ensures.writes _ _ _ held)
     (pieces (codes "pairs ") _ (codes " same ") (decimal t.same) (codes " held ") (decimal t.held) (codes "\n"))

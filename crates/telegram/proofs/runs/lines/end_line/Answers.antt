@@ -3,10 +3,10 @@ use Rattle.vcp_outside.proofs.Gathering.{written_same}
 use Rattle.telegram.proofs.runs.lines.end_line.Goals as goal
 
 pieces : (cycles delivered : List ℕ)
-    → codes "end " ++ (cycles ++ (codes " delivered " ++ (delivered ++ codes "\n"))) ≡ (codes "end " ++ cycles) ++ codes " delivered " ++ delivered ++ codes "\n"
+    → codes "end " ++ (cycles ++ (codes " delivered " ++ (delivered ++ codes "\n"))) ≡ (codes "end " ++ cycles) ++ (codes " delivered " ++ delivered) ++ codes "\n"
 pieces cycles delivered = simp append_assoc
 
 pub returns : goal.returns
 returns g c =
-    let all = c.count.ensures.gathers _ _ _ (c.text.ensures.gathers _ _ _ c.begin-line.ensures) in
+    let all = c.numbered.ensures.gathers _ _ _ c.begin-line.ensures in
     written_same (c.end.ensures.writes _ _ _ all) (pieces (decimal c.args.cycles) (decimal c.args.delivered))

@@ -5,12 +5,11 @@ use Rattle.vcp_outside.proofs.Gathering.{gathered_same}
 use Rattle.telegram.proofs.runs.lines.then_delivered.Goals as goal
 
 pieces : (text number value : List ℕ)
-    → text ++ (codes "delivered " ++ (number ++ (codes " " ++ value))) ≡ text ++ (codes "delivered " ++ number) ++ codes " " ++ value
+    → text ++ (codes "delivered " ++ (number ++ (codes " " ++ value))) ≡ text ++ (codes "delivered " ++ number) ++ (codes " " ++ value)
 pieces text number value = simp append_assoc
 
 pub returns : goal.returns
 returns g c start before text is =
     let fits : SFits w64 c.args.value = search rules in
-    let number = c.text.ensures.gathers _ _ _ (c.then_count.ensures start before text is) in
-    let all = rw (to_z-of_z {w = w64} {z = c.args.value} fits) at (c.value.ensures.gathers _ _ _ number) in
+    let all = rw (to_z-of_z {w = w64} {z = c.args.value} fits) at (c.signed.ensures.gathers _ _ _ (c.numbered.ensures.gathers start before text is)) in
     gathered_same all (pieces text (decimal c.args.number) _)

@@ -8,4 +8,4 @@ pieces text found expected = simp append_assoc
 
 pub returns : goal.returns
 returns g c number start before text is =
-    gathered_same (c.then_count-2.ensures _ _ _ (c.then_count.ensures start before text is)) (pieces text (decimal c.args.found) (decimal c.args.expected))
+    gathered_same (c.numbered-2.ensures.gathers _ _ _ (c.numbered.ensures.gathers start before text is)) (pieces text (decimal c.args.found) (decimal c.args.expected))

@@ -7,4 +7,4 @@ pieces cycle id = simp append_assoc
 
 pub returns : goal.returns
 returns g c =
-    written_same (c.end.ensures.writes _ _ _ (c.then_count.ensures _ _ _ c.begin-line.ensures)) (pieces (decimal c.args.cycle) (decimal c.args.id))
+    written_same (c.end.ensures.writes _ _ _ (c.numbered.ensures.gathers _ _ _ c.begin-line.ensures)) (pieces (decimal c.args.cycle) (decimal c.args.id))
