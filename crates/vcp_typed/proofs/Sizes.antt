@@ -1,5 +1,6 @@
 -- The Size of the nodes that hold lists.
-use Rattle.std.proofs.Common.{◌≡◌, ℕ, zero, suc, ◌+◌, ◌*◌, ◌<◌, ℤ, List, Option, refl, sym, ap, ◌∙◌, arith, inl, inr}
+use Rattle.std.proofs.Common.{◌≡◌, ℕ, zero, suc, ◌+◌, ◌*◌, ◌<◌, ◌≤◌, ℤ, List, [], ◌∷◌, length, get_or, drop, Option, refl, sym, ap, ◌∙◌, arith, inl, inr}
+use Rattle.std.proofs.lemmas.List.{at_drop_more, drop_all}
 use Rattle.std.proofs.str.Laws.{order}
 use Rattle.vcp_base.specs.declared.spot.Spot.{Spot}
 use Rattle.vcp_base.specs.declared.ty.Ty.{Ty}
@@ -59,3 +60,33 @@ cut-times (suc k) a h = elim (order a 65537) [
 
 pub cut-two : (r d e : ℕ) → d ≡ cut e → r ≡ cut (2 + d) → r ≡ cut (2 + e)
 cut-two r d e h k = omega arith
+
+-- a sum of cut Sizes is cut as that of the Sizes
+pub sum-right : (r a b y : ℕ) → b ≡ cut y → r ≡ cut (a + b) → r ≡ cut (a + y)
+sum-right r a b y h k = omega arith
+
+pub sum-two : (r a b x y : ℕ) → a ≡ cut x → b ≡ cut y → r ≡ cut (a + b) → r ≡ cut (x + y)
+sum-two r a b x y h k l = omega arith
+
+pub cut-low : (r x : ℕ) → r ≡ cut x → r ≤ 65537
+cut-low r x h = omega arith
+
+next-sum : (total one rest r next w : ℕ) → r ≡ cut one → next ≡ cut (total + r) → cut (total + (one + rest)) ≡ cut w → cut (next + rest) ≡ cut w
+next-sum total one rest r next w h k l = omega arith
+
+-- a turn that adds the Size of an item to a total
+pub added : {X : Type 0} (sizes : List X → ℕ) (size : X → ℕ) (xs : List X) (i : ℕ) (x : X) (total r next w : ℕ)
+    → ((y : X) (ys : List X) → sizes (y ∷ ys) ≡ size y + sizes ys) → i < length xs → x ≡ get_or xs i x
+    → r ≡ cut (size x) → next ≡ cut (total + r) → cut (total + sizes (drop i xs)) ≡ cut w → cut (next + sizes (drop (i + 1) xs)) ≡ cut w
+added sizes size xs i x total r next w more lt is h k l =
+    let e : sizes (drop i xs) ≡ size x + sizes (drop (i + 1) xs) = at_drop_more sizes xs i x lt ∙ ap (λ y. sizes (y ∷ drop (i + 1) xs)) (sym is)
+    ∙ more x (drop (i + 1) xs) in
+    next-sum total (size x) (sizes (drop (i + 1) xs)) r next w h k (ap (λ n. cut (total + n)) (sym e) ∙ l)
+
+all-summed : (total rest w : ℕ) → rest ≡ 0 → total ≤ 65537 → cut (total + rest) ≡ cut w → total ≡ cut w
+all-summed total rest w e low h = omega arith
+
+-- the total behind the last item
+pub all-added : {X : Type 0} (sizes : List X → ℕ) (xs : List X) (i total w : ℕ) → sizes [] ≡ 0 → length xs ≤ i → total ≤ 65537
+    → cut (total + sizes (drop i xs)) ≡ cut w → total ≡ cut w
+all-added sizes xs i total w none end low h = all-summed total _ w (ap sizes (drop_all i xs end) ∙ none) low h

@@ -18,11 +18,9 @@ const TOO_LARGE: u32 = MOST_SIZE + 1;
 
 // The sum of two Sizes, cut at the first that is too large.
 fn plus(a: u32, b: u32) -> u32
-    requires a { a ≤ most_size + 1 }
-    requires b { b ≤ most_size + 1 }
     ensures { result ≡ cut (a + b) }
 {
-    (a + b).min(TOO_LARGE)
+    a.saturating_add(b).min(TOO_LARGE)
 }
 
 // A Size so many times, cut at the first that is too large.
