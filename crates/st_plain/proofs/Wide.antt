@@ -1,6 +1,6 @@
 -- Values of 64 bits, and what the operators make of them in 128 bits.
 use Rattle.std.proofs.Common.{◌≡◌, ℕ, zero, suc, ◌≤◌, ◌<◌, ◌^◌, ◌/◌, ℤ, pos, negsuc, ◌*ℤ◌, div-le_self, w64, SFits, to_z, of_z, refl, sym, ap, ◌∙◌, arith, []}
-use Rattle.std.proofs.Common.{Result, ◌+ℤ◌, ◌-ℤ◌, subst}
+use Rattle.std.proofs.Common.{Result, Err, ◌+ℤ◌, ◌-ℤ◌, subst}
 use Rattle.std.specs.Prelude.{int_div, int_rem, unsigned_abs, neg_ℤ, true, false, cond}
 use Rattle.std.proofs.Math.Facts.{sfits_widen, sfits_lit}
 use Rattle.std.proofs.lemmas.Int.{ints, to_z-of_z, fits_signed_mul, fits_signed_from_abs}
@@ -10,9 +10,12 @@ use Rattle.vcp_base.specs.declared.ty.Ty.{Ty}
 use Rattle.vcp_base.specs.declared.ty.Ty.TheVariants as ty
 use Rattle.vcp_base.specs.Types.{fits}
 use Rattle.vcp_base.specs.declared.spot.Spot.{Spot}
-use Rattle.vcp_typed.specs.Meaning.{in_range, unless_zero}
+use Rattle.vcp_base.specs.declared.kind.StopKind.TheVariants as why
+use Rattle.vcp_typed.specs.Meaning.{Stop, in_range, unless_zero, greater}
 use Rattle.st_plain.specs.declared.stop.Stop.{Stop as Cause}
+use Rattle.st_plain.specs.Evaluator.{within_turns}
 use Rattle.st_plain.specs.Outcomes.{outside}
+use Rattle.std.specs.Int.{int_max}
 
 pub in-range : (t : Ty) (s : Spot) (r : Result ℤ Cause) (x y : ℤ) → outside r ≡ in_range t s [] x → x ≡ y → outside r ≡ in_range t s [] y
 in-range t s r x y h e = h ∙ ap (λ v. in_range t s [] v) e
@@ -111,3 +114,49 @@ pub divided : (t : Ty) (s : Spot) (r : Result ℤ Cause) (b x y : ℤ) → outsi
     → outside r ≡ unless_zero b s [] (in_range t s [] y)
 divided t s r b x y h e k =
     in-range t s r x y h e ∙ sym (ap (λ z. cond z (unless_zero (pos 0) s [] (in_range t s [] y)) (in_range t s [] y)) (not-zero b k))
+
+-- what is answered of two values, from what is so of their bits
+pub from-two : (f : ℤ → ℤ → ℤ) (a b r : ℤ) → SFits w64 a → SFits w64 b → r ≡ f (to_z w64 (of_z w64 a)) (to_z w64 (of_z w64 b)) → r ≡ f a b
+from-two f a b r g h e = e ∙ (λ i. f (to_z-of_z w64 a g i) (to_z-of_z w64 b h i))
+
+pub of-two : (f : ℤ → ℤ → ℤ) (a b r : ℤ) → SFits w64 a → SFits w64 b → SFits w64 r → r ≡ f (to_z w64 (of_z w64 a)) (to_z w64 (of_z w64 b))
+    → to_z w64 (of_z w64 r) ≡ f a b
+of-two f a b r g h k e = to_z-of_z w64 r k ∙ from-two f a b r g h e
+
+pub max-is : (a b : ℤ) → int_max a b ≡ greater a b
+max-is a b = grind (arith, ints)
+
+pub magnitude-within : (n : ℕ) → n < 18446744073709551616 → SFits w128 (pos n)
+magnitude-within n h = record { sfits = omega (arith, h) }
+
+pub magnitude-is : (a : ℤ) (n : ℕ) → SFits w64 a → n < 18446744073709551616 → n ≡ unsigned_abs (to_z w64 (of_z w64 a))
+    → to_z w128 (of_z w128 (pos n)) ≡ pos (unsigned_abs a)
+magnitude-is a n f h e = to_z-of_z w128 (pos n) (magnitude-within n h) ∙ ap (λ m. pos m) e ∙ ap (λ x. pos (unsigned_abs x)) (to_z-of_z w64 a f)
+
+zero-is : (a : ℤ) → SFits w64 a → of_z w64 a ≡ 0 → a ≡ pos 0
+zero-is a f h = sym (to_z-of_z w64 a f) ∙ ap (λ n. to_z w64 n) h
+
+-- the argument that SEL chooses
+pub chosen-first : (a b c : ℤ) → SFits w64 a → of_z w64 a ≡ 0 → b ≡ cond (same a (pos 0)) b c
+chosen-first a b c f h = sym (ap (λ x. cond (same x (pos 0)) b c) (zero-is a f h))
+
+pub chosen-other : (a b c : ℤ) → (of_z w64 a ≡ 0 → ⊥) → c ≡ cond (same a (pos 0)) b c
+chosen-other a b c h = sym (ap (λ x. cond x b c) (not-zero a h))
+
+some-bits : (b : ℤ) → SFits w64 b → (of_z w64 b ≡ 0 → ⊥) → 0 < of_z w128 b
+some-bits (pos zero) f h = absurd (h refl)
+some-bits (pos (suc n)) f h = omega arith
+some-bits (negsuc n) f h = omega (arith, f.sfits)
+
+pub quotient-fits : (a b : ℤ) → SFits w64 a → SFits w64 b → (of_z w64 b ≡ 0 → ⊥)
+    → (0 < of_z w128 (to_z w64 (of_z w64 b))) × SFits w128 (int_div (wide a) (wide b))
+quotient-fits a b f g h = (
+  subst (λ x. 0 < of_z w128 x) (sym (to_z-of_z w64 b g)) (some-bits b g h),
+  subst (SFits w128) (sym (λ i. int_div (wide-is a f i) (wide-is b g i))) (fits_signed_from_abs w128 (int_div a b) (quotient-small a b f)),
+)
+
+-- the stop of a division by 0
+pub by-zero : (b : ℤ) (s : Spot) (c : Cause) (x : Result ℤ Stop) → SFits w64 b → of_z w64 b ≡ 0 → c.kind ≡ why.DivZero → c.spot ≡ s
+    → Err (within_turns [] c) ≡ unless_zero b s [] x
+by-zero b s c x f h kind spot =
+    (λ i. Err (record { kind = kind i; spot = spot i; turns = [] })) ∙ sym (ap (λ z. unless_zero z s [] x) (zero-is b f h))
