@@ -30,3 +30,4 @@ pub mod Frames
 pub mod LevelViews
 pub mod Running
 pub mod HandedOn
+mod MarkTests

@@ -185,16 +185,20 @@ fn var_at(source: Source, heading: &mut Heading, t: Token) -> Result<Place, Synt
         (machine.var_at (record { bytes = bytes_in source.entry.text.now; most = source.entry.most }) (view.front heading.old) (mark t.tok) t) }
 {
     let mark = mark_of(t.tok);
-    if is(mark, Mark::Constant) {
-        begin(source.alloc, heading, Section::Constant);
-        return Ok(Place::AtDecl);
+    match mark {
+        Mark::Constant => {
+            begin(source.alloc, heading, Section::Constant);
+            Ok(Place::AtDecl)
+        }
+        Mark::Retain => {
+            begin(source.alloc, heading, Section::Retain);
+            Ok(Place::AtDecl)
+        }
+        _ => {
+            begin(source.alloc, heading, Section::Local);
+            decl_at(source, heading, mark, t)
+        }
     }
-    if is(mark, Mark::Retain) {
-        begin(source.alloc, heading, Section::Retain);
-        return Ok(Place::AtDecl);
-    }
-    begin(source.alloc, heading, Section::Local);
-    decl_at(source, heading, mark, t)
 }
 
 // The token behind a declared name.
@@ -229,20 +233,10 @@ fn next_name_at(source: Source, heading: &mut Heading, t: Token) -> Result<Place
 fn type_at(t: Token) -> Result<Place, SyntaxFault>
     ensures { (h : HeadingOf) → Gives (view.program h) result (machine.type_at (view.opening h) (view.names h) (mark t.tok) t) }
 {
-    let mark = mark_of(t.tok);
-    if is(mark, Mark::Type(Ty::Bool)) {
-        return Ok(Place::AtInit { ty: Ty::Bool });
+    match mark_of(t.tok) {
+        Mark::Type(ty) => Ok(Place::AtInit { ty }),
+        _ => refuse_program(t),
     }
-    if is(mark, Mark::Type(Ty::Int)) {
-        return Ok(Place::AtInit { ty: Ty::Int });
-    }
-    if is(mark, Mark::Type(Ty::Dint)) {
-        return Ok(Place::AtInit { ty: Ty::Dint });
-    }
-    if is(mark, Mark::Type(Ty::Lint)) {
-        return Ok(Place::AtInit { ty: Ty::Lint });
-    }
-    refuse_program(t)
 }
 
 // The token behind the type of a declaration.

@@ -22,3 +22,18 @@ returns-in-AtInit c =
 
 pub returns-in-InBody : goal.returns-in-InBody
 returns-in-InBody c = rw c.in-InBody.is (c.body_step.ensures c.args.heading.now)
+
+pub returns-in-AtName : goal.returns-in-AtName
+returns-in-AtName c = rw c.in-AtName.is c.name_at.ensures
+
+pub returns-in-AtBlock : goal.returns-in-AtBlock
+returns-in-AtBlock c = rw c.in-AtBlock.is c.block_at.ensures
+
+pub returns-in-AtVar : goal.returns-in-AtVar
+returns-in-AtVar c = rw c.in-AtVar.is c.var_at.ensures
+
+pub returns-in-AtNextName : goal.returns-in-AtNextName
+returns-in-AtNextName c = rw c.in-AtNextName.is c.next_name_at.ensures
+
+pub returns-in-InInit : goal.returns-in-InInit
+returns-in-InInit c = rw c.in-InInit.is c.init_at.ensures

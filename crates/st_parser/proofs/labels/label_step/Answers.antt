@@ -19,3 +19,9 @@ pub returns-in-LastNegated : goal.returns-in-LastNegated
 returns-in-LastNegated c =
     let h = rw c.depth_of_labels-depth.ensures at c.last_behind-phase.ensures in
     rw c.in-LastNegated.is (c.with_phase-in-LastNegated.ensures _ _ _ h)
+
+pub returns-in-FirstRead : goal.returns-in-FirstRead
+returns-in-FirstRead c = rw c.in-FirstRead.is c.first_ends.ensures
+
+pub returns-in-LastRead : goal.returns-in-LastRead
+returns-in-LastRead c = rw c.in-LastRead.is c.label_ends.ensures

@@ -14,3 +14,12 @@ pub returns-in-LoopNamed : goal.returns-in-LoopNamed
 returns-in-LoopNamed c =
     let k : Context = record { bytes = bytes_in c.args.source.text.now; most = c.args.source.most } in
     rw c.in-LoopNamed.is (c.loop_named_at.ensures k _ _)
+
+pub returns-in-Named : goal.returns-in-Named
+returns-in-Named c = rw c.in-Named.is c.named_at.ensures
+
+pub returns-in-Reading : goal.returns-in-Reading
+returns-in-Reading c = rw c.in-Reading.is c.read_at.ensures
+
+pub returns-in-Labelling : goal.returns-in-Labelling
+returns-in-Labelling c = rw c.in-Labelling.is c.label_step.ensures
