@@ -1,4 +1,6 @@
 pub mod Causes
+mod FilesLoaded
+mod RowsLoaded
 pub mod Lines
 pub mod NotBytes
 pub mod RowsRead

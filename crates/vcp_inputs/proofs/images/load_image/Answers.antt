@@ -1,39 +1,47 @@
+use Rattle.std.proofs.Common.{refl, Err}
 use Rattle.vcp_base.specs.Limits.{most_image_bytes}
+use Rattle.std.proofs.lemmas.Result.{IfOk-weaker}
 use Rattle.vcp_inputs.specs.Images.{ImageOf, NotImage}
-use Rattle.vcp_inputs.proofs.Taken.{if_some_weaker, not_read, by_result, same_error, same_stays}
-use Rattle.std.proofs.Common.{refl, ap, Err}
-use Rattle.vcp_inputs.proofs.Causes.{read_caused}
-use Rattle.vcp_inputs.proofs.NotBytes.{image_not_bytes, never_long}
+use Rattle.vcp_inputs.proofs.FilesLoaded.{file_lost, file_taken}
+use Rattle.vcp_inputs.proofs.NotBytes.{image_not_bytes}
 use Rattle.vcp_inputs.proofs.images.load_image.Goals as goal
 
-pub returns-in-Err-clause-loads : goal.returns-in-Err-clause-loads
-returns-in-Err-clause-loads g c =
-    if_some_weaker (g.F.Files.seen c.args.files.now).held _ _
-    (λ h read. not_read NotImage h c.args.name.now most_image_bytes (g.F.Files.seen c.args.files.now).broken
-    (g.F.Files.seen c.read_file.new.files).broken _ read) c.in-Err.ensures.reads
+pub returns-in-Err : goal.returns-in-Err
+returns-in-Err g c =
+    let why = c.in-Err.ensures in
+    let loaded = file_lost ImageOf NotImage (g.F.Files.seen c.args.files.now) (g.F.Files.seen c.read_file.new.files) c.args.name.now most_image_bytes
+    c.in-Err.input (Err c.in-Err.input) refl why.reads why.unread why.long why.left why.stayed in
+    record {
+      loads = loaded.loads;
+      table = tt;
+      unread = loaded.unread;
+      caused = loaded.caused;
+      ended = loaded.ended;
+      whole = loaded.whole;
+      left = loaded.left;
+      stayed = loaded.stayed;
+      held = c.read_file.ensures.held;
+      later = c.read_file.ensures.later;
+      broken_later = c.read_file.ensures.broken_later;
+    }
 
-pub returns-in-Ok-clause-loads : goal.returns-in-Ok-clause-loads
-returns-in-Ok-clause-loads g c =
-    if_some_weaker (g.F.Files.seen c.args.files.now).held _ _
-    (λ h read. by_result ImageOf NotImage h c.args.name.now most_image_bytes (g.F.Files.seen c.args.files.now).broken
-    (g.F.Files.seen c.read_file.new.files).broken c.in-Ok.text c.image_of.result
-    read (rw c.bytes.ensures at c.image_of.ensures.ok) (rw c.bytes.ensures at c.image_of.ensures.err)) c.in-Ok.ensures.reads
-
-pub returns-in-Err-clause-caused : goal.returns-in-Err-clause-caused
-returns-in-Err-clause-caused g c =
-    read_caused _ (λ r is. c.in-Err.ensures.long r (ap Err is))
-
-pub returns-in-Err-clause-left : goal.returns-in-Err-clause-left
-returns-in-Err-clause-left g c = λ is.
-    c.in-Err.ensures.left (same_error _ _ _ _ refl refl is)
-
-pub returns-in-Ok-clause-left : goal.returns-in-Ok-clause-left
-returns-in-Ok-clause-left g c = λ is.
-    absurd (never_long (NotImage c.in-Ok.text) c.image_of.result (image_not_bytes c.in-Ok.text) (rw c.bytes.ensures at c.image_of.ensures.err) is)
-
-pub returns-in-Err-clause-stayed : goal.returns-in-Err-clause-stayed
-returns-in-Err-clause-stayed g c =
-    same_stays _ _ _ _ _ refl refl c.in-Err.ensures.stayed
-
-pub returns-in-Ok-clause-stayed : goal.returns-in-Ok-clause-stayed
-returns-in-Ok-clause-stayed g c = λ other. c.in-Ok.ensures.stayed (λ e. cc)
+pub returns-in-Ok : goal.returns-in-Ok
+returns-in-Ok g c =
+    let read = c.in-Ok.ensures in
+    let made = c.image_of.ensures in
+    let loaded = file_taken ImageOf NotImage (g.F.Files.seen c.args.files.now) (g.F.Files.seen c.read_file.new.files) c.args.name.now most_image_bytes
+    c.in-Ok.text _ c.image_of.result c.bytes.ensures (image_not_bytes c.in-Ok.text) read.reads read.ended
+    (read.stayed (λ e. cc)) made.ok made.err made.caused in
+    record {
+      loads = loaded.loads;
+      table = IfOk-weaker c.image_of.result _ _ (λ i is. is.table) made.ok;
+      unread = loaded.unread;
+      caused = loaded.caused;
+      ended = loaded.ended;
+      whole = loaded.whole;
+      left = loaded.left;
+      stayed = loaded.stayed;
+      held = c.read_file.ensures.held;
+      later = c.read_file.ensures.later;
+      broken_later = c.read_file.ensures.broken_later;
+    }

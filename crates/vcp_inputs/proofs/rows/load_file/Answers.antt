@@ -1,26 +1,82 @@
-use Rattle.std.proofs.Common.{refl, ap, Err, arith}
+use Rattle.std.proofs.Common.{◌≡◌, ◌≢◌, refl, ap, length, Err, arith}
+use Rattle.std.proofs.Math.Nat.{le_refl}
 use Rattle.vcp_inputs.proofs.Causes.{read_caused}
+use Rattle.vcp_inputs.proofs.RowsLoaded.{always, form_refused, not_both_ways, rows_taken, with_columns, without_columns}
 use Rattle.vcp_inputs.proofs.Taken.{if_some_weaker, rows_unread, same_error, same_stays}
 use Rattle.vcp_inputs.proofs.rows.load_file.Goals as goal
 
-pub returns-then-len-eq0-clause-caused : goal.returns-then-len-eq0-clause-caused
-returns-then-len-eq0-clause-caused g c = refl
+-- ---- there are no columns
 
-pub returns-in-Err-clause-caused : goal.returns-in-Err-clause-caused
-returns-in-Err-clause-caused g c = read_caused c.in-Err.why (λ r is. c.in-Err.ensures.long r (ap Err is))
+pub returns-then-len-eq0 : goal.returns-then-len-eq0
+returns-then-len-eq0 g c =
+    let files = g.F.Files.seen c.args.files.now in
+    let none : length c.args.columns.now ≡ 0 = cc in
+    record {
+      loads = always files.held _ (λ h. form_refused c.args.name.now c.args.columns.now h files.broken files.broken none);
+      without_file = λ off h. form_refused c.args.name.now c.args.columns.now h files.broken files.broken none;
+      few = tt;
+      unread = λ is. absurd cc;
+      caused = refl;
+      begun = λ is. absurd cc;
+      refused = λ r is on. absurd (not_both_ways _ on (without_columns c.args.name.now c.args.columns.now none));
+      long = λ is. absurd cc;
+      unbegun = λ off. (refl, refl, refl);
+      ended = tt;
+      whole = λ r is other. refl;
+      stayed = λ other. refl;
+      held = refl;
+      later = le_refl _;
+      broken_later = le_refl _;
+    }
 
-pub returns-in-Err-clause-loads : goal.returns-in-Err-clause-loads
-returns-in-Err-clause-loads g c =
-    if_some_weaker (g.F.Files.seen c.args.files.now).held _ _
-    (λ h read. rows_unread h c.args.name.now c.args.columns.now (g.F.Files.seen c.args.files.now).broken (g.F.Files.seen c.read_file.new.files).broken
-    c.in-Err.why (λ e. omega (arith, c.if-len-eq0.false, c.len.ensures, e)) read)
-    c.in-Err.ensures.reads
+-- ---- the file isn't read, or it is
 
-pub returns-in-Err-clause-long : goal.returns-in-Err-clause-long
-returns-in-Err-clause-long g c = λ is. c.in-Err.ensures.left (same_error c.in-Err.why _ _ _ refl refl is)
+pub returns-in-Err : goal.returns-in-Err
+returns-in-Err g c =
+    let old = g.F.Files.seen c.args.files.now in
+    let new = g.F.Files.seen c.read_file.new.files in
+    let some : length c.args.columns.now ≢ 0 = λ e. omega (arith, c.if-len-eq0.false, c.len.ensures, e) in
+    let on = with_columns c.args.name.now c.args.columns.now some in
+    let why = c.in-Err.ensures in
+    record {
+      loads = if_some_weaker old.held _ _ (λ h read. rows_unread h c.args.name.now c.args.columns.now old.broken new.broken c.in-Err.why some read) why.reads;
+      without_file = λ off h. absurd (not_both_ways _ on off);
+      few = tt;
+      unread = λ is. why.unread (same_error _ _ _ _ refl refl is);
+      caused = read_caused c.in-Err.why (λ r is. why.long r (ap Err is));
+      begun = λ is. on;
+      refused = λ r is begun. why.long r (same_error _ _ _ _ refl refl is);
+      long = λ is. why.left (same_error _ _ _ _ refl refl is);
+      unbegun = λ off. absurd (not_both_ways _ on off);
+      ended = tt;
+      whole = λ r is other. absurd (other (why.long r (same_error _ _ _ _ refl refl is)));
+      stayed = same_stays _ _ _ _ _ refl refl why.stayed;
+      held = c.read_file.ensures.held;
+      later = c.read_file.ensures.later;
+      broken_later = c.read_file.ensures.broken_later;
+    }
 
-pub returns-in-Ok-clause-stayed : goal.returns-in-Ok-clause-stayed
-returns-in-Ok-clause-stayed g c = λ other. c.in-Ok.ensures.stayed (λ e. cc)
-
-pub returns-in-Err-clause-stayed : goal.returns-in-Err-clause-stayed
-returns-in-Err-clause-stayed g c = same_stays _ _ c.in-Err.why _ _ refl refl c.in-Err.ensures.stayed
+pub returns-in-Ok : goal.returns-in-Ok
+returns-in-Ok g c =
+    let old = g.F.Files.seen c.args.files.now in
+    let new = g.F.Files.seen c.read_file.new.files in
+    let some : length c.args.columns.now ≢ 0 = λ e. omega (arith, c.if-len-eq0.false, c.len.ensures, e) in
+    let on = with_columns c.args.name.now c.args.columns.now some in
+    let read = c.in-Ok.ensures in
+    record {
+      loads = if_some_weaker old.held _ _ (λ h is. rows_taken h c.args.name.now c.in-Ok.text c.args.columns.now old.broken new.broken some is) read.reads;
+      without_file = λ off h. absurd (not_both_ways _ on off);
+      few = tt;
+      unread = λ is. absurd cc;
+      caused = tt;
+      begun = λ is. on;
+      refused = λ r is begun. absurd cc;
+      long = λ is. absurd cc;
+      unbegun = λ off. absurd (not_both_ways _ on off);
+      ended = read.ended;
+      whole = λ r is other. absurd cc;
+      stayed = λ other. read.stayed (λ e. cc);
+      held = c.read_file.ensures.held;
+      later = c.read_file.ensures.later;
+      broken_later = c.read_file.ensures.broken_later;
+    }

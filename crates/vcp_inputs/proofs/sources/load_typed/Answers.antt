@@ -1,39 +1,44 @@
+use Rattle.std.proofs.Common.{refl, Err}
 use Rattle.vcp_base.specs.Limits.{most_source_bytes}
 use Rattle.vcp_inputs.specs.Programs.{TypedOf, NotTyped}
-use Rattle.vcp_inputs.proofs.Taken.{if_some_weaker, not_read, by_result, same_error, same_stays}
-use Rattle.std.proofs.Common.{refl, ap, Err}
-use Rattle.vcp_inputs.proofs.Causes.{read_caused}
-use Rattle.vcp_inputs.proofs.NotBytes.{typed_not_bytes, never_long}
+use Rattle.vcp_inputs.proofs.FilesLoaded.{file_lost, file_taken}
+use Rattle.vcp_inputs.proofs.NotBytes.{typed_not_bytes}
 use Rattle.vcp_inputs.proofs.sources.load_typed.Goals as goal
 
-pub returns-in-Err-clause-loads : goal.returns-in-Err-clause-loads
-returns-in-Err-clause-loads g c =
-    if_some_weaker (g.F.Files.seen c.args.files.now).held _ _
-    (λ h read. not_read NotTyped h c.args.name.now most_source_bytes (g.F.Files.seen c.args.files.now).broken
-    (g.F.Files.seen c.read_file.new.files).broken _ read) c.in-Err.ensures.reads
+pub returns-in-Err : goal.returns-in-Err
+returns-in-Err g c =
+    let why = c.in-Err.ensures in
+    let loaded = file_lost TypedOf NotTyped (g.F.Files.seen c.args.files.now) (g.F.Files.seen c.read_file.new.files) c.args.name.now most_source_bytes
+    c.in-Err.input (Err c.in-Err.input) refl why.reads why.unread why.long why.left why.stayed in
+    record {
+      loads = loaded.loads;
+      unread = loaded.unread;
+      caused = loaded.caused;
+      ended = loaded.ended;
+      whole = loaded.whole;
+      left = loaded.left;
+      stayed = loaded.stayed;
+      held = c.read_file.ensures.held;
+      later = c.read_file.ensures.later;
+      broken_later = c.read_file.ensures.broken_later;
+    }
 
-pub returns-in-Ok-clause-loads : goal.returns-in-Ok-clause-loads
-returns-in-Ok-clause-loads g c =
-    if_some_weaker (g.F.Files.seen c.args.files.now).held _ _
-    (λ h read. by_result TypedOf NotTyped h c.args.name.now most_source_bytes (g.F.Files.seen c.args.files.now).broken
-    (g.F.Files.seen c.read_file.new.files).broken c.in-Ok.source c.typed_program.result
-    read (rw c.bytes.ensures at c.typed_program.ensures.ok) (rw c.bytes.ensures at c.typed_program.ensures.err)) c.in-Ok.ensures.reads
-
-pub returns-in-Err-clause-caused : goal.returns-in-Err-clause-caused
-returns-in-Err-clause-caused g c =
-    read_caused _ (λ r is. c.in-Err.ensures.long r (ap Err is))
-
-pub returns-in-Err-clause-left : goal.returns-in-Err-clause-left
-returns-in-Err-clause-left g c = λ is.
-    c.in-Err.ensures.left (same_error _ _ _ _ refl refl is)
-
-pub returns-in-Ok-clause-left : goal.returns-in-Ok-clause-left
-returns-in-Ok-clause-left g c = λ is.
-    absurd (never_long (NotTyped c.in-Ok.source) c.typed_program.result (typed_not_bytes c.in-Ok.source) (rw c.bytes.ensures at c.typed_program.ensures.err) is)
-
-pub returns-in-Err-clause-stayed : goal.returns-in-Err-clause-stayed
-returns-in-Err-clause-stayed g c =
-    same_stays _ _ _ _ _ refl refl c.in-Err.ensures.stayed
-
-pub returns-in-Ok-clause-stayed : goal.returns-in-Ok-clause-stayed
-returns-in-Ok-clause-stayed g c = λ other. c.in-Ok.ensures.stayed (λ e. cc)
+pub returns-in-Ok : goal.returns-in-Ok
+returns-in-Ok g c =
+    let read = c.in-Ok.ensures in
+    let made = c.typed_program.ensures in
+    let loaded = file_taken TypedOf NotTyped (g.F.Files.seen c.args.files.now) (g.F.Files.seen c.read_file.new.files) c.args.name.now most_source_bytes
+    c.in-Ok.source _ c.typed_program.result c.bytes.ensures (typed_not_bytes c.in-Ok.source) read.reads read.ended
+    (read.stayed (λ e. cc)) made.ok made.err made.caused in
+    record {
+      loads = loaded.loads;
+      unread = loaded.unread;
+      caused = loaded.caused;
+      ended = loaded.ended;
+      whole = loaded.whole;
+      left = loaded.left;
+      stayed = loaded.stayed;
+      held = c.read_file.ensures.held;
+      later = c.read_file.ensures.later;
+      broken_later = c.read_file.ensures.broken_later;
+    }
