@@ -1,5 +1,6 @@
 -- The lines of a program's run, cycle by cycle.
-use Rattle.std.proofs.Common.{◌≡◌, ℕ, suc, ◌+◌, ◌≤◌, add-one, ℤ, List, [], ◌∷◌, ◌++◌, append-nil, append_assoc, length, refl, sym, ap, subst, ◌∙◌, arith, Option, Some, None, Result, Ok, Err}
+use Rattle.std.proofs.Common.{◌≡◌, ◌≢◌, ℕ, suc, ◌+◌, ◌≤◌, add-one, ℤ, List, [], ◌∷◌, ◌++◌, append-nil, append_assoc, length, refl, sym, ap, subst, ◌∙◌, arith, Option, Some, None}
+use Rattle.std.proofs.Common.{Result, Ok, Err}
 use Rattle.std.specs.Io.KnownBytes.{Appends}
 use Rattle.std.proofs.KnownBytes.{Appends-trans}
 use Rattle.vcp_base.specs.Limits.{most_cycles}
@@ -8,7 +9,9 @@ use Rattle.vcp_core.proofs.Written.{appends-appends, part-after}
 use Rattle.vcp_typed.specs.Meaning.{Stop}
 use Rattle.vcp_typed.specs.SourceRun.{Program, after_cycle, cycle, run_from, source_run, initial}
 use Rattle.input_rows.specs.declared.fault.RowFault.{RowFault}
+use Rattle.input_rows.specs.declared.fault.RowFault.TheVariants as row
 use Rattle.input_rows.specs.RowsOf.{RowsLeft}
+use Rattle.coded_machine.specs.Refusals.{given_up_by}
 use Rattle.run_report.specs.Lines.{header_text, row_text, end_text}
 use Rattle.coded_machine.specs.RowRuns.{texts_from}
 use Rattle.vcp_inputs.specs.Reports.{output_names}
@@ -145,6 +148,51 @@ pub end-fails : (p : Program) (n : ℕ) (m : List ℤ) (left : RowsLeft) (now ne
     → PrintsFrom p n m left now new (Err fault.Write)
 end-fails p n m left now new none w = rw (text-without-rows p n m left None none) w
 
+-- the number of the cycles was printed
+pub ends-here : (p : Program) (n : ℕ) (m : List ℤ) (left : RowsLeft) (now new : Option (List ℕ)) → NoRows left None → Appends now new (end_text n)
+    → PrintsFrom p n m left now new (Ok end.Done)
+ends-here p n m left now new none w =
+    (ap (λ rows. (run_from p m rows).end) none.rows, none.refusal_is, rw (text-without-rows p n m left None none) w)
+
+-- the next row is refused
+refused-row : (p : Program) (n : ℕ) (m : List ℤ) (left : RowsLeft) (now : Option (List ℕ)) (f : RowFault) → f ≢ row.Memory → NoRows left (Some f)
+    → PrintsFrom p n m left now now (Err (fault.Rows f))
+refused-row p n m left now f known none =
+    (ap (λ rows. (run_from p m rows).end) none.rows, none.refusal_is, known, rw (text-without-rows p n m left (Some f) none) (appends-nothing now))
+
+-- or memory was wanted for it
+pub refused-here : (p : Program) (n : ℕ) (m : List ℤ) (left : RowsLeft) (now : Option (List ℕ)) (f : RowFault)
+    → (f ≢ row.Memory → (left.rows ≡ []) × (left.refusal ≡ Some f)) → PrintsFrom p n m left now now (Err (given_up_by f))
+refused-here p n m left now row.Memory none = ([], rest_text p n m left, refl, appends-nothing now)
+refused-here p n m left now row.Header none =
+    let (rows, is) = none (λ e. cc) in
+    refused-row p n m left now _ (λ e. cc) (record { rows = rows; refusal_is = is })
+refused-here p n m left now (row.Width k) none =
+    let (rows, is) = none (λ e. cc) in
+    refused-row p n m left now _ (λ e. cc) (record { rows = rows; refusal_is = is })
+refused-here p n m left now (row.Cell k i) none =
+    let (rows, is) = none (λ e. cc) in
+    refused-row p n m left now _ (λ e. cc) (record { rows = rows; refusal_is = is })
+refused-here p n m left now row.Form none =
+    let (rows, is) = none (λ e. cc) in
+    refused-row p n m left now _ (λ e. cc) (record { rows = rows; refusal_is = is })
+refused-here p n m left now row.Cycles none =
+    let (rows, is) = none (λ e. cc) in
+    refused-row p n m left now _ (λ e. cc) (record { rows = rows; refusal_is = is })
+refused-here p n m left now row.Cycle none =
+    let (rows, is) = none (λ e. cc) in
+    refused-row p n m left now _ (λ e. cc) (record { rows = rows; refusal_is = is })
+
+-- a refused row is no failure of the sink
+pub refused-unwritten : {T : Type 0} (f : RowFault) (r : Result T RunFault) → r ≡ Err (given_up_by f) → r ≡ Err fault.Write → ⊥
+refused-unwritten row.Memory r is e = cc
+refused-unwritten row.Header r is e = cc
+refused-unwritten (row.Width k) r is e = cc
+refused-unwritten (row.Cell k i) r is e = cc
+refused-unwritten row.Form r is e = cc
+refused-unwritten row.Cycles r is e = cc
+refused-unwritten row.Cycle r is e = cc
+
 -- ---- the whole
 
 -- the lines from a cycle on are the lines of the rows, and then the last one
@@ -172,3 +220,7 @@ header-first p left old mid new r w prints = prints-after _ _ old mid new _ _ _ 
 pub header-fails : (p : Program) (left : RowsLeft) (old new : Option (List ℕ)) → AppendsPart old new (header_text (output_names p))
     → Prints p left old new (Err fault.Write)
 header-fails p left old new w = part-after old old new [] _ (rest_text p 0 (initial p.slots) left) _ (appends-nothing old) w (whole-is p left)
+
+-- nothing was printed where memory was wanted first
+pub nothing-printed : (p : Program) (left : RowsLeft) (old : Option (List ℕ)) → Prints p left old old (Err fault.Memory)
+nothing-printed p left old = ([], plain_text p left, refl, appends-nothing old)

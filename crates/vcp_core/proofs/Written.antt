@@ -32,6 +32,23 @@ failed_after e a b c f g h p q more all before later capped failure is = record 
 pub writes_same : {T E : Type 0} {a b : Option (List ℕ)} {f g : ℕ} {p q : List ℕ} {r : Result T E} → Writes a b f g p r → q ≡ p → Writes a b f g q r
 writes_same written is = rw is written
 
+-- a call that answers something else where another wrote all of the same bytes, or a part of them
+pub writes_answer : {T U E : Type 0} (t : T) (u : U) {a b : Option (List ℕ)} {f g : ℕ} {p q : List ℕ} → Writes {T = T} {E = E} a b f g p (Ok t) → q ≡ p
+    → Writes {T = U} {E = E} a b f g q (Ok u)
+writes_answer t u written is = record {
+  whole = rw is written.whole;
+  part = tt;
+  cause = record { later = written.cause.later; capped = written.cause.capped; stayed = written.cause.stayed; failed = tt };
+}
+
+pub fails_answer : {T U E : Type 0} (e : E) {a b : Option (List ℕ)} {f g : ℕ} {p q : List ℕ} → Writes {T = T} {E = E} a b f g p (Err e) → q ≡ p
+    → Writes {T = U} {E = E} a b f g q (Err e)
+fails_answer e written is = record {
+  whole = tt;
+  part = rw is written.part;
+  cause = record { later = written.cause.later; capped = written.cause.capped; stayed = tt; failed = written.cause.failed };
+}
+
 -- all of some bytes was written and then all of others
 pub writes-on : {T E : Type 0} (x y z : T) (a b c : Option (List ℕ)) (f g h : ℕ) (p q all : List ℕ) → Writes {T = T} {E = E} a b f g p (Ok x)
     → Writes {T = T} {E = E} b c g h q (Ok y) → all ≡ p ++ q → Writes {T = T} {E = E} a c f h all (Ok z)

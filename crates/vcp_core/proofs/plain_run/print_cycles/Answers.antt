@@ -1,12 +1,20 @@
-use Rattle.std.proofs.Common.{◌≡◌, ◌≤◌, ℕ, ℤ, suc, Ok, Err, List, ◌∷◌, refl, sym, ap, subst, ◌∙◌, arith}
+use Rattle.std.proofs.Common.{◌≡◌, ◌≤◌, ℕ, ℤ, suc, Result, Ok, Err, List, ◌∷◌, length, refl, sym, ap, subst, ◌∙◌, arith}
+use Rattle.std.proofs.lemmas.Result.{err_from_is_err_and}
 use Rattle.std.specs.Prelude.{All}
 use Rattle.vcp_base.specs.Types.{AreIn}
-use Rattle.vcp_typed.specs.Fitting.{input_types}
+use Rattle.vcp_typed.specs.Checked.{IsChecked}
+use Rattle.vcp_typed.specs.Fitting.{AreFit, input_types, output_types}
+use Rattle.vcp_typed.specs.SourceRun.{Program}
+use Rattle.flat_expr.specs.Told.{names_of}
 use Rattle.vcp_outside.specs.Counts.{Rose}
 use Rattle.input_rows.specs.RowsOf.{RowsLeft}
+use Rattle.coded_machine.specs.Refusals.{given_up_by}
+use Rattle.coded_machine.specs.declared.rows.fault.RunFault.{RunFault}
+use Rattle.vcp_core.specs.PlainRun.{PrintsFrom}
+use Rattle.vcp_core.specs.declared.ending.Ending.{Ending}
 use Rattle.vcp_core.specs.declared.ending.Ending.TheVariants as end
 use Rattle.coded_machine.specs.declared.rows.fault.RunFault.TheVariants as fault
-use Rattle.vcp_core.proofs.PlainTurns.{going-ends, going-on, fails-here, stops-here, end-fails}
+use Rattle.vcp_core.proofs.PlainTurns.{going-ends, going-on, fails-here, stops-here, end-fails, ends-here, refused-here, refused-unwritten}
 use Rattle.vcp_core.proofs.plain_run.print_cycles.Goals as goal
 
 types-behind : (before left : RowsLeft) (row : List ℤ) → before ≡ record left { rows = row ∷ left.rows } → left.types ≡ before.types
@@ -19,8 +27,48 @@ rows-behind P before left row taken h = λ k d below.
     let all : All P (row ∷ left.rows) = subst Q taken h in
     all (suc k) d (omega (arith, below))
 
+row-taken : (P : List ℤ → Type 0) (before left : RowsLeft) (row : List ℤ) → before ≡ record left { rows = row ∷ left.rows } → All P before.rows → P row
+row-taken P before left row taken h =
+    let Q : RowsLeft → Type 0 = λ l. All P l.rows in
+    let all : All P (row ∷ left.rows) = subst Q taken h in
+    all 0 row (omega arith)
+
 rose-later : (f g h : ℕ) → f ≤ g → Rose g h → Rose f h
 rose-later f g h later rose = omega (arith, later, rose)
+
+pub next-requires : goal.next-requires
+next-requires g c = c.cycles.invariant.inputs ∙ ap length (sym c.cycles.invariant.types)
+
+pub print_cycle-requires : goal.print_cycle-requires
+print_cycle-requires g c =
+    let now = sym c.cycles.invariant.program in
+    record {
+      going = c.cycles.invariant.stop;
+      checked = subst IsChecked now c.requires.checked;
+      fit = subst (λ (p : Program). AreFit p.slots c.cycles.plain.values) now c.cycles.invariant.fit;
+      names = c.requires.names ∙ ap (λ (p : Program). names_of p.slots) now;
+      row = subst (λ (p : Program). AreIn (input_types p.slots) c.next.new.out) now
+          (row-taken (AreIn (input_types c.args.plain.now.program.slots)) c.cycles.rows c.next.new.self c.next.new.out
+          (c.in_ok-next.ensures.row c.if-branch.true) c.cycles.invariant.typed);
+      cells = c.cycles.invariant.outputs ∙ ap (λ (p : Program). length (output_types p.slots)) now;
+    }
+
+-- the next row is refused
+pub returns-in_err-next : goal.returns-in_err-next
+returns-in_err-next g c =
+    let given = err_from_is_err_and c.from_residual.result c.from_residual.ensures.1 in
+    let why = c.in_err-next.field-0.0 in
+    let is : c.from_residual.result ≡ Err (given_up_by why) = given.1 ∙ ap Err given.2 in
+    let p = c.args.plain.now.program in
+    record {
+      prints = subst (λ (r : Result Ending RunFault). PrintsFrom p 0 c.args.plain.now.values c.args.rows.now (g.O.Sink.seen c.args.out.now).written
+          (g.O.Sink.seen c.cycles.out).written r) (sym is)
+          (going-ends p c.args.plain.now.values c.args.rows.now (g.O.Sink.seen c.args.out.now).written (g.O.Sink.seen c.cycles.out).written
+          (g.O.Sink.seen c.cycles.out).written c.cycles.count c.cycles.plain.values c.cycles.rows (Err (given_up_by why)) c.cycles.invariant.going
+          (refused-here p c.cycles.count c.cycles.plain.values c.cycles.rows (g.O.Sink.seen c.cycles.out).written why c.in_err-next.ensures.refusal));
+      write = λ e. absurd (refused-unwritten why _ is e);
+      stayed = λ other. c.cycles.invariant.stayed;
+    }
 
 pub returns-in-Err-clause-prints : goal.returns-in-Err-clause-prints
 returns-in-Err-clause-prints g c =
@@ -77,10 +125,23 @@ returns-in-Ok-false-clause-prints g c =
     (g.O.Sink.seen c.print_cycle.new.out).written (c.in_ok-next.ensures.row c.if-branch.true) (rw c.cycles.invariant.program at stopped.1)
     (rw c.cycles.invariant.program at here.line.whole))
 
+-- ---- the last line is printed
+
+pub returns-in-Ok-clause-prints : goal.returns-in-Ok-clause-prints
+returns-in-Ok-clause-prints g c =
+    let none = c.in_ok-next.ensures.end c.if-branch.false in
+    going-ends c.args.plain.now.program c.args.plain.now.values c.args.rows.now (g.O.Sink.seen c.args.out.now).written (g.O.Sink.seen c.cycles.out).written
+    (g.O.Sink.seen c.end_line.new.out).written c.cycles.count c.cycles.plain.values c.cycles.rows (Ok end.Done) c.cycles.invariant.going
+    (ends-here c.args.plain.now.program c.cycles.count c.cycles.plain.values c.cycles.rows (g.O.Sink.seen c.cycles.out).written
+    (g.O.Sink.seen c.end_line.new.out).written (record { rows = none.0; refusal_is = none.1 }) c.in-Ok.ensures.whole)
+
 -- ---- the sink's count of faults
 
-pub returns-in_err-next-clause-stayed : goal.returns-in_err-next-clause-stayed
-returns-in_err-next-clause-stayed g c = λ other. c.cycles.invariant.stayed
+pub returns-in-Ok-false-clause-write : goal.returns-in-Ok-false-clause-write
+returns-in-Ok-false-clause-write g c = λ e. absurd cc
+
+pub returns-in-Ok-clause-write : goal.returns-in-Ok-clause-write
+returns-in-Ok-clause-write g c = λ e. absurd cc
 
 pub returns-in-Err-clause-stayed : goal.returns-in-Err-clause-stayed
 returns-in-Err-clause-stayed g c = λ other. absurd (other refl)

@@ -1,17 +1,44 @@
-use Rattle.std.proofs.Common.{length, sym, ap, ◌∙◌}
-use Rattle.vcp_typed.specs.Fitting.{input_types, output_types}
-use Rattle.st_plain.specs.Evaluator.{Evaluator}
+use Rattle.std.proofs.Common.{length, sym, ap, subst, ◌∙◌, refl}
+use Rattle.vcp_typed.specs.Checked.{IsChecked}
+use Rattle.vcp_typed.specs.Fitting.{input_types, output_columns, output_types}
+use Rattle.st_plain.specs.Evaluator.{Evaluator, started}
+use Rattle.flat_expr.specs.Told.{names_of}
+use Rattle.vcp_core.specs.PlainRun.{Prints}
 use Rattle.vcp_core.proofs.PlainNames.{outputs-count}
+use Rattle.vcp_core.proofs.PlainTurns.{nothing-printed}
 use Rattle.vcp_core.proofs.plain_run.print_named.Goals as goal
 
-pub print_begun-requires-clause-inputs : goal.print_begun-requires-clause-inputs
-print_begun-requires-clause-inputs g c =
-    c.in-Ok.ensures ∙ ap (λ (e : Evaluator). length (input_types e.program.slots)) (sym c.in-Ok-new.ensures)
+pub print_begun-requires : goal.print_begun-requires
+print_begun-requires g c =
+    let new = c.in-Ok-new.ensures in
+    record {
+      begun = new ∙ ap (λ (e : Evaluator). started e.program) (sym new);
+      checked = subst (λ (e : Evaluator). IsChecked e.program) (sym new) c.requires.checked;
+      columns = c.requires.columns ∙ ap (λ (e : Evaluator). output_columns e.program.slots) (sym new);
+      names = c.requires.names ∙ ap (λ (e : Evaluator). names_of e.program.slots) (sym new);
+      types = c.requires.types ∙ ap (λ (e : Evaluator). input_types e.program.slots) (sym new);
+      typed = c.requires.typed;
+      few = c.requires.few;
+      inputs = c.in-Ok.ensures ∙ ap (λ (e : Evaluator). length (input_types e.program.slots)) (sym new);
+      outputs = c.in-Ok-zeros.ensures ∙ ap length c.requires.columns ∙ outputs-count c.args.program.now.slots
+          ∙ ap (λ (e : Evaluator). length (output_types e.program.slots)) (sym new);
+    }
 
-pub print_begun-requires-clause-outputs : goal.print_begun-requires-clause-outputs
-print_begun-requires-clause-outputs g c =
-    c.in-Ok-zeros.ensures ∙ ap length c.requires.columns ∙ outputs-count c.args.program.now.slots
-    ∙ ap (λ (e : Evaluator). length (output_types e.program.slots)) (sym c.in-Ok-new.ensures)
+pub returns-in-Ok-new : goal.returns-in-Ok-new
+returns-in-Ok-new g c = record {
+  prints = subst (λ (e : Evaluator). Prints e.program c.args.rows.now (g.O.Sink.seen c.args.out.now).written (g.O.Sink.seen c.print_begun.new.out).written
+      c.print_begun.result) c.in-Ok-new.ensures c.print_begun.ensures.prints;
+  write = c.print_begun.ensures.write;
+  stayed = c.print_begun.ensures.stayed;
+}
 
-pub returns-in-Ok-new-clause-prints : goal.returns-in-Ok-new-clause-prints
-returns-in-Ok-new-clause-prints g c = rw c.in-Ok-new.ensures at c.print_begun.ensures.prints
+-- ---- memory is wanted
+
+pub returns-in-Err : goal.returns-in-Err
+returns-in-Err g c = record { prints = nothing-printed c.args.program.now c.args.rows.now _; write = λ e. absurd cc; stayed = λ other. refl }
+
+pub returns-in-Err-zeros : goal.returns-in-Err-zeros
+returns-in-Err-zeros g c = record { prints = nothing-printed c.args.program.now c.args.rows.now _; write = λ e. absurd cc; stayed = λ other. refl }
+
+pub returns : goal.returns
+returns g c = record { prints = nothing-printed c.args.program.now c.args.rows.now _; write = λ e. absurd cc; stayed = λ other. refl }
