@@ -1,4 +1,5 @@
-use Rattle.std.proofs.Common.{◌∙◌, ap, arith, refl, sym, []}
+use Rattle.std.proofs.Common.{◌∙◌, ◌≤◌, ap, arith, refl, subst, sym, []}
+use Rattle.vcp_base.specs.Limits.{most_step}
 use Rattle.signature_table.specs.Signatures.{Numbers}
 use Rattle.fault_campaign.specs.GroupLines.{group_text}
 use Rattle.vcp_core.proofs.ImageLoaded.{table-is-of}
@@ -11,12 +12,28 @@ run_pairs-requires-clause-table g c = table-is-of c.args.image.now.table c.args.
 pub run_pairs-requires-clause-seeds : goal.run_pairs-requires-clause-seeds
 run_pairs-requires-clause-seeds g c = λ same. c.requires.apart (sym (same ∙ ap (λ (t : Numbers). t.seed) c.in-Ok.ensures.numbers))
 
+pub new-requires : goal.new-requires
+new-requires g c =
+    let is = sym c.step.ensures.value in
+    record {
+      seed = c.requires.seed;
+      step_from = subst (λ n. 1 ≤ n) is c.step.ensures.ranges.step_from;
+      step_to = subst (λ n. n ≤ most_step) is c.step.ensures.ranges.step_to;
+    }
+
+pub returns-in-Ok : goal.returns-in-Ok
+returns-in-Ok g c = record { told = c.run_pairs.ensures.told; write = c.run_pairs.ensures.write; stayed = c.run_pairs.ensures.stayed }
+
 -- memory is wanted before the first group
-pub returns-in-Err-clause-told : goal.returns-in-Err-clause-told
-returns-in-Err-clause-told g c = record {
-  verdicts = [];
-  few = omega (arith);
-  ran = refl;
-  right = λ h. refl;
-  written = no_lines_written group_text c.args.groups.now _;
+pub returns-in-Err : goal.returns-in-Err
+returns-in-Err g c = record {
+  told = record {
+    verdicts = [];
+    few = omega (arith);
+    ran = refl;
+    right = λ h. refl;
+    written = no_lines_written group_text c.args.groups.now _;
+  };
+  write = λ e. absurd cc;
+  stayed = λ other. refl;
 }

@@ -1,4 +1,8 @@
-use Rattle.std.proofs.Common.{inl, refl}
+use Rattle.std.proofs.Common.{inl, refl, sym, ap, subst, ◌∙◌, length, map}
+use Rattle.op_graph.specs.Lists.{output_column}
+use Rattle.op_graph.specs.Rules.{IsGraph}
+use Rattle.signature_table.specs.Signatures.{IsTable, IsTableOf}
+use Rattle.coded_machine.specs.State.{State, fresh}
 use Rattle.coded_machine.specs.declared.rows.fault.RunFault.TheVariants as given_up
 use Rattle.vcp_core.proofs.JobFacts.{failed-causes}
 use Rattle.vcp_core.proofs.Performing.{still}
@@ -20,5 +24,23 @@ returns-clause-ran g c s code name p words carries shows = inl (still _)
 
 -- ---- the machine's run
 
-pub returns-in-Ok-new-clause-ran : goal.returns-in-Ok-new-clause-ran
-returns-in-Ok-new-clause-ran g c = rw c.in-Ok-new.ensures.fresh at c.run_machine.ensures.ran
+pub new-requires : goal.new-requires
+new-requires g c = c.requires.table
+
+pub run_machine-requires : goal.run_machine-requires
+run_machine-requires g c =
+    let is = c.in-Ok-new.ensures.fresh in
+    record {
+      sound = c.requires.sound;
+      fresh = is ∙ ap (λ (m : State). fresh m.graph m.table) (sym is);
+      rules = subst (λ (m : State). IsGraph m.graph) (sym is) c.len-rules.ensures.rules;
+      ranges = subst (λ (m : State). IsTable m.table) (sym is) c.step-ranges.ensures.ranges;
+      table = subst (λ (m : State). IsTableOf m.table m.graph) (sym is) c.requires.table;
+      outputs = c.in-Ok.ensures ∙ ap (λ (m : State). map (output_column m.graph.names) m.graph.outputs) (sym is);
+      width = c.requires.width ∙ ap (λ (m : State). length m.graph.inputs) (sym is);
+      few = c.requires.few;
+      behind = c.requires.behind;
+    }
+
+pub returns-in-Ok-new : goal.returns-in-Ok-new
+returns-in-Ok-new g c = record { ran = rw c.in-Ok-new.ensures.fresh at c.run_machine.ensures.ran; causes = c.run_machine.ensures.causes }
