@@ -129,23 +129,6 @@ module _ (init : Option Code) (seed step : Option ℕ) (words more : List (List 
       → init ≡ code_after seed (Some t) rest
   step_next t so_far first second other free is number = so_far ∙ rw (first, second, other, free, is, ← number) refl
 
-  -- a word without its number, an option whose word is no number of its range, and a word that is no option give no code
-  pub one_word : init ≡ code_after seed step words → words ≡ w ∷ more → more ≡ [] → init ≡ None
-  one_word so_far first second = so_far ∙ rw (first, second) refl
-
-  pub no_seed : init ≡ code_after seed step words → words ≡ w ∷ more → more ≡ n ∷ rest
-      → is_none seed ≡ true → bytes_eq w (codes "--seed") ≡ true → None ≡ number_within 0 (seeds - 1) n → init ≡ None
-  no_seed so_far first second free is number = so_far ∙ rw (first, second, free, is, ← number) refl
-
-  pub no_step : init ≡ code_after seed step words → words ≡ w ∷ more → more ≡ n ∷ rest
-      → (is_none seed && bytes_eq w (codes "--seed")) ≡ false → is_none step ≡ true → bytes_eq w (codes "--step") ≡ true → None ≡ number_within 1 most_step n
-      → init ≡ None
-  no_step so_far first second other free is number = so_far ∙ rw (first, second, other, free, is, ← number) refl
-
-  pub no_option : init ≡ code_after seed step words → words ≡ w ∷ more → more ≡ n ∷ rest
-      → (is_none seed && bytes_eq w (codes "--seed")) ≡ false → (is_none step && bytes_eq w (codes "--step")) ≡ false → init ≡ None
-  no_option so_far first second other neither_is = so_far ∙ rw (first, second, other, neither_is) refl
-
 pub not_both : (a b : Bool) → b ≡ false → (a && b) ≡ false
 not_both true b e = e
 not_both false b e = refl

@@ -14,7 +14,9 @@ use Rattle.vcp_inputs.specs.Files.{FileRead}
 use Rattle.vcp_inputs.specs.Forms.{file}
 use Rattle.vcp_inputs.specs.RowsOutcome.{LoadsRows, begins, file_outcome, rows_or_refusal, rows_outcome}
 use Rattle.vcp_inputs.specs.RowsOutcome as outcome
+use Rattle.vcp_inputs.specs.declared.refusal.Refusal.{Refusal}
 use Rattle.vcp_inputs.specs.declared.refusal.Refusal.TheVariants as refusal
+use Rattle.vcp_inputs.specs.declared.refusal.NoInput.{NoInput}
 use Rattle.vcp_inputs.specs.declared.refusal.NoInput.TheVariants as input
 
 -- what holds of all holds of the one that there may be
@@ -36,6 +38,13 @@ without_columns name (c ∷ columns) none = absurd cc
 pub with_columns : (name : List ℕ) (columns : List Column) → length columns ≢ 0 → begins (file name) columns ≡ true
 with_columns name [] some = absurd (some refl)
 with_columns name (c ∷ columns) some = refl
+
+-- what was answered is no error, and a refusal is not that nothing was read
+pub no_error : {V E : Type 0} {v : V} {e : E} → Ok v ≡ Err e → ⊥
+no_error is = cc
+
+pub not_unread : {V : Type 0} {r : Refusal} (x : Result V NoInput) → x ≡ Err (input.Refused r) → x ≡ Err input.Unread → ⊥
+not_unread x refused unread = cc
 
 -- a test isn't both
 pub not_both_ways : (b : Bool) → b ≡ true → b ≡ false → ⊥

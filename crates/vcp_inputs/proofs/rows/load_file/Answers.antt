@@ -1,7 +1,7 @@
-use Rattle.std.proofs.Common.{◌≡◌, ◌≢◌, refl, ap, length, Err, arith}
+use Rattle.std.proofs.Common.{◌≡◌, ◌≢◌, ◌∙◌, refl, sym, ap, length, Err}
 use Rattle.std.proofs.Math.Nat.{le_refl}
 use Rattle.vcp_inputs.proofs.Causes.{read_caused}
-use Rattle.vcp_inputs.proofs.RowsLoaded.{always, form_refused, not_both_ways, rows_taken, with_columns, without_columns}
+use Rattle.vcp_inputs.proofs.RowsLoaded.{always, form_refused, no_error, not_both_ways, not_unread, rows_taken, with_columns, without_columns}
 use Rattle.vcp_inputs.proofs.Taken.{if_some_weaker, rows_unread, same_error, same_stays}
 use Rattle.vcp_inputs.proofs.rows.load_file.Goals as goal
 
@@ -10,14 +10,14 @@ use Rattle.vcp_inputs.proofs.rows.load_file.Goals as goal
 pub returns-then-len-eq0 : goal.returns-then-len-eq0
 returns-then-len-eq0 g c =
     let files = g.F.Files.seen c.args.files.now in
-    let none : length c.args.columns.now ≡ 0 = cc in
+    let none : length c.args.columns.now ≡ 0 = sym c.len.ensures ∙ c.if-len-eq0.true in
     record {
       loads = always files.held _ (λ h. form_refused c.args.name.now c.args.columns.now h files.broken files.broken none);
       without_file = λ off h. form_refused c.args.name.now c.args.columns.now h files.broken files.broken none;
       few = tt;
-      unread = λ is. absurd cc;
+      unread = λ is. absurd (not_unread _ refl is);
       caused = refl;
-      begun = λ is. absurd cc;
+      begun = λ is. absurd (not_unread _ refl is);
       refused = λ r is on. absurd (not_both_ways _ on (without_columns c.args.name.now c.args.columns.now none));
       long = λ is. absurd cc;
       unbegun = λ off. (refl, refl, refl);
@@ -35,7 +35,7 @@ pub returns-in-Err : goal.returns-in-Err
 returns-in-Err g c =
     let old = g.F.Files.seen c.args.files.now in
     let new = g.F.Files.seen c.read_file.new.files in
-    let some : length c.args.columns.now ≢ 0 = λ e. omega (arith, c.if-len-eq0.false, c.len.ensures, e) in
+    let some : length c.args.columns.now ≢ 0 = λ e. c.if-len-eq0.false (c.len.ensures ∙ e) in
     let on = with_columns c.args.name.now c.args.columns.now some in
     let why = c.in-Err.ensures in
     record {
@@ -60,21 +60,21 @@ pub returns-in-Ok : goal.returns-in-Ok
 returns-in-Ok g c =
     let old = g.F.Files.seen c.args.files.now in
     let new = g.F.Files.seen c.read_file.new.files in
-    let some : length c.args.columns.now ≢ 0 = λ e. omega (arith, c.if-len-eq0.false, c.len.ensures, e) in
+    let some : length c.args.columns.now ≢ 0 = λ e. c.if-len-eq0.false (c.len.ensures ∙ e) in
     let on = with_columns c.args.name.now c.args.columns.now some in
     let read = c.in-Ok.ensures in
     record {
       loads = if_some_weaker old.held _ _ (λ h is. rows_taken h c.args.name.now c.in-Ok.text c.args.columns.now old.broken new.broken some is) read.reads;
       without_file = λ off h. absurd (not_both_ways _ on off);
       few = tt;
-      unread = λ is. absurd cc;
+      unread = λ is. absurd (no_error is);
       caused = tt;
       begun = λ is. on;
-      refused = λ r is begun. absurd cc;
-      long = λ is. absurd cc;
+      refused = λ r is begun. absurd (no_error is);
+      long = λ is. absurd (no_error is);
       unbegun = λ off. absurd (not_both_ways _ on off);
       ended = read.ended;
-      whole = λ r is other. absurd cc;
+      whole = λ r is other. absurd (no_error is);
       stayed = λ other. read.stayed (λ e. cc);
       held = c.read_file.ensures.held;
       later = c.read_file.ensures.later;
