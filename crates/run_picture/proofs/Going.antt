@@ -37,6 +37,15 @@ one_text e = append-nil (element_text e)
 pub two_texts : (d e : Element) → flat_map element_text (d ∷ e ∷ []) ≡ element_text d ++ element_text e
 two_texts d e = ap (λ t. element_text d ++ t) (append-nil (element_text e))
 
+-- one of two elements, as a test says
+pub first_text : {a b : Option (List ℕ)} {f g : ℕ} {l m : Gathered} (d e : Element) (test : Bool) → test ≡ true
+    → Gathers a b f g l m (element_text d) → Gathers a b f g l m (element_text (cond test d e))
+first_text d e test is gathers = same gathers (ap (λ t. element_text (cond t d e)) is)
+
+pub second_text : {a b : Option (List ℕ)} {f g : ℕ} {l m : Gathered} (d e : Element) (test : Bool) → test ≡ false
+    → Gathers a b f g l m (element_text e) → Gathers a b f g l m (element_text (cond test d e))
+second_text d e test is gathers = same gathers (ap (λ t. element_text (cond t d e)) is)
+
 -- elements that are drawn where a test says so
 pub drawn_if : {a b : Option (List ℕ)} {f g : ℕ} {l m : Gathered} (es : List Element) (test : Bool) → test ≡ true
     → Gathers a b f g l m (flat_map element_text es) → Gathers a b f g l m (flat_map element_text (cond test es []))
