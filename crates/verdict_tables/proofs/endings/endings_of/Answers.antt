@@ -1,8 +1,39 @@
 use Rattle.std.proofs.Common.{◌+◌, ◌++◌, List, Option, sym, ap, ◌∙◌, arith, drop, length}
+use Rattle.std.proofs.lemmas.Result.{IfOk-from_err}
 use Rattle.verdict_tables.specs.declared.endless.ending.SameEnding.{SameEnding}
 use Rattle.verdict_tables.specs.SameEndings.{endings_for, ended_count}
 use Rattle.verdict_tables.proofs.Apart.{one_ended, none_ended, each_ended, three_are_all}
 use Rattle.verdict_tables.proofs.endings.endings_of.Goals as goal
+
+pub words_left-requires : goal.words_left-requires
+words_left-requires c = record { table = c.requires.table; width = c.requires.width; few = c.requires.few }
+
+pub returns-in_err-without : goal.returns-in_err-without
+returns-in_err-without c =
+    let failed = c.from_residual.ensures.0 in
+    record {
+      endings = IfOk-from_err c.from_residual.result _ failed;
+      each = IfOk-from_err c.from_residual.result _ failed;
+      sum = IfOk-from_err c.from_residual.result _ failed;
+    }
+
+pub ending_if-requires-clause-table : goal.ending_if-requires-clause-table
+ending_if-requires-clause-table c = c.requires.table
+
+pub ending_if-requires-clause-width : goal.ending_if-requires-clause-width
+ending_if-requires-clause-width c = c.requires.width
+
+pub ending_if-requires-clause-few : goal.ending_if-requires-clause-few
+ending_if-requires-clause-few c = c.requires.few
+
+pub ending_if-requires-clause-without : goal.ending_if-requires-clause-without
+ending_if-requires-clause-without c = c.deref.ensures.value ∙ c.in_ok-without.ensures
+
+pub returns-in-Err-push : goal.returns-in-Err-push
+returns-in-Err-push c = record { endings = tt; each = tt; sum = tt }
+
+pub returns-in-Err : goal.returns-in-Err
+returns-in-Err c = record { endings = tt; each = tt; sum = tt }
 
 pub groups-preserved : goal.groups-preserved
 groups-preserved c =

@@ -1,4 +1,4 @@
-use Rattle.std.proofs.Common.{◌≡◌, ◌+◌, ◌∷◌, ◌++◌, [], length, length-append, refl, arith}
+use Rattle.std.proofs.Common.{◌≡◌, ◌+◌, ◌∷◌, ◌++◌, [], length, length-append, refl, ◌∙◌, arith}
 use Rattle.std.specs.Str.Lines.{lines}
 use Rattle.std.proofs.lemmas.List.Elements.{All-nil, All-push}
 use Rattle.fault_script.specs.Groups.{GroupFits}
@@ -35,30 +35,46 @@ groups-preserved c =
       many = omega (arith, more, c.groups.invariant.many);
     })
 
-pub returns-in-Err-clause-refusal : goal.returns-in-Err-clause-refusal
-returns-in-Err-clause-refusal c = λ other.
-    let g = c.args.graph.now in
-    one_refused g c.args.script.now (verdicts_in g c.args.script.now c.args.text.now) c.groups.verdicts c.groups.totals c.groups.i (lines c.groups.rest.now)
-    c.groups.invariant.left c.at.result.now c.at.ensures c.in-Err.why (rw c.line-at.ensures at (c.in-Err.ensures.refusal other))
+pub returns-in-Err-push : goal.returns-in-Err-push
+returns-in-Err-push c = record { verdicts = tt; refusal = λ other. absurd (other refl); names = tt; many = tt; printed = tt }
 
-pub returns-in-Ok-end-clause-verdicts : goal.returns-in-Ok-end-clause-verdicts
-returns-in-Ok-end-clause-verdicts c =
+pub returns-in-Err : goal.returns-in-Err
+returns-in-Err c = record {
+  verdicts = tt;
+  refusal = λ other.
+      let g = c.args.graph.now in
+      one_refused g c.args.script.now (verdicts_in g c.args.script.now c.args.text.now) c.groups.verdicts c.groups.totals c.groups.i (lines c.groups.rest.now)
+      c.groups.invariant.left c.at.result.now c.at.ensures c.in-Err.why (rw c.line-at.ensures at (c.in-Err.ensures.refusal other));
+  names = tt;
+  many = tt;
+  printed = tt;
+}
+
+pub returns-in-Ok-end : goal.returns-in-Ok-end
+returns-in-Ok-end c =
     let g = c.args.graph.now in
     let all : c.groups.i ≡ length c.args.script.now = omega (arith, c.groups-test.false, c.groups.auto.i-end, c.len-i-end.ensures) in
+    let read =
     all_read g c.args.script.now (verdicts_in g c.args.script.now c.args.text.now) c.groups.verdicts c.groups.totals c.groups.i (lines c.groups.rest.now)
-    c.groups.invariant.left all _ (omega (arith, all, c.len.ensures)) c.in-Ok-end.ensures.ok
+    c.groups.invariant.left all _ (omega (arith, all, c.len.ensures)) c.in-Ok-end.ensures.ok in
+    record {
+      verdicts = read;
+      refusal = tt;
+      names = c.groups.invariant.names;
+      many = c.groups.invariant.many ∙ all;
+      printed = printed g c.args.script.now c.args.text.now c.groups.verdicts read;
+    }
 
-pub returns-in-Ok-end-clause-printed : goal.returns-in-Ok-end-clause-printed
-returns-in-Ok-end-clause-printed c =
+pub returns-in-Err-end : goal.returns-in-Err-end
+returns-in-Err-end c =
     let g = c.args.graph.now in
     let all : c.groups.i ≡ length c.args.script.now = omega (arith, c.groups-test.false, c.groups.auto.i-end, c.len-i-end.ensures) in
-    printed g c.args.script.now c.args.text.now c.groups.verdicts
-    (all_read g c.args.script.now (verdicts_in g c.args.script.now c.args.text.now) c.groups.verdicts c.groups.totals c.groups.i (lines c.groups.rest.now)
-    c.groups.invariant.left all _ (omega (arith, all, c.len.ensures)) c.in-Ok-end.ensures.ok)
-
-pub returns-in-Err-end-clause-refusal : goal.returns-in-Err-end-clause-refusal
-returns-in-Err-end-clause-refusal c = λ other.
-    let g = c.args.graph.now in
-    let all : c.groups.i ≡ length c.args.script.now = omega (arith, c.groups-test.false, c.groups.auto.i-end, c.len-i-end.ensures) in
-    end_refused g c.args.script.now (verdicts_in g c.args.script.now c.args.text.now) c.groups.verdicts c.groups.totals c.groups.i (lines c.groups.rest.now)
-    c.groups.invariant.left all _ (omega (arith, all, c.len.ensures)) c.in-Err-end.why (c.in-Err-end.ensures.refusal other)
+    record {
+      verdicts = tt;
+      refusal = λ other.
+          end_refused g c.args.script.now (verdicts_in g c.args.script.now c.args.text.now) c.groups.verdicts c.groups.totals c.groups.i
+          (lines c.groups.rest.now) c.groups.invariant.left all _ (omega (arith, all, c.len.ensures)) c.in-Err-end.why (c.in-Err-end.ensures.refusal other);
+      names = tt;
+      many = tt;
+      printed = tt;
+    }
