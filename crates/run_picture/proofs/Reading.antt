@@ -1,5 +1,5 @@
 -- Reading: what is read so far, and one more.
-use Rattle.std.proofs.Common.{◌≡◌, ℕ, zero, suc, ◌+◌, ◌≤◌, ◌<◌, List, [], ◌∷◌, ◌++◌, length, drop, slice_get, Option, Some, None, Result, Ok, Err, ℤ, refl, ap, ◌∙◌, append_assoc, add-one, arith, true, false, codes, decimal, bytes_eq, nat_le, not, IfOk, ◌≢◌, Bool, sym, subst, All}
+use Rattle.std.proofs.Common.{◌≡◌, ℕ, zero, suc, ◌+◌, ◌≤◌, ◌<◌, List, [], ◌∷◌, ◌++◌, length, drop, slice_get, Option, Some, None, Result, Ok, Err, ℤ, refl, ap, ◌∙◌, append_assoc, add-one, arith, true, false, codes, decimal, bytes_eq, nat_le, not, IfOk, ◌≢◌, Bool, sym, subst}
 use Rattle.std.proofs.lemmas.List.{append-nil}
 use Rattle.std.proofs.lemmas.Bool.Decides.{nat_tests}
 use Rattle.std.proofs.lemmas.List.Elements.{All-push}

@@ -1,5 +1,4 @@
-use Rattle.std.proofs.Common.{◌<◌, ◌≤◌, drop, length, sym, subst, ◌∙◌, arith}
-use Rattle.std.proofs.lemmas.Result.{err_from_is_err_and, IfOk-from_err}
+use Rattle.std.proofs.Common.{◌<◌, ◌≤◌, drop, sym, subst, ◌∙◌, arith}
 use Rattle.csv.specs.Records.{fields_of}
 use Rattle.run_picture.proofs.Reading.{one_name, all_names, header_names, header_of_many, no_header, empty_header, is_cycle, no_cycle, few_named}
 use Rattle.run_picture.proofs.header.names.Goals as goal
