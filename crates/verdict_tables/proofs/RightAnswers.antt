@@ -1,29 +1,16 @@
 -- RightAnswers: the answers of a run under acts are those of a right run.
-use Rattle.std.proofs.Common.{◌≡◌, ℕ, suc, ◌&&◌, Bool, true, false, cond, List, [], ◌∷◌, ◌++◌, Option, ℤ, length, refl, sym, ap, subst, ◌∙◌}
+use Rattle.std.proofs.Common.{◌≡◌, ℕ, suc, ◌&&◌, Bool, true, false, cond, List, [], ◌∷◌, ◌++◌, Option, ℤ, refl, sym, ap, subst, ◌∙◌}
 use Rattle.coded_unit.specs.declared.call.Answer.{Answer}
-use Rattle.coded_unit.specs.declared.call.Call.{Call}
 use Rattle.op_graph.specs.declared.op.Op.{Op}
 use Rattle.op_graph.specs.Lists.{Lists}
 use Rattle.signature_table.specs.Signatures.{Numbers}
-use Rattle.coded_machine.specs.Calls.{Setting, AllWords, Whole, is_word, call_of}
+use Rattle.coded_machine.specs.Calls.{Setting, AllWords, Whole, is_word}
 use Rattle.coded_machine.specs.CycleEnds.{stored_words}
 use Rattle.coded_machine.specs.Runs.{setting_at}
 use Rattle.fault_script.specs.declared.act.Act.{Act}
 use Rattle.fault_script.specs.Changes.{Acts}
-use Rattle.fault_injector.specs.RunLaw.{RightRun, RightsUnder, Words, taken}
-use Rattle.fault_injector.specs.Scripts.{right_by}
+use Rattle.fault_injector.specs.RunLaw.{RightRun, RightsUnder, Words}
 use Rattle.verdict_tables.specs.AnswersOver.{all_words, answers_from, answers_in, answers_over, on_word, later_if, next_answer}
-
--- the answer by the act that is there, the word that it takes and the call
-pub answered_by : (s : Setting) (acts : ℕ → Option Act) (past : Words) (own : List Answer) (op : Op) (act : Option Act) (word : ℤ) (call : Call) (answer : Answer)
-    → act ≡ acts (length own) → word ≡ taken past own op act → call ≡ call_of s op own → answer ≡ right_by act word call
-    → answer ≡ next_answer s acts past own op
-answered_by s acts past own op act word call answer here takes asked is =
-    let then : Option Act = acts (length own) in
-    is
-    ∙ (ap (λ (a : Option Act). right_by a word call) here
-    ∙ (ap (λ (w : ℤ). right_by then w call) (takes ∙ ap (λ (a : Option Act). taken past own op a) here)
-    ∙ ap (λ (k : Call). right_by then (taken past own op then) k) asked))
 
 none_right : (s : Setting) (acts : ℕ → Option Act) (past : Words) (before : List Answer) (ops : List Op) → RightsUnder s acts past before ops []
 none_right s acts past before [] = tt
