@@ -1,11 +1,64 @@
 -- StretchEnds: where a stretch ends, and that its value changes by one step up to there.
-use Rattle.std.proofs.Common.{◌≡◌, ◌⊎◌, inl, inr, ℕ, zero, suc, ◌+◌, ◌-◌, ◌<◌, ◌≤◌, Bool, true, false, cond, length, refl, sym, ap, ◌∙◌, arith, ℤ, pos, ◌+ℤ◌, ◌-ℤ◌, ◌*ℤ◌}
+use Rattle.std.proofs.Common.{◌≡◌, ◌⊎◌, inl, inr, ℕ, zero, suc, ◌+◌, ◌-◌, ◌<◌, ◌≤◌, Bool, true, false, cond, length, refl, sym, ap, ◌∙◌, arith, ℤ, pos, ◌+ℤ◌, ◌-ℤ◌, ◌*ℤ◌, ◌&&◌, nat_lt, to_z, of_z, SFits}
+use mir.Syntax.{w128}
 use Rattle.std.specs.Ordering.{int_eq}
 use Rattle.std.proofs.Math.IntN.{suc_ℤ-*ℤ, zero-*ℤ}
-use Rattle.std.proofs.lemmas.Bool.Decides.{Decides-int_eq}
-use Rattle.std.proofs.lemmas.Int.{ints}
+use Rattle.std.proofs.lemmas.Bool.Decides.{nat_tests, Decides-int_eq}
+use Rattle.std.proofs.lemmas.Int.{ints, to_z-of_z}
 use Rattle.run_picture.specs.RunOf.{Recorded}
 use Rattle.run_picture.specs.Drawn.{value_at, change_at, step_of, until, end_of}
+
+-- ---- the step at a cycle
+
+is_false : (t : Bool) → (t ≡ true → ⊥) → t ≡ false
+is_false true other = absurd (other refl)
+is_false false other = refl
+
+early : (m n : ℕ) → m < n → nat_lt m n ≡ true
+early m n h = grind (arith, nat_tests)
+
+late : (m n : ℕ) → n ≤ m → nat_lt m n ≡ false
+late m n h = grind (arith, nat_tests)
+
+same_number : (x y : ℤ) → SFits w128 x → SFits w128 y → of_z w128 x ≡ of_z w128 y → x ≡ y
+same_number x y fits_x fits_y e = sym (to_z-of_z w128 x fits_x) ∙ (ap (to_z w128) e ∙ to_z-of_z w128 y fits_y)
+
+-- where no two changes are left
+pub no_step : (run : Recorded) (column cycle cycles : ℕ) → cycles ≡ length run.rows → cycles ≤ cycle + 2 → pos 0 ≡ step_of run column cycle
+no_step run column cycle cycles e few =
+    let a = change_at run column (cycle + 1) in
+    let b = change_at run column (cycle + 2) in
+    sym (ap (λ (n : ℕ). cond (nat_lt (cycle + 2) n && int_eq a b) a (pos 0)) (sym e)
+    ∙ ap (λ (t : Bool). cond (t && int_eq a b) a (pos 0)) (late (cycle + 2) cycles few))
+
+step_by : (run : Recorded) (column cycle cycles : ℕ) (same : Bool) → cycles ≡ length run.rows → cycle + 2 < cycles
+    → int_eq (change_at run column (cycle + 1)) (change_at run column (cycle + 2)) ≡ same
+    → step_of run column cycle ≡ cond same (change_at run column (cycle + 1)) (pos 0)
+step_by run column cycle cycles same e left is =
+    let a = change_at run column (cycle + 1) in
+    let b = change_at run column (cycle + 2) in
+    ap (λ (n : ℕ). cond (nat_lt (cycle + 2) n && int_eq a b) a (pos 0)) (sym e)
+    ∙ (ap (λ (t : Bool). cond (t && int_eq a b) a (pos 0)) (early (cycle + 2) cycles left) ∙ ap (λ (t : Bool). cond t a (pos 0)) is)
+
+-- where the next two changes are the same
+pub one_step : (run : Recorded) (column cycle cycles : ℕ) (next behind : ℤ) → SFits w128 next → SFits w128 behind → cycles ≡ length run.rows
+    → cycle + 2 < cycles → next ≡ change_at run column (cycle + 1) → behind ≡ change_at run column (cycle + 2) → of_z w128 next ≡ of_z w128 behind
+    → to_z w128 (of_z w128 next) ≡ step_of run column cycle
+one_step run column cycle cycles next behind fits_next fits_behind e left first second is =
+    let a = change_at run column (cycle + 1) in
+    let b = change_at run column (cycle + 2) in
+    let same = (Decides-int_eq a b).1 (sym first ∙ (same_number next behind fits_next fits_behind is ∙ second)) in
+    to_z-of_z w128 next fits_next ∙ (first ∙ sym (step_by run column cycle cycles true e left same))
+
+-- and where they are others
+pub other_step : (run : Recorded) (column cycle cycles : ℕ) (next behind : ℤ) → cycles ≡ length run.rows
+    → cycle + 2 < cycles → next ≡ change_at run column (cycle + 1) → behind ≡ change_at run column (cycle + 2)
+    → (of_z w128 next ≡ of_z w128 behind → ⊥) → pos 0 ≡ step_of run column cycle
+other_step run column cycle cycles next behind e left first second other =
+    let a = change_at run column (cycle + 1) in
+    let b = change_at run column (cycle + 2) in
+    let not = is_false (int_eq a b) (λ t. other (ap (of_z w128) (first ∙ ((Decides-int_eq a b).0 t ∙ sym second)))) in
+    sym (step_by run column cycle cycles false e left not)
 
 -- ---- from a cycle on
 
