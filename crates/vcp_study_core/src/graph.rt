@@ -9,11 +9,10 @@ ghost use Rattle.graph_picture.specs.Elements.{IsGraphPicture};
 ghost use Rattle.vcp_inputs.specs.declared.refusal.NoInput.TheVariants as input;
 ghost use Rattle.vcp_inputs.specs.declared.refusal.Refusal.TheVariants as refusal;
 ghost use Rattle.vcp_study_core.specs.CarriedOut.{WritesSo, told_line, told_status};
-ghost use Rattle.vcp_study_core.specs.Texts.{Draws, Weighed, WritesOne};
+ghost use Rattle.vcp_study_core.specs.Texts.{Draws, Weighed};
 
 use crate::fault::{Fault, told};
 use graph_picture::{layout_of, write_dot as write_dot_text, write_picture};
-use op_graph::Graph;
 use std::alloc::Global;
 use vcp_base::{Memory, Text};
 use vcp_inputs::{Image, NoInput, Refusal};
@@ -51,30 +50,19 @@ pub(crate) fn write_graph<'a, O: Sink>(
         (O.seen out.old) (O.seen out.new) (told_line result) (told_status result) }
 {
     match weights_of(alloc, image, horizon) {
-        Ok(weights) => draw_graph(alloc, &image.graph, &weights, horizon, out),
+        Ok(weights) => match layout_of(alloc, &image.graph) {
+            Ok(layout) => {
+                told(
+                    write_picture(out, &image.graph, &weights, horizon, &layout),
+                    false,
+                )
+            }
+            Err(Memory) => Err(Fault::Memory),
+        },
         Err(input) => Err(Fault::Input {
             name: name.bytes(),
             input,
         }),
-    }
-}
-
-/// Writes the picture of a graph by its weights up to a horizon. It looks for nothing: `false`.
-fn draw_graph<'a, O: Sink>(
-    alloc: Global,
-    graph: &Graph,
-    weights: &Weights,
-    horizon: u32,
-    out: &mut O,
-) -> Result<bool, Fault<'a>>
-    requires audit { IsAudit graph.now horizon weights.now }
-    requires horizon { horizon ≤ most_horizon }
-    ensures { WritesSo (WritesOne (Draws (IsGraphPicture graph.now horizon)))
-        (O.seen out.old) (O.seen out.new) (told_line result) (told_status result) }
-{
-    match layout_of(alloc, graph) {
-        Ok(layout) => told(write_picture(out, graph, weights, horizon, &layout), false),
-        Err(Memory) => Err(Fault::Memory),
     }
 }
 

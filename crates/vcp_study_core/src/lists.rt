@@ -1,6 +1,6 @@
 //! The commands on instruction lists, up to the line of their fault.
 
-ghost use Rattle.std.specs.Prelude.{ℕ, List, ◌≤◌, IfOk, IfErr, length};
+ghost use Rattle.std.specs.Prelude.{◌≤◌, IfOk, IfErr, length};
 ghost use Rattle.il_front.specs.Answers.{most_il_bytes};
 ghost use Rattle.il_front.specs.Outcomes.{IsTypedIl};
 ghost use Rattle.vcp_inputs.specs.Forms.{as_code, IsCode};
@@ -47,27 +47,13 @@ fn write_list_image<'a, O: Sink>(
     ensures { WritesSo (ListImage name.now text.now (as_code code))
         (O.seen out.old) (O.seen out.new) (told_line result) (told_status result) }
 {
-    match program_in(alloc, name, text) {
-        Ok(program) => write_image(alloc, &program, code, out),
-        Err(why) => Err(why),
-    }
-}
-
-/// Writes the image of a typed program that an instruction list is, with the numbers of a code.
-fn write_image<'a, O: Sink>(
-    alloc: Global,
-    program: &Typed,
-    code: Code,
-    out: &mut O,
-) -> Result<bool, Fault<'a>>
-    requires code { IsCode (as_code code) }
-    ensures { (name text : List ℕ) → IsTypedIl text program.now → WritesSo (ListImage name text (as_code code))
-        (O.seen out.old) (O.seen out.new) (told_line result) (told_status result) }
-{
     lists_are_told();
-    match image_for(alloc, program, code) {
-        Ok(image) => told(write_all(out, image.bytes()), false),
-        Err(Memory) => Err(Fault::Memory),
+    match program_in(alloc, name, text) {
+        Ok(program) => match image_for(alloc, &program, code) {
+            Ok(image) => told(write_all(out, image.bytes()), false),
+            Err(Memory) => Err(Fault::Memory),
+        },
+        Err(why) => Err(why),
     }
 }
 
@@ -100,32 +86,17 @@ fn write_list_text<'a, O: Sink>(
     requires short { length text.now ≤ most_il_bytes }
     ensures { WritesSo (ListText name.now text.now) (O.seen out.old) (O.seen out.new) (told_line result) (told_status result) }
 {
-    match program_in(alloc, name, text) {
-        Ok(program) => write_text(alloc, name, text, &program, out),
-        Err(why) => Err(why),
-    }
-}
-
-/// Writes the typed program that an instruction list with this text is, the text of the file under a name, in Structured Text.
-fn write_text<'a, O: Sink>(
-    alloc: Global,
-    name: &'a Text,
-    text: &[u8],
-    program: &Typed,
-    out: &mut O,
-) -> Result<bool, Fault<'a>>
-    requires short { length text.now ≤ most_il_bytes }
-    requires program { IsTypedIl text.now program.now }
-    ensures { WritesSo (ListText name.now text.now) (O.seen out.old) (O.seen out.new) (told_line result) (told_status result) }
-{
     lists_are_told();
-    match text_for(alloc, text, program) {
-        Ok(Some(written)) => told(write_all(out, written.bytes()), false),
-        Ok(None) => Err(Fault::Refused {
-            name: name.bytes(),
-            why: StudyRefusal::Text,
-        }),
-        Err(Memory) => Err(Fault::Memory),
+    match program_in(alloc, name, text) {
+        Ok(program) => match text_for(alloc, text, &program) {
+            Ok(Some(written)) => told(write_all(out, written.bytes()), false),
+            Ok(None) => Err(Fault::Refused {
+                name: name.bytes(),
+                why: StudyRefusal::Text,
+            }),
+            Err(Memory) => Err(Fault::Memory),
+        },
+        Err(why) => Err(why),
     }
 }
 

@@ -10,8 +10,6 @@ ghost use Rattle.verdict_tables.specs.SumText.{sum_text};
 ghost use Rattle.vcp_inputs.specs.Forms.{rows_of, AreFew};
 ghost use Rattle.vcp_study_core.specs.CarriedOut.{Studies, WritesSo, told_line, told_status};
 ghost use Rattle.vcp_study_core.specs.Forms.{names_of, sum, sum_apart};
-ghost use Rattle.vcp_study_core.specs.FromFiles.{Onward};
-ghost use Rattle.vcp_study_core.specs.Parts.{PartsFrom};
 ghost use Rattle.vcp_study_core.specs.Tasks.{StudyOf};
 ghost use Rattle.vcp_study_core.specs.Texts.{sums_up};
 
@@ -86,30 +84,6 @@ fn write_tables_apart<'a, O: Sink>(
     }
 }
 
-/// Reads the parts for an image, and writes the tables of their verdicts, distinguished by runs over rows; whether a fault is unseen.
-fn apart_over<'a, F: Files, O: Sink>(
-    alloc: Global,
-    image: &Image,
-    rows: &RowList,
-    names: &PartWords<'a>,
-    files: &mut F,
-    out: &mut O,
-) -> Result<bool, Fault<'a>>
-    requires table { image.now.table ≡ table_of image.now.table.seed image.now.table.step image.now.graph }
-    requires width { All (λ r. length r ≡ length image.now.graph.inputs) rows.now }
-    requires few_rows { length rows.now ≤ most_cycles }
-    requires few { length (names_of names.now) ≤ most_parts }
-    ensures { IsAtEnd (F.seen files.old).rest → Studies
-        (λ h. Onward (PartsFrom image.now (names_of names.now) h) (λ parts k n x. x ≡ sums_up parts
-        (sum_apart_text image.now.graph parts (endings_over image.now.table image.now.graph rows.now parts))))
-        (F.seen files.old) (F.seen files.new) (O.seen out.old) (O.seen out.new) (told_line result) (told_status result) }
-{
-    match load_parts(alloc, image, names, files) {
-        Ok(parts) => write_tables_apart(alloc, image, rows, &parts, out),
-        Err(why) => Err(why),
-    }
-}
-
 /// Reads ROWS for an image, then the parts, and writes the tables of their verdicts, distinguished by runs over ROWS; whether a fault is unseen.
 pub(crate) fn apart_of_image<'a, F: Files, O: Sink>(
     alloc: Global,
@@ -126,7 +100,10 @@ pub(crate) fn apart_of_image<'a, F: Files, O: Sink>(
         (F.seen files.old) (F.seen files.new) (O.seen out.old) (O.seen out.new) (told_line result) (told_status result) }
 {
     match rows_for(alloc, image, rows, files) {
-        Ok(list) => apart_over(alloc, image, &list, names, files, out),
+        Ok(list) => match load_parts(alloc, image, names, files) {
+            Ok(parts) => write_tables_apart(alloc, image, &list, &parts, out),
+            Err(why) => Err(why),
+        },
         Err(why) => Err(why),
     }
 }

@@ -89,3 +89,12 @@ returns-clause-fetches g c end =
       later = i.later;
       broken_later = i.broken_later;
     }
+
+pub load_part-requires : goal.load_part-requires
+load_part-requires g c = record { table = c.requires.table }
+
+pub returns-clause-whole : goal.returns-clause-whole
+returns-clause-whole g c = c.parts.invariant.whole
+
+pub returns-clause-fits : goal.returns-clause-fits
+returns-clause-fits g c = c.parts.invariant.fits
