@@ -1,8 +1,8 @@
 -- ByDepth: the depths of operations, and the columns of their boxes.
-use Rattle.std.proofs.Common.{◌≡◌, inl, inr, ℕ, suc, ◌+◌, ◌<◌, ◌≤◌, max, Bool, false, cond, List, [], ◌∷◌, ◌++◌, length, drop, get_or, Some, slice_get, slice_index_or, refl, sym, ap, ap₂, subst, ◌∙◌, arith}
+use Rattle.std.proofs.Common.{◌≡◌, inl, inr, ℕ, suc, ◌+◌, ◌^◌, ◌<◌, ◌≤◌, max, Bool, true, false, cond, List, [], ◌∷◌, ◌++◌, length, drop, get_or, Option, Some, slice_get, slice_index_or, refl, sym, ap, ap₂, subst, ◌∙◌, arith}
 use Rattle.std.specs.Option.{is_some}
 use Rattle.std.proofs.lemmas.List.{at_drop_more, at_drop_all, length_push}
-use Rattle.std.proofs.lemmas.Option.{slice_get_within, get_or_from_slice_get}
+use Rattle.std.proofs.lemmas.Option.{slice_get_within, slice_get_past, get_or_from_slice_get}
 use Rattle.vcp_base.specs.declared.kind.Kind.{Kind}
 use Rattle.vcp_base.specs.declared.ty.Ty.{Ty}
 use Rattle.op_graph.specs.declared.op.Op.{Op}
@@ -55,6 +55,23 @@ low_more depths d few low k e there =
 pub behind_is : (depths : List ℕ) (op : Op) (j d : ℕ) (reads : Bool) → d ≡ cond reads (one_deeper (slice_get depths (named op j))) 0
     → ((from : Ty) → reads ≡ is_some (reads_as op.kind from j)) → d ≡ depth_behind depths op j
 behind_is depths op j d reads is by_kind = is ∙ ap (λ b. cond b (one_deeper (slice_get depths (named op j))) 0) (by_kind op.from)
+
+pub not_read : (depth : Option ℕ) (reads : Bool) → reads ≡ false → 0 ≡ cond reads (one_deeper depth) 0
+not_read depth reads is = sym (ap (λ r. cond r (one_deeper depth) 0) is)
+
+pub not_there : (depths : List ℕ) (n : ℕ) (reads : Bool) → length depths ≤ n → 0 ≡ cond reads (one_deeper (slice_get depths n)) 0
+not_there depths n true past = sym (ap one_deeper (slice_get_past depths n past))
+not_there depths n false past = refl
+
+pub read_there : (depths : List ℕ) (n d : ℕ) (reads : Bool) → reads ≡ true → slice_get depths n ≡ Some d
+    → d + 1 ≡ cond reads (one_deeper (slice_get depths n)) 0
+read_there depths n d reads is there = sym (ap (λ r. cond r (one_deeper (slice_get depths n)) 0) is ∙ ap one_deeper there)
+
+pub one_more_few : (depths : List ℕ) (n d : ℕ) → AreBelowTheirNumber depths → slice_get depths n ≡ Some d → d + 1 ≤ length depths
+one_more_few depths n d low there = omega (arith, low n d there)
+
+pub one_more_fits : (n m : ℕ) → n ≤ m → m < 2 ^ 17 → n < 2 ^ 32
+one_more_fits n m few small = omega (arith, few, small)
 
 pub depths_none : (ops : List Op) (depths : List ℕ) → depths ≡ [] → depths_behind depths (drop 0 ops) ≡ depths_of ops
 depths_none ops depths e = ap (λ ds. depths_behind ds ops) e
