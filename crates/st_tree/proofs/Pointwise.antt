@@ -70,6 +70,18 @@ never f = (λ t. absurd cc, f)
 pub moved : {X : Type 0} (r : Bool) (x y z : X) → x ≡ y → (IsTrue r ↔ (z ≡ x)) → IsTrue r ↔ (z ≡ y)
 moved r x y z e h = (λ t. h.0 t ∙ e, λ q. h.1 (q ∙ sym e))
 
+-- a test of two parts: of the second one where the first holds, else of the first
+pub both-parts : {X Y : Type 0} (r : Bool) (a b : X) (x y : Y) → a ≡ b → (IsTrue r ↔ (x ≡ y)) → IsTrue r ↔ ((a ≡ b) × (x ≡ y))
+both-parts r a b x y e h = (λ t. (e, h.0 t), λ q. h.1 q.1)
+
+pub first-part : {P Q : Type 0} (r : Bool) → r ≡ false → (IsTrue r ↔ P) → IsTrue r ↔ (P × Q)
+first-part r e h = (λ t. absurd cc, λ q. h.1 q.0)
+
+-- a test of two values under a function, from one of their equals
+pub carried : {X Y : Type 0} (f : X → Y) (r : Bool) (x y v w : X) → (IsTrue r ↔ (f x ≡ f y)) → x ≡ v → y ≡ w
+    → IsTrue r ↔ (f v ≡ f w)
+carried f r x y v w h p q = (λ t. sym (ap f p) ∙ h.0 t ∙ ap f q, λ s. h.1 (ap f p ∙ s ∙ sym (ap f q)))
+
 -- one function after another
 pub map-twice : {X Y Z : Type 0} (f : Y → Z) (g : X → Y) (xs : List X) → map f (map g xs) ≡ map (λ x. f (g x)) xs
 map-twice f g [] = refl

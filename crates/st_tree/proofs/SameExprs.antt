@@ -1,15 +1,19 @@
 -- Expressions that are equal bare.
-use Rattle.std.proofs.Common.{◌≡◌, ℕ, ◌<◌, Bool, List, [], ◌∷◌, length, get_or, refl, sym, ap, ◌∙◌}
+use Rattle.std.proofs.Common.{◌≡◌, ℕ, ℤ, ◌<◌, Bool, false, List, [], ◌∷◌, length, get_or, refl, sym, ap, ◌∙◌, Option, Box, Global}
 use Rattle.std.specs.Prelude.{IsTrue, ◌↔◌, map}
 use Rattle.vcp_base.specs.declared.spot.Spot.{Spot}
 use Rattle.vcp_base.specs.declared.text.Text.{Text}
+use Rattle.vcp_base.specs.declared.ty.Ty.{Ty}
+use Rattle.st_tree.specs.declared.expr.UnOp.{UnOp}
+use Rattle.st_tree.specs.declared.expr.BinOp.{BinOp}
 use Rattle.st_tree.specs.declared.expr.Exprs.{Exprs}
-use Rattle.st_tree.specs.declared.expr.Expr.{Expr, Call}
-use Rattle.st_tree.specs.ExprTree.{ExprTree, ExprTrees, no_exprs, and_expr, call}
+use Rattle.st_tree.specs.declared.expr.Expr.{Expr, Unary, Binary, Call}
+use Rattle.st_tree.specs.declared.expr.Expr.TheVariants.{Lit, Name, Unary', Binary', Call'}
+use Rattle.st_tree.specs.ExprTree.{ExprTree, ExprTrees, no_exprs, and_expr, literal, name, unary, binary, call}
 use Rattle.st_tree.specs.ExprViews.{expr_tree, expr_trees}
 use Rattle.st_tree.specs.Bare.{nowhere, bare_expr, bare_exprs}
 use Rattle.st_tree.proofs.Rows.{tree-call}
-use Rattle.st_tree.proofs.Pointwise.{by-each, same-length, each}
+use Rattle.st_tree.proofs.Pointwise.{by-each, same-length, each, never}
 
 -- an expression of the program, bare
 abbrev pub bare_of : Expr → ExprTree
@@ -61,3 +65,94 @@ same-call r n m x y z e h f = (
   λ t. f ∙ (λ i. call (e i) (h.0 t i) nowhere),
   λ q. h.1 (call-parts n m x y (sym f ∙ q)),
 )
+
+pub other-call : (r : Bool) (n m : List ℕ) (x y : ExprTrees) (z : ExprTree) → r ≡ false → (IsTrue r ↔ (n ≡ m))
+    → z ≡ call n x nowhere → IsTrue r ↔ (z ≡ call m y nowhere)
+other-call r n m x y z e h f = (λ t. absurd cc, λ q. h.1 (call-names n m x y (sym f ∙ q)))
+  where
+    call-names : (n m : List ℕ) (x y : ExprTrees) → call n x nowhere ≡ call m y nowhere → n ≡ m
+    call-names n m x y e = cc
+
+-- ---- expressions of one kind are equal where their parts are
+
+pub same-name : (r : Bool) (n m : List ℕ) (z : ExprTree) → (IsTrue r ↔ (n ≡ m)) → z ≡ name n nowhere
+    → IsTrue r ↔ (z ≡ name m nowhere)
+same-name r n m z h f = (λ t. f ∙ ap (λ (x : List ℕ). name x nowhere) (h.0 t), λ q. h.1 (names n m (sym f ∙ q)))
+  where
+    names : (n m : List ℕ) → name n nowhere ≡ name m nowhere → n ≡ m
+    names n m e = cc
+
+pub bare-unary : (a : Expr) (o : UnOp) (b : Box Expr Global) (s : Spot) (x : Expr) → a ≡ Unary o b s → x ≡ b.value
+    → bare_of a ≡ unary o (bare_of x) nowhere
+bare-unary a o b s x e f = ap bare_of e ∙ sym (ap (λ (y : Expr). unary o (bare_of y) nowhere) f)
+
+unary-parts : (o p : UnOp) (x y : ExprTree) → unary o x nowhere ≡ unary p y nowhere → (o ≡ p) × (x ≡ y)
+unary-parts o p x y e = (cc, cc)
+
+pub same-unary : (r : Bool) (o p : UnOp) (x y : ExprTree) (z : ExprTree) → o ≡ p → (IsTrue r ↔ (x ≡ y))
+    → z ≡ unary o x nowhere → IsTrue r ↔ (z ≡ unary p y nowhere)
+same-unary r o p x y z e h f =
+    (λ t. f ∙ (λ i. unary (e i) (h.0 t i) nowhere), λ q. h.1 (unary-parts o p x y (sym f ∙ q)).1)
+
+pub other-unary : (r : Bool) (o p : UnOp) (x y : ExprTree) (z : ExprTree) → r ≡ false → (o ≡ p → IsTrue r)
+    → z ≡ unary o x nowhere → IsTrue r ↔ (z ≡ unary p y nowhere)
+other-unary r o p x y z e h f = (λ t. absurd cc, λ q. h (unary-parts o p x y (sym f ∙ q)).0)
+
+pub bare-binary : (a : Expr) (o : BinOp) (b d : Box Expr Global) (s : Spot) (x y : Expr) → a ≡ Binary o b d s
+    → x ≡ b.value → y ≡ d.value → bare_of a ≡ binary o (bare_of x) (bare_of y) nowhere
+bare-binary a o b d s x y e f g = ap bare_of e ∙ sym (λ i. binary o (bare_of (f i)) (bare_of (g i)) nowhere)
+
+binary-parts : (o p : BinOp) (x y v w : ExprTree) → binary o x v nowhere ≡ binary p y w nowhere
+    → (o ≡ p) × (x ≡ y) × (v ≡ w)
+binary-parts o p x y v w e = (cc, cc, cc)
+
+pub same-binary : (r : Bool) (o p : BinOp) (x y v w : ExprTree) (z : ExprTree) → o ≡ p → x ≡ y → (IsTrue r ↔ (v ≡ w))
+    → z ≡ binary o x v nowhere → IsTrue r ↔ (z ≡ binary p y w nowhere)
+same-binary r o p x y v w z d e h f = (
+  λ t. f ∙ (λ i. binary (d i) (e i) (h.0 t i) nowhere),
+  λ q. h.1 (binary-parts o p x y v w (sym f ∙ q)).2,
+)
+
+pub other-left : (r : Bool) (o p : BinOp) (x y v w : ExprTree) (z : ExprTree) → r ≡ false → (IsTrue r ↔ (x ≡ y))
+    → z ≡ binary o x v nowhere → IsTrue r ↔ (z ≡ binary p y w nowhere)
+other-left r o p x y v w z e h f = (λ t. absurd cc, λ q. h.1 (binary-parts o p x y v w (sym f ∙ q)).1)
+
+pub other-operator : (o p : BinOp) (x y v w : ExprTree) (z : ExprTree) → (o ≡ p → IsTrue false)
+    → z ≡ binary o x v nowhere → IsTrue false ↔ (z ≡ binary p y w nowhere)
+other-operator o p x y v w z h f = never (λ q. h (binary-parts o p x y v w (sym f ∙ q)).0)
+
+-- ---- expressions of another kind
+
+pub not-literal : (a : Expr) (ty : Option Ty) (v : ℤ) → ((t : _) (w : _) (s : Spot) → a ≡ Lit t w s → ⊥)
+    → IsTrue false ↔ (bare_of a ≡ literal ty v nowhere)
+not-literal (Lit t w s) ty v h = absurd (h t w s refl)
+not-literal (Name n s) ty v h = never (λ e. absurd cc)
+not-literal (Unary' o p x s) ty v h = never (λ e. absurd cc)
+not-literal (Binary' o p x q y s) ty v h = never (λ e. absurd cc)
+not-literal (Call' n shape args s) ty v h = never (λ e. absurd cc)
+
+pub not-name : (a : Expr) (m : List ℕ) → ((n : Text) (s : Spot) → a ≡ Name n s → ⊥)
+    → IsTrue false ↔ (bare_of a ≡ name m nowhere)
+not-name (Lit t w s) m h = never (λ e. absurd cc)
+not-name (Name n s) m h = absurd (h n s refl)
+not-name (Unary' o p x s) m h = never (λ e. absurd cc)
+not-name (Binary' o p x q y s) m h = never (λ e. absurd cc)
+not-name (Call' n shape args s) m h = never (λ e. absurd cc)
+
+pub not-unary : (a : Expr) (u : UnOp) (b : ExprTree) → ((o : UnOp) (x : Box Expr Global) (s : Spot) → a ≡ Unary o x s → ⊥)
+    → IsTrue false ↔ (bare_of a ≡ unary u b nowhere)
+not-unary (Lit t w s) u b h = never (λ e. absurd cc)
+not-unary (Name n s) u b h = never (λ e. absurd cc)
+not-unary (Unary' o p x s) u b h = absurd (h o (record { ptr = p.ptr; alloc = p.alloc; value = x }) s refl)
+not-unary (Binary' o p x q y s) u b h = never (λ e. absurd cc)
+not-unary (Call' n shape args s) u b h = never (λ e. absurd cc)
+
+pub not-binary : (a : Expr) (u : BinOp) (b d : ExprTree)
+    → ((o : BinOp) (x y : Box Expr Global) (s : Spot) → a ≡ Binary o x y s → ⊥)
+    → IsTrue false ↔ (bare_of a ≡ binary u b d nowhere)
+not-binary (Lit t w s) u b d h = never (λ e. absurd cc)
+not-binary (Name n s) u b d h = never (λ e. absurd cc)
+not-binary (Unary' o p x s) u b d h = never (λ e. absurd cc)
+not-binary (Binary' o p x q y s) u b d h =
+    absurd (h o (record { ptr = p.ptr; alloc = p.alloc; value = x }) (record { ptr = q.ptr; alloc = q.alloc; value = y }) s refl)
+not-binary (Call' n shape args s) u b d h = never (λ e. absurd cc)

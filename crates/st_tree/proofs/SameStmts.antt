@@ -1,5 +1,5 @@
 -- Statements that are equal bare.
-use Rattle.std.proofs.Common.{◌≡◌, ℕ, ◌<◌, Bool, false, List, [], ◌∷◌, length, get_or, refl, sym, ap, ◌∙◌, Option}
+use Rattle.std.proofs.Common.{◌≡◌, ℕ, ◌<◌, Bool, false, List, [], ◌∷◌, length, get_or, refl, sym, ap, ◌∙◌, Option, Some, None}
 use Rattle.std.specs.Prelude.{IsTrue, ◌↔◌, map}
 use Rattle.vcp_base.specs.declared.spot.Spot.{Spot}
 use Rattle.vcp_base.specs.declared.text.Text.{Text}
@@ -10,16 +10,17 @@ use Rattle.st_tree.specs.declared.stmt.Arms.{Arms}
 use Rattle.st_tree.specs.declared.stmt.Branch.{Branch}
 use Rattle.st_tree.specs.declared.stmt.Branches.{Branches}
 use Rattle.st_tree.specs.declared.stmt.Stmts.{Stmts}
-use Rattle.st_tree.specs.declared.stmt.Stmt.{Stmt, If, Case, For}
+use Rattle.st_tree.specs.declared.stmt.Stmt.{Stmt, If, Case, For, roll-Stmt, roll-out-Stmt}
+use Rattle.st_tree.specs.declared.stmt.Stmt.TheVariants.{Assign, If', Case', For', rolls-If, outs-If', rolls-Case, outs-Case', rolls-For, outs-For'}
 use Rattle.st_tree.specs.ExprTree.{ExprTree}
-use Rattle.st_tree.specs.StmtTree.{LabelTree, StmtTree, StmtTrees, ArmTrees, BranchTrees, OtherTree, if_, case, for_, no_stmts, and_stmt, no_arms, and_arm}
-use Rattle.st_tree.specs.StmtTree.{no_branches, and_branch}
+use Rattle.st_tree.specs.StmtTree.{LabelTree, StmtTree, StmtTrees, ArmTrees, BranchTrees, OtherTree, assign, if_, case, for_, no_stmts, and_stmt, no_arms}
+use Rattle.st_tree.specs.StmtTree.{and_arm, no_branches, and_branch, no_other, other}
 use Rattle.st_tree.specs.ExprViews.{expr_tree, expr_tree_or_none}
 use Rattle.st_tree.specs.StmtViews.{label_tree, label_trees, stmt_tree, stmt_trees, arm_trees, branch_trees, other_tree}
 use Rattle.st_tree.specs.Items.{arm_items, branch_items}
 use Rattle.st_tree.specs.Bare.{nowhere, bare_expr, bare_expr_or_none, bare_label, bare_stmt, bare_stmts, bare_arms, bare_branches, bare_other}
 use Rattle.st_tree.proofs.Rows.{tree-if, tree-case, tree-for}
-use Rattle.st_tree.proofs.Pointwise.{by-each, same-length, each}
+use Rattle.st_tree.proofs.Pointwise.{by-each, same-length, each, never}
 
 -- nodes of the program, bare
 abbrev pub bare_label_of : Label → LabelTree
@@ -202,3 +203,102 @@ same-for r n m f g l k by step x y z d e h w = (
   λ t. w ∙ (λ i. for_ (d i) nowhere (e.0 i) (e.1 i) (e.2 i) (h.0 t i) nowhere),
   λ q. h.1 (for-parts n m f g l k by step x y (sym w ∙ q)),
 )
+
+assign-parts : (n m : List ℕ) (x y : ExprTree) → assign n x nowhere ≡ assign m y nowhere → (n ≡ m) × (x ≡ y)
+assign-parts n m x y e = (cc, cc)
+
+pub same-assign : (r : Bool) (n m : List ℕ) (x y : ExprTree) (z : StmtTree) → n ≡ m → (IsTrue r ↔ (x ≡ y))
+    → z ≡ assign n x nowhere → IsTrue r ↔ (z ≡ assign m y nowhere)
+same-assign r n m x y z e h f = (
+  λ t. f ∙ (λ i. assign (e i) (h.0 t i) nowhere),
+  λ q. h.1 (assign-parts n m x y (sym f ∙ q)).1,
+)
+
+pub other-assign : (r : Bool) (n m : List ℕ) (x y : ExprTree) (z : StmtTree) → r ≡ false → (IsTrue r ↔ (n ≡ m))
+    → z ≡ assign n x nowhere → IsTrue r ↔ (z ≡ assign m y nowhere)
+other-assign r n m x y z e h f = (λ t. absurd cc, λ q. h.1 (assign-parts n m x y (sym f ∙ q)).0)
+
+pub other-selector : (a b : ExprTree) (x y : BranchTrees) (o p : OtherTree) (z : StmtTree) → (a ≡ b → IsTrue false)
+    → z ≡ case a x o nowhere → IsTrue false ↔ (z ≡ case b y p nowhere)
+other-selector a b x y o p z h f = never (λ q. h (case-parts a b x y o p (sym f ∙ q)).0)
+
+all-parts : (n m : List ℕ) (f g l k : ExprTree) (by step : Option ExprTree) (x y : StmtTrees)
+    → for_ n nowhere f l by x nowhere ≡ for_ m nowhere g k step y nowhere
+    → (n ≡ m) × ((f ≡ g) × (l ≡ k) × (by ≡ step))
+all-parts n m f g l k by step x y e = (cc, (cc, cc, cc))
+
+pub other-variable : (n m : List ℕ) (f g l k : ExprTree) (by step : Option ExprTree) (x y : StmtTrees) (z : StmtTree)
+    → (n ≡ m → IsTrue false)
+    → z ≡ for_ n nowhere f l by x nowhere → IsTrue false ↔ (z ≡ for_ m nowhere g k step y nowhere)
+other-variable n m f g l k by step x y z h w = never (λ q. h (all-parts n m f g l k by step x y (sym w ∙ q)).0)
+
+pub other-bounds : (r : Bool) (n m : List ℕ) (f g l k : ExprTree) (by step : Option ExprTree) (x y : StmtTrees) (z : StmtTree)
+    → r ≡ false → (IsTrue r ↔ ((f ≡ g) × (l ≡ k) × (by ≡ step)))
+    → z ≡ for_ n nowhere f l by x nowhere → IsTrue r ↔ (z ≡ for_ m nowhere g k step y nowhere)
+other-bounds r n m f g l k by step x y z e h w =
+    (λ t. absurd cc, λ q. h.1 (all-parts n m f g l k by step x y (sym w ∙ q)).1)
+
+-- ---- statements of another kind
+
+pub not-assign : (a : Stmt) (m : List ℕ) (v : ExprTree) → ((n : Text) (e : Expr) (s : Spot) → a ≡ Assign n e s → ⊥)
+    → IsTrue false ↔ (bare_stmt_of a ≡ assign m v nowhere)
+not-assign (Assign n e s) m v h = absurd (h n e s refl)
+not-assign (If' arms held) m v h = never (λ q. absurd cc)
+not-assign (Case' e branches held s) m v h = never (λ q. absurd cc)
+not-assign (For' n ns f l by shape body s) m v h = never (λ q. absurd cc)
+
+pub not-if : (a : Stmt) (x : ArmTrees) (o : OtherTree) → ((arms : Arms) (p : Option Stmts) → a ≡ If arms p → ⊥)
+    → IsTrue false ↔ (bare_stmt_of a ≡ if_ x o)
+not-if (Assign n e s) x o h = never (λ q. absurd cc)
+not-if (If' arms held) x o h =
+    absurd (h _ _ (sym (roll-out-Stmt (If' arms held)) ∙ ap roll-Stmt (outs-If' arms held) ∙ rolls-If _ _))
+not-if (Case' e branches held s) x o h = never (λ q. absurd cc)
+not-if (For' n ns f l by shape body s) x o h = never (λ q. absurd cc)
+
+pub not-case : (a : Stmt) (v : ExprTree) (x : BranchTrees) (o : OtherTree)
+    → ((e : Expr) (branches : Branches) (p : Option Stmts) (s : Spot) → a ≡ Case e branches p s → ⊥)
+    → IsTrue false ↔ (bare_stmt_of a ≡ case v x o nowhere)
+not-case (Assign n e s) v x o h = never (λ q. absurd cc)
+not-case (If' arms held) v x o h = never (λ q. absurd cc)
+not-case (Case' e branches held s) v x o h =
+    absurd (h _ _ _ _ (sym (roll-out-Stmt (Case' e branches held s)) ∙ ap roll-Stmt (outs-Case' e branches held s) ∙ rolls-Case _ _ _ _))
+not-case (For' n ns f l by shape body s) v x o h = never (λ q. absurd cc)
+
+pub not-for : (a : Stmt) (m : List ℕ) (g k : ExprTree) (step : Option ExprTree) (x : StmtTrees)
+    → ((n : Text) (ns : Spot) (f l : Expr) (by : Option Expr) (body : Stmts) (s : Spot) → a ≡ For n ns f l by body s → ⊥)
+    → IsTrue false ↔ (bare_stmt_of a ≡ for_ m nowhere g k step x nowhere)
+not-for (Assign n e s) m g k step x h = never (λ q. absurd cc)
+not-for (If' arms held) m g k step x h = never (λ q. absurd cc)
+not-for (Case' e branches held s) m g k step x h = never (λ q. absurd cc)
+not-for (For' n ns f l by shape body s) m g k step x h =
+    absurd (h _ _ _ _ _ _ _
+    (sym (roll-out-Stmt (For' n ns f l by shape body s)) ∙ ap roll-Stmt (outs-For' n ns f l by shape body s) ∙ rolls-For _ _ _ _ _ _ _))
+
+-- ---- bodies and labels behind their lists
+
+abbrev pub bare_stmts_of : List Stmt → StmtTrees
+bare_stmts_of ss = bare_stmts (stmt_trees ss)
+
+abbrev pub bare_labels_of : List Label → List LabelTree
+bare_labels_of ls = map bare_label (label_trees ls)
+
+pub else-none : (a b : Option Stmts) (x : Stmts) → a ≡ Some x → b ≡ None
+    → IsTrue false ↔ (bare_other (other_tree a) ≡ bare_other (other_tree b))
+else-none a b x e f =
+    never (λ q. absurd (apart _
+    (sym (ap (λ (y : Option Stmts). bare_other (other_tree y)) e) ∙ q ∙ ap (λ (y : Option Stmts). bare_other (other_tree y)) f)))
+  where
+    apart : (y : StmtTrees) → other y ≡ no_other → ⊥
+    apart y e = cc
+
+pub else-same : (r : Bool) (a b : Option Stmts) (p q : Stmts) → a ≡ Some p → b ≡ Some q
+    → (IsTrue r ↔ (bare_body_of p ≡ bare_body_of q)) → IsTrue r ↔ (bare_other (other_tree a) ≡ bare_other (other_tree b))
+else-same r a b p q e f h = (
+  λ t. ap (λ (y : Option Stmts). bare_other (other_tree y)) e ∙ ap (λ (y : StmtTrees). other y) (h.0 t)
+      ∙ sym (ap (λ (y : Option Stmts). bare_other (other_tree y)) f),
+  λ s. h.1 (bodies _ _
+      (sym (ap (λ (y : Option Stmts). bare_other (other_tree y)) e) ∙ s ∙ ap (λ (y : Option Stmts). bare_other (other_tree y)) f)),
+)
+  where
+    bodies : (x y : StmtTrees) → other x ≡ other y → x ≡ y
+    bodies x y e = cc

@@ -1,8 +1,9 @@
 use Rattle.std.proofs.Common.{◌≡◌, sym, ap, refl}
-use Rattle.st_tree.proofs.Pointwise.{always, never, all-before, at-one-more, at-place, moved}
+use Rattle.st_tree.proofs.Pointwise.{always, never, all-before, at-one-more, at-place, moved, both-parts, first-part, carried}
 use Rattle.st_tree.proofs.SameStmts.{bare_stmt_of, bare_arm_of, bare_branch_of, stmts-by-each, stmts-length, stmts-each, arms-by-each, arms-length, arms-each}
 use Rattle.st_tree.proofs.SameStmts.{branches-by-each, branches-length, branches-each, bare-if, bare-case, bare-for, same-if, other-if, same-case, other-case}
-use Rattle.st_tree.proofs.SameStmts.{same-for}
+use Rattle.st_tree.proofs.SameStmts.{same-for, other-selector, other-variable, other-bounds, not-if, not-case, not-for, bare_stmts_of, bare_labels_of}
+use Rattle.st_tree.proofs.SameStmts.{else-none, else-same}
 use Rattle.st_tree.proofs.same_stmt.+same_stmt.Goals as goal
 
 pub same_stmt-returns-in-If : goal.same_stmt-returns-in-If
@@ -100,3 +101,55 @@ pub same_branches-returns : goal.same_branches-returns
 same_branches-returns t c =
     always (branches-by-each c.args.a.now c.args.b.now c.if-a-b.false
     (all-before bare_branch_of _ _ c.loop-i.i c.loop-i-test.false c.loop-i.invariant))
+
+pub same_stmt-returns-in-Assign : goal.same_stmt-returns-in-Assign
+same_stmt-returns-in-Assign t c = moved _ _ _ _ (sym (ap bare_stmt_of c.in-Assign.is)) c.is_assign.ensures
+
+pub is_if-returns-in_default : goal.is_if-returns-in_default
+is_if-returns-in_default t c = not-if _ _ _ c.in_default.not-If
+
+pub is_case-returns-then-not-same_expr : goal.is_case-returns-then-not-same_expr
+is_case-returns-then-not-same_expr t c =
+    other-selector _ _ _ _ _ _ _ c.if-not-same_expr.ensures.1 (bare-case _ _ _ _ _ _ c.in-Case.is refl)
+
+pub is_case-returns-in_default : goal.is_case-returns-in_default
+is_case-returns-in_default t c = not-case _ _ _ _ c.in_default.not-Case
+
+pub is_for-returns-then-not-same_text : goal.is_for-returns-then-not-same_text
+is_for-returns-then-not-same_text t c =
+    other-variable _ _ _ _ _ _ _ _ _ _ _ c.if-not-same_text.ensures.1 (bare-for _ _ _ _ _ _ _ _ _ c.in-For.is refl)
+
+pub is_for-returns-else-same_bounds : goal.is_for-returns-else-same_bounds
+is_for-returns-else-same_bounds t c =
+    other-bounds _ _ _ _ _ _ _ _ _ _ _ _ c.if-same_bounds.false c.same_bounds.ensures
+    (bare-for _ _ _ _ _ _ _ _ _ c.in-For.is refl)
+
+pub is_for-returns-in_default : goal.is_for-returns-in_default
+is_for-returns-in_default t c = not-for _ _ _ _ _ _ c.in_default.not-For
+
+pub same_arm-returns-then-same_expr : goal.same_arm-returns-then-same_expr
+same_arm-returns-then-same_expr t c =
+    both-parts _ _ _ _ _ (c.same_expr.ensures.0 c.if-same_expr.true)
+    (carried bare_stmts_of _ _ _ _ _ c.same_stmts.ensures c.deref.ensures.value c.deref-then-same_expr.ensures.value)
+
+pub same_arm-returns-else-same_expr : goal.same_arm-returns-else-same_expr
+same_arm-returns-else-same_expr t c = first-part _ c.if-same_expr.false c.same_expr.ensures
+
+pub same_branch-returns-then-same_labels : goal.same_branch-returns-then-same_labels
+same_branch-returns-then-same_labels t c =
+    both-parts _ _ _ _ _
+    ((carried bare_labels_of _ _ _ _ _ c.same_labels.ensures c.deref.ensures.value c.deref-2.ensures.value).0 c.if-same_labels.true)
+    (carried bare_stmts_of _ _ _ _ _ c.same_stmts.ensures c.deref-then-same_labels.ensures.value c.deref-then-same_labels-2.ensures.value)
+
+pub same_branch-returns-else-same_labels : goal.same_branch-returns-else-same_labels
+same_branch-returns-else-same_labels t c =
+    first-part _ c.if-same_labels.false
+    (carried bare_labels_of _ _ _ _ _ c.same_labels.ensures c.deref.ensures.value c.deref-2.ensures.value)
+
+pub same_other-returns-in-None-b : goal.same_other-returns-in-None-b
+same_other-returns-in-None-b t c = else-none _ _ _ c.in-Some.is c.in-None-b.is
+
+pub same_other-returns-in-Some-b : goal.same_other-returns-in-Some-b
+same_other-returns-in-Some-b t c =
+    else-same _ _ _ _ _ c.in-Some.is c.in-Some-b.is
+    (carried bare_stmts_of _ _ _ _ _ c.same_stmts.ensures c.deref.ensures.value c.deref-in-Some-b.ensures.value)
