@@ -6,6 +6,7 @@ ghost use Rattle.vcp_typed.specs.TExprTree.{literal as literal_tree, get as get_
 ghost use Rattle.vcp_typed.specs.TExprTree.{call as call_tree, no_texprs, and_texpr};
 ghost use Rattle.vcp_typed.specs.TExprViews.{texpr_tree, texpr_trees, texprs_and};
 
+use crate::list::append;
 use st_tree::{BinOp, UnOp};
 use std::alloc::Global;
 use std::boxed::Box;
@@ -166,8 +167,7 @@ impl TExprs {
             ≡ texprs_and (texpr_trees self.old.items.items) (texpr_tree item)) }
         ensures unchanged { OnErr result (self.new.items.items ≡ self.old.items.items) }
     {
-        self.items.push(item)?;
-        Ok(())
+        append(&mut self.items, item)
     }
 
     /// How many expressions there are.
@@ -186,6 +186,13 @@ impl TExprs {
     {
         &self.items[i]
     }
+}
+
+/// The expression in a box; `Memory` where there is no room for it.
+fn boxed(alloc: Global, e: TExpr) -> Result<Box<TExpr>, Memory>
+    ensures { IfOk result (λ b. b.value ≡ e) }
+{
+    Ok(Box::new(alloc, e)?)
 }
 
 impl TExpr {
@@ -209,7 +216,7 @@ impl TExpr {
     {
         Ok(TExpr::Widen {
             ty,
-            arg: Box::new(alloc, arg)?,
+            arg: boxed(alloc, arg)?,
         })
     }
 
@@ -220,7 +227,7 @@ impl TExpr {
         Ok(TExpr::Unary {
             op,
             ty,
-            arg: Box::new(alloc, arg)?,
+            arg: boxed(alloc, arg)?,
             spot,
         })
     }
@@ -240,8 +247,8 @@ impl TExpr {
         Ok(TExpr::Binary {
             op,
             ty,
-            left: Box::new(alloc, left)?,
-            right: Box::new(alloc, right)?,
+            left: boxed(alloc, left)?,
+            right: boxed(alloc, right)?,
             spot,
         })
     }

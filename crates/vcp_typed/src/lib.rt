@@ -6,6 +6,7 @@
 
 mod expr;
 mod laws;
+mod list;
 mod size;
 mod slot;
 mod stmt;

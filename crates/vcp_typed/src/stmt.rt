@@ -9,6 +9,7 @@ ghost use Rattle.vcp_typed.specs.TStmtTree.{and_tarm, no_tbranches, and_tbranch}
 ghost use Rattle.vcp_typed.specs.TStmtViews.{tstmt_tree, tstmt_trees, tarm_trees, tbranch_trees, tother_tree, tstmts_and, tarms_and, tbranches_and};
 
 use crate::expr::TExpr;
+use crate::list::append;
 use std::alloc::Global;
 use vcp_base::{Memory, Spot};
 
@@ -180,8 +181,7 @@ impl TLabels {
         ensures items { OnOk result (self.new.items.items ≡ self.old.items.items ++ item ∷ []) }
         ensures unchanged { OnErr result (self.new.items.items ≡ self.old.items.items) }
     {
-        self.items.push(item)?;
-        Ok(())
+        append(&mut self.items, item)
     }
 
     /// How many labels there are.
@@ -219,8 +219,7 @@ impl TStmts {
             ≡ tstmts_and (tstmt_trees self.old.items.items) (tstmt_tree item)) }
         ensures unchanged { OnErr result (self.new.items.items ≡ self.old.items.items) }
     {
-        self.items.push(item)?;
-        Ok(())
+        append(&mut self.items, item)
     }
 
     /// How many statements there are.
@@ -260,8 +259,7 @@ impl TArms {
             ≡ tarms_and (tarm_trees (tarm_items self.old)) (texpr_tree item.cond) (tstmt_trees item.body.items.items) item.spot) }
         ensures unchanged { OnErr result (tarm_items self.new ≡ tarm_items self.old) }
     {
-        self.items.push(item)?;
-        Ok(())
+        append(&mut self.items, item)
     }
 
     /// How many conditions there are.
@@ -302,8 +300,7 @@ impl TBranches {
             ≡ tbranches_and (tbranch_trees (tbranch_items self.old)) item.labels.items.items (tstmt_trees item.body.items.items)) }
         ensures unchanged { OnErr result (tbranch_items self.new ≡ tbranch_items self.old) }
     {
-        self.items.push(item)?;
-        Ok(())
+        append(&mut self.items, item)
     }
 
     /// How many branches there are.
