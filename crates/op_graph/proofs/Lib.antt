@@ -1,3 +1,4 @@
+pub mod Both
 pub mod Cells
 pub mod Chains
 pub mod Entries

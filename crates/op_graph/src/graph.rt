@@ -1,6 +1,6 @@
 //! Graphs.
 
-ghost use Rattle.std.specs.Prelude.{◌≡◌, ◌-◌, ◌<◌, ◌≤◌, ℤ, List, Some, IfOk, IfSome, [], length, map, slice_get, slice_index_or, All};
+ghost use Rattle.std.specs.Prelude.{◌≡◌, ◌-◌, ◌<◌, ◌≤◌, ℤ, List, Some, IfOk, OnOk, IfSome, [], ◌∷◌, ◌++◌, length, map, slice_get, slice_index_or, All};
 ghost use Rattle.op_graph.specs.Lists.{cells, column as column_of, output_column, turns_of, lists_of};
 ghost use Rattle.op_graph.specs.Rules.{IsGraph, HasTypes};
 ghost use Rattle.op_graph.specs.GraphRun.{graph_run};
@@ -252,7 +252,7 @@ impl Graph {
     {
         let mut columns = Columns::new(alloc);
         'inputs: for input in &self.lists.inputs {
-            columns.push(self.column(alloc, input.name, input.ty)?)?;
+            self.append_column(alloc, &mut columns, input.name, input.ty)?;
         }
         Ok(columns)
     }
@@ -263,19 +263,23 @@ impl Graph {
     {
         let mut columns = Columns::new(alloc);
         'outputs: for output in &self.lists.outputs {
-            columns.push(self.column(alloc, output.name, output.ty)?)?;
+            self.append_column(alloc, &mut columns, output.name, output.ty)?;
         }
         Ok(columns)
     }
 
-    /// The column of a name and a type.
-    fn column(&self, alloc: Global, name: u32, ty: Ty) -> Result<Column, Memory>
+    /// Appends the column of a name and a type.
+    fn append_column(
+        &self,
+        alloc: Global,
+        columns: &mut Columns,
+        name: u32,
+        ty: Ty,
+    ) -> Result<(), Memory>
         requires { name < length self.now.names }
-        ensures { IfOk result (λ column. column ≡ record { name = slice_index_or self.now.names name []; ty = ty }) }
+        ensures { OnOk result (columns.new ≡ columns.old ++ record { name = slice_index_or self.now.names name []; ty = ty } ∷ []) }
     {
-        Ok(Column {
-            name: Text::copy_of(alloc, self.lists.names[name as usize].bytes())?,
-            ty,
-        })
+        let name = Text::copy_of(alloc, self.lists.names[name as usize].bytes())?;
+        columns.push(Column { name, ty })
     }
 }

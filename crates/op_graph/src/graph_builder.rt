@@ -80,24 +80,31 @@ impl Drop for GraphBuilder {
     }
 }
 
-/// Appends an operation and an entry of another list, or neither.
+/// Appends an operation and an entry of another list, or neither. Gives the operation's number.
 fn append_both<T: Drop>(
     operations: &mut Vec<Op>,
     op: Op,
     entries: &mut Vec<T>,
     entry: T,
-) -> Result<(), Memory>
+) -> Result<u32, Build>
+    requires { length operations.old.items ≤ most_operations }
+    ensures number { IfOk result (λ k. k ≡ length operations.old.items) }
     ensures operation { OnOk result (operations.new.items ≡ operations.old.items ++ op ∷ []) }
     ensures entry { OnOk result (entries.new.items ≡ entries.old.items ++ entry ∷ []) }
+    ensures full { (result ≡ Err Build.Full) ↔ (length operations.old.items ≡ most_operations) }
     ensures no_operation { OnErr result (operations.new.items ≡ operations.old.items) }
     ensures no_entry { OnErr result (entries.new.items ≡ entries.old.items) }
 {
+    let k = operations.len() as u32;
+    if k >= MOST_OPERATIONS {
+        return Err(Build::Full);
+    }
     entries.push(entry)?;
     if operations.push(op).is_err() {
         entries.pop();
-        return Err(Memory);
+        return Err(Build::Memory);
     }
-    Ok(())
+    Ok(k)
 }
 
 /// The INPUT, LOAD, STORE or OUT of the input, cell or output of a number, which reads operation `a`.
@@ -190,6 +197,7 @@ impl GraphBuilder {
         ensures number { IfOk result (λ k. k ≡ length self.old.turn_nodes + 1) }
         ensures added { OnOk result (self.new ≡ with_turn_node self.old node) }
         ensures err { OnErr result (self.new ≡ self.old) }
+        ensures rules { IsPart self.new }
     {
         let k = self.turn_nodes.len();
         self.turn_nodes.push(node)?;
@@ -208,10 +216,11 @@ impl GraphBuilder {
         ensures added { OnOk result (self.new ≡ with_input self.old name ty spot) }
         ensures err { OnErr result (self.new ≡ self.old) }
     {
-        let k = self.operations.len();
         let op = entry_op(Kind::Input, ty, 0, self.inputs.len(), spot);
-        append_both(&mut self.operations, op, &mut self.inputs, Var { name, ty })?;
-        Ok(k as u32)
+        let Ok(k) = append_both(&mut self.operations, op, &mut self.inputs, Var { name, ty }) else {
+            return Err(Memory);
+        };
+        Ok(k)
     }
 
     /// Adds a cell and its LOAD, where there are fewer than 1,024 cells and the initial value is in
@@ -225,20 +234,16 @@ impl GraphBuilder {
         ensures added { OnOk result (self.new ≡ with_load self.old name ty init spot) }
         ensures full { (result ≡ Err Build.Full) ↔ (length self.old.operations ≡ most_operations) }
         ensures err { OnErr result (self.new ≡ self.old) }
+        ensures rules { IsPart self.new }
     {
-        let k = self.operations.len();
-        if k >= MOST_OPERATIONS as usize {
-            return Err(Build::Full);
-        }
         let op = entry_op(Kind::Load, ty, 0, self.loads.len(), spot);
         let cell = Loaded {
             name,
             ty,
             init,
-            load: k as u32,
+            load: self.operations.len() as u32,
         };
-        append_both(&mut self.operations, op, &mut self.loads, cell)?;
-        Ok(k as u32)
+        append_both(&mut self.operations, op, &mut self.loads, cell)
     }
 
     /// Adds an operation of no input, output or cell, which the rules allow after those that are
@@ -250,6 +255,7 @@ impl GraphBuilder {
         ensures added { OnOk result (self.new ≡ with_op self.old op) }
         ensures full { (result ≡ Err Build.Full) ↔ (length self.old.operations ≡ most_operations) }
         ensures err { OnErr result (self.new ≡ self.old) }
+        ensures rules { IsPart self.new }
     {
         let k = self.operations.len();
         if k >= MOST_OPERATIONS as usize {
@@ -270,19 +276,15 @@ impl GraphBuilder {
         ensures added { OnOk result (self.new ≡ with_output self.old name ty value spot) }
         ensures full { (result ≡ Err Build.Full) ↔ (length self.old.operations ≡ most_operations) }
         ensures err { OnErr result (self.new ≡ self.old) }
+        ensures rules { IsPart self.new }
     {
-        let k = self.operations.len();
-        if k >= MOST_OPERATIONS as usize {
-            return Err(Build::Full);
-        }
         let op = entry_op(Kind::Out, ty, value, self.outputs.len(), spot);
         let output = Outlet {
             name,
             ty,
-            op: k as u32,
+            op: self.operations.len() as u32,
         };
-        append_both(&mut self.operations, op, &mut self.outputs, output)?;
-        Ok(k as u32)
+        append_both(&mut self.operations, op, &mut self.outputs, output)
     }
 
     /// Adds the STORE of a cell, which stores operation `value`, where the cells below are stored,
@@ -295,15 +297,12 @@ impl GraphBuilder {
         ensures added { OnOk result (self.new ≡ with_store self.old (cell_type self.old cell) value spot) }
         ensures full { (result ≡ Err Build.Full) ↔ (length self.old.operations ≡ most_operations) }
         ensures err { OnErr result (self.new ≡ self.old) }
+        ensures rules { IsPart self.new }
     {
-        let k = self.operations.len();
-        if k >= MOST_OPERATIONS as usize {
-            return Err(Build::Full);
-        }
         let ty = type_at(&self.loads, cell);
         let op = entry_op(Kind::Store, ty, value, cell as usize, spot);
-        append_both(&mut self.operations, op, &mut self.stores, k as u32)?;
-        Ok(k as u32)
+        let k = self.operations.len() as u32;
+        append_both(&mut self.operations, op, &mut self.stores, k)
     }
 
     /// The graph of what was built, where every cell is stored. It takes no memory.

@@ -7,6 +7,9 @@ at_any_end : {T E P : Type 0} (r : Result T E) → P → OnErr r P
 at_any_end (Ok value) so = tt
 at_any_end (Err why) so = so
 
+pub returns-in_err-push-clause-number : goal.returns-in_err-push-clause-number
+returns-in_err-push-clause-number g c = IfOk-from_err c.from_residual.result _ c.from_residual.ensures.0
+
 pub returns-in_err-push-clause-operation : goal.returns-in_err-push-clause-operation
 returns-in_err-push-clause-operation g c = IfOk-from_err c.from_residual.result _ c.from_residual.ensures.0
 
@@ -33,3 +36,6 @@ returns-then-is_err-clause-operation g c = tt
 
 pub returns-then-is_err-clause-entry : goal.returns-then-is_err-clause-entry
 returns-then-is_err-clause-entry g c = tt
+
+pub returns-then-is_err-clause-number : goal.returns-then-is_err-clause-number
+returns-then-is_err-clause-number g c = tt

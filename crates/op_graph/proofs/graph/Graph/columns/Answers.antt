@@ -5,8 +5,8 @@ use Rattle.op_graph.specs.Rules.{InputFits}
 use Rattle.op_graph.proofs.Entries.{each_under, under_all}
 use Rattle.op_graph.proofs.graph.Graph.columns.Goals as goal
 
-pub column-requires : goal.column-requires
-column-requires c =
+pub append_column-requires : goal.append_column-requires
+append_column-requires c =
     let inputs = c.self.inside.lists.inputs.items in
     let names = c.self.inside.lists.names.items in
     let under = each_under (InputFits (length names)) (λ v. v.name) (length names) _ inputs (λ b x h. h.name) c.self.invariant.part.inputs in

@@ -5,8 +5,8 @@ use Rattle.op_graph.specs.Rules.{OutputFits}
 use Rattle.op_graph.proofs.Entries.{each_under, under_all}
 use Rattle.op_graph.proofs.graph.Graph.output_columns.Goals as goal
 
-pub column-requires : goal.column-requires
-column-requires c =
+pub append_column-requires : goal.append_column-requires
+append_column-requires c =
     let outputs = c.self.inside.lists.outputs.items in
     let names = c.self.inside.lists.names.items in
     let under = each_under (OutputFits (length names) (length c.self.inside.lists.operations.items)) (λ v. v.name) (length names) _ outputs

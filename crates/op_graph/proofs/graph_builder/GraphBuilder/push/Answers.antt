@@ -27,3 +27,6 @@ invariant_of-self-2 c =
     let few : length v.operations < most_operations = subst (λ (x : Lists). length x.operations < most_operations) c.self.view_is (omega arith) in
     subst IsPart (sym e)
     (with_op_fits v c.args.op (subst IsPart c.self.view_is c.self.invariant) few c.requires.fits (omega arith, omega arith) c.requires.types)
+
+pub returns-clause-rules : goal.returns-clause-rules
+returns-clause-rules c = invariant_of-self-2 c

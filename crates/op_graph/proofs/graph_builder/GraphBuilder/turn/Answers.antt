@@ -24,3 +24,6 @@ invariant_of-self-2 c =
     } in
     let e : new ≡ with_turn_node v c.args.node = first_of (search rules, grind (arith, common_steps, to_z-of_z)) in
     subst IsPart (sym e) (with_turn_node_fits v c.args.node (subst IsPart c.self.view_is c.self.invariant) c.requires.few c.requires.fits search)
+
+pub returns-clause-rules : goal.returns-clause-rules
+returns-clause-rules c = invariant_of-self-2 c
