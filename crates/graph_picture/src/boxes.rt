@@ -5,7 +5,7 @@ ghost use Rattle.vcp_outside.specs.Gathering.{GathersTo};
 ghost use Rattle.vcp_outside.specs.Characters.{piece_bytes};
 ghost use Rattle.vcp_outside.specs.Elements.{element_text};
 ghost use Rattle.graph_picture.specs.Drawn.{box_of, boxes_below};
-ghost use Rattle.graph_picture.specs.Elements.{colour_class as colour_class_of, worst_class as worst_class_of, class_of, outline, words, head, own};
+ghost use Rattle.graph_picture.specs.Elements.{colour_class as colour_class_of, worst_class as worst_class_of, class_of, outline, words, head};
 ghost use Rattle.graph_picture.specs.Elements.{source, blindness, note, bar, cell_bar, body_elements, box_elements};
 
 use crate::colours::Colour;
@@ -114,14 +114,6 @@ fn then_head<O: Sink>(line: &mut Line, out: &mut O, n: u32, kind: Kind, place: B
             Piece::Bytes(kind_name(kind)),
         ],
     );
-}
-
-/// Draws an operation's own name or value.
-fn then_own<O: Sink>(line: &mut Line, out: &mut O, text: Piece<'_>, place: BoxPlace)
-    ensures { GathersTo (O.seen out.old) (O.seen out.new) line.old line.new
-        (element_text (own (piece_bytes text.entry) place)) }
-{
-    then_words(line, out, place, 23, &[text]);
 }
 
 /// Draws the place of an operation in the source.
@@ -243,7 +235,7 @@ fn then_body<O: Sink, L: Looks>(
 {
     then_outline(line, out, n, look, place);
     then_head(line, out, n, op.kind, place);
-    then_own(line, out, own_piece(graph, op.kind, op.imm), place);
+    then_words(line, out, place, 23, &[own_piece(graph, op.kind, op.imm)]);
     then_source(line, out, op.spot, place);
     then_note(line, out, graph, look, place);
     then_cell_bar(line, out, op.kind, place);

@@ -5,7 +5,6 @@ ghost use Rattle.vcp_outside.specs.Gathering.{GathersTo};
 ghost use Rattle.op_graph.specs.Lists.{cells};
 ghost use Rattle.graph_picture.specs.DotText.{cell_text, cells_below};
 
-use crate::dot::nodes::then_node_name;
 use op_graph::Graph;
 use vcp_outside::{Line, Sink};
 
@@ -15,9 +14,8 @@ fn then_cell<O: Sink>(line: &mut Line, out: &mut O, graph: &Graph, k: u32)
     ensures { GathersTo (O.seen out.old) (O.seen out.new) line.old line.new (cell_text (slice_get (cells graph.now) k)) }
 {
     let cell = graph.cell(k);
-    then_node_name(line, out, cell.store);
-    line.text(out, b" -> ");
-    then_node_name(line, out, cell.load);
+    line.numbered(out, b"n", cell.store as u64);
+    line.numbered(out, b" -> n", cell.load as u64);
     line.text(out, b" [ style=\"dashed\" constraint=\"false\" ];\n");
 }
 

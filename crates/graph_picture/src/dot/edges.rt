@@ -4,9 +4,10 @@ ghost use Rattle.std.specs.Prelude.{◌≡◌, ◌<◌, ◌≤◌, ◌+◌, [], 
 ghost use Rattle.vcp_outside.specs.Gathering.{GathersTo};
 ghost use Rattle.op_graph.specs.Reads.{named};
 ghost use Rattle.graph_picture.specs.Drawn.{wire_of, wires_of, wires_below};
-ghost use Rattle.graph_picture.specs.DotText.{node_name, edge_line, edge_end, constant_text, wire_text};
+ghost use Rattle.graph_picture.specs.DotText.{edge_end, constant_text, wire_text};
 
-use crate::dot::nodes::{then_constant, then_constant_name, then_node_name};
+use crate::dot::labels::then_constant_label;
+use crate::dot::nodes::{then_constant_name, then_end};
 use crate::names::is_constant_at;
 use crate::{Colour, colour_of};
 use op_graph::{Graph, Op, reads_operation};
@@ -17,19 +18,9 @@ use weight_audit::Weights;
 fn then_edge_end<O: Sink>(line: &mut Line, out: &mut O, reader: u32, which: u32)
     ensures { GathersTo (O.seen out.old) (O.seen out.new) line.old line.new (edge_end reader which) }
 {
-    line.text(out, b" -> ");
-    then_node_name(line, out, reader);
-    line.text(out, b" [ headlabel=\"");
-    line.count(out, which as u64);
+    line.numbered(out, b" -> n", reader as u64);
+    line.numbered(out, b" [ headlabel=\"", which as u64);
     line.text(out, b"\" ];\n");
-}
-
-/// Goes on with the edge from operation `n` to operation `reader`, which reads it as its operand `which`.
-fn then_edge<O: Sink>(line: &mut Line, out: &mut O, n: u32, reader: u32, which: u32)
-    ensures { GathersTo (O.seen out.old) (O.seen out.new) line.old line.new (edge_line (node_name n) reader which) }
-{
-    then_node_name(line, out, n);
-    then_edge_end(line, out, reader, which);
 }
 
 /// Goes on with a constant at its reader, and the edge from it.
@@ -46,7 +37,10 @@ fn then_constant_at<O: Sink>(
     ensures { GathersTo (O.seen out.old) (O.seen out.new) line.old line.new
         (constant_text graph.now n colour op.now reader which) }
 {
-    then_constant(line, out, graph, n, colour, op, reader, which);
+    then_constant_name(line, out, reader, which);
+    line.text(out, b" [ label=\"");
+    then_constant_label(line, out, graph, n, colour, op);
+    then_end(line, out, op.kind, colour);
     then_constant_name(line, out, reader, which);
     then_edge_end(line, out, reader, which);
 }
@@ -78,7 +72,8 @@ fn then_wire<O: Sink>(
         let colour = colour_of(weights, k, graph.outputs(), distances);
         then_constant_at(line, out, graph, k, colour, &constant, n, j);
     } else {
-        then_edge(line, out, k, n, j);
+        line.numbered(out, b"n", k as u64);
+        then_edge_end(line, out, n, j);
     }
 }
 

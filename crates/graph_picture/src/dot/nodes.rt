@@ -4,9 +4,9 @@ ghost use Rattle.std.specs.Prelude.{◌≡◌, ◌≤◌, ◌+◌, [], length, f
 ghost use Rattle.vcp_outside.specs.Gathering.{GathersTo};
 ghost use Rattle.graph_picture.specs.Colours.{colours};
 ghost use Rattle.graph_picture.specs.Drawn.{boxes_below};
-ghost use Rattle.graph_picture.specs.DotText.{node_name, constant_name, label, constant_label, node_line, node_end, box_text};
+ghost use Rattle.graph_picture.specs.DotText.{node_name, constant_name, label, node_line, node_end, box_text};
 
-use crate::dot::labels::{then_constant_label, then_label};
+use crate::dot::labels::then_label;
 use crate::dot::words::{fill, shape};
 use crate::{Colour, colour_of, is_constant};
 use op_graph::{Graph, Op};
@@ -14,32 +14,20 @@ use vcp_base::Kind;
 use vcp_outside::{Line, Sink};
 use weight_audit::Weights;
 
-/// Goes on with the name of the node of operation `n`.
-pub(crate) fn then_node_name<O: Sink>(line: &mut Line, out: &mut O, n: u32)
-    ensures { GathersTo (O.seen out.old) (O.seen out.new) line.old line.new (node_name n) }
-{
-    line.text(out, b"n");
-    line.count(out, n as u64);
-}
-
 /// Goes on with the name of the node of the constant that operation `reader` reads as its operand `which`.
 pub(crate) fn then_constant_name<O: Sink>(line: &mut Line, out: &mut O, reader: u32, which: u32)
     ensures { GathersTo (O.seen out.old) (O.seen out.new) line.old line.new (constant_name reader which) }
 {
-    line.text(out, b"c");
-    line.count(out, reader as u64);
-    line.text(out, b"_");
-    line.count(out, which as u64);
+    line.numbered(out, b"c", reader as u64);
+    line.numbered(out, b"_", which as u64);
 }
 
 /// Ends the line of a node behind its label, with its shape and its colour.
-fn then_end<O: Sink>(line: &mut Line, out: &mut O, kind: Kind, colour: Colour)
+pub(crate) fn then_end<O: Sink>(line: &mut Line, out: &mut O, kind: Kind, colour: Colour)
     ensures { GathersTo (O.seen out.old) (O.seen out.new) line.old line.new (node_end kind colour) }
 {
-    line.text(out, b"\" shape=\"");
-    line.text(out, shape(kind));
-    line.text(out, b"\" fillcolor=\"");
-    line.text(out, fill(colour));
+    line.texts(out, b"\" shape=\"", shape(kind));
+    line.texts(out, b"\" fillcolor=\"", fill(colour));
     line.text(out, b"\" ];\n");
 }
 
@@ -55,29 +43,9 @@ fn then_operation<O: Sink>(
     ensures { GathersTo (O.seen out.old) (O.seen out.new) line.old line.new
         (node_line (node_name n) (label graph.now n colour op.now) op.now.kind colour) }
 {
-    then_node_name(line, out, n);
+    line.numbered(out, b"n", n as u64);
     line.text(out, b" [ label=\"");
     then_label(line, out, graph, n, colour, op);
-    then_end(line, out, op.kind, colour);
-}
-
-/// Goes on with the line of the node of a constant, which is operation `n`, at operation `reader`, which reads it as its operand `which`.
-pub(crate) fn then_constant<O: Sink>(
-    line: &mut Line,
-    out: &mut O,
-    graph: &Graph,
-    n: u32,
-    colour: Colour,
-    op: &Op,
-    reader: u32,
-    which: u32,
-)
-    ensures { GathersTo (O.seen out.old) (O.seen out.new) line.old line.new
-        (node_line (constant_name reader which) (constant_label graph.now n colour op.now) op.now.kind colour) }
-{
-    then_constant_name(line, out, reader, which);
-    line.text(out, b" [ label=\"");
-    then_constant_label(line, out, graph, n, colour, op);
     then_end(line, out, op.kind, colour);
 }
 

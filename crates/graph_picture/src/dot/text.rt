@@ -7,7 +7,7 @@ ghost use Rattle.vcp_outside.specs.Gathering.{GathersTo};
 ghost use Rattle.weight_audit.specs.Audit.{IsAudit};
 ghost use Rattle.graph_picture.specs.Colours.{colours};
 ghost use Rattle.graph_picture.specs.Drawn.{drawing};
-ghost use Rattle.graph_picture.specs.DotText.{beginning, drawing_text, dot_text};
+ghost use Rattle.graph_picture.specs.DotText.{drawing_text, dot_text};
 
 use crate::dot::cells::then_cells;
 use crate::dot::edges::then_edges;
@@ -16,28 +16,12 @@ use op_graph::Graph;
 use vcp_outside::{Failed, Line, Sink};
 use weight_audit::Weights;
 
-/// Goes on with how all is drawn, and what the colours mean.
-fn then_beginning<O: Sink>(line: &mut Line, out: &mut O)
-    ensures { GathersTo (O.seen out.old) (O.seen out.new) line.old line.new beginning }
-{
-    line.text(out, b"digraph {\n");
-    line.text(
-        out,
-        b"graph [ rankdir=\"LR\" nodesep=\"0.15\" ranksep=\"0.3\" fontname=\"monospace\" fontsize=\"9\" ];\n",
-    );
-    line.text(
-        out,
-        b"graph [ label=\"red: blind for the output that it names, so many cycles later; grey: reaches no output\" ];\n",
-    );
-    line.text(
-        out,
-        b"node [ fontname=\"monospace\" fontsize=\"9\" style=\"filled\" margin=\"0.06\" width=\"0\" height=\"0\" ];\n",
-    );
-    line.text(
-        out,
-        b"edge [ fontname=\"monospace\" fontsize=\"8\" arrowsize=\"0.5\" labeldistance=\"1.4\" ];\n",
-    );
-}
+/// How all is drawn, and what the colours mean.
+const BEGINNING: &[u8] = b"digraph {\n\
+    graph [ rankdir=\"LR\" nodesep=\"0.15\" ranksep=\"0.3\" fontname=\"monospace\" fontsize=\"9\" ];\n\
+    graph [ label=\"red: blind for the output that it names, so many cycles later; grey: reaches no output\" ];\n\
+    node [ fontname=\"monospace\" fontsize=\"9\" style=\"filled\" margin=\"0.06\" width=\"0\" height=\"0\" ];\n\
+    edge [ fontname=\"monospace\" fontsize=\"8\" arrowsize=\"0.5\" labeldistance=\"1.4\" ];\n";
 
 /// Goes on with the nodes, the edges and the cells of a graph.
 fn then_graph<O: Sink>(
@@ -75,7 +59,7 @@ pub fn write_dot<O: Sink>(
     ensures { WritesTo (O.seen out.old) (O.seen out.new) (dot_text graph.now weights.now horizon) result }
 {
     let mut line = Line::new();
-    then_beginning(&mut line, out);
+    line.text(out, BEGINNING);
     then_graph(&mut line, out, graph, weights, horizon + 1);
     line.text(out, b"}");
     line.end(out)

@@ -13,7 +13,7 @@ returns g c =
     let place = c.args.place in
     let looks = g.L.Looks.looks c.args.looks.now graph in
     let fits : SFits w64 op.imm = search rules in
-    let told = rw (c.own_piece.ensures, to_z-of_z {w = w64} {z = op.imm} fits) at c.then_own.ensures in
+    let told = rw (c.own_piece.ensures, to_z-of_z {w = w64} {z = op.imm} fits) at c.then_words.ensures in
     let constants = and_then c.then_constant_at.ensures (and_then c.then_constant_at-2.ensures c.then_constant_at-3.ensures) in
     let last = and_then c.then_note.ensures (and_then c.then_cell_bar.ensures constants) in
     let all = and_then c.then_outline.ensures (and_then c.then_head.ensures (and_then told (and_then c.then_source.ensures last))) in

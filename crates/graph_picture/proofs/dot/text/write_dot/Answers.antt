@@ -7,6 +7,6 @@ joined a b = simp append_assoc
 
 pub returns : goal.returns
 returns g c =
-    let begun = c.then_beginning.ensures _ _ _ (c.new-line.ensures.begun _ _) in
-    let all = c.text.ensures.gathers _ _ _ (c.then_graph.ensures _ _ _ begun) in
+    let begun = c.text.ensures.gathers _ _ _ (c.new-line.ensures.begun _ _) in
+    let all = c.text-2.ensures.gathers _ _ _ (c.then_graph.ensures _ _ _ begun) in
     rw (joined beginning _) (c.end.ensures.writes _ _ _ all)

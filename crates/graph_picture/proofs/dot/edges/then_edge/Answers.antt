@@ -1,5 +1,0 @@
-use Rattle.graph_picture.proofs.Going.{and_then}
-use Rattle.graph_picture.proofs.dot.edges.then_edge.Goals as goal
-
-pub returns : goal.returns
-returns g c = and_then c.then_node_name.ensures c.then_edge_end.ensures

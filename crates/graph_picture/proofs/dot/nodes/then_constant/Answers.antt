@@ -1,5 +1,0 @@
-use Rattle.graph_picture.proofs.Going.{and_then}
-use Rattle.graph_picture.proofs.dot.nodes.then_constant.Goals as goal
-
-pub returns : goal.returns
-returns g c = and_then c.then_constant_name.ensures (and_then c.text.ensures.gathers (and_then c.then_constant_label.ensures c.then_end.ensures))
