@@ -1,8 +1,11 @@
 -- LinesRead: the verdicts of a text, read line by line.
-use Rattle.std.proofs.Common.{◌≡◌, ◌≢◌, ℕ, ◌+◌, ◌==◌, Bool, true, false, cond, List, [], ◌∷◌, ◌++◌, length, drop, bytes_eq, decimal, slice_get, Some, Result, Ok, Err, IfOk, IfErr, OnOk, refl, sym, ap, ◌∙◌, arith}
+use Rattle.std.proofs.Common.{◌≡◌, ◌≢◌, ℕ, ◌+◌, ◌==◌, Bool, true, false, cond, List, [], ◌∷◌, ◌++◌, length, drop, bytes_eq, codes, decimal, slice_get, Some, Result, Ok, Err, IfOk, IfErr, OnOk, refl, sym, ap, ◌∙◌, arith}
 use Rattle.std.specs.Str.Lines.{lines}
+use Rattle.std.specs.Bool.{Decides}
 use Rattle.std.proofs.lemmas.Bool.{eqb-true}
-use Rattle.std.proofs.lemmas.List.{append_assoc, append-nil, drop_all, drop_more, nil_from_length}
+use Rattle.std.proofs.lemmas.Bool.Decides.{same_from_decides}
+use Rattle.std.proofs.lemmas.Slice.Eq.{bytes_eq-Decides}
+use Rattle.std.proofs.lemmas.List.{append_assoc, append-nil, drop_all, append_cancel_right, drop_more, nil_from_length}
 use Rattle.std.proofs.lemmas.Option.{get_or_from_slice_get, slice_get_within}
 use Rattle.op_graph.specs.Lists.{Lists}
 use Rattle.fault_script.specs.declared.act.Fault.{Fault}
@@ -13,7 +16,7 @@ use Rattle.fault_injector.specs.FaultLines.{counted, no_verdicts, totals_text}
 use Rattle.verdict_tables.specs.declared.fault.VerdictsFault.{VerdictsFault}
 use Rattle.verdict_tables.specs.declared.fault.VerdictsFault.TheVariants as fault
 use Rattle.verdict_tables.specs.Outcome.{meant}
-use Rattle.verdict_tables.specs.Reading.{is_line, confirmed, verdict_or, verdict_by, verdict_on, Next, followed, next_of, behind_totals, totals_then, behind, goes_on, verdicts_from, verdicts_in}
+use Rattle.verdict_tables.specs.Reading.{ended, is_line, confirmed, verdict_or, verdict_by, verdict_on, Next, followed, next_of, behind_totals, totals_then, behind, goes_on, verdicts_from, verdicts_in}
 
 -- a list from the place of an element on
 pub drop_here : {X : Type 0} (xs : List X) (i : ℕ) (x : X) → slice_get xs i ≡ Some x → drop i xs ≡ x ∷ drop (i + 1) xs
@@ -25,6 +28,21 @@ drop_here xs i x at =
 -- no line is left
 pub no_line : (rest : List ℕ) (b : Bool) → b ≡ (length rest == 0) → b ≡ true → lines rest ≡ []
 no_line rest b is holds = ap lines (nil_from_length rest (eqb-true (length rest) 0 (sym is ∙ holds)))
+
+-- a line is what a text has before its LF, or the text has none
+pub is_front : (line front text : List ℕ) → text ≡ front ++ codes "\n" → bytes_eq line front ≡ is_line line text
+is_front line front text is =
+    let whole = bytes_eq-Decides (ended line) text in
+    let same : Decides (is_line line text) (line ≡ front) =
+    (λ t. append_cancel_right line front (codes "\n") (whole.0 t ∙ is), λ e. whole.1 (ap ended e ∙ sym is)) in
+    same_from_decides _ _ (bytes_eq-Decides line front) same
+
+never : (b : Bool) → b ≢ true → false ≡ b
+never true unlike = absurd (unlike refl)
+never false unlike = refl
+
+pub no_front : (line text : List ℕ) → ((front : List ℕ) → text ≢ front ++ codes "\n") → false ≡ is_line line text
+no_front line text none = never (is_line line text) (λ t. none line (sym ((bytes_eq-Decides (ended line) text).0 t)))
 
 -- a line has no words
 pub wordless : (g : Lists) (at number : ℕ) (line : List ℕ) (ws : List (List ℕ)) → ws ≡ [] → verdict_by g at number line ws ≡ Err (fault.Group number)

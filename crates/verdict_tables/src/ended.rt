@@ -6,7 +6,7 @@ ghost use Rattle.fault_script.specs.ScriptOf.{most_faults};
 ghost use Rattle.verdict_tables.specs.Parts.{most_parts};
 ghost use Rattle.verdict_tables.specs.SumText.{row_text};
 ghost use Rattle.verdict_tables.specs.SameEndings.{ending_number as ending_number_of, is_ended as is_ended_of, one_if as one_if_of, ended_count};
-ghost use Rattle.verdict_tables.specs.SameEndings.{all_endings, ending_name as ending_name_of, ended_row, endings_text};
+ghost use Rattle.verdict_tables.specs.SameEndings.{all_endings, same_only, endings_text};
 
 use crate::SameEnding;
 use crate::endings::{Endings, EndingsOfParts};
@@ -69,46 +69,32 @@ fn count_ended(n: u32, endings: &EndingsOfParts) -> u32
     count
 }
 
-/// What row `n` counts.
-fn ending_name(n: u32) -> &'static [u8]
-    ensures { result.now ≡ ending_name_of n }
-{
-    if n == 0 {
-        return b"never reached";
-    }
-    if n == 1 {
-        return b"died out";
-    }
-    b"stands in a cell"
-}
-
-/// Goes on with a row of this name, where something is counted in it.
-fn then_named_row<O: Sink>(line: &mut Line, out: &mut O, name: &[u8], totals: &Totals)
-    ensures { GathersTo (O.seen out.old) (O.seen out.new) line.old line.new (row_text name.now totals.now) }
-{
-    if totals.faults() == 0 {
-        return;
-    }
-    then_columns(line, out, totals);
-    line.text(out, b"  ");
-    line.text(out, name);
-    line.text(out, b"\n");
-}
-
-/// Goes on with row `n`.
-fn then_ended_row<O: Sink>(line: &mut Line, out: &mut O, n: u32, endings: &EndingsOfParts)
+/// Goes on with row `n`, of this name, where something is counted in it.
+fn then_ended_row<O: Sink>(
+    line: &mut Line,
+    out: &mut O,
+    n: u32,
+    name: &[u8],
+    endings: &EndingsOfParts,
+)
     requires each { All (λ es. length es ≤ most_faults) endings.now }
     requires few { length endings.now ≤ most_parts }
-    ensures { GathersTo (O.seen out.old) (O.seen out.new) line.old line.new (ended_row n (all_endings endings.now)) }
+    ensures { GathersTo (O.seen out.old) (O.seen out.new) line.old line.new (row_text name.now (same_only (ended_count n (all_endings endings.now)))) }
 {
+    let count = count_ended(n, endings);
+    if count == 0 {
+        return;
+    }
     let totals = Totals {
-        same: count_ended(n, endings),
+        same: count,
         wrong: 0,
         ran_on: 0,
         refused: 0,
         stopped: 0,
     };
-    then_named_row(line, out, ending_name(n), &totals);
+    then_columns(line, out, &totals);
+    line.texts(out, b"  ", name);
+    line.text(out, b"\n");
 }
 
 /// Goes on with the table.
@@ -118,7 +104,7 @@ pub(crate) fn then_endings<O: Sink>(line: &mut Line, out: &mut O, endings: &Endi
     ensures { GathersTo (O.seen out.old) (O.seen out.new) line.old line.new (endings_text (all_endings endings.now)) }
 {
     then_titled(line, out, b"by how it ends where it shows nowhere");
-    then_ended_row(line, out, 0, endings);
-    then_ended_row(line, out, 1, endings);
-    then_ended_row(line, out, 2, endings);
+    then_ended_row(line, out, 0, b"never reached", endings);
+    then_ended_row(line, out, 1, b"died out", endings);
+    then_ended_row(line, out, 2, b"stands in a cell", endings);
 }

@@ -1,11 +1,12 @@
 //! A campaign in parts.
 
-ghost use Rattle.std.specs.Prelude.{◌≡◌, ◌<◌, [], ◌∷◌, ◌++◌, Some, OnOk, OnErr, length, slice_get};
+ghost use Rattle.std.specs.Prelude.{◌≡◌, ◌<◌, [], ◌∷◌, ◌++◌, Some, OnOk, OnErr, decimal, length, slice_get};
 ghost use Rattle.vcp_outside.specs.Gathering.{GathersTo};
+ghost use Rattle.fault_script.specs.Groups.{line_of};
 ghost use Rattle.verdict_tables.specs.Parts.{mark_of as mark_of_part, mark_text};
 
 use crate::verdicts::Verdicts;
-use fault_script::Script;
+use fault_script::{Group, Script};
 use std::alloc::Global;
 use std::marker::Model;
 use vcp_base::Memory;
@@ -94,15 +95,17 @@ pub(crate) fn mark_of(many: usize, n: usize) -> Option<u64>
     if many == 1 { None } else { Some(n as u64 + 1) }
 }
 
-/// Goes on with such a number.
-pub(crate) fn then_mark<O: Sink>(line: &mut Line, out: &mut O, mark: Option<u64>)
-    ensures { GathersTo (O.seen out.old) (O.seen out.new) line.old line.new (mark_text mark) }
+/// Goes on with such a number, and that of the group's line.
+pub(crate) fn then_group<O: Sink>(line: &mut Line, out: &mut O, mark: Option<u64>, group: &Group)
+    requires { 0 < length group.now }
+    ensures { GathersTo (O.seen out.old) (O.seen out.new) line.old line.new (mark_text mark ++ decimal (line_of group.now)) }
 {
+    let at = group.line() as u64;
     match mark {
         Some(number) => {
             line.count(out, number);
-            line.text(out, b":");
+            line.numbered(out, b":", at);
         }
-        None => {}
+        None => line.count(out, at),
     }
 }

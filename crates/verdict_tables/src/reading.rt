@@ -1,6 +1,6 @@
 //! The verdicts of a text.
 
-ghost use Rattle.std.specs.Prelude.{◌≡◌, ◌≢◌, ◌≤◌, ◌+◌, [], Ok, Err, IfOk, IfErr, OnOk, IfSome, length, All, decimal, bytes_eq, flat_map};
+ghost use Rattle.std.specs.Prelude.{◌≡◌, ◌≢◌, ◌≤◌, ◌+◌, [], Ok, Err, IfOk, IfErr, OnOk, length, All, decimal, bytes_eq, flat_map};
 ghost use Rattle.std.specs.Str.Lines.{lines};
 ghost use Rattle.fault_script.specs.Groups.{GroupFits};
 ghost use Rattle.fault_script.specs.ScriptOf.{most_faults};
@@ -24,13 +24,13 @@ use vcp_base::{Memory, WordsLeft, first_line};
 use vcp_outside::Failed;
 
 /// Whether a line with its LF is this text.
-fn is_text(alloc: Global, line: &[u8], text: &[u8]) -> Result<bool, Memory>
-    ensures { IfOk result (λ is. is ≡ is_line line.now text.now) }
+fn is_text(line: &[u8], text: &[u8]) -> bool
+    ensures { result ≡ is_line line.now text.now }
 {
-    let mut whole = TextSink::new(alloc);
-    whole.append(line)?;
-    whole.append(b"\n")?;
-    Ok(whole.bytes() == text)
+    match text.strip_suffix(b"\n") {
+        Some(front) => line == front,
+        None => false,
+    }
 }
 
 /// Whether a line is what is printed of this verdict for the group of line `at` of the script.
@@ -46,7 +46,7 @@ fn tells_verdict(
 {
     let mut told = TextSink::new(alloc);
     match verdict_line(&mut told, graph, at, &verdict) {
-        Ok(()) => is_text(alloc, line, told.bytes()),
+        Ok(()) => Ok(is_text(line, told.bytes())),
         Err(Failed) => Err(Memory),
     }
 }
@@ -57,30 +57,8 @@ fn tells_totals(alloc: Global, totals: &Totals, line: &[u8]) -> Result<bool, Mem
 {
     let mut told = TextSink::new(alloc);
     match totals_line(&mut told, totals) {
-        Ok(()) => is_text(alloc, line, told.bytes()),
+        Ok(()) => Ok(is_text(line, told.bytes())),
         Err(Failed) => Err(Memory),
-    }
-}
-
-/// The verdict that a line's words may mean, where the line is what is printed of it.
-fn confirm(
-    alloc: Global,
-    graph: &Graph,
-    at: u32,
-    line: &[u8],
-    meant: Option<Verdict>,
-) -> Result<Option<Verdict>, Memory>
-    requires { IfSome meant (Names (length graph.now.outputs) (length graph.now.operations)) }
-    ensures value { IfOk result (λ v. v ≡ confirmed graph.now at line.now meant) }
-    ensures names { IfOk result (λ v. IfSome v (Names (length graph.now.outputs) (length graph.now.operations))) }
-{
-    match meant {
-        Some(verdict) => match tells_verdict(alloc, graph, at, line, verdict) {
-            Ok(true) => Ok(Some(verdict)),
-            Ok(false) => Ok(None),
-            Err(Memory) => Err(Memory),
-        },
-        None => Ok(None),
     }
 }
 
@@ -105,11 +83,13 @@ fn verdict_by(
         → verdict_or number (confirmed graph.now at line.now (meant_of graph.now words.old)) ≡ Err f) }
     ensures names { IfOk result (Names (length graph.now.outputs) (length graph.now.operations)) }
 {
-    let meant = meant(graph, words);
-    match confirm(alloc, graph, at, line, meant) {
-        Ok(Some(verdict)) => Ok(verdict),
-        Ok(None) => Err(VerdictsFault::Verdict { line: number }),
-        Err(Memory) => Err(VerdictsFault::Memory),
+    match meant(graph, words) {
+        Some(verdict) => match tells_verdict(alloc, graph, at, line, verdict) {
+            Ok(true) => Ok(verdict),
+            Ok(false) => Err(VerdictsFault::Verdict { line: number }),
+            Err(Memory) => Err(VerdictsFault::Memory),
+        },
+        None => Err(VerdictsFault::Verdict { line: number }),
     }
 }
 

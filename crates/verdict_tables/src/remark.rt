@@ -8,7 +8,7 @@ use fault_sites::next_is;
 use vcp_base::{WordsLeft, first_line};
 
 /// The digits of the digest in a remark of sites.
-fn digest(line: &[u8]) -> Option<&[u8]>
+fn named(line: &[u8]) -> Option<&[u8]>
     ensures { option_map (λ w. w.now) result ≡ digest_in (words_of line.now) }
 {
     let mut words = WordsLeft::new(line);
@@ -30,23 +30,16 @@ fn digest(line: &[u8]) -> Option<&[u8]>
     }
 }
 
-/// The digits of the digest in the first line of a script, where it is a remark of sites.
-fn named(script: &[u8]) -> Option<&[u8]>
-    ensures { option_map (λ w. w.now) result ≡ digest_of script.now }
-{
-    if script.is_empty() {
-        return None;
-    }
-    let (line, _) = first_line(script);
-    digest(line)
-}
-
 /// Whether a script names the image with this digest, or none. It names one in the remark on its first line,
 /// where that is a remark of sites.
 pub fn is_for(digest: &[u8], script: &[u8]) -> bool
     ensures { result ≡ is_for_of digest.now script.now }
 {
-    match named(script) {
+    if script.is_empty() {
+        return true;
+    }
+    let (line, _) = first_line(script);
+    match named(line) {
         Some(named) => named == digest,
         None => true,
     }

@@ -1,12 +1,11 @@
 //! The rows of tables.
 
-ghost use Rattle.std.specs.Prelude.{◌≡◌, ◌<◌, ◌≤◌, length, All};
+ghost use Rattle.std.specs.Prelude.{◌≡◌, ◌<◌, ◌≤◌, ◌++◌, length, All};
 ghost use Rattle.vcp_outside.specs.Gathering.{GathersTo};
 ghost use Rattle.verdict_tables.specs.Parts.{most_parts, IsWhole};
 ghost use Rattle.verdict_tables.specs.Tables.{rows as rows_of};
-ghost use Rattle.verdict_tables.specs.SumText.{act_name as act_name_of, more_text, delay_text, row_name, row_text, table_text};
-ghost use Rattle.verdict_tables.specs.SumText.{blanks_before as blanks_before_of, column_text, columns_text, title as title_of, heading_of, heading_text};
-ghost use Rattle.verdict_tables.specs.declared.tables.Table.TheVariants as table;
+ghost use Rattle.verdict_tables.specs.SumText.{act_name as act_name_of, more_text, delay_text, row_name, row_text};
+ghost use Rattle.verdict_tables.specs.SumText.{blanks_before as blanks_before_of, column_text, columns_text, heading_of, rows_below};
 
 use crate::counts::totals_over;
 use crate::names::then_operation;
@@ -51,17 +50,8 @@ fn or_more(n: u32) -> &'static [u8]
 pub fn then_delay<O: Sink>(line: &mut Line, out: &mut O, n: u32)
     ensures { GathersTo (O.seen out.old) (O.seen out.new) line.old line.new (delay_text n) }
 {
-    line.text(out, b"after ");
-    line.count(out, n as u64);
+    line.numbered(out, b"after ", n as u64);
     line.text(out, or_more(n));
-}
-
-/// Goes on with the name of an output.
-fn then_output<O: Sink>(line: &mut Line, out: &mut O, graph: &Graph, n: u32)
-    ensures { GathersTo (O.seen out.old) (O.seen out.new) line.old line.new (row_name graph.now table.Outputs n) }
-{
-    line.text(out, b"output ");
-    line.text(out, variable_name(graph, Kind::Out, n as u64));
 }
 
 /// Goes on with what row `n` of a table counts.
@@ -72,7 +62,7 @@ fn then_row_name<O: Sink>(line: &mut Line, out: &mut O, graph: &Graph, table: Ta
     match table {
         Table::Acts => line.text(out, act_name(n)),
         Table::Operations => then_operation(line, out, graph, n),
-        Table::Outputs => then_output(line, out, graph, n),
+        Table::Outputs => line.texts(out, b"output ", variable_name(graph, Kind::Out, n as u64)),
         Table::Delays => then_delay(line, out, n),
     }
 }
@@ -106,8 +96,7 @@ fn blanks_before(n: u64) -> &'static [u8]
 fn then_column<O: Sink>(line: &mut Line, out: &mut O, n: u64)
     ensures { GathersTo (O.seen out.old) (O.seen out.new) line.old line.new (column_text n) }
 {
-    line.text(out, blanks_before(n));
-    line.count(out, n);
+    line.numbered(out, blanks_before(n), n);
 }
 
 /// Goes on with the columns of totals.
@@ -143,47 +132,33 @@ fn then_row<O: Sink>(
     line.text(out, b"\n");
 }
 
-/// What the rows of a table are about.
-fn title(table: Table) -> &'static [u8]
-    ensures { result.now ≡ title_of table }
-{
-    match table {
-        Table::Acts => b"by what the fault does",
-        Table::Operations => b"by where it stands",
-        Table::Outputs => b"by where it shows",
-        Table::Delays => b"by how many cycles later it shows",
-    }
-}
-
 /// Goes on with the names of the columns, before what the rows are about.
 pub(crate) fn then_titled<O: Sink>(line: &mut Line, out: &mut O, name: &[u8])
     ensures { GathersTo (O.seen out.old) (O.seen out.new) line.old line.new (heading_of name.now) }
 {
-    line.text(out, b"  faults    same   wrong  ran-on refused stopped  ");
-    line.text(out, name);
+    line.texts(
+        out,
+        b"  faults    same   wrong  ran-on refused stopped  ",
+        name,
+    );
     line.text(out, b"\n");
 }
 
-/// Goes on with the names of the columns of a table.
-fn then_heading<O: Sink>(line: &mut Line, out: &mut O, table: Table)
-    ensures { GathersTo (O.seen out.old) (O.seen out.new) line.old line.new (heading_text table) }
-{
-    then_titled(line, out, title(table));
-}
-
-/// Goes on with a table.
+/// Goes on with a table, whose rows are about this.
 pub(crate) fn then_table<O: Sink>(
     line: &mut Line,
     out: &mut O,
     graph: &Graph,
     table: Table,
+    title: &[u8],
     parts: &Parts,
 )
     requires whole { All IsWhole parts.now }
     requires few { length parts.now ≤ most_parts }
-    ensures { GathersTo (O.seen out.old) (O.seen out.new) line.old line.new (table_text graph.now table parts.now) }
+    ensures { GathersTo (O.seen out.old) (O.seen out.new) line.old line.new
+        (heading_of title.now ++ rows_below graph.now table parts.now (rows_of graph.now table)) }
 {
-    then_heading(line, out, table);
+    then_titled(line, out, title);
     'rows: for n in 0..rows(graph, table) {
         let totals = totals_over(table, n, parts);
         then_row(line, out, graph, table, n, &totals);

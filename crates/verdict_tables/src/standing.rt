@@ -8,7 +8,7 @@ ghost use Rattle.verdict_tables.specs.SameEndings.{standing_text, standing_below
 use crate::SameEnding;
 use crate::ended::is_ended;
 use crate::endings::{Endings, EndingsOfParts};
-use crate::parts::{Part, Parts, mark_of, then_mark};
+use crate::parts::{Part, Parts, mark_of, then_group};
 use crate::unseen::then_faults;
 use fault_script::Group;
 use op_graph::Graph;
@@ -27,8 +27,7 @@ fn then_standing<O: Sink>(
     ensures { GathersTo (O.seen out.old) (O.seen out.new) line.old line.new (standing_text graph.now mark (Some group.now) (Some ending)) }
 {
     if is_ended(2, ending) {
-        then_mark(line, out, mark);
-        line.count(out, group.line() as u64);
+        then_group(line, out, mark, group);
         line.text(out, b" stands in a cell\n");
         then_faults(line, out, graph, group);
     }

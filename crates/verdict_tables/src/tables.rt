@@ -1,9 +1,9 @@
 //! What a row of a table has.
 
-ghost use Rattle.std.specs.Prelude.{◌≡◌, min};
+ghost use Rattle.std.specs.Prelude.{◌≡◌};
 ghost use Rattle.std.specs.List.{list_any};
 ghost use Rattle.verdict_tables.specs.Tables.{act_number as act_number_of, is_fault_in as is_fault_in_of, shows_at as shows_at_of};
-ghost use Rattle.verdict_tables.specs.Tables.{shown_in as shown_in_of, first_cycle as first_cycle_of, is_delay as is_delay_of, is_late as is_late_of};
+ghost use Rattle.verdict_tables.specs.Tables.{shown_in as shown_in_of, first_cycle as first_cycle_of, is_late as is_late_of};
 ghost use Rattle.verdict_tables.specs.Tables.{is_in as is_in_of, rows as rows_of};
 
 use fault_injector::Verdict;
@@ -118,33 +118,15 @@ fn shown_in(verdict: Verdict) -> Option<u32>
     }
 }
 
-/// The lower of two numbers.
-fn lower(a: u32, b: u32) -> u32
-    ensures { result ≡ min a b }
-{
-    a.min(b)
-}
-
 /// The first cycle in which a group has a fault.
 fn first_cycle(group: &Group) -> u32
     ensures { result ≡ first_cycle_of group.now }
 {
     let mut first = MOST_CYCLES;
     'faults: for i in 0..group.len() {
-        first = lower(first, group.at(i).cycle);
+        first = first.min(group.at(i).cycle);
     }
     first
-}
-
-/// Whether row `n` has this number of cycles.
-fn is_delay(n: u32, delay: u32) -> bool
-    ensures { result ≡ is_delay_of n delay }
-{
-    if n < OWN_DELAYS {
-        delay == n
-    } else {
-        OWN_DELAYS <= delay
-    }
 }
 
 /// Whether row `n` has a group whose verdict shows in this cycle.
@@ -152,7 +134,14 @@ fn is_late(n: u32, group: &Group, shown: Option<u32>) -> bool
     ensures { result ≡ is_late_of n group.now shown }
 {
     match shown {
-        Some(cycle) => is_delay(n, cycle.saturating_sub(first_cycle(group))),
+        Some(cycle) => {
+            let delay = cycle.saturating_sub(first_cycle(group));
+            if n < OWN_DELAYS {
+                delay == n
+            } else {
+                OWN_DELAYS <= delay
+            }
+        }
         None => false,
     }
 }

@@ -1,13 +1,12 @@
 //! A sink that keeps what is written, as long as there is memory for it.
 
-ghost use Rattle.std.specs.Prelude.{◌≡◌, ◌<◌, ◌++◌, [], Some, Ok, OnOk, IfOk, length};
+ghost use Rattle.std.specs.Prelude.{◌≡◌, ◌<◌, [], Some, Ok, IfOk, length};
 ghost use Rattle.std.specs.Io.{WritesAtMost};
 ghost use Rattle.std.specs.Io.KnownBytes.{WriteAppends};
 ghost use Rattle.vcp_outside.specs.Counts.{HasCause};
 
 use std::alloc::Global;
 use std::marker::Model;
-use vcp_base::Memory;
 use vcp_outside::{Failed, Sink};
 
 /// A sink that keeps what is written. A write fails only for want of memory.
@@ -34,14 +33,6 @@ impl TextSink {
             bytes: Vec::new(alloc),
             faults: 0,
         }
-    }
-
-    /// Appends a piece.
-    pub(crate) fn append(&mut self, piece: &[u8]) -> Result<(), Memory>
-        ensures { OnOk result (self.new ≡ record self.old { bytes = self.old.bytes ++ piece.now }) }
-    {
-        self.bytes.extend_from_slice(piece)?;
-        Ok(())
     }
 
     /// What was written.

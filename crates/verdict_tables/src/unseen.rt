@@ -7,7 +7,7 @@ ghost use Rattle.verdict_tables.specs.Parts.{IsWhole, PartFits};
 ghost use Rattle.verdict_tables.specs.SumText.{fault_text, is_unseen as is_unseen_of, unseen_text, unseen_below, unseen_parts};
 
 use crate::names::then_operation;
-use crate::parts::{Part, Parts, mark_of, then_mark};
+use crate::parts::{Part, Parts, mark_of, then_group};
 use fault_injector::{Verdict, then_verdict};
 use fault_script::{Fault, Group};
 use fault_sites::{Site, then_site};
@@ -80,8 +80,7 @@ fn then_unseen<O: Sink>(
     ensures { GathersTo (O.seen out.old) (O.seen out.new) line.old line.new (unseen_text graph.now mark (Some group.now) (Some verdict)) }
 {
     if is_unseen(verdict) {
-        then_mark(line, out, mark);
-        line.count(out, group.line() as u64);
+        then_group(line, out, mark, group);
         line.text(out, b" ");
         then_verdict(line, out, graph, &verdict);
         line.text(out, b"\n");

@@ -25,10 +25,38 @@ fn then_tables<O: Sink>(line: &mut Line, out: &mut O, graph: &Graph, parts: &Par
     requires few { length parts.now ≤ most_parts }
     ensures { GathersTo (O.seen out.old) (O.seen out.new) line.old line.new (tables_text graph.now parts.now) }
 {
-    then_table(line, out, graph, Table::Acts, parts);
-    then_table(line, out, graph, Table::Operations, parts);
-    then_table(line, out, graph, Table::Outputs, parts);
-    then_table(line, out, graph, Table::Delays, parts);
+    then_table(
+        line,
+        out,
+        graph,
+        Table::Acts,
+        b"by what the fault does",
+        parts,
+    );
+    then_table(
+        line,
+        out,
+        graph,
+        Table::Operations,
+        b"by where it stands",
+        parts,
+    );
+    then_table(
+        line,
+        out,
+        graph,
+        Table::Outputs,
+        b"by where it shows",
+        parts,
+    );
+    then_table(
+        line,
+        out,
+        graph,
+        Table::Delays,
+        b"by how many cycles later it shows",
+        parts,
+    );
 }
 
 /// Writes how many verdicts there are of each sort, over all groups of all parts: by what the faults do, by the operation at which they are,

@@ -118,13 +118,6 @@ fn comes_to_any(group: &Group, cycle: u32, answers: &[Answer]) -> bool
     false
 }
 
-/// Whether one of both holds.
-fn either(a: bool, b: bool) -> bool
-    ensures { result ≡ (a || b) }
-{
-    a || b
-}
-
 /// Goes on to the next cycle: the cells have the words that their STOREs answered.
 fn store(graph: &Graph, work: &mut Work)
     requires room { Room graph.now work.old }
@@ -160,8 +153,7 @@ fn carry(graph: &Graph, table: &Table, group: &Group, n: u32, work: &mut Work) -
         past: &work.past,
     };
     let words = run_cycle(&begun, &mut work.own);
-    let here = comes_to_any(group, n, &work.own);
-    work.reached = either(work.reached, here);
+    work.reached |= comes_to_any(group, n, &work.own);
     if words {
         store(graph, work);
     }

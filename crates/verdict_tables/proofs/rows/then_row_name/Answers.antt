@@ -7,7 +7,7 @@ pub returns-in-Operations : goal.returns-in-Operations
 returns-in-Operations g c = rw c.in-Operations.is c.then_operation.ensures
 
 pub returns-in-Outputs : goal.returns-in-Outputs
-returns-in-Outputs g c = rw c.in-Outputs.is c.then_output.ensures
+returns-in-Outputs g c = rw c.in-Outputs.is (rw c.variable_name.ensures at c.texts.ensures.gathers)
 
 pub returns-in-Delays : goal.returns-in-Delays
 returns-in-Delays g c = rw c.in-Delays.is c.then_delay.ensures

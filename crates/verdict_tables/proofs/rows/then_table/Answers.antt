@@ -1,17 +1,17 @@
 use Rattle.std.proofs.Common.{◌≡◌, add-one, arith}
 use Rattle.verdict_tables.specs.Tables.{rows}
-use Rattle.verdict_tables.specs.SumText.{heading_text, rows_below}
+use Rattle.verdict_tables.specs.SumText.{heading_of, rows_below}
 use Rattle.verdict_tables.proofs.Going.{and_then, followed, unmoved}
 use Rattle.verdict_tables.proofs.rows.then_table.Goals as goal
 
 pub rows-init : goal.rows-init
-rows-init g c = and_then c.then_heading.ensures unmoved
+rows-init g c = and_then c.then_titled.ensures unmoved
 
 pub rows-preserved : goal.rows-preserved
 rows-preserved g c =
     let before = rows_below c.args.graph.now c.args.table c.args.parts.now c.rows.n in
     rw (add-one c.rows.n)
-    (followed (heading_text c.args.table) before c.rows.invariant (rw c.totals_over-totals.ensures at c.then_row.ensures))
+    (followed (heading_of c.args.title.now) before c.rows.invariant (rw c.totals_over-totals.ensures at c.then_row.ensures))
 
 pub returns : goal.returns
 returns g c =

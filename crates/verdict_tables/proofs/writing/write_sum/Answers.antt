@@ -17,3 +17,21 @@ returns g c =
     let parts = c.args.parts.now in
     written_same (c.end.ensures.writes _ _ _ totals)
     (pieces (tables_text graph parts) (unseen_parts graph parts (length parts)) (totals_front (totals_of (all_verdicts parts))))
+
+pub then_tables-requires-clause-whole : goal.then_tables-requires-clause-whole
+then_tables-requires-clause-whole g c = c.requires.whole
+
+pub then_tables-requires-clause-few : goal.then_tables-requires-clause-few
+then_tables-requires-clause-few g c = c.requires.few
+
+pub then_all_unseen-requires-clause-whole : goal.then_all_unseen-requires-clause-whole
+then_all_unseen-requires-clause-whole g c = c.requires.whole
+
+pub then_all_unseen-requires-clause-fits : goal.then_all_unseen-requires-clause-fits
+then_all_unseen-requires-clause-fits g c = c.requires.fits
+
+pub totals_of_parts-requires-clause-whole : goal.totals_of_parts-requires-clause-whole
+totals_of_parts-requires-clause-whole g c = c.requires.whole
+
+pub totals_of_parts-requires-clause-few : goal.totals_of_parts-requires-clause-few
+totals_of_parts-requires-clause-few g c = c.requires.few

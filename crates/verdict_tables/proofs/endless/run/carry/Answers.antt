@@ -22,9 +22,8 @@ returns-then-words-clause-done c =
           c.deref-2.ensures.value c.deref-3.ensures.value;
       words_is = c.run_cycle-words.ensures.words;
       reached = c.store.ensures.reached
-          ∙ (c.either-work.ensures
-          ∙ (ap (λ (b : Bool). old.reached || b) c.comes_to_any-here.ensures
-          ∙ ap (λ (xs : List Answer). old.reached || list_any (comes_to c.args.n xs) c.args.group.now) c.deref-4.ensures.value));
+          ∙ (ap (λ (b : Bool). old.reached || b) c.comes_to_any.ensures
+          ∙ ap (λ (xs : List Answer). old.reached || list_any (comes_to c.args.n xs) c.args.group.now) c.deref-4.ensures.value);
       held = c.store.ensures.held ∙ ap (λ (b : Bool). cond b (stored_words g own) old.held.items) (sym all);
       past = λ words. same_words _ _ _ _ c.store.ensures.past_held c.store.ensures.past;
     }
@@ -41,9 +40,8 @@ returns-else-words-clause-done c =
           ∙ same_begun g c.args.table.now c.args.n old.inputs (acts_of c.args.group.now c.args.n) _ _ _ _ _ _ c.deref.ensures.value
           c.deref-2.ensures.value c.deref-3.ensures.value;
       words_is = c.run_cycle-words.ensures.words;
-      reached = c.either-work.ensures
-          ∙ (ap (λ (b : Bool). old.reached || b) c.comes_to_any-here.ensures
-          ∙ ap (λ (xs : List Answer). old.reached || list_any (comes_to c.args.n xs) c.args.group.now) c.deref-4.ensures.value);
+      reached = ap (λ (b : Bool). old.reached || b) c.comes_to_any.ensures
+          ∙ ap (λ (xs : List Answer). old.reached || list_any (comes_to c.args.n xs) c.args.group.now) c.deref-4.ensures.value;
       held = ap (λ (b : Bool). cond b (stored_words g own) old.held.items) (sym all);
       past = λ words. absurd (true≢false (sym words ∙ c.if-words.false));
     }
