@@ -111,29 +111,12 @@ fn then_group<O: Sink>(
     }
 }
 
-/// Goes on with each number that is added in these readings, where each of them stands behind the one before it.
+/// Goes on with each number that is added in these readings, where each of them stands behind the one before it, which is known; with none, where they
+/// don't.
 fn then_groups_of<O: Sink>(
     line: &mut Line,
     out: &mut O,
     mut budget: Budget,
-    n: u32,
-    rs: &[Reading],
-) -> Budget
-    requires few { n < most_cycles }
-    requires rises { rises rs.now ≡ true }
-    ensures { Spends (O.seen out.old) (O.seen out.new) line.old line.new budget result (groups_of n rs.now) }
-{
-    'values: for v in 0..ADDENDS {
-        budget = then_group(line, out, budget, n, rs, addend(v));
-    }
-    budget
-}
-
-/// The same, where that is known: none, where they don't.
-fn then_groups_if<O: Sink>(
-    line: &mut Line,
-    out: &mut O,
-    budget: Budget,
     n: u32,
     rs: &[Reading],
     rising: bool,
@@ -142,11 +125,13 @@ fn then_groups_if<O: Sink>(
     requires rises { rises rs.now ≡ rising }
     ensures { Spends (O.seen out.old) (O.seen out.new) line.old line.new budget result (groups_of n rs.now) }
 {
-    if rising {
-        then_groups_of(line, out, budget, n, rs)
-    } else {
-        budget
+    if !rising {
+        return budget;
     }
+    'values: for v in 0..ADDENDS {
+        budget = then_group(line, out, budget, n, rs, addend(v));
+    }
+    budget
 }
 
 /// Goes on with the groups of a word with these readings.
@@ -162,7 +147,7 @@ fn then_groups_by<O: Sink>(
 {
     let first = first_rising(rs);
     'readings: for i in 0..rs.len().saturating_sub(2) {
-        budget = then_groups_if(line, out, budget, n, &rs[i + 1..], first <= i + 1);
+        budget = then_groups_of(line, out, budget, n, &rs[i + 1..], first <= i + 1);
     }
     budget
 }

@@ -2,12 +2,11 @@
 
 ghost use Rattle.std.specs.Prelude.{◌≡◌, ◌<◌, ◌≤◌, All, IfOk, length};
 ghost use Rattle.vcp_base.specs.Limits.{most_cycles};
-ghost use Rattle.vcp_outside.specs.Written.{WritesTo};
 ghost use Rattle.fault_sites.specs.Flips.{flips_in};
 ghost use Rattle.fault_sites.specs.Late.{lates_in};
 ghost use Rattle.fault_sites.specs.Run.{begun};
 ghost use Rattle.fault_sites.specs.RunCycle.{as_cycle};
-ghost use Rattle.fault_sites.specs.RunSites.{cycle_of, in_cycle, run_class_name as run_class_name_of, run_class_of, run_sites, run_text};
+ghost use Rattle.fault_sites.specs.RunSites.{cycle_of, in_cycle, run_class_name as run_class_name_of, run_class_of, run_sites};
 ghost use Rattle.fault_sites.specs.Running.{Room, before, moment};
 ghost use Rattle.fault_sites.specs.Telling.{Tells};
 
@@ -19,16 +18,15 @@ use crate::nowhere::Nowhere;
 use crate::part::Part;
 use crate::run_class::RunClass;
 use crate::telling::then_acts;
-use crate::writing::then_remark;
 use input_rows::RowList;
 use op_graph::Graph;
 use signature_table::Table;
 use std::alloc::Global;
 use vcp_base::{Memory, same_bytes};
-use vcp_outside::{Failed, Line, Sink};
+use vcp_outside::{Line, Sink};
 
 /// The word that names a class.
-fn run_class_name(class: RunClass) -> &'static [u8]
+pub(crate) fn run_class_name(class: RunClass) -> &'static [u8]
     ensures { result.now ≡ run_class_name_of class }
 {
     match class {
@@ -111,7 +109,7 @@ fn then_cycle<O: Sink>(
 }
 
 /// Goes on with the sites of a class in the run over all rows, or up to its stop.
-fn then_run<O: Sink>(
+pub(crate) fn then_run<O: Sink>(
     line: &mut Line,
     out: &mut O,
     mut part: Part,
@@ -169,29 +167,4 @@ pub(crate) fn count_run_sites(
         rows,
     );
     Ok(u64::MAX - behind.skip)
-}
-
-/// Writes the script of a part of the sites of a class in a run over all rows, at most 1,000,000, or up to its stop: a remark with the digits of the
-/// image's digest, and a line for each site, in the order of cycle, operation, operand, and bit or operation. The words are those of the table's code.
-/// The run is before its first cycle. It takes no memory. After `Failed` a part of the text is written.
-pub(crate) fn write_run_sites<O: Sink>(
-    out: &mut O,
-    digest: &[u8],
-    class: RunClass,
-    graph: &Graph,
-    run: &mut GraphValues,
-    table: &Table,
-    rows: &RowList,
-    part: Part,
-) -> Result<(), Failed>
-    requires room { Room graph.now run.old }
-    requires begun { moment graph.now run.old ≡ begun graph.now }
-    requires few { length rows.now ≤ most_cycles }
-    requires width { All (λ r. length r ≡ length graph.now.inputs) rows.now }
-    ensures { WritesTo (O.seen out.old) (O.seen out.new) (run_text class digest.now table.now graph.now rows.now part) result }
-{
-    let mut line = Line::new();
-    then_remark(&mut line, out, run_class_name(class), digest);
-    then_run(&mut line, out, part, class, graph, run, table, rows);
-    line.end(out)
 }

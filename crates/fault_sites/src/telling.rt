@@ -48,10 +48,20 @@ pub(crate) trait Acts {
         ensures { act_of self.now graph.now k op.now j i ≡ option_to_list result };
 }
 
-/// Goes on with the line of an act at operation `k` in cycle `n`, where it is in the part, and gives what is left of the part.
-fn then_one<O: Sink>(line: &mut Line, out: &mut O, part: Part, n: u32, k: u32, act: Act) -> Part
-    ensures { Tells (O.seen out.old) (O.seen out.new) line.old line.new part result (sited n k (act ∷ [])) }
+/// Goes on with the line of an act at operation `k` in cycle `n`, if there is one, where it is in the part, and gives what is left of the part.
+fn then_act<O: Sink>(
+    line: &mut Line,
+    out: &mut O,
+    part: Part,
+    n: u32,
+    k: u32,
+    act: Option<Act>,
+) -> Part
+    ensures { Tells (O.seen out.old) (O.seen out.new) line.old line.new part result (sited n k (option_to_list act)) }
 {
+    let Some(act) = act else {
+        return part;
+    };
     if part.left == 0 {
         return part;
     }
@@ -74,23 +84,6 @@ fn then_one<O: Sink>(line: &mut Line, out: &mut O, part: Part, n: u32, k: u32, a
     }
 }
 
-/// The same of an act that may be there.
-fn then_any<O: Sink>(
-    line: &mut Line,
-    out: &mut O,
-    part: Part,
-    n: u32,
-    k: u32,
-    act: Option<Act>,
-) -> Part
-    ensures { Tells (O.seen out.old) (O.seen out.new) line.old line.new part result (sited n k (option_to_list act)) }
-{
-    match act {
-        Some(act) => then_one(line, out, part, n, k, act),
-        None => part,
-    }
-}
-
 /// Goes on with the acts of row `j` at operation `k` in cycle `n`.
 fn then_row<O: Sink, A: Acts>(
     line: &mut Line,
@@ -110,7 +103,7 @@ fn then_row<O: Sink, A: Acts>(
 {
     'columns: for i in 0..acts.columns(graph, k) {
         let act = acts.act(graph, k, op, j, i);
-        part = then_any(line, out, part, n, k, act);
+        part = then_act(line, out, part, n, k, act);
     }
     part
 }

@@ -64,22 +64,6 @@ fn add(by_word: &mut [WordReadings], n: u32, reading: Reading) -> Result<(), Mem
     Ok(())
 }
 
-/// The reading of operand `j`, which is operation `n`, by operation `q`.
-fn read_one(q: u32, op: &Op, j: u32, n: u32, by_word: &mut [WordReadings]) -> Result<(), Memory>
-    requires names { named_of op.now j ≡ n }
-    requires reads { is_some (reads_as op.now.kind op.now.from j) ≡ true }
-    requires there { n < length by_word.old }
-    ensures { OnOk result (Adds (λ k. reading_as k q op.now j) by_word.old by_word.new) }
-{
-    let reading = Reading {
-        op: q,
-        operand: j,
-        borders: 0,
-        multiplier: multiplier(op.kind, j),
-    };
-    add(by_word, n, reading)
-}
-
 /// The reading of operand `j` by operation `q`, which names operation `n` there.
 fn read(q: u32, op: &Op, j: u32, n: u32, by_word: &mut [WordReadings]) -> Result<(), Memory>
     requires names { named_of op.now j ≡ n }
@@ -87,11 +71,16 @@ fn read(q: u32, op: &Op, j: u32, n: u32, by_word: &mut [WordReadings]) -> Result
     ensures { OnOk result (Adds (λ k. reading_as k q op.now j) by_word.old by_word.new) }
 {
     let reads = reads_operation(op.kind, j);
-    if reads {
-        read_one(q, op, j, n, by_word)
-    } else {
-        Ok(())
+    if !reads {
+        return Ok(());
     }
+    let reading = Reading {
+        op: q,
+        operand: j,
+        borders: 0,
+        multiplier: multiplier(op.kind, j),
+    };
+    add(by_word, n, reading)
 }
 
 /// The readings of operation `q`.

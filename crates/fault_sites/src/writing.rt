@@ -93,10 +93,8 @@ pub(crate) fn then_remark<O: Sink>(line: &mut Line, out: &mut O, name: &[u8], di
     ensures { GathersTo (O.seen out.old) (O.seen out.new) line.old line.new
         (codes "# sites " ++ (name.now ++ (codes " of " ++ digest.now))) }
 {
-    line.text(out, b"# sites ");
-    line.text(out, name);
-    line.text(out, b" of ");
-    line.text(out, digest);
+    line.texts(out, b"# sites ", name);
+    line.texts(out, b" of ", digest);
 }
 
 /// Writes the script of a part of the sites of a graph in the first cycles: a remark with the digits of the image's digest, and a line

@@ -5,24 +5,26 @@ ghost use Rattle.vcp_base.specs.Limits.{most_cycles};
 ghost use Rattle.vcp_outside.specs.Counts.{Rose};
 ghost use Rattle.signature_table.specs.Signatures.{IsTableOf};
 ghost use Rattle.fault_sites.specs.Part.{kept};
-ghost use Rattle.fault_sites.specs.RunSites.{run_class_name, run_sites, run_text};
+ghost use Rattle.fault_sites.specs.RunSites.{run_class_name as run_class_name_of, run_sites, run_text};
 ghost use Rattle.fault_sites.specs.Script.{IsScript, WritesScript, WritesChosen};
 ghost use Rattle.fault_sites.specs.declared.scripts.unwritten.Unwritten.TheVariants as unwritten;
 
 use crate::graph_values::GraphValues;
-use crate::run_sites::{count_run_sites, write_run_sites};
+use crate::run_sites::{count_run_sites, run_class_name, then_run};
 use crate::scripts::chosen::{Chosen, part_of, size_of};
 use crate::scripts::number::write_number;
 use crate::scripts::unwritten::{Unwritten, outcome};
+use crate::writing::then_remark;
 use crate::{Part, RunClass, image_digest};
 use fault_script::MOST_FAULTS;
 use input_rows::RowList;
 use op_graph::Graph;
 use signature_table::Table;
 use std::alloc::Global;
-use vcp_outside::Sink;
+use vcp_outside::{Line, Sink};
 
-/// Writes the script of a part of the sites of a class in the run over all rows.
+/// Writes the script of a part of the sites of a class in the run over all rows: a remark with the digits of the image's digest, and a line for each
+/// site, in the order of cycle, operation, operand, and bit or operation.
 fn write_by<O: Sink>(
     alloc: Global,
     digest: &[u8],
@@ -35,16 +37,19 @@ fn write_by<O: Sink>(
 ) -> Result<(), Unwritten>
     requires few { length rows.now ≤ most_cycles }
     requires width { All (λ r. length r ≡ length graph.now.inputs) rows.now }
-    requires script { IsScript graph.now table.now (run_class_name class) (kept part (run_sites class table.now graph.now rows.now))
+    requires script { IsScript graph.now table.now (run_class_name_of class) (kept part (run_sites class table.now graph.now rows.now))
         (run_text class digest.now table.now graph.now rows.now part) }
-    ensures writes { WritesScript graph.now table.now (run_class_name class) (kept part (run_sites class table.now graph.now rows.now))
+    ensures writes { WritesScript graph.now table.now (run_class_name_of class) (kept part (run_sites class table.now graph.now rows.now))
         (O.seen out.old).written (O.seen out.new).written result }
     ensures failed { result ≡ Err unwritten.Failed → Rose (O.seen out.old).faults (O.seen out.new).faults }
 {
     match GraphValues::new(alloc, graph) {
-        Ok(mut run) => outcome(write_run_sites(
-            out, digest, class, graph, &mut run, table, rows, part,
-        )),
+        Ok(mut run) => {
+            let mut line = Line::new();
+            then_remark(&mut line, out, run_class_name(class), digest);
+            then_run(&mut line, out, part, class, graph, &mut run, table, rows);
+            outcome(line.end(out))
+        }
         Err(_) => Err(Unwritten::Memory),
     }
 }
@@ -64,7 +69,7 @@ fn write_part<O: Sink>(
     requires few { length rows.now ≤ most_cycles }
     requires width { All (λ r. length r ≡ length graph.now.inputs) rows.now }
     requires total { total ≡ length (run_sites class table.now graph.now rows.now) }
-    ensures writes { WritesScript graph.now table.now (run_class_name class) (kept part (run_sites class table.now graph.now rows.now))
+    ensures writes { WritesScript graph.now table.now (run_class_name_of class) (kept part (run_sites class table.now graph.now rows.now))
         (O.seen out.old).written (O.seen out.new).written result }
     ensures failed { result ≡ Err unwritten.Failed → Rose (O.seen out.old).faults (O.seen out.new).faults }
 {
@@ -93,7 +98,7 @@ pub fn write_chosen_run_sites<O: Sink>(
     requires table { IsTableOf table.now graph.now }
     requires few { length rows.now ≤ most_cycles }
     requires width { All (λ r. length r ≡ length graph.now.inputs) rows.now }
-    ensures writes { WritesChosen graph.now table.now (run_class_name class) (run_sites class table.now graph.now rows.now) chosen.now
+    ensures writes { WritesChosen graph.now table.now (run_class_name_of class) (run_sites class table.now graph.now rows.now) chosen.now
         (O.seen out.old).written (O.seen out.new).written result }
     ensures failed { result ≡ Err unwritten.Failed → Rose (O.seen out.old).faults (O.seen out.new).faults }
 {

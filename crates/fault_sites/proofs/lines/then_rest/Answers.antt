@@ -1,31 +1,30 @@
-use Rattle.std.proofs.Common.{arith, rules, w64}
+use Rattle.std.proofs.Common.{w64}
 use mir.Val.{SFits}
-use Rattle.std.proofs.Math.Facts.{to_z-of_z, to_z_pos}
-use Rattle.fault_sites.proofs.Going.{unmoved}
+use Rattle.std.proofs.Common.{rules}
+use Rattle.std.proofs.Math.Facts.{to_z-of_z}
+use Rattle.fault_sites.proofs.Going.{and_then, unmoved}
 use Rattle.fault_sites.proofs.lines.then_rest.Goals as goal
 
 pub returns-in-OperandAdd : goal.returns-in-OperandAdd
 returns-in-OperandAdd g c =
     let fits : SFits w64 c.in-OperandAdd.e = search rules in
-    let told = rw (to_z-of_z {w = w64} {z = c.in-OperandAdd.e} fits) at c.then_operand_value.ensures in
-    rw c.in-OperandAdd.is told
+    let value = rw (to_z-of_z {w = w64} {z = c.in-OperandAdd.e} fits) at c.signed.ensures.gathers in
+    rw c.in-OperandAdd.is (and_then c.numbered.ensures.gathers value)
 
 pub returns-in-OperandFrom : goal.returns-in-OperandFrom
 returns-in-OperandFrom g c =
-    let told = rw (to_z_pos w64 {n = c.in-OperandFrom.r} (omega arith)) at c.then_operand_value-in-OperandFrom.ensures in
-    rw c.in-OperandFrom.is told
+    rw c.in-OperandFrom.is (and_then c.numbered-in-OperandFrom.ensures.gathers c.numbered-in-OperandFrom-2.ensures.gathers)
 
 pub returns-in-OperandStale : goal.returns-in-OperandStale
-returns-in-OperandStale g c = rw c.in-OperandStale.is c.then_operand.ensures
+returns-in-OperandStale g c = rw c.in-OperandStale.is (and_then c.numbered-in-OperandStale.ensures.gathers c.text.ensures.gathers)
 
 pub returns-in-ResultAdd : goal.returns-in-ResultAdd
 returns-in-ResultAdd g c =
     let fits : SFits w64 c.in-ResultAdd.e = search rules in
-    let told = rw (to_z-of_z {w = w64} {z = c.in-ResultAdd.e} fits) at c.then_result_add.ensures in
-    rw c.in-ResultAdd.is told
+    rw c.in-ResultAdd.is (rw (to_z-of_z {w = w64} {z = c.in-ResultAdd.e} fits) at c.signed-in-ResultAdd.ensures.gathers)
 
 pub returns-in-Operator : goal.returns-in-Operator
-returns-in-Operator g c = rw c.in-Operator.is c.then_kind.ensures
+returns-in-Operator g c = rw (c.in-Operator.is, ← c.kind_name.ensures) c.texts.ensures.gathers
 
 pub returns-in-Skip : goal.returns-in-Skip
 returns-in-Skip g c = rw c.in-Skip.is unmoved

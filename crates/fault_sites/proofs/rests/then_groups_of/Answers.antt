@@ -18,4 +18,7 @@ values-preserved g c =
     (spends_same c.then_group-budget.ensures (ap (λ (e : ℤ). changed n e rs ∷ []) (sym passed)))
 
 pub returns : goal.returns
-returns g c = let all : c.values.v ≡ 124 = omega arith in rw c.requires.rises (rw all at c.values.invariant)
+returns g c = let all : c.values.v ≡ 124 = omega arith in rw (c.requires.rises ∙ c.if-not-rising.false) (rw all at c.values.invariant)
+
+pub returns-then-not-rising : goal.returns-then-not-rising
+returns-then-not-rising g c = rw (c.requires.rises ∙ c.if-not-rising.true) spends_none
