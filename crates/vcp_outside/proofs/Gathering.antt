@@ -7,6 +7,8 @@ use Rattle.vcp_outside.specs.declared.failed.Failed.{Failed}
 use Rattle.vcp_outside.specs.Written.{Writes}
 use Rattle.vcp_outside.specs.Seen.{SinkSeen}
 use Rattle.vcp_outside.specs.Gathering.{Gathered, Gathers, IsGathered, GathersTo}
+pub use Rattle.vcp_outside.specs.Written.{written_same}
+pub use Rattle.vcp_outside.specs.Gathering.{gathered_same}
 
 -- what was pending is written
 pub flushed : (start old new : Option (List ℕ)) (before f g : ℕ) (text pending : List ℕ) (line : Gathered) (r : Result (Unit {0}) Failed)
@@ -38,16 +40,6 @@ pub written_all : {start now : Option (List ℕ)} {before f : ℕ} {text : List 
 written_all {text = text} {line = line} is none =
     let joined : text ≡ is.front = rw (none, append-nil text, append-nil is.front) at is.joined in
     rw joined is.written
-
--- the same text, written otherwise
-pub gathered_same : {start now : Option (List ℕ)} {before f : ℕ} {text other : List ℕ} {line : Gathered}
-    → IsGathered start now before f text line → other ≡ text → IsGathered start now before f other line
-gathered_same is same = rw same is
-
--- the same bytes, written otherwise
-pub written_same : {T E : Type 0} {start now : Option (List ℕ)} {before f : ℕ} {bytes other : List ℕ} {r : Result T E}
-    → Writes start now before f bytes r → other ≡ bytes → Writes start now before f other r
-written_same written is = rw is written
 
 -- what doesn't change after a failure in one step nor in the next doesn't change in both
 pub unchanged_on : {A T E : Type 0} (a b c : A) (r s : Result T E) → OnErr r (b ≡ a) → (IsErr r → IsErr s) → OnErr s (c ≡ b) → OnErr r (c ≡ a)

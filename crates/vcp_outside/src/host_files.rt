@@ -1,6 +1,6 @@
 //! The host's files.
 
-ghost use Rattle.std.specs.Prelude.{◌≡◌, ◌<◌, ◌≤◌, ◌↔◌, None, Ok, false, length, IsTrue, IsOk, OnOk, IsUtf8};
+ghost use Rattle.std.specs.Prelude.{◌≡◌, ◌<◌, ◌≤◌, ◌↔◌, None, Ok, false, length, IsTrue, IsOk, IfSome, OnOk, IsUtf8};
 ghost use Rattle.std.specs.Io.{ReadsAtMost};
 ghost use Rattle.std.specs.Io.KnownBytes.{ReadConsumes};
 ghost use Rattle.vcp_outside.specs.Held.{Begins};
@@ -61,6 +61,19 @@ impl<'a, R: rt::Files> HostFiles<'a, R> {
     }
 }
 
+// Opens the file of a path, which is in UTF-8.
+fn open_path<R: rt::Files>(runtime: &R, name: &[u8]) -> Option<R::File>
+    ensures { IfSome result (λ file. IsUtf8 name.now) }
+{
+    let Ok(path) = str::from_utf8(name) else {
+        return None;
+    };
+    match fs::open(runtime, path) {
+        Ok(file) => Some(file),
+        Err(_) => None,
+    }
+}
+
 impl<R: rt::Files> Files for HostFiles<'_, R> {
     ghost seen = { λ s. record { held = None; rest = None; faults = s.faults; broken = s.faults } };
 
@@ -75,21 +88,12 @@ impl<R: rt::Files> Files for HostFiles<'_, R> {
         ensures utf8 { OnOk result (IsUtf8 name.now) }
         ensures faults { self.new.faults ≡ count_after result self.old.faults }
     {
-        self.file = None;
-        let Ok(path) = str::from_utf8(name) else {
-            self.faults = self.faults.saturating_add(1);
-            return Err(Failed);
-        };
-        match fs::open(self.runtime, path) {
-            Ok(file) => {
-                self.file = Some(file);
-                Ok(())
-            }
-            Err(_) => {
-                self.faults = self.faults.saturating_add(1);
-                Err(Failed)
-            }
+        self.file = open_path(self.runtime, name);
+        if self.file.is_some() {
+            return Ok(());
         }
+        self.faults = self.faults.saturating_add(1);
+        Err(Failed)
     }
 
     fn read(&mut self, buf: &mut [u8]) -> Result<usize, Failed>

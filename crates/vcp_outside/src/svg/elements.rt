@@ -15,8 +15,7 @@ fn then_attribute<O: Sink>(line: &mut Line, out: &mut O, name: Name, value: &[Pi
     ensures { GathersTo (O.seen out.old) (O.seen out.new) line.old line.new
         (attribute_text (record { name = name; value = map piece_bytes value.now })) }
 {
-    line.text(out, b" ");
-    line.text(out, attribute_name(name));
+    line.texts(out, b" ", attribute_name(name));
     line.text(out, b"=\"");
     then_pieces(line, out, Escaping::Markup, value);
     line.text(out, b"\"");
@@ -46,13 +45,11 @@ pub fn then_element<O: Sink>(
     ensures { GathersTo (O.seen out.old) (O.seen out.new) line.old line.new
         (element_text (element tag (map attribute_of attributes.now) (map piece_bytes content.now))) }
 {
-    line.text(out, b"<");
-    line.text(out, tag_name(tag));
+    line.texts(out, b"<", tag_name(tag));
     then_attributes(line, out, attributes);
     line.text(out, b">");
     then_pieces(line, out, Escaping::Markup, content);
-    line.text(out, b"</");
-    line.text(out, tag_name(tag));
+    line.texts(out, b"</", tag_name(tag));
     line.text(out, b">\n");
 }
 
@@ -62,14 +59,15 @@ pub fn begin_picture<O: Sink>(out: &mut O, width: u64, height: u64) -> Line
 {
     let mut line = Line::new();
     line.text(out, b"<svg");
-    then_attribute(
+    then_attributes(
         &mut line,
         out,
-        Name::Xmlns,
-        &[Piece::Bytes(b"http://www.w3.org/2000/svg")],
+        &[
+            (Name::Xmlns, Piece::Bytes(b"http://www.w3.org/2000/svg")),
+            (Name::Width, Piece::Count(width)),
+            (Name::Height, Piece::Count(height)),
+        ],
     );
-    then_attribute(&mut line, out, Name::Width, &[Piece::Count(width)]);
-    then_attribute(&mut line, out, Name::Height, &[Piece::Count(height)]);
     then_attribute(
         &mut line,
         out,

@@ -1,26 +1,21 @@
-use Rattle.std.proofs.Common.{◌≡◌, ℕ, List, [], ◌∷◌, ◌++◌, Option, codes, decimal, append_assoc}
+use Rattle.std.proofs.Common.{◌≡◌, ℕ, List, [], ◌∷◌, ◌++◌, codes, decimal, append_assoc}
 use Rattle.std.proofs.lemmas.List.{append-nil}
-use Rattle.vcp_outside.specs.Gathering.{Gathered, IsGathered}
+use Rattle.vcp_outside.specs.Gathering.{gathered_same}
 use Rattle.vcp_outside.specs.declared.svg.names.Name.TheVariants as name
 use Rattle.vcp_outside.specs.Elements.{attribute, attribute_text}
 use Rattle.vcp_outside.proofs.svg.elements.begin_picture.Goals as goal
 
 joined : (a b c d : List ℕ)
-    → codes "<" ++ (codes "svg" ++ ((a ++ (b ++ (c ++ (d ++ [])))) ++ codes ">\n")) ≡ codes "<svg" ++ a ++ b ++ c ++ d ++ codes ">\n"
+    → codes "<" ++ (codes "svg" ++ ((a ++ (b ++ (c ++ (d ++ [])))) ++ codes ">\n")) ≡ codes "<svg" ++ (a ++ (b ++ (c ++ []))) ++ d ++ codes ">\n"
 joined a b c d = simp (append_assoc, append-nil)
-
-same_text : {start now : Option (List ℕ)} {before f : ℕ} {line : Gathered} (text other : List ℕ)
-    → IsGathered start now before f text line → other ≡ text → IsGathered start now before f other line
-same_text text other is e = rw e is
 
 pub returns : goal.returns
 returns g c =
     let w = c.args.width in
     let h = c.args.height in
-    let first = c.then_attribute.ensures _ _ _ (c.text.ensures.gathers _ _ _ (c.new-line.ensures.begun _ _)) in
-    let third = c.then_attribute-3.ensures _ _ _ (c.then_attribute-2.ensures _ _ _ first) in
-    let all = c.text-2.ensures.gathers _ _ _ (c.then_attribute-4.ensures _ _ _ third) in
-    same_text _ _ all
+    let three = c.then_attributes.ensures _ _ _ (c.text.ensures.gathers _ _ _ (c.new-line.ensures.begun _ _)) in
+    let all = c.text-2.ensures.gathers _ _ _ (c.then_attribute.ensures _ _ _ three) in
+    gathered_same all
     (joined (attribute_text (attribute name.Xmlns (codes "http://www.w3.org/2000/svg"))) (attribute_text (attribute name.Width (decimal w)))
     (attribute_text (attribute name.Height (decimal h)))
     (attribute_text (record { name = name.ViewBox; value = codes "0 0 " ∷ decimal w ∷ codes " " ∷ decimal h ∷ [] })))

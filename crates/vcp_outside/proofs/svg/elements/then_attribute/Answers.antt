@@ -5,11 +5,11 @@ use Rattle.vcp_outside.specs.Elements.{attribute_name}
 use Rattle.vcp_outside.proofs.svg.elements.then_attribute.Goals as goal
 
 pieces : (text name value : List ℕ)
-    → text ++ (codes " " ++ (name ++ (codes "=\"" ++ (value ++ codes "\"")))) ≡ text ++ codes " " ++ name ++ codes "=\"" ++ value ++ codes "\""
+    → text ++ (codes " " ++ (name ++ (codes "=\"" ++ (value ++ codes "\"")))) ≡ text ++ (codes " " ++ name) ++ codes "=\"" ++ value ++ codes "\""
 pieces text name value = simp append_assoc
 
 pub returns : goal.returns
 returns g c start before text is =
-    let named = rw c.attribute_name.ensures at (c.text-2.ensures.gathers _ _ _ (c.text.ensures.gathers start before text is)) in
-    let value = c.then_pieces.ensures _ _ _ (c.text-3.ensures.gathers _ _ _ named) in
-    rw (flat_map-map escaped piece_bytes c.args.value.now, pieces text (attribute_name c.args.name) _) (c.text-4.ensures.gathers _ _ _ value)
+    let named = rw c.attribute_name.ensures at (c.texts.ensures.gathers start before text is) in
+    let value = c.then_pieces.ensures _ _ _ (c.text.ensures.gathers _ _ _ named) in
+    rw (flat_map-map escaped piece_bytes c.args.value.now, pieces text (attribute_name c.args.name) _) (c.text-2.ensures.gathers _ _ _ value)

@@ -6,17 +6,16 @@ use Rattle.vcp_outside.proofs.svg.elements.then_element.Goals as goal
 
 pieces : (text name attributes inside : List ℕ)
     → text ++ (codes "<" ++ (name ++ (attributes ++ (codes ">" ++ (inside ++ (codes "</" ++ (name ++ codes ">\n")))))))
-    ≡ text ++ codes "<" ++ name ++ attributes ++ codes ">" ++ inside ++ codes "</" ++ name ++ codes ">\n"
+    ≡ text ++ (codes "<" ++ name) ++ attributes ++ codes ">" ++ inside ++ (codes "</" ++ name) ++ codes ">\n"
 pieces text name attributes inside = simp append_assoc
 
 pub returns : goal.returns
 returns g c start before text is =
-    let named = rw c.tag_name.ensures at (c.text-2.ensures.gathers _ _ _ (c.text.ensures.gathers start before text is)) in
-    let told = c.text-3.ensures.gathers _ _ _ (c.then_attributes.ensures _ _ _ named) in
-    let inside = c.text-4.ensures.gathers _ _ _ (c.then_pieces.ensures _ _ _ told) in
-    let ended = rw c.tag_name-2.ensures at (c.text-5.ensures.gathers _ _ _ inside) in
+    let named = rw c.tag_name.ensures at (c.texts.ensures.gathers start before text is) in
+    let told = c.text.ensures.gathers _ _ _ (c.then_attributes.ensures _ _ _ named) in
+    let ended = rw c.tag_name-2.ensures at (c.texts-2.ensures.gathers _ _ _ (c.then_pieces.ensures _ _ _ told)) in
     rw (
       flat_map-map attribute_text attribute_of c.args.attributes.now,
       flat_map-map escaped piece_bytes c.args.content.now,
       pieces text (tag_name c.args.tag) _ _,
-    ) (c.text-6.ensures.gathers _ _ _ ended)
+    ) (c.text-2.ensures.gathers _ _ _ ended)
