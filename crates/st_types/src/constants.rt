@@ -1,11 +1,11 @@
 //! Constants: the bounds and steps of FORs, and the ends of labels.
 
-ghost use Rattle.std.specs.Prelude.{◌≡◌, ◌≢◌, pos, IfOk, IfSome, None, Some, option_map, option_and_then};
+ghost use Rattle.std.specs.Prelude.{◌≡◌, ◌≢◌, pos, IfSome, None, Some, option_map, option_and_then};
 ghost use Rattle.st_tree.specs.ExprViews.{expr_tree, expr_tree_or_none};
 ghost use Rattle.st_types.specs.declared.fault.Rule.TheVariants as rule_;
 ghost use Rattle.st_types.specs.ExprTyping.{both};
 ghost use Rattle.st_types.specs.Faults.{fault};
-ghost use Rattle.st_types.specs.Notes.{Notes};
+ghost use Rattle.st_types.specs.Notes.{Notes, UnlessFull};
 ghost use Rattle.st_types.specs.Scope.{find};
 ghost use Rattle.st_types.specs.StmtTyping.{spot_of as spot_of_tree, form_of_entry as entry_form, form_of_negated as negated_form, form as form_of_tree};
 ghost use Rattle.st_types.specs.StmtTyping.{is_form_bool as is_form_bool_of, form_number as form_number_of, not_zero as not_zero_of};
@@ -15,12 +15,12 @@ use crate::environment::Environment;
 use crate::fault::{Fault, Rule};
 use crate::literal::{Untyped, negated};
 use crate::names::{Entry, Names};
-use crate::note::note;
+use crate::note::{Noted, note};
 use crate::operator::type_of;
 use crate::refusals::discard_some;
 use crate::variable::is_constant;
 use st_tree::Expr;
-use vcp_base::{Memory, Spot, Ty, fits, is_bool};
+use vcp_base::{Spot, Ty, fits, is_bool};
 
 /// The value of a constant form, with its type.
 #[derive(Clone, Copy, Drop)]
@@ -185,63 +185,44 @@ fn bound_fault(form: Option<i128>, spot: Spot, first: &mut Option<Fault>)
 
 impl Environment<'_> {
     /// The number that an expression is, in the type where there is one: notes the faults inside it.
-    pub(crate) fn read_number(
-        &self,
-        ty: Option<Ty>,
-        e: &Expr,
-        first: &mut Option<Fault>,
-    ) -> Result<Number, Memory>
-        ensures { IfOk result (λ r. Numbers self.now.names.now ty (expr_tree e.now) first.old first.new r) }
+    pub(crate) fn read_number(&self, ty: Option<Ty>, e: &Expr, noted: &mut Noted) -> Number
+        ensures { UnlessFull noted.old.full noted.new.full
+            (Numbers self.now.names.now ty (expr_tree e.now) noted.old.first noted.new.first result) }
     {
-        let x = self.type_expression(e, first)?;
+        let x = self.type_expression(e, noted);
         let found = type_of(&x);
         discard_some(x);
         let form = form_of(self.names, e);
-        Ok(Number {
+        Number {
             form: form_number(ty, form),
             value: number_in(ty, found, form),
-        })
+        }
     }
 
     /// The bound of a FOR that an expression is, over a variable of the type: notes its faults, and where it
     /// is none.
-    pub(crate) fn bound(
-        &self,
-        ty: Option<Ty>,
-        e: &Expr,
-        first: &mut Option<Fault>,
-    ) -> Result<Option<i64>, Memory>
-        ensures { IfOk result (λ r. Bounds self.now.names.now ty (expr_tree e.now) first.old first.new r) }
+    pub(crate) fn bound(&self, ty: Option<Ty>, e: &Expr, noted: &mut Noted) -> Option<i64>
+        ensures { UnlessFull noted.old.full noted.new.full
+            (Bounds self.now.names.now ty (expr_tree e.now) noted.old.first noted.new.first result) }
     {
-        match self.read_number(ty, e, first) {
-            Ok(found) => {
-                bound_fault(found.form, spot_of(e), first);
-                Ok(found.value)
-            }
-            Err(Memory) => Err(Memory),
-        }
+        let found = self.read_number(ty, e, noted);
+        bound_fault(found.form, spot_of(e), &mut noted.first);
+        found.value
     }
 
     /// The step of a FOR, 1 where none is given: notes its faults, and where it is none.
-    pub(crate) fn step(
-        &self,
-        ty: Option<Ty>,
-        e: &Option<Expr>,
-        first: &mut Option<Fault>,
-    ) -> Result<Option<i64>, Memory>
-        ensures is { IfOk result
-            (λ r. Steps self.now.names.now ty (expr_tree_or_none e.now) first.old first.new r) }
-        ensures some { IfOk result (λ r. IfSome r (λ v. v ≢ pos 0)) }
+    pub(crate) fn step(&self, ty: Option<Ty>, e: &Option<Expr>, noted: &mut Noted) -> Option<i64>
+        ensures is { UnlessFull noted.old.full noted.new.full
+            (Steps self.now.names.now ty (expr_tree_or_none e.now) noted.old.first noted.new.first result) }
+        ensures some { IfSome result (λ v. v ≢ pos 0) }
     {
         match e {
-            None => Ok(Some(1)),
-            Some(e) => match self.read_number(ty, e, first) {
-                Ok(found) => {
-                    bound_fault(form_not_zero(found.form), spot_of(e), first);
-                    Ok(not_zero(found.value))
-                }
-                Err(Memory) => Err(Memory),
-            },
+            None => Some(1),
+            Some(e) => {
+                let found = self.read_number(ty, e, noted);
+                bound_fault(form_not_zero(found.form), spot_of(e), &mut noted.first);
+                not_zero(found.value)
+            }
         }
     }
 }

@@ -7,14 +7,14 @@ ghost use Rattle.st_types.specs.declared.fault.Rule.TheVariants as rule_;
 ghost use Rattle.st_types.specs.DeclSteps.{made_by, DeclForm, JudgesInit, Makes, MakesAll, MakesBlocks, MakesDecls, MakesNames};
 ghost use Rattle.st_types.specs.DeclTyping.{nothing_made, is_new, slots_with, after_name, after_decl, value_or_zero as zero_or, Misfit};
 ghost use Rattle.st_types.specs.Faults.{fault};
-ghost use Rattle.st_types.specs.Notes.{Notes};
+ghost use Rattle.st_types.specs.Notes.{Notes, UnlessFull};
 
 use crate::constants::Known;
 use crate::environment::Environment;
 use crate::fault::{Fault, Rule};
 use crate::initial::initial;
 use crate::names::{Entry, Names};
-use crate::note::note;
+use crate::note::{Noted, note};
 use crate::variable::is_constant;
 use st_tree::{Block, Decl, Declared, Expr, Section};
 use std::alloc::Global;
@@ -216,18 +216,20 @@ fn add_all(
     alloc: Global,
     made: &mut Declarations,
     blocks: &[Block],
-    first: &mut Option<Fault>,
+    noted: &mut Noted,
 ) -> Result<(), Memory>
-    ensures { OnOk result (MakesAll (map block_tree blocks.now) (made_by made.old) (made_by made.new) first.old first.new) }
+    ensures { OnOk result (UnlessFull noted.old.full noted.new.full
+        (MakesAll (map block_tree blocks.now) (made_by made.old) (made_by made.new) noted.old.first noted.new.first)) }
 {
-    match add_blocks(alloc, made, blocks, first) {
+    match add_blocks(alloc, made, blocks, &mut noted.first) {
         Ok(()) => {
             let whole = Environment {
                 alloc,
                 names: &made.names,
                 held: &[],
             };
-            whole.inside_blocks(blocks, first)
+            whole.inside_blocks(blocks, noted);
+            Ok(())
         }
         Err(Memory) => Err(Memory),
     }
@@ -237,12 +239,13 @@ fn add_all(
 pub(crate) fn declared(
     alloc: Global,
     blocks: &[Block],
-    first: &mut Option<Fault>,
+    noted: &mut Noted,
 ) -> Result<Declarations, Memory>
-    ensures { IfOk result (λ r. MakesAll (map block_tree blocks.now) nothing_made (made_by r) first.old first.new) }
+    ensures { IfOk result (λ r. UnlessFull noted.old.full noted.new.full
+        (MakesAll (map block_tree blocks.now) nothing_made (made_by r) noted.old.first noted.new.first)) }
 {
     let mut made = nothing(alloc);
-    match add_all(alloc, &mut made, blocks, first) {
+    match add_all(alloc, &mut made, blocks, noted) {
         Ok(()) => Ok(made),
         Err(Memory) => Err(Memory),
     }

@@ -3,13 +3,15 @@
 ghost use Rattle.std.specs.Prelude.{◌≡◌, IfOk, List, ℕ, ◌++◌, ◌∷◌, [], Some, None, neg_ℤ, map, option_map};
 ghost use Rattle.st_tree.specs.ExprTree.{literal as literal_tree, name as name_tree, call as call_tree};
 ghost use Rattle.st_tree.specs.ExprViews.{expr_tree, expr_trees};
-ghost use Rattle.vcp_typed.specs.TExprTree.{literal as literal_of};
+ghost use Rattle.vcp_typed.specs.Checked.{ty_of as type_of_value};
+ghost use Rattle.vcp_typed.specs.Rules.{arguments as arguments_of};
+ghost use Rattle.vcp_typed.specs.TExprTree.{literal as literal_of, binary as binary_of, call as call_of};
 ghost use Rattle.vcp_typed.specs.TExprViews.{texpr_tree, texpr_trees};
 ghost use Rattle.st_types.specs.declared.fault.Rule.TheVariants as rule_;
 ghost use Rattle.st_types.specs.Faults.{fault};
 ghost use Rattle.st_types.specs.Scope.{Entry};
-ghost use Rattle.st_types.specs.Notes.{Notes};
-ghost use Rattle.st_types.specs.ExprTyping.{both, sized as sized_of, got as got_of, widened_all as widened_all_of};
+ghost use Rattle.st_types.specs.Notes.{Notes, UnlessFull};
+ghost use Rattle.st_types.specs.ExprTyping.{both, sized as sized_of, got as got_of, widened as widened_of, widened_all as widened_all_of};
 ghost use Rattle.st_types.specs.ExprSteps.{Types, TypesAll, Signs, Operates, Applies};
 
 use crate::environment::Environment;
@@ -17,7 +19,7 @@ use crate::fault::{Fault, Rule};
 use crate::function::{arguments, called, function_type};
 use crate::literal::{Untyped, literal_type, minus, negated};
 use crate::names::Entry;
-use crate::note::note;
+use crate::note::{Noted, note};
 use crate::operator::{common, signed, widened};
 use crate::refusals::{discard, discard_all, discard_arguments, discard_some};
 use st_tree::{BinOp, Expr, Section, UnOp, trees_of_nodes};
@@ -65,27 +67,25 @@ fn negative(l: Untyped, first: &mut Option<Fault>) -> Option<TExpr>
 }
 
 // An operator before its operand. An operand with a fault is told alone.
-fn sign(
-    alloc: Global,
-    op: UnOp,
-    arg: Option<TExpr>,
-    spot: Spot,
-    first: &mut Option<Fault>,
-) -> Result<Option<TExpr>, Memory>
-    ensures { IfOk result (λ r. Signs op spot (option_map texpr_tree arg) first.old first.new (option_map texpr_tree r)) }
+fn sign(alloc: Global, op: UnOp, arg: Option<TExpr>, spot: Spot, noted: &mut Noted) -> Option<TExpr>
+    ensures { UnlessFull noted.old.full noted.new.full
+        (Signs op spot (option_map texpr_tree arg) noted.old.first noted.new.first (option_map texpr_tree result)) }
 {
     let Some(arg) = arg else {
-        return Ok(None);
+        return None;
     };
     match signed(op, ty_of(&arg)) {
         None => {
             discard(arg);
-            note(first, Rule::Mismatch, spot);
-            Ok(None)
+            note(&mut noted.first, Rule::Mismatch, spot);
+            None
         }
         Some(ty) => match TExpr::unary(alloc, op, ty, arg, spot) {
-            Ok(e) => Ok(Some(e)),
-            Err(Memory) => Err(Memory),
+            Ok(e) => Some(e),
+            Err(Memory) => {
+                noted.full = true;
+                None
+            }
         },
     }
 }
@@ -97,67 +97,86 @@ fn operate(
     left: Option<TExpr>,
     right: Option<TExpr>,
     spot: Spot,
-    first: &mut Option<Fault>,
-) -> Result<Option<TExpr>, Memory>
-    ensures { IfOk result (λ r. Operates op spot (option_map texpr_tree left) (option_map texpr_tree right) first.old first.new (option_map texpr_tree r)) }
+    noted: &mut Noted,
+) -> Option<TExpr>
+    ensures { UnlessFull noted.old.full noted.new.full
+        (Operates op spot (option_map texpr_tree left) (option_map texpr_tree right) noted.old.first noted.new.first (option_map texpr_tree result)) }
 {
     let Some(left) = left else {
         discard_some(right);
-        return Ok(None);
+        return None;
     };
     let Some(right) = right else {
         discard(left);
-        return Ok(None);
+        return None;
     };
     match common(op, ty_of(&left), ty_of(&right)) {
         None => {
             discard(left);
             discard(right);
-            note(first, Rule::Mismatch, spot);
-            Ok(None)
+            note(&mut noted.first, Rule::Mismatch, spot);
+            None
         }
-        Some(ty) => {
-            let left = match widened(alloc, ty, left) {
-                Ok(left) => left,
-                Err(Memory) => {
-                    discard(right);
-                    return Err(Memory);
-                }
-            };
-            let right = match widened(alloc, ty, right) {
-                Ok(right) => right,
-                Err(Memory) => {
-                    discard(left);
-                    return Err(Memory);
-                }
-            };
-            match TExpr::binary(alloc, op, ty, left, right, spot) {
-                Ok(e) => Ok(Some(e)),
-                Err(Memory) => Err(Memory),
+        Some(ty) => match operation(alloc, op, ty, left, right, spot) {
+            Ok(e) => Some(e),
+            Err(Memory) => {
+                noted.full = true;
+                None
             }
+        },
+    }
+}
+
+// The operator between its operands, widened to the type.
+fn operation(
+    alloc: Global,
+    op: BinOp,
+    ty: Ty,
+    left: TExpr,
+    right: TExpr,
+    spot: Spot,
+) -> Result<TExpr, Memory>
+    ensures { IfOk result
+        (λ e. texpr_tree e ≡ binary_of op ty
+        (widened_of ty (type_of_value (texpr_tree left)) (texpr_tree left))
+        (widened_of ty (type_of_value (texpr_tree right)) (texpr_tree right)) spot) }
+{
+    let left = match widened(alloc, ty, left) {
+        Ok(left) => left,
+        Err(Memory) => {
+            discard(right);
+            return Err(Memory);
+        }
+    };
+    match widened(alloc, ty, right) {
+        Ok(right) => TExpr::binary(alloc, op, ty, left, right, spot),
+        Err(Memory) => {
+            discard(left);
+            Err(Memory)
         }
     }
 }
 
 // The arguments with one more; none where one of them has a fault.
-fn push(list: Option<Vec<TExpr>>, e: Option<TExpr>) -> Result<Option<Vec<TExpr>>, Memory>
-    ensures { IfOk result
-        (λ r. option_map (λ v. map texpr_tree v.items) r
+fn push(list: Option<Vec<TExpr>>, e: Option<TExpr>, full: &mut bool) -> Option<Vec<TExpr>>
+    ensures { UnlessFull full.old full.new
+        (option_map (λ v. map texpr_tree v.items) result
         ≡ both (λ xs x. Some (xs ++ x ∷ [])) (option_map (λ v. map texpr_tree v.items) list) (option_map texpr_tree e)) }
 {
     let Some(mut list) = list else {
         discard_some(e);
-        return Ok(None);
+        return None;
     };
     let Some(e) = e else {
         discard_all(list);
-        return Ok(None);
+        return None;
     };
     match list.push(e) {
-        Ok(()) => Ok(Some(list)),
+        Ok(()) => Some(list),
         Err(_) => {
             discard_all(list);
-            Err(Memory)
+            *full = true;
+            None
         }
     }
 }
@@ -181,37 +200,58 @@ fn widened_all(alloc: Global, wanted: &[Ty], list: Vec<TExpr>) -> Result<TExprs,
     Ok(out)
 }
 
+// A function of arguments whose value has this type; none where it hasn't such a value.
+fn applied(
+    alloc: Global,
+    fun: Fun,
+    ty: Ty,
+    list: Vec<TExpr>,
+    spot: Spot,
+) -> Result<Option<TExpr>, Memory>
+    ensures { IfOk result
+        (λ r. option_map texpr_tree r ≡ option_map (λ ts. call_of fun ty (widened_all_of ts (map texpr_tree list.items)) spot) (arguments_of fun ty)) }
+{
+    match arguments(alloc, fun, ty) {
+        Ok(Some(wanted)) => match widened_all(alloc, &wanted, list) {
+            Ok(args) => Ok(Some(TExpr::call(fun, ty, args, spot))),
+            Err(Memory) => Err(Memory),
+        },
+        Ok(None) => {
+            discard_all(list);
+            Ok(None)
+        }
+        Err(Memory) => {
+            discard_all(list);
+            Err(Memory)
+        }
+    }
+}
+
 // A function of as many arguments as it has. Arguments with a fault are told alone.
 fn apply(
     alloc: Global,
     fun: Fun,
     list: Option<Vec<TExpr>>,
     spot: Spot,
-    first: &mut Option<Fault>,
-) -> Result<Option<TExpr>, Memory>
-    ensures { IfOk result (λ r. Applies fun spot (option_map (λ v. map texpr_tree v.items) list) first.old first.new (option_map texpr_tree r)) }
+    noted: &mut Noted,
+) -> Option<TExpr>
+    ensures { UnlessFull noted.old.full noted.new.full
+        (Applies fun spot (option_map (λ v. map texpr_tree v.items) list) noted.old.first noted.new.first (option_map texpr_tree result)) }
 {
     let Some(list) = list else {
-        return Ok(None);
+        return None;
     };
     match function_type(fun, &list) {
         None => {
             discard_all(list);
-            note(first, Rule::Mismatch, spot);
-            Ok(None)
+            note(&mut noted.first, Rule::Mismatch, spot);
+            None
         }
-        Some(ty) => match arguments(alloc, fun, ty) {
-            Ok(Some(wanted)) => match widened_all(alloc, &wanted, list) {
-                Ok(args) => Ok(Some(TExpr::call(fun, ty, args, spot))),
-                Err(Memory) => Err(Memory),
-            },
-            Ok(None) => {
-                discard_all(list);
-                Ok(None)
-            }
+        Some(ty) => match applied(alloc, fun, ty, list, spot) {
+            Ok(e) => e,
             Err(Memory) => {
-                discard_all(list);
-                Err(Memory)
+                noted.full = true;
+                None
             }
         },
     }
@@ -233,86 +273,65 @@ impl Environment<'_> {
 
     /// Types an expression: notes its faults, and gives its checked expression, none where it has a fault.
     #[cycle(typing)]
-    pub(crate) fn type_expression(
-        &self,
-        e: &Expr,
-        first: &mut Option<Fault>,
-    ) -> Result<Option<TExpr>, Memory>
-        ensures { IfOk result (λ r. Types self.now.names.now (expr_tree e.now) first.old first.new (option_map texpr_tree r)) }
+    pub(crate) fn type_expression(&self, e: &Expr, noted: &mut Noted) -> Option<TExpr>
+        ensures { UnlessFull noted.old.full noted.new.full
+            (Types self.now.names.now (expr_tree e.now) noted.old.first noted.new.first (option_map texpr_tree result)) }
     {
         match e {
-            Expr::Lit { ty, value, spot } => Ok(literal(*ty, *value, *spot, first)),
-            Expr::Name { name, spot } => Ok(self.known(name.bytes(), *spot, first)),
+            Expr::Lit { ty, value, spot } => literal(*ty, *value, *spot, &mut noted.first),
+            Expr::Name { name, spot } => self.known(name.bytes(), *spot, &mut noted.first),
             Expr::Unary { op, arg, spot } => match negated(*op, arg) {
-                Some(l) => Ok(negative(l, first)),
-                None => match self.type_expression(arg, first) {
-                    Ok(x) => sign(self.alloc, *op, x, *spot, first),
-                    Err(Memory) => Err(Memory),
-                },
+                Some(l) => negative(l, &mut noted.first),
+                None => {
+                    let operand = self.type_expression(arg, noted);
+                    sign(self.alloc, *op, operand, *spot, noted)
+                }
             },
             Expr::Binary {
                 op,
                 left,
                 right,
                 spot,
-            } => match self.type_expression(left, first) {
-                Ok(x) => match self.type_expression(right, first) {
-                    Ok(y) => operate(self.alloc, *op, x, y, *spot, first),
-                    Err(Memory) => {
-                        discard_some(x);
-                        Err(Memory)
-                    }
-                },
-                Err(Memory) => Err(Memory),
-            },
+            } => {
+                let x = self.type_expression(left, noted);
+                let y = self.type_expression(right, noted);
+                operate(self.alloc, *op, x, y, *spot, noted)
+            }
             Expr::Call { name, args, spot } => {
                 trees_of_nodes();
-                self.call(name.bytes(), &args.items, *spot, first)
+                self.call(name.bytes(), &args.items, *spot, noted)
             }
         }
     }
 
     // A call: its arguments, and whether there is such a function of so many.
     #[cycle(typing)]
-    fn call(
-        &self,
-        name: &[u8],
-        args: &[Expr],
-        spot: Spot,
-        first: &mut Option<Fault>,
-    ) -> Result<Option<TExpr>, Memory>
-        ensures { IfOk result (λ r. Types self.now.names.now (call_tree name.now (expr_trees args.now) spot) first.old first.new (option_map texpr_tree r)) }
+    fn call(&self, name: &[u8], args: &[Expr], spot: Spot, noted: &mut Noted) -> Option<TExpr>
+        ensures { UnlessFull noted.old.full noted.new.full
+            (Types self.now.names.now (call_tree name.now (expr_trees args.now) spot) noted.old.first noted.new.first (option_map texpr_tree result)) }
     {
-        let list = self.type_all(args, first)?;
+        let list = self.type_all(args, noted);
         match called(name, args.len()) {
             None => {
                 discard_arguments(list);
-                note(first, Rule::Call, spot);
-                Ok(None)
+                note(&mut noted.first, Rule::Call, spot);
+                None
             }
-            Some(fun) => apply(self.alloc, fun, list, spot, first),
+            Some(fun) => apply(self.alloc, fun, list, spot, noted),
         }
     }
 
     // The arguments of a call, from the left; none where one of them has a fault.
     #[cycle(typing)]
-    fn type_all(
-        &self,
-        args: &[Expr],
-        first: &mut Option<Fault>,
-    ) -> Result<Option<Vec<TExpr>>, Memory>
-        ensures { IfOk result (λ r. TypesAll self.now.names.now (expr_trees args.now) first.old first.new (option_map (λ v. map texpr_tree v.items) r)) }
+    fn type_all(&self, args: &[Expr], noted: &mut Noted) -> Option<Vec<TExpr>>
+        ensures { UnlessFull noted.old.full noted.new.full
+            (TypesAll self.now.names.now (expr_trees args.now) noted.old.first noted.new.first (option_map (λ v. map texpr_tree v.items) result)) }
     {
         let mut list = Some(Vec::new(self.alloc));
         'each: for e in args {
-            match self.type_expression(e, first) {
-                Ok(x) => list = push(list, x)?,
-                Err(Memory) => {
-                    discard_arguments(list);
-                    return Err(Memory);
-                }
-            }
+            let x = self.type_expression(e, noted);
+            list = push(list, x, &mut noted.full);
         }
-        Ok(list)
+        list
     }
 }

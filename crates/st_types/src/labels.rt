@@ -1,12 +1,12 @@
 //! The labels of a CASE.
 
-ghost use Rattle.std.specs.Prelude.{◌≡◌, IfOk, false, is_some, option_map};
+ghost use Rattle.std.specs.Prelude.{◌≡◌, false, is_some, option_map};
 ghost use Rattle.vcp_base.specs.declared.spot.Spot.{Spot as Spot_};
 ghost use Rattle.st_tree.specs.ExprViews.{expr_tree, expr_tree_or_none};
 ghost use Rattle.st_tree.specs.StmtViews.{label_tree, label_trees};
 ghost use Rattle.st_types.specs.declared.fault.Rule.TheVariants as rule_;
 ghost use Rattle.st_types.specs.Faults.{fault};
-ghost use Rattle.st_types.specs.Notes.{Notes};
+ghost use Rattle.st_types.specs.Notes.{Notes, UnlessFull};
 ghost use Rattle.st_types.specs.ExprTyping.{both};
 ghost use Rattle.st_types.specs.StmtTyping.{range_of as range_of_ends, label_ends as label_ends_of};
 ghost use Rattle.st_types.specs.StmtSteps.{TypesLast, TypesLabel, TypesLabels, label_after};
@@ -14,7 +14,7 @@ ghost use Rattle.st_types.specs.StmtSteps.{TypesLast, TypesLabel, TypesLabels, l
 use crate::constants::{Number, spot_of};
 use crate::environment::Environment;
 use crate::fault::{Fault, Rule};
-use crate::note::note;
+use crate::note::{Noted, note};
 use st_tree::{Expr, Label};
 use vcp_base::{Memory, Spot, Ty};
 use vcp_typed::{TLabel, TLabels};
@@ -97,57 +97,48 @@ fn label_fault(there: bool, spot: Spot, first: &mut Option<Fault>)
 }
 
 // The labels with one more; none where one of them has a fault.
-fn with_label(list: Option<TLabels>, label: Option<TLabel>) -> Result<Option<TLabels>, Memory>
-    ensures { IfOk result
-        (λ r. option_map (λ v. v.items.items) r
+fn with_label(list: Option<TLabels>, label: Option<TLabel>, full: &mut bool) -> Option<TLabels>
+    ensures { UnlessFull full.old full.new
+        (option_map (λ v. v.items.items) result
         ≡ both label_after (option_map (λ v. v.items.items) list) label) }
 {
     let Some(mut list) = list else {
-        return Ok(None);
+        return None;
     };
     let Some(label) = label else {
-        return Ok(None);
+        return None;
     };
     match list.push(label) {
-        Ok(()) => Ok(Some(list)),
-        Err(Memory) => Err(Memory),
+        Ok(()) => Some(list),
+        Err(Memory) => {
+            *full = true;
+            None
+        }
     }
 }
 
 impl Environment<'_> {
     // The last end of a range; none of one value.
-    fn last_end(
-        &self,
-        ty: Option<Ty>,
-        e: &Option<Expr>,
-        first: &mut Option<Fault>,
-    ) -> Result<Option<Number>, Memory>
-        ensures { IfOk result
-            (λ r. TypesLast self.now.names.now ty (expr_tree_or_none e.now) first.old first.new r) }
+    fn last_end(&self, ty: Option<Ty>, e: &Option<Expr>, noted: &mut Noted) -> Option<Number>
+        ensures { UnlessFull noted.old.full noted.new.full
+            (TypesLast self.now.names.now ty (expr_tree_or_none e.now) noted.old.first noted.new.first result) }
     {
         match e {
-            None => Ok(None),
-            Some(e) => match self.read_number(ty, e, first) {
-                Ok(last) => Ok(Some(last)),
-                Err(Memory) => Err(Memory),
-            },
+            None => None,
+            Some(e) => Some(self.read_number(ty, e, noted)),
         }
     }
 
     // A label. What is wrong with either end is told at the first one.
-    fn type_label(
-        &self,
-        ty: Option<Ty>,
-        label: &Label,
-        first: &mut Option<Fault>,
-    ) -> Result<Option<TLabel>, Memory>
-        ensures { IfOk result (λ r. TypesLabel self.now.names.now ty (label_tree label.now) first.old first.new r) }
+    fn type_label(&self, ty: Option<Ty>, label: &Label, noted: &mut Noted) -> Option<TLabel>
+        ensures { UnlessFull noted.old.full noted.new.full
+            (TypesLabel self.now.names.now ty (label_tree label.now) noted.old.first noted.new.first result) }
     {
-        let low = self.read_number(ty, &label.first, first)?;
-        let high = self.last_end(ty, &label.last, first)?;
+        let low = self.read_number(ty, &label.first, noted);
+        let high = self.last_end(ty, &label.last, noted);
         let spot = spot_of(&label.first);
-        label_fault(is_label(low.form, last_form(high)), spot, first);
-        Ok(label_ends(spot, low.value, last_value(high)))
+        label_fault(is_label(low.form, last_form(high)), spot, &mut noted.first);
+        label_ends(spot, low.value, last_value(high))
     }
 
     /// Types the labels of a branch, for a selector of the type: notes their faults, and gives the checked
@@ -156,16 +147,16 @@ impl Environment<'_> {
         &self,
         ty: Option<Ty>,
         labels: &[Label],
-        first: &mut Option<Fault>,
-    ) -> Result<Option<TLabels>, Memory>
-        ensures { IfOk result
-            (λ r. TypesLabels self.now.names.now ty (label_trees labels.now) first.old first.new (option_map (λ v. v.items.items) r)) }
+        noted: &mut Noted,
+    ) -> Option<TLabels>
+        ensures { UnlessFull noted.old.full noted.new.full
+            (TypesLabels self.now.names.now ty (label_trees labels.now) noted.old.first noted.new.first (option_map (λ v. v.items.items) result)) }
     {
         let mut list = Some(TLabels::new(self.alloc));
         'each: for label in labels {
-            let made = self.type_label(ty, label, first)?;
-            list = with_label(list, made)?;
+            let made = self.type_label(ty, label, noted);
+            list = with_label(list, made, &mut noted.full);
         }
-        Ok(list)
+        list
     }
 }

@@ -37,6 +37,13 @@ fn is_before(f: Fault, g: Fault) -> bool
     number(f.rule) < number(g.rule)
 }
 
+/// What is noted: the least fault so far, and whether memory ran out. Where it did, nothing is said of what was typed.
+#[derive(Clone, Copy)]
+pub struct Noted {
+    pub first: Option<Fault>,
+    pub full: bool,
+}
+
 /// Notes a fault: the least one is kept.
 pub(crate) fn note(first: &mut Option<Fault>, rule: Rule, spot: Spot)
     ensures { Notes first.old first.new (λ f. f ≡ fault rule spot) }

@@ -1,6 +1,6 @@
 //! The typing of statements.
 
-ghost use Rattle.std.specs.Prelude.{◌≡◌, ◌≢◌, pos, IfOk, IfSome, option_map, option_and_then};
+ghost use Rattle.std.specs.Prelude.{◌≡◌, ◌≢◌, pos, IfSome, option_map, option_and_then};
 ghost use Rattle.st_tree.specs.StmtTree.{assign as assign_tree, if_ as if_tree, case as case_tree, for_ as for_tree};
 ghost use Rattle.st_tree.specs.ExprViews.{expr_tree, expr_tree_or_none};
 ghost use Rattle.st_tree.specs.StmtViews.{stmt_tree, stmt_trees, arm_trees, branch_trees, other_tree};
@@ -11,6 +11,7 @@ ghost use Rattle.vcp_typed.specs.TStmtTree.{tother};
 ghost use Rattle.vcp_typed.specs.TStmtViews.{tstmt_tree, tstmt_trees, tarm_trees, tbranch_trees, tother_tree};
 ghost use Rattle.st_types.specs.declared.fault.Rule.TheVariants as rule_;
 ghost use Rattle.st_types.specs.Faults.{fault};
+ghost use Rattle.st_types.specs.Notes.{UnlessFull};
 ghost use Rattle.st_types.specs.ExprTyping.{both};
 ghost use Rattle.st_types.specs.StmtTyping.{entry_type as entry_type_of, Narrows, NoTest, IsBool, assign_of, test_of, selector_of, begins as begins_of};
 ghost use Rattle.st_types.specs.StmtTyping.{turns_of as turns_of_bounds, case_of};
@@ -20,7 +21,7 @@ ghost use Rattle.st_types.specs.StmtSteps.{turning_of, for_with};
 use crate::environment::Environment;
 use crate::fault::{Fault, Rule};
 use crate::names::Entry;
-use crate::note::note;
+use crate::note::{Noted, note};
 use crate::operator::{type_of, widened};
 use crate::refusals::{
     discard, discard_arms, discard_body, discard_branches, discard_some, discard_stmt,
@@ -41,35 +42,38 @@ fn assign_of(
     x: Option<&Entry>,
     e: Option<TExpr>,
     spot: Spot,
-    first: &mut Option<Fault>,
-) -> Result<Option<TStmt>, Memory>
-    ensures { IfOk result
-        (λ r. Gives
+    noted: &mut Noted,
+) -> Option<TStmt>
+    ensures { UnlessFull noted.old.full noted.new.full
+        (Gives
         (λ f. (f ≡ fault rule_.Mismatch spot) × Narrows (entry_type_of (option_map (λ y. y.now) x.entry)) (option_map type_of_value (option_map texpr_tree e)))
         (both (assign_of held.now spot) (option_map (λ y. y.now) x.entry) (option_map texpr_tree e))
-        first.old
-        first.new
-        (option_map tstmt_tree r)) }
+        noted.old.first
+        noted.new.first
+        (option_map tstmt_tree result)) }
 {
     let Some(x) = x else {
         discard_some(e);
-        return Ok(None);
+        return None;
     };
     let Some(e) = e else {
-        return Ok(None);
+        return None;
     };
     if !within(ty_of(&e), x.ty) {
         discard(e);
-        note(first, Rule::Mismatch, spot);
-        return Ok(None);
+        note(&mut noted.first, Rule::Mismatch, spot);
+        return None;
     }
     if !is_free(held, x) {
         discard(e);
-        return Ok(None);
+        return None;
     }
     match widened(alloc, x.ty, e) {
-        Ok(value) => Ok(Some(TStmt::assign(x.slot, value, spot))),
-        Err(Memory) => Err(Memory),
+        Ok(value) => Some(TStmt::assign(x.slot, value, spot)),
+        Err(Memory) => {
+            noted.full = true;
+            None
+        }
     }
 }
 
@@ -226,24 +230,25 @@ fn case_of(
 // ---- lists with one more
 
 // The statements with one more; none where one of them has a fault.
-fn with_stmt(list: Option<TStmts>, s: Option<TStmt>) -> Result<Option<TStmts>, Memory>
-    ensures { IfOk result
-        (λ r. option_map (λ b. tstmt_trees b.items.items) r
+fn with_stmt(list: Option<TStmts>, s: Option<TStmt>, full: &mut bool) -> Option<TStmts>
+    ensures { UnlessFull full.old full.new
+        (option_map (λ b. tstmt_trees b.items.items) result
         ≡ both stmt_after (option_map (λ b. tstmt_trees b.items.items) list) (option_map tstmt_tree s)) }
 {
     let Some(mut list) = list else {
         discard_stmt(s);
-        return Ok(None);
+        return None;
     };
     let Some(s) = s else {
         discard_stmts(list);
-        return Ok(None);
+        return None;
     };
     match list.push(s) {
-        Ok(()) => Ok(Some(list)),
+        Ok(()) => Some(list),
         Err(Memory) => {
             discard_stmts(list);
-            Err(Memory)
+            *full = true;
+            None
         }
     }
 }
@@ -254,31 +259,33 @@ fn with_arm(
     cond: Option<TExpr>,
     body: Option<TStmts>,
     spot: Spot,
-) -> Result<Option<TArms>, Memory>
-    ensures { IfOk result
-        (λ r. option_map (λ a. tarm_trees (tarm_items a)) r
+    full: &mut bool,
+) -> Option<TArms>
+    ensures { UnlessFull full.old full.new
+        (option_map (λ a. tarm_trees (tarm_items a)) result
         ≡ arm_after spot (option_map (λ a. tarm_trees (tarm_items a)) list) (option_map texpr_tree cond) (option_map (λ b. tstmt_trees b.items.items) body)) }
 {
     let Some(mut list) = list else {
         discard_some(cond);
         discard_body(body);
-        return Ok(None);
+        return None;
     };
     let Some(cond) = cond else {
         discard_arms(list);
         discard_body(body);
-        return Ok(None);
+        return None;
     };
     let Some(body) = body else {
         discard(cond);
         discard_arms(list);
-        return Ok(None);
+        return None;
     };
     match list.push(TArm { cond, body, spot }) {
-        Ok(()) => Ok(Some(list)),
+        Ok(()) => Some(list),
         Err(Memory) => {
             discard_arms(list);
-            Err(Memory)
+            *full = true;
+            None
         }
     }
 }
@@ -288,9 +295,10 @@ fn with_branch(
     list: Option<TBranches>,
     labels: Option<TLabels>,
     body: Option<TStmts>,
-) -> Result<Option<TBranches>, Memory>
-    ensures { IfOk result
-        (λ r. option_map (λ b. tbranch_trees (tbranch_items b)) r
+    full: &mut bool,
+) -> Option<TBranches>
+    ensures { UnlessFull full.old full.new
+        (option_map (λ b. tbranch_trees (tbranch_items b)) result
         ≡ branch_after
         (option_map (λ b. tbranch_trees (tbranch_items b)) list)
         (option_map (λ v. v.items.items) labels)
@@ -298,22 +306,23 @@ fn with_branch(
 {
     let Some(mut list) = list else {
         discard_body(body);
-        return Ok(None);
+        return None;
     };
     let Some(labels) = labels else {
         discard_branches(list);
         discard_body(body);
-        return Ok(None);
+        return None;
     };
     let Some(body) = body else {
         discard_branches(list);
-        return Ok(None);
+        return None;
     };
     match list.push(TBranch { labels, body }) {
-        Ok(()) => Ok(Some(list)),
+        Ok(()) => Some(list),
         Err(Memory) => {
             discard_branches(list);
-            Err(Memory)
+            *full = true;
+            None
         }
     }
 }
@@ -332,39 +341,33 @@ fn with_else(body: Option<TStmts>) -> Option<Option<TStmts>>
 
 impl Environment<'_> {
     // An assignment.
-    fn assign(
-        &self,
-        name: &[u8],
-        value: &Expr,
-        spot: Spot,
-        first: &mut Option<Fault>,
-    ) -> Result<Option<TStmt>, Memory>
-        ensures { IfOk result
-            (λ r. TypesStmt self.now.names.now self.now.held.now
+    fn assign(&self, name: &[u8], value: &Expr, spot: Spot, noted: &mut Noted) -> Option<TStmt>
+        ensures { UnlessFull noted.old.full noted.new.full
+            (TypesStmt self.now.names.now self.now.held.now
             (assign_tree name.now (expr_tree value.now) spot)
-            first.old first.new (option_map tstmt_tree r)) }
+            noted.old.first noted.new.first (option_map tstmt_tree result)) }
     {
         let x = self.names.find(name);
-        name_fault(self.held, x, spot, first);
-        let e = self.type_expression(value, first)?;
-        assign_of(self.alloc, self.held, x, e, spot, first)
+        name_fault(self.held, x, spot, &mut noted.first);
+        let e = self.type_expression(value, noted);
+        assign_of(self.alloc, self.held, x, e, spot, noted)
     }
 
     /// Types a statement inside FORs over the slots `held`: notes its faults, and gives the checked statement, none
     /// where it has a fault.
     #[cycle(statements)]
-    fn type_stmt(&self, s: &Stmt, first: &mut Option<Fault>) -> Result<Option<TStmt>, Memory>
-        ensures { IfOk result
-            (λ r. TypesStmt self.now.names.now self.now.held.now (stmt_tree s.now) first.old first.new (option_map tstmt_tree r)) }
+    fn type_stmt(&self, s: &Stmt, noted: &mut Noted) -> Option<TStmt>
+        ensures { UnlessFull noted.old.full noted.new.full
+            (TypesStmt self.now.names.now self.now.held.now (stmt_tree s.now) noted.old.first noted.new.first (option_map tstmt_tree result)) }
     {
         match s {
             Stmt::Assign { name, value, spot } => {
                 let name = name.bytes();
-                self.assign(name, value, *spot, first)
+                self.assign(name, value, *spot, noted)
             }
             Stmt::If { arms, other } => {
                 trees_of_nodes();
-                self.type_if(&arms.items, other, first)
+                self.type_if(&arms.items, other, noted)
             }
             Stmt::Case {
                 on,
@@ -374,39 +377,42 @@ impl Environment<'_> {
             } => {
                 trees_of_nodes();
                 let branches = &branches.items;
-                self.type_case(on, branches, other, *spot, first)
+                self.type_case(on, branches, other, *spot, noted)
             }
             Stmt::For {
                 name,
                 name_spot,
-                first: from,
+                first,
                 last,
                 by,
                 body,
                 ..
             } => {
                 trees_of_nodes();
-                self.type_for(&body.items, name.bytes(), *name_spot, from, last, by, first)
+                self.type_for(
+                    &body.items,
+                    name.bytes(),
+                    *name_spot,
+                    first,
+                    last,
+                    by,
+                    noted,
+                )
             }
         }
     }
 
     // An IF.
     #[cycle(statements)]
-    fn type_if(
-        &self,
-        arms: &[Arm],
-        other: &Option<Stmts>,
-        first: &mut Option<Fault>,
-    ) -> Result<Option<TStmt>, Memory>
-        ensures { IfOk result
-            (λ r. TypesStmt self.now.names.now self.now.held.now
+    fn type_if(&self, arms: &[Arm], other: &Option<Stmts>, noted: &mut Noted) -> Option<TStmt>
+        ensures { UnlessFull noted.old.full noted.new.full
+            (TypesStmt self.now.names.now self.now.held.now
             (if_tree (arm_trees arms.now) (other_tree other.now))
-            first.old first.new (option_map tstmt_tree r)) }
+            noted.old.first noted.new.first (option_map tstmt_tree result)) }
     {
-        let made = self.type_arms(arms, first)?;
-        let rest = self.type_other(other, first)?;
-        Ok(if_of(made, rest))
+        let made = self.type_arms(arms, noted);
+        let rest = self.type_other(other, noted);
+        if_of(made, rest)
     }
 
     // A CASE.
@@ -417,19 +423,19 @@ impl Environment<'_> {
         branches: &[Branch],
         other: &Option<Stmts>,
         spot: Spot,
-        first: &mut Option<Fault>,
-    ) -> Result<Option<TStmt>, Memory>
-        ensures { IfOk result
-            (λ r. TypesStmt self.now.names.now self.now.held.now
+        noted: &mut Noted,
+    ) -> Option<TStmt>
+        ensures { UnlessFull noted.old.full noted.new.full
+            (TypesStmt self.now.names.now self.now.held.now
             (case_tree (expr_tree on.now) (branch_trees branches.now) (other_tree other.now) spot)
-            first.old first.new (option_map tstmt_tree r)) }
+            noted.old.first noted.new.first (option_map tstmt_tree result)) }
     {
-        let e = self.type_expression(on, first)?;
+        let e = self.type_expression(on, noted);
         let ty = type_of(&e);
-        let selects = selector(e, spot, first);
-        let made = self.type_branches(ty, branches, first)?;
-        let rest = self.type_other(other, first)?;
-        Ok(case_of(selects, made, rest, spot))
+        let selects = selector(e, spot, &mut noted.first);
+        let made = self.type_branches(ty, branches, noted);
+        let rest = self.type_other(other, noted);
+        case_of(selects, made, rest, spot)
     }
 
     // A FOR. The spot of the FOR itself is in no fault, nor in what is made.
@@ -439,69 +445,71 @@ impl Environment<'_> {
         body: &[Stmt],
         name: &[u8],
         name_spot: Spot,
-        from: &Expr,
+        first: &Expr,
         last: &Expr,
         by: &Option<Expr>,
-        first: &mut Option<Fault>,
-    ) -> Result<Option<TStmt>, Memory>
-        ensures { (spot : Spot) → IfOk result
-            (λ r. TypesStmt self.now.names.now self.now.held.now
-            (for_tree name.now name_spot (expr_tree from.now) (expr_tree last.now) (expr_tree_or_none by.now) (stmt_trees body.now) spot)
-            first.old first.new (option_map tstmt_tree r)) }
+        noted: &mut Noted,
+    ) -> Option<TStmt>
+        ensures { (spot : Spot) → UnlessFull noted.old.full noted.new.full
+            (TypesStmt self.now.names.now self.now.held.now
+            (for_tree name.now name_spot (expr_tree first.now) (expr_tree last.now) (expr_tree_or_none by.now) (stmt_trees body.now) spot)
+            noted.old.first noted.new.first (option_map tstmt_tree result)) }
     {
         let x = self.names.find(name);
         let ty = entry_type(x);
-        name_fault(self.held, x, name_spot, first);
-        bool_fault(ty, name_spot, first);
-        let low = self.bound(ty, from, first)?;
-        let high = self.bound(ty, last, first)?;
-        let step_by = self.step(ty, by, first)?;
+        name_fault(self.held, x, name_spot, &mut noted.first);
+        bool_fault(ty, name_spot, &mut noted.first);
+        let low = self.bound(ty, first, noted);
+        let high = self.bound(ty, last, noted);
+        let step_by = self.step(ty, by, noted);
         let turning = turning_of(self.held, x, low, high, step_by);
-        let held = held_in(self.alloc, self.held, x)?;
-        let inner = Environment {
-            alloc: self.alloc,
-            names: self.names,
-            held: &held,
-        };
-        match inner.type_stmts(body, first) {
-            Ok(made) => Ok(for_of(turning, made, name_spot)),
-            Err(Memory) => Err(Memory),
+        match held_in(self.alloc, self.held, x) {
+            Ok(held) => {
+                let inner = Environment {
+                    alloc: self.alloc,
+                    names: self.names,
+                    held: &held,
+                };
+                for_of(turning, inner.type_stmts(body, noted), name_spot)
+            }
+            Err(Memory) => {
+                noted.full = true;
+                None
+            }
         }
     }
 
     /// Types statements inside FORs over the slots `held`: notes their faults, and gives the checked statements, none
     /// where one has a fault.
     #[cycle(statements)]
-    pub(crate) fn type_stmts(
-        &self,
-        stmts: &[Stmt],
-        first: &mut Option<Fault>,
-    ) -> Result<Option<TStmts>, Memory>
-        ensures { IfOk result
-            (λ r. TypesStmts self.now.names.now self.now.held.now (stmt_trees stmts.now) first.old first.new (option_map (λ b. tstmt_trees b.items.items) r)) }
+    pub(crate) fn type_stmts(&self, stmts: &[Stmt], noted: &mut Noted) -> Option<TStmts>
+        ensures { UnlessFull noted.old.full noted.new.full
+            (TypesStmts self.now.names.now self.now.held.now (stmt_trees stmts.now) noted.old.first noted.new.first
+            (option_map (λ b. tstmt_trees b.items.items) result)) }
     {
         let mut list = Some(TStmts::new(self.alloc));
         'each: for s in stmts {
-            let made = self.type_stmt(s, first)?;
-            list = with_stmt(list, made)?;
+            let made = self.type_stmt(s, noted);
+            list = with_stmt(list, made, &mut noted.full);
         }
-        Ok(list)
+        list
     }
 
     // The conditions of an IF with their bodies; none where one of them has a fault.
     #[cycle(statements)]
-    fn type_arms(&self, arms: &[Arm], first: &mut Option<Fault>) -> Result<Option<TArms>, Memory>
-        ensures { IfOk result
-            (λ r. TypesArms self.now.names.now self.now.held.now (arm_trees arms.now) first.old first.new (option_map (λ a. tarm_trees (tarm_items a)) r)) }
+    fn type_arms(&self, arms: &[Arm], noted: &mut Noted) -> Option<TArms>
+        ensures { UnlessFull noted.old.full noted.new.full
+            (TypesArms self.now.names.now self.now.held.now (arm_trees arms.now) noted.old.first noted.new.first
+            (option_map (λ a. tarm_trees (tarm_items a)) result)) }
     {
         let mut list = Some(TArms::new(self.alloc));
         'each: for arm in arms {
-            let e = self.type_expression(&arm.cond, first)?;
-            let cond = tested(e, arm.spot, first);
-            let body = self.type_stmts(&arm.body.items, first)?;
-            list = with_arm(list, cond, body, arm.spot)?;
+            let e = self.type_expression(&arm.cond, noted);
+            let cond = tested(e, arm.spot, &mut noted.first);
+            let body = self.type_stmts(&arm.body.items, noted);
+            list = with_arm(list, cond, body, arm.spot, &mut noted.full);
         }
-        Ok(list)
+        list
     }
 
     // The branches of a CASE over a selector of the type; none where one of them has a fault.
@@ -510,37 +518,30 @@ impl Environment<'_> {
         &self,
         ty: Option<Ty>,
         branches: &[Branch],
-        first: &mut Option<Fault>,
-    ) -> Result<Option<TBranches>, Memory>
-        ensures { IfOk result
-            (λ r. TypesBranches self.now.names.now self.now.held.now ty (branch_trees branches.now)
-            first.old first.new (option_map (λ b. tbranch_trees (tbranch_items b)) r)) }
+        noted: &mut Noted,
+    ) -> Option<TBranches>
+        ensures { UnlessFull noted.old.full noted.new.full
+            (TypesBranches self.now.names.now self.now.held.now ty (branch_trees branches.now)
+            noted.old.first noted.new.first (option_map (λ b. tbranch_trees (tbranch_items b)) result)) }
     {
         let mut list = Some(TBranches::new(self.alloc));
         'each: for branch in branches {
-            let labels = self.type_labels(ty, &branch.labels.items, first)?;
-            let body = self.type_stmts(&branch.body.items, first)?;
-            list = with_branch(list, labels, body)?;
+            let labels = self.type_labels(ty, &branch.labels.items, noted);
+            let body = self.type_stmts(&branch.body.items, noted);
+            list = with_branch(list, labels, body, &mut noted.full);
         }
-        Ok(list)
+        list
     }
 
     // The body of ELSE, where there is one.
     #[cycle(statements)]
-    fn type_other(
-        &self,
-        other: &Option<Stmts>,
-        first: &mut Option<Fault>,
-    ) -> Result<Option<Option<TStmts>>, Memory>
-        ensures { IfOk result
-            (λ r. TypesOther self.now.names.now self.now.held.now (other_tree other.now) first.old first.new (option_map tother_tree r)) }
+    fn type_other(&self, other: &Option<Stmts>, noted: &mut Noted) -> Option<Option<TStmts>>
+        ensures { UnlessFull noted.old.full noted.new.full
+            (TypesOther self.now.names.now self.now.held.now (other_tree other.now) noted.old.first noted.new.first (option_map tother_tree result)) }
     {
         match other {
-            None => Ok(Some(None)),
-            Some(body) => match self.type_stmts(&body.items, first) {
-                Ok(made) => Ok(with_else(made)),
-                Err(Memory) => Err(Memory),
-            },
+            None => Some(None),
+            Some(body) => with_else(self.type_stmts(&body.items, noted)),
         }
     }
 }

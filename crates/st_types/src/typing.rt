@@ -1,6 +1,6 @@
 //! The typing of programs.
 
-ghost use Rattle.std.specs.Prelude.{◌≡◌, IfErr, IfOk, None, Some, option_map};
+ghost use Rattle.std.specs.Prelude.{◌≡◌, IfErr, IfOk, None, Some, false, option_map};
 ghost use Rattle.st_tree.specs.ProgramTree.{ProgramTree};
 ghost use Rattle.st_tree.specs.ProgramViews.{program_tree};
 ghost use Rattle.vcp_typed.specs.SourceRun.{Program as TypedProgram};
@@ -10,12 +10,13 @@ ghost use Rattle.st_tree.specs.Declarable.{HasNames};
 ghost use Rattle.st_types.specs.DeclSteps.{made_by, MakesAll};
 ghost use Rattle.st_types.specs.DeclTyping.{nothing_made};
 ghost use Rattle.st_types.specs.Faults.{IsLeast};
-ghost use Rattle.st_types.specs.Notes.{Notes};
+ghost use Rattle.st_types.specs.Notes.{Notes, UnlessFull};
 ghost use Rattle.st_types.specs.Typing.{FaultAt, IsFaultless, IsTyped, Refuses, typed_of};
 
 use crate::declaration::{Declarations, declared};
 use crate::environment::Environment;
 use crate::fault::{Fault, Rule, TypeFault};
+use crate::note::Noted;
 use crate::place::name_at;
 use crate::refusals::discard_body;
 use st_tree::Program;
@@ -78,16 +79,20 @@ fn answered(
     program: &Program,
     slots: Slots,
     body: Option<TStmts>,
-    first: Option<Fault>,
+    noted: Noted,
 ) -> Result<Typed, TypeFault>
     requires names { HasNames (program_tree program.now) }
-    requires notes { Notes None first (FaultAt (program_tree program.now)) }
-    requires is { typed_of (program_tree program.now)
+    requires notes { noted.full ≡ false → Notes None noted.first (FaultAt (program_tree program.now)) }
+    requires is { noted.full ≡ false → typed_of (program_tree program.now)
         ≡ option_map (λ b. record { slots = slots.items.items; body = b }) (option_map (λ b. tstmt_trees b.items.items) body) }
     ensures ok { IfOk result (λ t. IsTyped (program_tree program.now) t) }
     ensures err { IfErr result (Refuses (program_tree program.now)) }
 {
-    match first {
+    if noted.full {
+        discard_body(body);
+        return Err(TypeFault::Memory);
+    }
+    match noted.first {
         Some(fault) => {
             discard_body(body);
             Err(told(fault))
@@ -101,23 +106,21 @@ fn body_judged(
     alloc: Global,
     program: &Program,
     made: Declarations,
-    noted: Option<Fault>,
+    before: Noted,
 ) -> Result<Typed, TypeFault>
     requires names { HasNames (program_tree program.now) }
-    requires made { MakesAll (program_tree program.now).blocks nothing_made (made_by made) None noted }
+    requires made { UnlessFull false before.full (MakesAll (program_tree program.now).blocks nothing_made (made_by made) None before.first) }
     ensures ok { IfOk result (λ t. IsTyped (program_tree program.now) t) }
     ensures err { IfErr result (Refuses (program_tree program.now)) }
 {
-    let mut first = noted;
+    let mut noted = before;
     let whole = Environment {
         alloc,
         names: &made.names,
         held: &[],
     };
-    match whole.type_stmts(&program.body.items, &mut first) {
-        Ok(body) => answered(program, made.slots, body, first),
-        Err(Memory) => Err(TypeFault::Memory),
-    }
+    let body = whole.type_stmts(&program.body.items, &mut noted);
+    answered(program, made.slots, body, noted)
 }
 
 // The checked program, or why there is none: the least fault first, then the limits.
@@ -126,9 +129,12 @@ fn judged(alloc: Global, program: &Program) -> Result<Typed, TypeFault>
     ensures ok { IfOk result (λ t. IsTyped (program_tree program.now) t) }
     ensures err { IfErr result (Refuses (program_tree program.now)) }
 {
-    let mut first = None;
-    match declared(alloc, &program.blocks.items, &mut first) {
-        Ok(made) => body_judged(alloc, program, made, first),
+    let mut noted = Noted {
+        first: None,
+        full: false,
+    };
+    match declared(alloc, &program.blocks.items, &mut noted) {
+        Ok(made) => body_judged(alloc, program, made, noted),
         Err(Memory) => Err(TypeFault::Memory),
     }
 }

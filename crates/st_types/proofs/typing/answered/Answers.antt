@@ -9,9 +9,12 @@ use Rattle.st_types.proofs.typing.answered.Goals as goal
 pub returns-in-Some-clause-err : goal.returns-in-Some-clause-err
 returns-in-Some-clause-err c =
     let p = program_tree c.args.program.now in
-    c.told.ensures p (least-some c.in-Some.fault (FaultAt p) (subst (λ (r : Option Fault). Notes None r (FaultAt p)) c.in-Some.is c.requires.notes))
+    c.told.ensures p (least-some c.in-Some.fault (FaultAt p) (subst (λ (r : Option Fault). Notes None r (FaultAt p)) c.in-Some.is (c.requires.notes c.if-noted.false)))
 
 pub faultless-requires-clause-faultless : goal.faultless-requires-clause-faultless
 faultless-requires-clause-faultless c =
     let p = program_tree c.args.program.now in
-    λ f h. least-none (FaultAt p) (subst (λ (r : Option Fault). Notes None r (FaultAt p)) c.in-None.is c.requires.notes) f h
+    λ f h. least-none (FaultAt p) (subst (λ (r : Option Fault). Notes None r (FaultAt p)) c.in-None.is (c.requires.notes c.if-noted.false)) f h
+
+pub faultless-requires-clause-is : goal.faultless-requires-clause-is
+faultless-requires-clause-is c = c.requires.is c.if-noted.false

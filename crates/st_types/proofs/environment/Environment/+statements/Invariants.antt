@@ -3,7 +3,8 @@ use Rattle.st_tree.specs.StmtViews.{stmt_tree, stmt_trees, arm_trees, branch_tre
 use Rattle.vcp_typed.specs.Items.{tarm_items, tbranch_items}
 use Rattle.vcp_typed.specs.TStmtTree.{TStmtTrees, TArmTrees, TBranchTrees}
 use Rattle.vcp_typed.specs.TStmtViews.{tstmt_trees, tarm_trees, tbranch_trees}
-use Rattle.st_types.specs.declared.fault.Fault.{Fault}
+use Rattle.st_types.specs.declared.note.Noted.{Noted}
+use Rattle.st_types.specs.Notes.{UnlessFull}
 use Rattle.st_types.specs.ExprTyping.{both}
 use Rattle.st_types.specs.StmtSteps.{TypesStmts, TypesArms, TypesBranches}
 use Rattle.st_types.proofs.Weight.{stmt_weight, stmts_weight, arms_weight, branches_weight, other_weight}
@@ -36,18 +37,22 @@ decreases-type_other l = other_weight (other_tree l.other.now)
 
 abbrev pub invariant-type_stmts-each : goal.invariant-type_stmts-each
 invariant-type_stmts-each l =
-    (end : Option Fault) (r : Option TStmtTrees) → TypesStmts l.self.names.now l.self.held.now (stmt_trees (drop l.s-index l.stmts)) l.first end r
-    → TypesStmts l.self.names.now l.self.held.now (stmt_trees l.stmts) l.initial.first end
-    (both stmts_glue (option_map (λ b. tstmt_trees b.items.items) l.list) r)
+    (end : Noted) (r : Option TStmtTrees)
+    → UnlessFull l.noted.full end.full (TypesStmts l.self.names.now l.self.held.now (stmt_trees (drop l.s-index l.stmts)) l.noted.first end.first r)
+    → UnlessFull l.initial.noted.full end.full (TypesStmts l.self.names.now l.self.held.now (stmt_trees l.stmts) l.initial.noted.first end.first
+    (both stmts_glue (option_map (λ b. tstmt_trees b.items.items) l.list) r))
 
 abbrev pub invariant-type_arms-each : goal.invariant-type_arms-each
 invariant-type_arms-each l =
-    (end : Option Fault) (r : Option TArmTrees) → TypesArms l.self.names.now l.self.held.now (arm_trees (drop l.arm-index l.arms)) l.first end r
-    → TypesArms l.self.names.now l.self.held.now (arm_trees l.arms) l.initial.first end (both arms_glue (option_map (λ a. tarm_trees (tarm_items a)) l.list) r)
+    (end : Noted) (r : Option TArmTrees)
+    → UnlessFull l.noted.full end.full (TypesArms l.self.names.now l.self.held.now (arm_trees (drop l.arm-index l.arms)) l.noted.first end.first r)
+    → UnlessFull l.initial.noted.full end.full (TypesArms l.self.names.now l.self.held.now (arm_trees l.arms) l.initial.noted.first end.first
+    (both arms_glue (option_map (λ a. tarm_trees (tarm_items a)) l.list) r))
 
 abbrev pub invariant-type_branches-each : goal.invariant-type_branches-each
 invariant-type_branches-each l =
-    (end : Option Fault) (r : Option TBranchTrees) → TypesBranches l.self.names.now l.self.held.now l.ty
-    (branch_trees (drop l.branch-index l.branches)) l.first end r
-    → TypesBranches l.self.names.now l.self.held.now l.ty (branch_trees l.branches) l.initial.first end
-    (both branches_glue (option_map (λ b. tbranch_trees (tbranch_items b)) l.list) r)
+    (end : Noted) (r : Option TBranchTrees)
+    → UnlessFull l.noted.full end.full (TypesBranches l.self.names.now l.self.held.now l.ty (branch_trees (drop l.branch-index l.branches))
+    l.noted.first end.first r)
+    → UnlessFull l.initial.noted.full end.full (TypesBranches l.self.names.now l.self.held.now l.ty (branch_trees l.branches)
+    l.initial.noted.first end.first (both branches_glue (option_map (λ b. tbranch_trees (tbranch_items b)) l.list) r))

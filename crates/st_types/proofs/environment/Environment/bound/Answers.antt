@@ -1,5 +1,6 @@
+use Rattle.st_types.proofs.FullLaws.{so}
 use Rattle.st_types.proofs.StmtNodes.{bounds}
 use Rattle.st_types.proofs.environment.Environment.bound.Goals as goal
 
-pub returns-in-Ok : goal.returns-in-Ok
-returns-in-Ok c = bounds _ _ _ _ _ _ _ _ c.in-Ok.ensures c.spot_of.ensures c.bound_fault.ensures
+pub returns : goal.returns
+returns c = so c.read_number-found.ensures (λ h. bounds _ _ _ _ _ _ _ _ h c.spot_of.ensures c.bound_fault.ensures)

@@ -1,0 +1,5 @@
+use Rattle.st_types.proofs.FullLaws.{is-full}
+use Rattle.st_types.proofs.expression.apply.Goals as goal
+
+pub returns-in-Err : goal.returns-in-Err
+returns-in-Err c = is-full
