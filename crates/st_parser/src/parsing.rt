@@ -31,11 +31,7 @@ fn root_finish(end: Spot, heading: Heading, bodies: Bodies) -> Result<Program, S
 {
     let Bodies { mut outer, stmts } = bodies;
     match leave(&mut outer) {
-        None => Ok(Program {
-            name: heading.name,
-            blocks: heading.blocks,
-            body: stmts,
-        }),
+        None => Ok(heading.program(stmts)),
         Some(level) => {
             drop(level);
             Err(SyntaxFault::Syntax { spot: end })

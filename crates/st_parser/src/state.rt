@@ -1,7 +1,11 @@
 //! What is read so far of a program: what is whole, the bodies that are open, and what was read last.
 
+ghost use Rattle.std.specs.Prelude.{◌≡◌};
+
 use crate::forms::{Form, Mode};
-use st_tree::{Arms, Blocks, Branches, DeclaredNames, Decls, Expr, Labels, Section, Stmts};
+use st_tree::{
+    Arms, Blocks, Branches, DeclaredNames, Decls, Expr, Labels, Program, Section, Stmts,
+};
 use std::alloc::Global;
 use vcp_base::{Spot, Text, Ty};
 
@@ -130,7 +134,6 @@ pub struct Bodies {
 }
 
 /// What is read so far of the declarations of a program.
-#[derive(Drop)]
 pub struct Heading {
     /// The program's name.
     pub name: Text,
@@ -144,6 +147,18 @@ pub struct Heading {
     pub names: DeclaredNames,
 }
 
+impl Drop for Heading {
+    fn drop(self) {
+        let Heading {
+            name: _,
+            blocks: _,
+            section: _,
+            decls: _,
+            names: _,
+        } = self;
+    }
+}
+
 impl Heading {
     /// Nothing is read. It takes no memory.
     pub fn new(alloc: Global) -> Heading {
@@ -154,6 +169,22 @@ impl Heading {
             decls: Decls::new(alloc),
             names: DeclaredNames::new(alloc),
         }
+    }
+
+    /// The program of the name and the blocks that are whole, with its body.
+    pub fn program(self, body: Stmts) -> Program
+        ensures name { result.name ≡ self.name }
+        ensures blocks { result.blocks ≡ self.blocks }
+        ensures body { result.body ≡ body }
+    {
+        let Heading {
+            name,
+            blocks,
+            section: _,
+            decls: _,
+            names: _,
+        } = self;
+        Program { name, blocks, body }
     }
 }
 
