@@ -590,7 +590,3 @@ pub refused_by : (r : Result ℕ Build) (n : ℕ) (P : Type 0) → ((r ≡ Err b
     → IfErr r (λ why. why ≡ build.Full → P)
 refused_by (Ok k) n P full p = tt
 refused_by (Err e) n P full p = λ is. p (full.0 (ap (λ x. Err x) is))
-
-pub full_of : {X : Type 0} (r : Result X Build) (P : Type 0) → IfErr r (λ why. why ≡ build.Full → P) → r ≡ Err build.Full → P
-full_of (Ok k) P h e = absurd cc
-full_of (Err why) P h e = let same : why ≡ build.Full = cc in h same

@@ -1,4 +1,5 @@
 pub mod Absolute
+pub mod Added
 pub mod Arguments
 pub mod Assigning
 pub mod Beginning
@@ -6,7 +7,9 @@ pub mod Calls
 pub mod Closing
 pub mod Codes
 pub mod Conversions
+pub mod Ended
 pub mod Exprs
+pub mod Forms
 pub mod Loads
 pub mod Operators
 pub mod Ops

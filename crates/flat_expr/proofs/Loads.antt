@@ -4,7 +4,9 @@ use Rattle.std.proofs.Common.{Option, Some, None, Ok, Err, refl, sym, ap, ◌∙
 use Rattle.std.proofs.Common.{⊎_elim}
 use Rattle.std.proofs.lemmas.Bool.{cases_eq}
 use Rattle.std.proofs.lemmas.Bool.Decides.{nat_tests}
+use Rattle.std.proofs.lemmas.List.{length-map}
 use Rattle.std.proofs.lemmas.Option.{slice_get_within}
+use Rattle.vcp_base.specs.Limits.{most_cells}
 use Rattle.vcp_base.specs.declared.ty.Ty.TheVariants as ty
 use Rattle.vcp_base.specs.declared.kind.Kind.TheVariants as kind
 use Rattle.vcp_base.specs.declared.kind.StopKind.TheVariants as why
@@ -54,6 +56,24 @@ held s slot k x i e there = record {
   gives = λ cells row start now vs r loaded knows.
       (vs, r, ((λ j lt. refl), knows, subst (λ o. KnowsOne o vs (at now slot) (at start slot)) there (knows.each slot (slice_get_within s.slots slot x e))));
 }
+
+-- what was read at a place of the table is what is known there
+pub place_read : (known : List (Option ℕ)) (slot : ℕ) (o p : Option ℕ) → slot < length known → o ≡ get_or known slot o → o ≡ p → get_or known slot None ≡ p
+place_read [] slot o p lt is e = absurd (omega (arith, lt))
+place_read (x ∷ xs) zero o p lt is e = sym is ∙ e
+place_read (x ∷ xs) (suc n) o p lt is e = place_read xs n o p (omega (arith, lt)) is e
+
+-- a slot's name is there, and a place in the table of what is known
+pub name_there : (s : State) (slot : ℕ) → IsState s → slot < length s.slots → slot < length s.graph.names
+name_there s slot i inside = let names = ap length i.names in let all = length-map s.slots (λ x. x.name) in omega (arith, inside, names, all)
+
+pub known_there : (s : State) (slot : ℕ) → IsState s → slot < length s.slots → slot < length s.known
+known_there s slot i inside = omega (arith, inside, i.long)
+
+-- there is room for the cell of a slot that no operation holds
+pub cell_there : (s : State) (slot : ℕ) → IsState s → slot < length s.slots → get_or s.known slot None ≡ None → length s.graph.loads < most_cells
+cell_there s slot i inside none =
+    omega (arith, i.cells, i.few, others_fewer s.slots, unknown_set s.known slot 0 (known_there s slot i inside) none)
 
 -- the state after a LOAD
 abbrev pub loading : State → ℕ → Slot → State

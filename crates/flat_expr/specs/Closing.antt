@@ -1,5 +1,5 @@
 -- Closing: the OUTs and the STOREs at the end of a cycle.
-use Rattle.std.specs.Prelude.{◌≡◌, ℕ, ◌<◌, ◌≤◌, ◌+◌, true, ℤ, List, ◌++◌, length, get_or, map, slice_get, take, All, Option, Some, None, Ok, Err}
+use Rattle.std.specs.Prelude.{◌≡◌, ℕ, ◌<◌, ◌≤◌, ◌+◌, true, ℤ, List, ◌++◌, length, get_or, map, slice_get, take, All, Option, Some, None, Result, Ok, Err}
 use Rattle.vcp_base.specs.Values.{at}
 use Rattle.op_graph.specs.declared.op.Loaded.{Loaded}
 use Rattle.op_graph.specs.declared.op.Outlet.{Outlet}
@@ -28,6 +28,11 @@ IsSlot s n slot = slice_get s.slots n ≡ Some slot
 -- there is no room only where the whole graph has more operations than a graph may have
 abbrev pub NoRoom : State → Build → Type 0
 NoRoom s why = why ≡ build.Full → most_operations < whole_size s
+
+-- what comes of a call at the end of a cycle, where the flattening ended in the state: P of what it gives, or there is no room
+abbrev pub Ends : {A : Type 0} → State → (A → Type 0) → Result A Build → Type 0
+Ends s P (Ok a) = P a
+Ends s P (Err why) = NoRoom s why
 
 -- the operations' values tell the slots' values now, where the slots are held by these operations
 abbrev pub Tell : List Slot → List (Option ℕ) → List ℤ → List ℤ → List ℤ → Type 0

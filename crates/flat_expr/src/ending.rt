@@ -1,8 +1,8 @@
 //! The end of a cycle: the OUTs, and the STOREs of the slots' present values.
 
-ghost use Rattle.std.specs.Prelude.{◌≡◌, ◌<◌, ◌+◌, ℕ, true, length, IfOk, IfErr, OnOk};
+ghost use Rattle.std.specs.Prelude.{◌≡◌, ◌<◌, ◌+◌, ℕ, true, length};
 ghost use Rattle.vcp_typed.specs.SourceRun.{is_output as is_output_of};
-ghost use Rattle.flat_expr.specs.Closing.{Closes, Holds, IsOver, IsSlot, NoRoom};
+ghost use Rattle.flat_expr.specs.Closing.{Closes, Ends, Holds, IsOver, IsSlot};
 ghost use Rattle.flat_expr.specs.State.{State};
 
 use op_graph::{Build, GraphBuilder};
@@ -17,9 +17,8 @@ pub(crate) fn close_outputs(
     known: &mut Vec<Option<u32>>,
 ) -> Result<(), Build>
     requires { (s : State) × Closes s 0 0 graph.old known.old.items × IsOver s slots.now }
-    ensures made { (s : State) → Closes s 0 0 graph.old known.old.items → IsOver s slots.now →
-        OnOk result (Closes s (length s.slots) 0 graph.new known.new.items) }
-    ensures refuses { (s : State) → Closes s 0 0 graph.old known.old.items → IsOver s slots.now → IfErr result (NoRoom s) }
+    ensures { (s : State) → Closes s 0 0 graph.old known.old.items → IsOver s slots.now →
+        Ends s (λ _. Closes s (length s.slots) 0 graph.new known.new.items) result }
 {
     'outputs: for slot in 0..slots.len() {
         close_output(slots, graph, known, slot as u32)?;
@@ -35,9 +34,8 @@ fn close_output(
     slot: u32,
 ) -> Result<(), Build>
     requires { (s : State) × Closes s slot 0 graph.old known.old.items × IsOver s slots.now × (slot < length s.slots) }
-    ensures made { (s : State) → Closes s slot 0 graph.old known.old.items → IsOver s slots.now →
-        OnOk result (Closes s (slot + 1) 0 graph.new known.new.items) }
-    ensures refuses { (s : State) → Closes s slot 0 graph.old known.old.items → IsOver s slots.now → IfErr result (NoRoom s) }
+    ensures { (s : State) → Closes s slot 0 graph.old known.old.items → IsOver s slots.now →
+        Ends s (λ _. Closes s (slot + 1) 0 graph.new known.new.items) result }
 {
     let variable = slots.at(slot as usize);
     if !is_output(variable.section) {
@@ -45,7 +43,6 @@ fn close_output(
     }
     let k = held(graph, known, slot, variable)?;
     graph.output(slot, variable.ty, k, variable.spot)?;
-    let _rules = graph.len();
     Ok(())
 }
 
@@ -68,14 +65,12 @@ fn held(
 ) -> Result<u32, Build>
     requires output { is_output_of variable.now.section ≡ true }
     requires slot { (s : State) × Closes s slot 0 graph.old known.old.items × IsSlot s slot variable.now }
-    ensures made { (s : State) → Closes s slot 0 graph.old known.old.items → IsSlot s slot variable.now → IfOk result (Holds s graph.new known.new.items slot) }
-    ensures refuses { (s : State) → Closes s slot 0 graph.old known.old.items → IsSlot s slot variable.now → IfErr result (NoRoom s) }
+    ensures { (s : State) → Closes s slot 0 graph.old known.old.items → IsSlot s slot variable.now → Ends s (Holds s graph.new known.new.items slot) result }
 {
     if let Some(k) = known[slot as usize] {
         return Ok(k);
     }
     let k = graph.load(slot, variable.ty, variable.init, variable.spot)?;
-    let _rules = graph.len();
     known[slot as usize] = Some(k);
     Ok(k)
 }
@@ -87,9 +82,8 @@ pub(crate) fn close_cells(
     known: &[Option<u32>],
 ) -> Result<(), Build>
     requires { (s : State) × (n : ℕ) × Closes s n 0 graph.old known.now × IsOver s slots.now }
-    ensures made { (s : State) (n : ℕ) → Closes s n 0 graph.old known.now → IsOver s slots.now →
-        OnOk result (Closes s n (length graph.new.loads) graph.new known.now) }
-    ensures refuses { (s : State) (n : ℕ) → Closes s n 0 graph.old known.now → IsOver s slots.now → IfErr result (NoRoom s) }
+    ensures { (s : State) (n : ℕ) → Closes s n 0 graph.old known.now → IsOver s slots.now →
+        Ends s (λ _. Closes s n (length graph.new.loads) graph.new known.now) result }
 {
     let last = graph.cells();
     'cells: for cell in 0..last {
@@ -106,9 +100,8 @@ fn close_cell(
     cell: u32,
 ) -> Result<(), Build>
     requires { (s : State) × (n : ℕ) × Closes s n cell graph.old known.now × IsOver s slots.now × (cell < length graph.old.loads) }
-    ensures made { (s : State) (n : ℕ) → Closes s n cell graph.old known.now → IsOver s slots.now → OnOk result (Closes s n (cell + 1) graph.new known.now) }
-    ensures loads { OnOk result (graph.new.loads ≡ graph.old.loads) }
-    ensures refuses { (s : State) (n : ℕ) → Closes s n cell graph.old known.now → IsOver s slots.now → IfErr result (NoRoom s) }
+    ensures { (s : State) (n : ℕ) → Closes s n cell graph.old known.now → IsOver s slots.now →
+        Ends s (λ _. (graph.new.loads ≡ graph.old.loads) × Closes s n (cell + 1) graph.new known.now) result }
 {
     let loaded = graph.cell(cell);
     let variable = slots.at(loaded.name as usize);
@@ -116,6 +109,5 @@ fn close_cell(
         unreachable!();
     };
     graph.store(cell, k, variable.spot)?;
-    let _rules = graph.len();
     Ok(())
 }

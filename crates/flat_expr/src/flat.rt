@@ -31,6 +31,7 @@ ghost use Rattle.vcp_typed.specs.Rules.{common, signed, result as result_type};
 ghost use Rattle.vcp_typed.specs.Size.{operator_size, function_size, expr_size};
 
 use crate::ending::{close_cells, close_outputs};
+use crate::op_form::{Manner, in_order, manner_of, operation_kind};
 use op_graph::{Build, Graph, GraphBuilder, Op, TurnNode, entries_keep_their_rules};
 use st_tree::{BinOp, Section, UnOp};
 use std::alloc::Global;
@@ -242,9 +243,7 @@ impl<'a> Flat<'a> {
         ensures full { (result ≡ Err build.Full) ↔ (length self.old.graph.operations ≡ most_operations) }
         ensures err { OnErr result (self.new ≡ self.old) }
     {
-        let k = self.graph.push(op)?;
-        let _rules = self.graph.len();
-        Ok(k)
+        self.graph.push(op)
     }
 
     /// Adds an operation of two or three operands, or one, at the present turn: of no input, output or
@@ -409,21 +408,12 @@ impl<'a> Flat<'a> {
         ensures made { IfOk result (λ k. Makes self.old self.new (result_type op ty) (operator_size op) (operates self.old op ty a b spot) k) }
         ensures refuses { IfErr result (λ why. Refuses self.old self.new (operator_size op) why) }
     {
-        match op {
-            BinOp::Mul => self.calculate(Kind::Mul, ty, a, b, false, spot),
-            BinOp::Div => self.calculate(Kind::Div, ty, a, b, true, spot),
-            BinOp::Mod => self.calculate(Kind::Mod, ty, a, b, true, spot),
-            BinOp::Add => self.calculate(Kind::Add, ty, a, b, false, spot),
-            BinOp::Sub => self.calculate(Kind::Sub, ty, a, b, false, spot),
-            BinOp::Lt => self.add(Kind::Lt, ty, Ty::Bool, a, b, 0, spot),
-            BinOp::Gt => self.add(Kind::Lt, ty, Ty::Bool, b, a, 0, spot),
-            BinOp::Le => self.deny(Kind::Lt, ty, b, a, spot),
-            BinOp::Ge => self.deny(Kind::Lt, ty, a, b, spot),
-            BinOp::Eq => self.add(Kind::Eq, ty, Ty::Bool, a, b, 0, spot),
-            BinOp::Ne => self.deny(Kind::Eq, ty, a, b, spot),
-            BinOp::And => self.add(Kind::And, ty, Ty::Bool, a, b, 0, spot),
-            BinOp::Or => self.add(Kind::Or, ty, Ty::Bool, a, b, 0, spot),
-            BinOp::Xor => self.add(Kind::Xor, ty, Ty::Bool, a, b, 0, spot),
+        let kind = operation_kind(op);
+        let (x, y) = in_order(op, a, b);
+        match manner_of(op) {
+            Manner::Masked { one } => self.calculate(kind, ty, x, y, one, spot),
+            Manner::Alone => self.add(kind, ty, Ty::Bool, x, y, 0, spot),
+            Manner::Denied => self.deny(kind, ty, x, y, spot),
         }
     }
 
@@ -457,7 +447,6 @@ impl<'a> Flat<'a> {
         let k = self
             .graph
             .load(slot, variable.ty, variable.init, variable.spot)?;
-        let _rules = self.graph.len();
         self.known[slot as usize] = Some(k);
         Ok(k)
     }
@@ -632,9 +621,7 @@ impl<'a> Flat<'a> {
         ensures err { OnErr result (self.new ≡ self.old) }
     {
         entries_keep_their_rules();
-        let n = self.graph.turn(node)?;
-        let _rules = self.graph.len();
-        Ok(n)
+        self.graph.turn(node)
     }
 
     /// The graph: what was added so far, then the OUTs in order of declaration, each with the LOAD of its

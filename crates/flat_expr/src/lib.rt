@@ -8,5 +8,6 @@
 
 mod ending;
 mod flat;
+mod op_form;
 
 pub use flat::{Flat, laws_of_states};

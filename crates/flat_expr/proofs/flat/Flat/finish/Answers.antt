@@ -1,11 +1,10 @@
 use Rattle.std.proofs.Common.{◌≡◌, ◌<◌, length, Err, refl, sym, subst}
-use Rattle.std.specs.Prelude.{IfErr}
-use Rattle.std.proofs.lemmas.Result.{err_from_is_err_and}
 use Rattle.vcp_base.specs.Limits.{most_operations}
 use Rattle.op_graph.specs.declared.build.Build.TheVariants as build
-use Rattle.flat_expr.specs.Closing.{Closes, NoRoom}
+use Rattle.flat_expr.specs.Closing.{Closes}
 use Rattle.flat_expr.specs.State.{State, Finishes, whole_size}
-use Rattle.flat_expr.proofs.Closing.{closes_begin, finishes, full_of}
+use Rattle.flat_expr.proofs.Closing.{closes_begin, finishes}
+use Rattle.flat_expr.proofs.Ended.{ends_full, handed}
 use Rattle.flat_expr.proofs.flat.Flat.finish.Goals as goal
 
 pub returns-in_err-close_outputs-clause-refuses : goal.returns-in_err-close_outputs-clause-refuses
@@ -21,11 +20,9 @@ returns-in_err-close_outputs-clause-refuses c =
       unit = c.self.inside.unit;
     } in
     let begin = closes_begin a c.self.invariant in
-    let q = err_from_is_err_and c.from_residual.result c.from_residual.ensures.1 in
-    let refuses = c.close_outputs.ensures.refuses a begin refl in
-    subst (λ (s : State). c.from_residual.result ≡ Err build.Full → most_operations < whole_size s) c.self.view_is
-    (full_of c.from_residual.result (most_operations < whole_size a)
-    (rw (q.1, q.2) (subst (λ r. IfErr r (NoRoom a)) c.in_err-close_outputs.was refuses)))
+    let r = c.from_residual.result in
+    let ended = handed a _ (λ g. Unit {0}) c.close_outputs.result r _ c.in_err-close_outputs.was c.from_residual.ensures.1 (c.close_outputs.ensures a begin refl) in
+    subst (λ (s : State). r ≡ Err build.Full → most_operations < whole_size s) c.self.view_is (ends_full a _ r ended)
 
 pub close_cells-requires : goal.close_cells-requires
 close_cells-requires c =
@@ -40,8 +37,7 @@ close_cells-requires c =
       unit = c.self.inside.unit;
     } in
     let begin = closes_begin a c.self.invariant in
-    let outs = subst (λ l. Closes a (length a.slots) 0 c.close_outputs.new.graph l) (sym c.deref.ensures.value)
-    (c.in_ok-close_outputs.ensures.made a begin refl) in
+    let outs = subst (λ l. Closes a (length a.slots) 0 c.close_outputs.new.graph l) (sym c.deref.ensures.value) (c.in_ok-close_outputs.ensures a begin refl) in
     (a, length a.slots, outs, refl)
 
 pub returns-in_err-close_cells-clause-refuses : goal.returns-in_err-close_cells-clause-refuses
@@ -57,13 +53,11 @@ returns-in_err-close_cells-clause-refuses c =
       unit = c.self.inside.unit;
     } in
     let begin = closes_begin a c.self.invariant in
-    let outs = subst (λ l. Closes a (length a.slots) 0 c.close_outputs.new.graph l) (sym c.deref.ensures.value)
-    (c.in_ok-close_outputs.ensures.made a begin refl) in
-    let q = err_from_is_err_and c.from_residual-in_err-close_cells.result c.from_residual-in_err-close_cells.ensures.1 in
-    let refuses = c.close_cells.ensures.refuses a (length a.slots) outs refl in
-    subst (λ (s : State). c.from_residual-in_err-close_cells.result ≡ Err build.Full → most_operations < whole_size s) c.self.view_is
-    (full_of c.from_residual-in_err-close_cells.result (most_operations < whole_size a)
-    (rw (q.1, q.2) (subst (λ r. IfErr r (NoRoom a)) c.in_err-close_cells.was refuses)))
+    let outs = subst (λ l. Closes a (length a.slots) 0 c.close_outputs.new.graph l) (sym c.deref.ensures.value) (c.in_ok-close_outputs.ensures a begin refl) in
+    let r = c.from_residual-in_err-close_cells.result in
+    let ended = handed a _ (λ g. Unit {0}) c.close_cells.result r _ c.in_err-close_cells.was c.from_residual-in_err-close_cells.ensures.1
+    (c.close_cells.ensures a (length a.slots) outs refl) in
+    subst (λ (s : State). r ≡ Err build.Full → most_operations < whole_size s) c.self.view_is (ends_full a _ r ended)
 
 pub finish-requires : goal.finish-requires
 finish-requires c =
@@ -78,9 +72,8 @@ finish-requires c =
       unit = c.self.inside.unit;
     } in
     let begin = closes_begin a c.self.invariant in
-    let outs = subst (λ l. Closes a (length a.slots) 0 c.close_outputs.new.graph l) (sym c.deref.ensures.value)
-    (c.in_ok-close_outputs.ensures.made a begin refl) in
-    (c.in_ok-close_cells.ensures.made a (length a.slots) outs refl).so_far
+    let outs = subst (λ l. Closes a (length a.slots) 0 c.close_outputs.new.graph l) (sym c.deref.ensures.value) (c.in_ok-close_outputs.ensures a begin refl) in
+    (c.in_ok-close_cells.ensures a (length a.slots) outs refl).so_far
 
 pub returns-clause-made : goal.returns-clause-made
 returns-clause-made c =
@@ -95,8 +88,7 @@ returns-clause-made c =
       unit = c.self.inside.unit;
     } in
     let begin = closes_begin a c.self.invariant in
-    let outs = subst (λ l. Closes a (length a.slots) 0 c.close_outputs.new.graph l) (sym c.deref.ensures.value)
-    (c.in_ok-close_outputs.ensures.made a begin refl) in
-    let all = c.in_ok-close_cells.ensures.made a (length a.slots) outs refl in
+    let outs = subst (λ l. Closes a (length a.slots) 0 c.close_outputs.new.graph l) (sym c.deref.ensures.value) (c.in_ok-close_outputs.ensures a begin refl) in
+    let all = c.in_ok-close_cells.ensures a (length a.slots) outs refl in
     subst (λ (s : State). Finishes s c.finish.result) c.self.view_is
     (subst (λ g. Finishes a g) (sym c.finish.ensures) (finishes a (length c.close_cells.new.graph.loads) c.close_cells.new.graph c.deref.result.now refl all))
