@@ -1,9 +1,22 @@
 -- Queueing: marks, and the queue of those that are marked.
-use Rattle.std.proofs.Common.{◌≡◌, ◌⊎◌, ⊎_elim, inl, inr, ℕ, zero, suc, ◌+◌, ◌<◌, ◌≤◌, Bool, true, false, cond, List, [], ◌∷◌, ◌++◌, length, set, replicate}
-use Rattle.std.proofs.Common.{slice_get, Some, refl, sym, ap, subst, ◌∙◌, length-append, arith}
+use Rattle.std.proofs.Common.{◌≡◌, ◌⊎◌, ⊎_elim, inl, inr, ℕ, zero, suc, ◌+◌, ◌<◌, ◌≤◌, Bool, true, false, cond, List, [], ◌∷◌, ◌++◌, length, set, replicate, take}
+use Rattle.std.proofs.Common.{Result, Ok, Err, OnOk, slice_get, Some, refl, sym, ap, subst, ◌∙◌, length-append, arith}
 use Rattle.std.proofs.lemmas.List.{length-set}
 use Rattle.graph_passes.specs.Tables.{marked}
 use Rattle.graph_passes.specs.Marking.{marks_in, Queues, Grows}
+
+-- two facts of one good end
+pub both_ok : {T E : Type 0} (P Q : Type 0) (r : Result T E) → OnOk r P → OnOk r Q → OnOk r (P × Q)
+both_ok P Q (Ok x) p q = (p, q)
+both_ok P Q (Err e) p q = tt
+
+-- what was written in a slice that a list lent is the list
+front : (xs ys : List Bool) → take (length xs) (xs ++ ys) ≡ xs
+front [] ys = refl
+front (x ∷ xs) ys = ap (λ l. x ∷ l) (front xs ys)
+
+pub given_back : (n : ℕ) (xs ys : List Bool) → n ≡ length xs → take n (xs ++ ys) ≡ xs
+given_back n xs ys e = ap (λ k. take k (xs ++ ys)) e ∙ front xs ys
 
 -- ---- one more mark
 
@@ -100,6 +113,16 @@ grows_by_none P marks queue q = record {
   sound = λ k h. inl h;
   order = λ p k there. there;
   lists = q;
+}
+
+-- the same growth, of a larger set
+pub grows_as : (P Q : ℕ → Type 0) (a : List Bool) (b : List ℕ) (c : List Bool) (d : List ℕ) → ((k : ℕ) → P k → Q k) → Grows P a b c d → Grows Q a b c d
+grows_as P Q a b c d all g = record {
+  many = g.many;
+  kept = g.kept;
+  sound = λ k h. ⊎_elim (λ (was : marked a k ≡ true). inl was) (λ (p : P k). inr (all k p)) (g.sound k h);
+  order = g.order;
+  lists = g.lists;
 }
 
 -- one growth after another

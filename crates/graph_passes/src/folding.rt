@@ -97,11 +97,12 @@ fn fixed_operand(before: &[Op], kind: Kind, j: u32, n: u32) -> Option<i64>
 fn constant(before: &[Op], n: u32) -> Option<i64>
     ensures { result ≡ constant_of (slice_get before.now n) }
 {
-    match before.get(n as usize) {
-        Some(op) => match op.kind {
-            Kind::Const => Some(op.imm),
-            _ => None,
-        },
-        None => None,
+    if n as usize >= before.len() {
+        return None;
+    }
+    let op = &before[n as usize];
+    match op.kind {
+        Kind::Const => Some(op.imm),
+        _ => None,
     }
 }

@@ -8,8 +8,9 @@ ghost use Rattle.op_graph.specs.Rules.{IsGraph, reads_as};
 ghost use Rattle.graph_passes.specs.Marking.{Takes, OfOneCell, Follows, Queues, Grows, AreNeeded};
 ghost use Rattle.graph_passes.specs.Part.{can_stop as can_stop_of, narrows as narrows_of};
 ghost use Rattle.graph_passes.specs.Pruning.{Needed, must_stay as must_stay_of};
-ghost use Rattle.graph_passes.specs.Tables.{marked as marked_of};
+ghost use Rattle.graph_passes.specs.Tables.{IsNumbered, marked as marked_of};
 
+use crate::part::{Places, numbered};
 use op_graph::{
     Graph, Op, entries_are_found_by_one_walk, entries_keep_their_rules, operands_are_there,
     reads_operation,
@@ -80,9 +81,10 @@ fn mark_operand(
     ensures marked { OnOk result (is_some (reads_as op.now.kind op.now.from j) ≡ true → marked_of marks.new n ≡ true) }
 {
     if reads_operation(op.kind, j) {
-        mark(marks, queue, n)?;
+        mark(marks, queue, n)
+    } else {
+        Ok(())
     }
-    Ok(())
 }
 
 /// Marks what an operation reads.
@@ -136,8 +138,7 @@ fn mark_following(
     let op = graph.operation(q);
     mark_operands(marks, queue, &op)?;
     let other = other_of_cell(graph, q);
-    mark(marks, queue, other)?;
-    Ok(())
+    mark(marks, queue, other)
 }
 
 /// Marks operation `n`, where it must stay.
@@ -148,9 +149,10 @@ fn mark_if_it_stays(marks: &mut [bool], queue: &mut Vec<u32>, op: &Op, n: u32) -
     ensures marked { OnOk result (must_stay_of op.now ≡ true → marked_of marks.new n ≡ true) }
 {
     if must_stay(op) {
-        mark(marks, queue, n)?;
+        mark(marks, queue, n)
+    } else {
+        Ok(())
     }
-    Ok(())
 }
 
 /// Marks all that must stay.
@@ -204,12 +206,13 @@ fn mark_what_is_needed(
     Ok(())
 }
 
-/// The marks of the operations that are needed.
-pub(crate) fn needed(alloc: Global, graph: &Graph) -> Result<Vec<bool>, Memory>
-    ensures { IfOk result (λ marks. AreNeeded graph.now marks.items) }
+/// The places of the operations that are needed.
+pub(crate) fn needed(alloc: Global, graph: &Graph) -> Result<Places, Memory>
+    ensures needed { IfOk result (λ places. AreNeeded graph.now places.kept.items) }
+    ensures numbered { IfOk result (λ places. IsNumbered places.kept.items places) }
 {
     let mut marks = vec![in alloc; false; graph.len() as usize]?;
     let mut queue = Vec::new(alloc);
     mark_what_is_needed(graph, &mut marks, &mut queue)?;
-    Ok(marks)
+    numbered(alloc, marks)
 }

@@ -1,16 +1,17 @@
 //! What nothing needs is left out.
 
-ghost use Rattle.std.specs.Prelude.{◌≡◌, map, IfOk};
+ghost use Rattle.std.specs.Prelude.{◌≤◌, length, map, IfOk};
+ghost use Rattle.vcp_base.specs.Limits.{most_cells};
 ghost use Rattle.op_graph.specs.Rules.{IsGraph};
 ghost use Rattle.graph_passes.specs.Folding.{NoneFolds};
 ghost use Rattle.graph_passes.specs.Pruning.{IsPruned, NonePrunes};
 ghost use Rattle.graph_passes.specs.SameRun.{MeansAs};
 ghost use Rattle.graph_passes.specs.Sharing.{NoneShares};
-ghost use Rattle.graph_passes.specs.Tables.{marked as marked_of};
+ghost use Rattle.graph_passes.specs.Tables.{IsNumbered, marked as marked_of};
 
 use crate::laws::what_is_needed_means_the_same;
 use crate::needed::needed;
-use crate::part::{marked, numbered, part};
+use crate::part::{Places, marked, numbered, part};
 use op_graph::{Graph, Loaded, entries_are_found_by_one_walk, entries_keep_their_rules};
 use std::alloc::Global;
 use vcp_base::Memory;
@@ -34,20 +35,19 @@ pub fn prune(alloc: Global, graph: Graph) -> Result<Graph, Memory>
     entries_are_found_by_one_walk();
     entries_keep_their_rules();
     let _operations = graph.len();
-    let marks = needed(alloc, &graph)?;
-    let operations = numbered(alloc, marks)?;
-    let of_cells = kept_cells(alloc, graph.loads(), &operations.kept)?;
-    let cells = numbered(alloc, of_cells)?;
+    let operations = needed(alloc, &graph)?;
+    let cells = kept_cells(alloc, graph.loads(), &operations.kept)?;
     part(alloc, graph, &operations, &cells)
 }
 
-/// For each cell, whether its LOAD is kept.
-fn kept_cells(alloc: Global, loads: &[Loaded], kept: &[bool]) -> Result<Vec<bool>, Memory>
-    ensures { IfOk result (λ cells. cells.items ≡ map (λ l. marked_of kept.now l.load) loads.now) }
+/// The places of the cells whose LOADs are kept.
+fn kept_cells(alloc: Global, loads: &[Loaded], kept: &[bool]) -> Result<Places, Memory>
+    requires { length loads.now ≤ most_cells }
+    ensures { IfOk result (λ cells. IsNumbered (map (λ l. marked_of kept.now l.load) loads.now) cells) }
 {
     let mut cells = Vec::new(alloc);
     'cells: for loaded in loads {
         cells.push(marked(kept, loaded.load as usize))?;
     }
-    Ok(cells)
+    numbered(alloc, cells)
 }

@@ -1,8 +1,9 @@
 use Rattle.std.proofs.Common.{◌≡◌, ⊎_elim, inl, inr, true, sym, subst, ◌∙◌, arith}
+use Rattle.std.proofs.lemmas.Result.{on_ok_weaker}
 use Rattle.graph_passes.specs.Marking.{Takes, OfOneCell, Follows}
 use Rattle.graph_passes.specs.Tables.{marked}
 use Rattle.graph_passes.proofs.Needing.{takes_inside, takes_reads, reads_takes}
-use Rattle.graph_passes.proofs.Queueing.{grows_on, marked_inside}
+use Rattle.graph_passes.proofs.Queueing.{both_ok, grows_on, marked_inside}
 use Rattle.graph_passes.proofs.needed.mark_following.Goals as goal
 
 pub operation-op-requires : goal.operation-op-requires
@@ -34,19 +35,19 @@ returns-clause-grows c =
     let q = c.args.q in
     let op = c.operation-op.result in
     let other = c.other_of_cell-other.result in
-    grows_on (Takes op) (λ k. k ≡ other) (Follows g q) _ _ _ _ _ _ c.in_ok-mark_operands.ensures.grows c.in_ok-mark.ensures.grows
+    on_ok_weaker c.mark.result (λ grows. grows_on (Takes op) (λ k. k ≡ other) (Follows g q) _ _ _ _ _ _ c.in_ok-mark_operands.ensures.grows grows
     (λ k takes. inr (record { why = inl (takes_reads g q op k c.operation-op.ensures takes) }))
     (λ k e. ⊎_elim
     (λ (same : other ≡ q). inl (subst (λ n. marked c.args.marks.now n ≡ true) (sym (e ∙ same)) c.requires.here))
     (λ (cell : OfOneCell g q other). inr (record { why = inr (subst (OfOneCell g q) (sym e) cell) }))
-    c.other_of_cell-other.ensures.sound)
+    c.other_of_cell-other.ensures.sound)) c.mark.ensures.grows
 
 pub returns-clause-marked : goal.returns-clause-marked
-returns-clause-marked c = λ k follows.
+returns-clause-marked c =
     let g = c.args.graph.now in
     let q = c.args.q in
-    elim follows.why [
-      | inl reads ↦ c.in_ok-mark.ensures.grows.kept k
+    on_ok_weaker c.mark.result (λ both k follows. elim follows.why [
+      | inl reads ↦ both.0.kept k
           (c.in_ok-mark_operands.ensures.marked k (reads_takes g q c.operation-op.result k reads.0 c.operation-op.ensures reads.1))
-      | inr cell ↦ subst (λ n. marked c.mark.new.marks n ≡ true) (sym (c.other_of_cell-other.ensures.complete k cell)) c.in_ok-mark.ensures.marked
-    ]
+      | inr cell ↦ subst (λ n. marked c.mark.new.marks n ≡ true) (sym (c.other_of_cell-other.ensures.complete k cell)) both.1
+    ]) (both_ok _ _ c.mark.result c.mark.ensures.grows c.mark.ensures.marked)

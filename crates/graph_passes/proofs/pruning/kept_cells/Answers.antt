@@ -1,7 +1,8 @@
-use Rattle.std.proofs.Common.{◌++◌, ◌∷◌, [], map, take, sym, ap, ap₂, ◌∙◌, arith}
-use Rattle.std.proofs.lemmas.List.{map-append, take_all, take_more}
+use Rattle.std.proofs.Common.{◌++◌, ◌∷◌, [], length, map, take, sym, ap, ap₂, subst, ◌∙◌, arith}
+use Rattle.std.proofs.lemmas.List.{length-map, map-append, take_all, take_more}
+use Rattle.std.proofs.lemmas.Result.{IfOk-weaker}
 use Rattle.op_graph.specs.declared.op.Loaded.{Loaded}
-use Rattle.graph_passes.specs.Tables.{marked}
+use Rattle.graph_passes.specs.Tables.{IsNumbered, marked}
 use Rattle.graph_passes.proofs.pruning.kept_cells.Goals as goal
 
 pub cells-preserved : goal.cells-preserved
@@ -12,7 +13,14 @@ cells-preserved c =
     ∙ sym (ap (map (λ (x : Loaded). marked c.args.kept.now x.load)) (take_more loads i _ c.cells-test.true)
     ∙ map-append (λ (x : Loaded). marked c.args.kept.now x.load) (take i loads) _)
 
+pub numbered-requires : goal.numbered-requires
+numbered-requires c =
+    let all = ap length (c.cells.invariant
+    ∙ ap (map (λ (l : Loaded). marked c.args.kept.now l.load)) (take_all c.cells.loaded-index c.args.loads.now (omega (arith, c.cells-test.false)))) in
+    omega (arith, all, length-map c.args.loads.now (λ (l : Loaded). marked c.args.kept.now l.load), c.requires)
+
 pub returns : goal.returns
 returns c =
-    c.cells.invariant
-    ∙ ap (map (λ (l : Loaded). marked c.args.kept.now l.load)) (take_all c.cells.loaded-index c.args.loads.now (omega (arith, c.cells-test.false)))
+    let all = c.cells.invariant
+    ∙ ap (map (λ (l : Loaded). marked c.args.kept.now l.load)) (take_all c.cells.loaded-index c.args.loads.now (omega (arith, c.cells-test.false))) in
+    IfOk-weaker c.numbered.result _ _ (λ p is. subst (λ m. IsNumbered m p) all is) c.numbered.ensures

@@ -1,5 +1,5 @@
-use Rattle.std.proofs.Common.{map, ap, subst, ◌∙◌, arith, length}
-use Rattle.std.proofs.lemmas.List.{length-map}
+use Rattle.std.proofs.Common.{List, map, ap, subst, arith, length}
+use Rattle.std.proofs.lemmas.Result.{IfOk-from_err}
 use Rattle.op_graph.specs.declared.op.Loaded.{Loaded}
 use Rattle.graph_passes.specs.Folding.{NoneFolds}
 use Rattle.graph_passes.specs.Pruning.{IsPruned, NonePrunes}
@@ -10,31 +10,50 @@ use Rattle.graph_passes.proofs.InOrder.{holds}
 use Rattle.graph_passes.proofs.Needing.{needed_part, tables_needed}
 use Rattle.graph_passes.proofs.pruning.prune.Goals as goal
 
-pub numbered-requires : goal.numbered-requires
-numbered-requires c = omega (arith, c.in_ok-marks.ensures.many, c.len-operations.ensures.rules.part.few_operations)
-
-pub numbered-requires-2 : goal.numbered-requires-2
-numbered-requires-2 c =
-    let many = ap length c.in_ok-of_cells.ensures ∙ length-map c.loads.result.now (λ (l : Loaded). marked c.deref.result.now l.load) in
-    omega (arith, many, ap length c.loads.ensures, c.len-operations.ensures.rules.part.few_cells)
+pub kept_cells-requires : goal.kept_cells-requires
+kept_cells-requires c = omega (arith, ap length c.loads.ensures, c.len-operations.ensures.rules.part.few_cells)
 
 pub part-requires : goal.part-requires
 part-requires c =
     let g = c.args.graph in
     let graph = c.len-operations.ensures.rules in
-    let loads = c.in_ok-of_cells.ensures ∙ ap (map (λ (l : Loaded). marked c.deref.result.now l.load)) c.loads.ensures in
-    let tables = tables_needed g c.in_ok-operations.operations c.in_ok-cells.cells _ _ c.in_ok-marks.ensures c.in_ok-operations.ensures c.deref.ensures.value
-    (subst (λ m. IsNumbered m c.in_ok-cells.cells) loads c.in_ok-cells.ensures) in
+    let needed = c.in_ok-operations.ensures in
+    let cells = subst (λ (ls : List Loaded). IsNumbered (map (λ (l : Loaded). marked c.deref.result.now l.load) ls) c.in_ok-cells.cells) c.loads.ensures
+    c.in_ok-cells.ensures in
+    let tables = tables_needed g c.in_ok-operations.operations c.in_ok-cells.cells _ _ needed.needed needed.numbered c.deref.ensures.value cells in
     let pruned = needed_part c.entries_keep_their_rules.ensures c.entries_are_found_by_one_walk.ensures g graph _ _ _ _ tables in
     c.what_is_needed_means_the_same.ensures.graph g _ graph pruned
+
+pub returns-in_err-operations : goal.returns-in_err-operations
+returns-in_err-operations c =
+    let e = c.from_residual.ensures.0 in
+    record {
+      pruned = IfOk-from_err c.from_residual.result _ e;
+      means = IfOk-from_err c.from_residual.result _ e;
+      none_left = IfOk-from_err c.from_residual.result _ e;
+      folds_none = λ none. IfOk-from_err c.from_residual.result _ e;
+      shares_none = λ none. IfOk-from_err c.from_residual.result _ e;
+    }
+
+pub returns-in_err-cells : goal.returns-in_err-cells
+returns-in_err-cells c =
+    let e = c.from_residual-in_err-cells.ensures.0 in
+    record {
+      pruned = IfOk-from_err c.from_residual-in_err-cells.result _ e;
+      means = IfOk-from_err c.from_residual-in_err-cells.result _ e;
+      none_left = IfOk-from_err c.from_residual-in_err-cells.result _ e;
+      folds_none = λ none. IfOk-from_err c.from_residual-in_err-cells.result _ e;
+      shares_none = λ none. IfOk-from_err c.from_residual-in_err-cells.result _ e;
+    }
 
 pub returns : goal.returns
 returns c =
     let g = c.args.graph in
     let graph = c.len-operations.ensures.rules in
-    let loads = c.in_ok-of_cells.ensures ∙ ap (map (λ (l : Loaded). marked c.deref.result.now l.load)) c.loads.ensures in
-    let tables = tables_needed g c.in_ok-operations.operations c.in_ok-cells.cells _ _ c.in_ok-marks.ensures c.in_ok-operations.ensures c.deref.ensures.value
-    (subst (λ m. IsNumbered m c.in_ok-cells.cells) loads c.in_ok-cells.ensures) in
+    let needed = c.in_ok-operations.ensures in
+    let cells = subst (λ (ls : List Loaded). IsNumbered (map (λ (l : Loaded). marked c.deref.result.now l.load) ls) c.in_ok-cells.cells) c.loads.ensures
+    c.in_ok-cells.ensures in
+    let tables = tables_needed g c.in_ok-operations.operations c.in_ok-cells.cells _ _ needed.needed needed.numbered c.deref.ensures.value cells in
     let pruned = needed_part c.entries_keep_their_rules.ensures c.entries_are_found_by_one_walk.ensures g graph _ _ _ _ tables in
     let law = c.what_is_needed_means_the_same.ensures in
     let r = c.part.result in
