@@ -1,4 +1,4 @@
-use Rattle.std.proofs.Common.{length, ap, sym, ◌∙◌}
+use Rattle.std.proofs.Common.{length, rules, ap, sym, ◌∙◌}
 use Rattle.st_plain.proofs.Cells.{fit-length}
 use Rattle.st_plain.proofs.plain.run_cycle.Goals as goal
 
@@ -10,3 +10,6 @@ pub set_inputs-requires-clause-places : goal.set_inputs-requires-clause-places
 set_inputs-requires-clause-places c =
     c.requires.places ∙ fit-length c.args.program.now.slots c.args.before.now c.requires.fit
     ∙ ap length (sym (c.deref.ensures.value ∙ c.slots-slots.ensures.slots))
+
+pub returns : goal.returns
+returns c = search rules

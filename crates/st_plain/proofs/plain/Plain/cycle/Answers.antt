@@ -1,4 +1,4 @@
-use Rattle.std.proofs.Common.{◌≡◌, length, vec_capacity, ap, sym, subst, ◌∙◌}
+use Rattle.std.proofs.Common.{◌≡◌, length, rules, vec_capacity, ap, sym, subst, ◌∙◌}
 use Rattle.std.specs.Prelude.{IfSome}
 use Rattle.vcp_base.specs.declared.kind.StopKind.TheVariants as why
 use Rattle.vcp_typed.specs.Fitting.{AreFit}
@@ -21,3 +21,9 @@ invariant_of-self c =
     (sym c.swap.ensures.x_after) c.in-Ok.ensures.fit) c.in-Ok.ensures.outside c.run_cycle.ensures.capacity in
     subst (λ m. Standing c.self.inside.program.now c.swap.new.x m c.self.inside.stop c.self.inside.turns c.run_cycle.new.working.turns.items
     (vec_capacity c.run_cycle.new.working.turns)) (sym c.swap.ensures.y_after) s
+
+pub returns-in-Ok : goal.returns-in-Ok
+returns-in-Ok c = search rules
+
+pub returns-in-Err : goal.returns-in-Err
+returns-in-Err c = search rules
