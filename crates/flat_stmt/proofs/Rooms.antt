@@ -1,14 +1,18 @@
 -- Rooms: what comes of a call after earlier steps, and why there may be no room.
-use Rattle.std.proofs.Common.{◌≡◌, ℕ, ◌+◌, ◌≤◌, Bool, Result, Ok, Err, sym, ap, ◌∙◌, subst, arith}
-use Rattle.std.specs.Prelude.{IfOk, IfErr, IsErrAnd}
-use Rattle.vcp_base.specs.Limits.{most_turn_nodes}
+use Rattle.std.proofs.Common.{◌≡◌, ℕ, ◌+◌, ◌<◌, ◌≤◌, Bool, true, false, [], length, Result, Ok, Err, sym, ap, ◌∙◌, subst, arith}
+use Rattle.std.specs.List.{list_any}
+use Rattle.std.specs.Prelude.{IfOk, IfErr, IsErrAnd, ◌||◌}
+use Rattle.vcp_base.specs.Limits.{most_operations, most_size, most_turn_nodes}
 use Rattle.op_graph.specs.declared.build.Build.{Build}
+use Rattle.vcp_typed.specs.Checked.{AreStmts, IsChecked}
 use Rattle.vcp_typed.specs.Size.{size, stmts_size}
 use Rattle.vcp_typed.specs.SourceRun.{Program}
+use Rattle.vcp_typed.specs.TStmtTree.{TStmtTrees}
+use Rattle.vcp_typed.specs.Wide.{is_lint, stmts_are_wide}
 use Rattle.flat_expr.specs.Begin.{Begins}
 use Rattle.flat_expr.specs.Laws.{Laws}
-use Rattle.flat_expr.specs.State.{State, Leaves, Continues, reserved, last_size, whole_size}
-use Rattle.flat_stmt.specs.Parts.{Fills, Added}
+use Rattle.flat_expr.specs.State.{Allows, State, Leaves, Continues, reserved, last_size, whole_size}
+use Rattle.flat_stmt.specs.Parts.{Fills, Added, StmtsPart, context}
 
 -- a refusal after n1 operations, of a call that wanted n2 more
 pub refused : (old mid new : State) (is_read : ℕ → Bool) (n1 n2 n : ℕ) (e : Build) → reserved mid ≤ reserved old + n1 → n1 + n2 ≤ n
@@ -88,3 +92,29 @@ within_size laws p s0 s1 n b c count body =
     let room = laws.room (record s1 { path = s0.path }) c.after in
     let ends = ap last_size (c.slots ∙ b.slots) in
     omega (arith, room, ends, count, b.count, body)
+
+-- ---- the body of a program
+
+pub body_part : (s : State) (p : Program) (ss : TStmtTrees) → Begins s p → IsChecked p → ss ≡ p.body → StmtsPart (context s) ss
+body_part s p ss b h is = ([], typed, allowed)
+  where
+    typed : AreStmts s.slots [] ss
+    typed = subst (λ slots. AreStmts slots [] ss) (sym b.slots) (subst (λ t. AreStmts p.slots [] t) (sym is) h.body)
+
+    no_more : (a c : Bool) → (a || c) ≡ false → c ≡ false
+    no_more false c e = e
+    no_more true c e = absurd cc
+
+    allowed : Allows s.graph.profile (stmts_are_wide ss)
+    allowed = λ narrow. ap stmts_are_wide is ∙ no_more (list_any (λ x. is_lint x.ty) p.slots) (stmts_are_wide p.body) (sym b.code ∙ narrow)
+
+pub body_nodes : (s : State) (p : Program) (ss : TStmtTrees) → Begins s p → IsChecked p → ss ≡ p.body
+    → length s.graph.turn_nodes + stmts_size ss ≤ most_turn_nodes
+body_nodes s p ss b h is = omega (arith, ap length b.nodes, h.room, ap stmts_size is)
+
+-- there is room for all operations
+pub body_room : (s : State) (p : Program) (ss : TStmtTrees) → Begins s p → IsChecked p → ss ≡ p.body → most_operations < reserved s + stmts_size ss → ⊥
+body_room s p ss b h is more = omega (arith, b.count, h.room, ap stmts_size is, more)
+
+pub whole_room : (whole n : ℕ) → whole ≤ n → n ≤ most_size → most_operations < whole → ⊥
+whole_room whole n within fits more = omega (arith, within, fits, more)

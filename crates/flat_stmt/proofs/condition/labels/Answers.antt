@@ -1,10 +1,34 @@
-use Rattle.std.proofs.Common.{arith, take}
+use Rattle.std.proofs.Common.{arith, subst, take}
+use Rattle.std.proofs.lemmas.List.{take_all}
+use Rattle.std.proofs.lemmas.List.Elements.{All-get_or}
+use Rattle.vcp_base.specs.declared.ty.Ty.TheVariants as type_of
+use Rattle.vcp_typed.specs.Checked.{IsLabel}
 use Rattle.std.specs.Prelude.{sum_by}
 use Rattle.vcp_typed.specs.Size.{label_size}
-use Rattle.flat_expr.specs.State.{reserved}
+use Rattle.flat_expr.specs.State.{Makes, reserved}
+use Rattle.flat_stmt.specs.Conditions.{any_labelled}
 use Rattle.flat_stmt.proofs.Conditions.{first_label, next_label, label_sum_fits, first_fits}
 use Rattle.flat_stmt.proofs.Rooms.{handed_on, none_more}
+use Rattle.flat_stmt.proofs.Statements.{admitted_later}
 use Rattle.flat_stmt.proofs.condition.labels.Goals as goal
+
+pub label-requires : goal.label-requires
+label-requires c = record {
+  number = c.requires.number;
+  code = c.requires.code;
+  k = c.requires.k;
+  label = All-get_or (IsLabel c.args.ty) c.args.labels.now 0 _ c.requires.some c.requires.labels;
+}
+
+pub label_too-requires : goal.label_too-requires
+label_too-requires c =
+    let made = c.rest.invariant.made in record {
+      number = c.requires.number;
+      code = admitted_later c.args.flat.now c.rest.flat c.args.ty made.follows.profile c.requires.code;
+      k = made.follows.typed c.args.ty c.args.k c.requires.k;
+      so_far = made.place;
+      label = All-get_or (IsLabel c.args.ty) c.args.labels.now c.rest.i _ c.rest-test.true c.requires.labels;
+    }
 
 pub rest-init : goal.rest-init
 rest-init c = record {
@@ -28,3 +52,9 @@ rest-preserved c = record {
   made = next_label c.laws_of_states.ensures c.args.flat.now c.rest.flat c.label_too.new.flat c.args.ty c.args.k c.rest.so_far c.in_ok-so_far-2.so_far c.args.labels.now c.rest.i _ (omega (arith, c.rest-test.true)) c.requires.k c.rest.invariant.made c.in_ok-so_far-2.ensures;
   inside = omega (arith, c.rest-test.true);
 }
+
+pub returns : goal.returns
+returns c =
+    let all = take_all c.rest.i c.args.labels.now c.rest-test.false in
+    subst
+    (λ ls. Makes c.args.flat.now c.rest.flat type_of.Bool (sum_by label_size ls) (any_labelled c.args.k ls) c.rest.so_far) all c.rest.invariant.made
