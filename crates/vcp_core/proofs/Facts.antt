@@ -1,5 +1,6 @@
 -- What holds of what is told.
-use Rattle.std.proofs.Common.{◌≡◌, sym, Option, Some, None, IfSome}
+use Rattle.std.proofs.Common.{ℕ, ◌≡◌, ◌≤◌, sym, Option, Some, None, IfSome, Result, Ok, Err, List, [], ◌∷◌, arith}
+use Rattle.vcp_outside.specs.Counts.{Rose}
 
 pub if_some_weaker : {X : Type 0} (o : Option X) (P Q : X → Type 0) → ((x : X) → P x → Q x) → IfSome o P → IfSome o Q
 if_some_weaker None P Q f h = tt
@@ -29,3 +30,27 @@ if_some_when A (Some x) p Q e h = λ a. rw e at (h a)
 pub if_some_and : {X : Type 0} (o : Option X) (P Q : X → Type 0) → IfSome o P → IfSome o Q → IfSome o (λ x. P x × Q x)
 if_some_and None P Q h k = tt
 if_some_and (Some x) P Q h k = (h, k)
+
+-- ---- what can't be, and what is the same: lemmas, since a tactic in an answer reads all that the function knows
+
+pub not_none : {X : Type 0} {x : X} {xs : List X} → x ∷ xs ≡ [] → ⊥
+not_none is = cc
+
+pub no_error : {V E : Type 0} {v : V} {e : E} → Ok v ≡ Err e → ⊥
+no_error is = cc
+
+pub same_error : {V E : Type 0} {x y : E} → (let r : Result V E = Err x in r) ≡ Err y → x ≡ y
+same_error is = cc
+
+pub same_value : {V E : Type 0} {x y : V} → (let r : Result V E = Ok x in r) ≡ Ok y → x ≡ y
+same_value is = cc
+
+-- a count that rose later, or after it stood still
+pub rose_later : {f g h : ℕ} → f ≤ g → Rose g h → Rose f h
+rose_later later rose = omega (arith, later, rose)
+
+pub rose_still : {f g h : ℕ} → g ≡ f → Rose g h → Rose f h
+rose_still same rose = omega (arith, same, rose)
+
+pub none_before : {n : ℕ} → 0 ≤ n
+none_before = omega arith

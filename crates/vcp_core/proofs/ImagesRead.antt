@@ -10,7 +10,9 @@ use Rattle.vcp_outside.specs.Seen.{FilesSeen}
 use Rattle.input_rows.specs.RowsOf.{RowsLeft, through}
 use Rattle.op_graph.specs.Lists.{column}
 use Rattle.coded_machine.specs.Moments.{Moment}
-use Rattle.vcp_inputs.specs.Forms.{Form, Rows, exec, trace, inject, pair, pairs}
+use Rattle.vcp_inputs.specs.Forms.{AreFew, Form, IsSound, Rows, exec, trace, inject, pair, pairs, image_run}
+use Rattle.vcp_inputs.specs.declared.words.command.ImageRun.{ImageRun}
+use Rattle.vcp_inputs.specs.declared.words.command.ImageRun.TheVariants as how
 use Rattle.vcp_inputs.specs.Tables.{rows_name}
 use Rattle.vcp_inputs.specs.declared.images.Image.{Image}
 use Rattle.vcp_inputs.specs.declared.refusal.Refusal.{Refusal}
@@ -29,7 +31,7 @@ use Rattle.vcp_inputs.specs.FileTasks.{ImageFile, TakenFile, TakenRows}
 use Rattle.vcp_inputs.specs.Kinds.{Task, runs}
 use Rattle.vcp_inputs.specs.Performing.{Performs}
 use Rattle.vcp_core.specs.declared.image_rows.ImageRows.{ImageRows}
-use Rattle.vcp_core.specs.ImagesRead.{AreImageRows, ImageRowsRead, ReadsImageRows, executing, tracing, injecting, comparing, pairing}
+use Rattle.vcp_core.specs.ImagesRead.{AreImageRows, ImageRowsRead, ReadsImageRows, second_of, executing, tracing, injecting, comparing, pairing}
 use Rattle.vcp_core.specs.Loading.{FirstRead}
 use Rattle.vcp_core.specs.Tasks.{Apart, Compared, PairsRows, TaskOf, rows_job, table_code, words_job}
 use Rattle.vcp_core.proofs.Facts.{if_some_always, if_some_both, if_some_weaker}
@@ -46,6 +48,22 @@ some_files m rows _ _ (tracing n) = λ none. cc
 some_files m rows _ _ (injecting s) = λ none. cc
 some_files m rows _ _ (comparing seed) = λ none. cc
 some_files m rows _ _ (pairing seed s) = λ none. cc
+
+-- a run of M on ROWS is one of them
+pub reads_run : (m : List ℕ) (rows : Rows) (run : ImageRun) → ReadsImageRows m rows (second_of run) (image_run m rows run)
+reads_run m rows how.Exec = executing
+reads_run m rows (how.Trace n) = tracing n
+reads_run m rows (how.Inject s) = injecting s.now
+reads_run m rows (how.Pair seed) = comparing seed
+reads_run m rows (how.Pairs seed s) = pairing seed s.now
+
+-- and where it is sound its rows are few
+pub run_few : (m : List ℕ) (rows : Rows) (run : ImageRun) → IsSound (image_run m rows run) → AreFew rows
+run_few m rows how.Exec h = h
+run_few m rows (how.Trace n) h = h.0
+run_few m rows (how.Inject s) h = h
+run_few m rows (how.Pair seed) h = h.0
+run_few m rows (how.Pairs seed s) h = h.0
 
 -- the rows have a value for each of the graph's inputs
 pub rows-width : (r : ImageRows) → AreImageRows r → (list : List (List ℤ)) → All (λ row. length row ≡ length r.columns) list

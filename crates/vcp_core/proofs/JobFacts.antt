@@ -88,6 +88,13 @@ failed-causes before after why rose stayed = record {
   stayed = λ no. stayed (λ is. no (ap Err is));
 }
 
+-- memory was wanted, and nothing was done
+pub memory_unwritten : {V : Type 0} → (let r : Result V RunFault = Err given_up.Memory in r) ≡ Err given_up.Write → ⊥
+memory_unwritten is = cc
+
+pub memory-causes : (here : Moment) → HasCauses here here (Err given_up.Memory)
+memory-causes here = failed-causes here here given_up.Memory (λ is. absurd cc) (λ no. refl)
+
 -- what is printed first, of the rows and last was written, where the log grew to the stop at which the run ended
 pub stop-told : (before after : Moment) (x y : SinkSeen) (first rows last : List ℕ) (n k : ℕ) (why : StopKind) (e : CycleEnd) →
     Appends before.out.written x.written first → Appends x.written y.written rows → Appends y.written after.out.written last → EndsAtStop last n e →

@@ -1,12 +1,12 @@
 -- How far the run of a job came, from what running its graph leaves.
-use Rattle.std.proofs.Common.{ℕ, zero, suc, ◌≡◌, ◌≢◌, ◌<◌, refl, sym, ap, ◌∙◌, List, [], ◌∷◌, ◌++◌, length, map, append_assoc, append-nil, slice_get, slice_index_or, Option, Some, None, Result, IfSome, arith, ℤ}
+use Rattle.std.proofs.Common.{ℕ, zero, suc, ◌≡◌, ◌≢◌, ◌<◌, refl, sym, ap, ◌∙◌, List, [], ◌∷◌, ◌++◌, length, map, append_assoc, append-nil, slice_get, slice_index_or, Option, Some, None, Result, IfSome, arith, ℤ, Ok, Err}
 use Rattle.std.proofs.lemmas.List.{length-append}
 use Rattle.std.specs.Io.KnownBytes.{Appends}
 use Rattle.std.proofs.KnownBytes.{Appends-trans}
 use Rattle.vcp_base.specs.Stops.{ToldStop, told_stop}
 use Rattle.vcp_base.specs.declared.columns.Column.{Column}
 use Rattle.vcp_base.specs.declared.kind.StopKind.{StopKind}
-use Rattle.vcp_outside.specs.Written.{AppendsFront, AppendsPart, Writes}
+use Rattle.vcp_outside.specs.Written.{AppendsFront, AppendsPart, Writes, WritesTo}
 use Rattle.vcp_outside.specs.declared.failed.Failed.{Failed}
 use Rattle.input_rows.specs.declared.fault.RowFault.{RowFault}
 use Rattle.input_rows.specs.RowsOf.{IsOfRecord}
@@ -24,8 +24,12 @@ use Rattle.coded_machine.specs.Runs.{Outcome, AllCycles, outcome_over, end_of_ru
 use Rattle.flat_expr.specs.Told.{graph_end, halted_at}
 use Rattle.coded_machine.specs.RowRuns.{SomeCycles}
 use Rattle.vcp_inputs.specs.Reports.{RunEnd, complete, stopped, refused, end_told, end_read, behind_text, run_status}
+use Rattle.vcp_outside.specs.Seen.{SinkSeen}
+use Rattle.vcp_core.specs.declared.ending.Ending.{Ending}
+use Rattle.vcp_core.specs.Reach.{end_status}
+use Rattle.vcp_core.specs.Faults.{line_end}
 use Rattle.vcp_core.specs.EndLines.{last_text}
-use Rattle.vcp_core.specs.MachineRun.{EndsAtStop, IsThere}
+use Rattle.vcp_core.specs.MachineRun.{EndsAtStop, IsThere, PrintsLast}
 
 -- ---- the graph's run as it is told
 
@@ -167,6 +171,13 @@ pub ends-at-stop : (g : Lists) (names : List (List ℕ)) (n : ℕ) (e : CycleEnd
 ends-at-stop g names n cycle.Released there = tt
 ends-at-stop g names n (cycle.Stopped k why) there = ends-by g names n why (slice_get g.operations k) (not-there g.operations k there)
 ends-at-stop g names n (cycle.Refused i f w) there = tt
+
+-- the line was written, or a part of it
+pub prints-last : (text : List ℕ) (n : ℕ) (g : Lists) (e : CycleEnd) (before after : SinkSeen) (end : Ending) (written : Result (Unit {0}) Failed)
+    → WritesTo before after text written → end_status end ≡ run_status (end_read g e) None → EndsAtStop text n e
+    → PrintsLast text n g e before after (line_end written end)
+prints-last text n g e before after end (Ok _) w status stop = (w.whole, status, w.cause.stayed, stop)
+prints-last text n g e before after end (Err f) w status stop = (w.cause.failed, w.part)
 
 -- the name of an output
 pub name-at : (columns : List Column) (i : ℕ) (c : Column) → slice_get columns i ≡ Some c → slice_index_or (map (λ (x : Column). x.name) columns) i [] ≡ c.name

@@ -214,6 +214,9 @@ no_lines : {V : Type 0} (text : ℕ → V → List ℕ) (groups : List (List Scr
 no_lines text [] = refl
 no_lines text (faults ∷ groups) = refl
 
+pub campaign_unwritten : {V : Type 0} → (let r : Result V CampaignFault = Err campaign.Memory in r) ≡ Err campaign.Write → ⊥
+campaign_unwritten is = cc
+
 pub no_lines_written : {V : Type 0} (text : ℕ → V → List ℕ) (groups : List (List ScriptedFault)) (old : Option (List ℕ))
     → Appends old old (lines_by text groups [])
 no_lines_written text groups old = subst (λ (t : List ℕ). Appends old old t) (sym (no_lines text groups)) (appends-nothing old)

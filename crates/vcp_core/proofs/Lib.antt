@@ -4,6 +4,7 @@ pub mod EachTask
 pub mod Facts
 pub mod PairsTasks
 pub mod ImageLoaded
+pub mod ImageTold
 pub mod ImagesRead
 pub mod JobFacts
 pub mod JudgedTasks
@@ -24,7 +25,6 @@ pub mod PlainWorked
 pub mod PrintedRun
 pub mod ProgramsRead
 pub mod ScriptsTold
-pub mod Sized
 pub mod StaleShown
 pub mod Traced
 pub mod TwoChannels

@@ -1,13 +1,17 @@
 -- How far a command comes and what it keeps, from what its calls answer.
 use Rattle.std.proofs.Common.{ℕ, ◌≡◌, ◌≢◌, ◌≤◌, ◌⊎◌, length, inl, inr, true, false, refl, sym, ap, subst, ◌∙◌, List, [], ◌∷◌, ◌++◌, Option, Some, Result, Ok, Err, IfSome, arith}
 use Rattle.std.specs.Io.KnownBytes.{IsAtEnd}
+use Rattle.vcp_base.specs.Limits.{most_source_bytes}
 use Rattle.vcp_outside.specs.Counts.{Rose}
 use Rattle.vcp_outside.specs.Held.{Held}
-use Rattle.vcp_outside.specs.Seen.{FilesSeen}
+use Rattle.vcp_outside.specs.Seen.{FilesSeen, SinkSeen}
 use Rattle.vcp_outside.specs.Written.{AppendsPart, WritesTo}
 use Rattle.input_rows.specs.declared.fault.RowFault.{RowFault}
 use Rattle.input_rows.specs.declared.fault.RowFault.TheVariants as row
-use Rattle.coded_machine.specs.Moments.{Moment}
+use Rattle.vcp_typed.specs.SourceRun.{Program}
+use Rattle.image_file.specs.Image.{image_of}
+use Rattle.coded_unit.specs.Seen.{UnitSeen}
+use Rattle.coded_machine.specs.Moments.{Moment, moment}
 use Rattle.coded_machine.specs.Stops.{TellsSomeStop}
 use Rattle.coded_machine.specs.declared.rows.fault.RunFault.{RunFault}
 use Rattle.coded_machine.specs.declared.rows.fault.RunFault.TheVariants as run
@@ -17,14 +21,17 @@ use Rattle.vcp_inputs.specs.declared.refusal.Refusal.TheVariants as refusal
 use Rattle.vcp_inputs.specs.declared.refusal.NoInput.{NoInput}
 use Rattle.vcp_inputs.specs.declared.refusal.NoInput.TheVariants as input
 use Rattle.vcp_inputs.specs.Files.{LeavesLong, NotLoaded}
+use Rattle.vcp_inputs.specs.Forms.{Code, compile}
+use Rattle.vcp_inputs.specs.GraphsOf.{IsImageFor, image_answer}
+use Rattle.vcp_inputs.specs.Programs.{NotTyped, TypedOf}
 use Rattle.vcp_inputs.specs.Lines.{input_text, input_status, memory_text, refusal_text, rows_text, write_fault_text}
 use Rattle.vcp_inputs.specs.Refusals.{IsCaused, no_rows}
 use Rattle.vcp_inputs.proofs.Causes.{row_caused}
 use Rattle.vcp_inputs.specs.Answer.{printed}
-use Rattle.vcp_inputs.specs.Abouts.{Among, About, FileWord}
+use Rattle.vcp_inputs.specs.Abouts.{Among, About, FileWord, about}
 use Rattle.vcp_inputs.specs.Clauses.{IsEnd, IsLine, IsTooLong, MayHold, MayName, NamesFile}
 use Rattle.vcp_inputs.specs.FileTasks.{TakenFile, missing, taken, untaken}
-use Rattle.vcp_inputs.specs.Kinds.{Task, lacks, lack_answer, refusal_task, runs, Done, Left}
+use Rattle.vcp_inputs.specs.Kinds.{Task, compiles, lacks, lack_answer, prints, refusal_task, runs, Done, Left}
 use Rattle.vcp_inputs.specs.Seen.{Still}
 use Rattle.vcp_inputs.specs.Performing.{Reaches, done, cut, unread, unmade, Performs}
 use Rattle.vcp_inputs.specs.Performing as reached
@@ -33,7 +40,9 @@ use Rattle.vcp_core.specs.declared.ending.Ending.{Ending}
 use Rattle.vcp_core.specs.declared.ending.Ending.TheVariants as end
 use Rattle.vcp_core.specs.MachineRun.{RunsTo}
 use Rattle.vcp_core.specs.Faults.{text_end}
+use Rattle.vcp_core.specs.Loading.{FirstRead}
 use Rattle.vcp_core.specs.Reach.{end_status, run_code, run_line, told_line, told_status}
+use Rattle.vcp_core.specs.Tasks.{TaskOf}
 use Rattle.vcp_core.proofs.Facts.{if_some_always, if_some_weaker, if_some_when}
 use Rattle.vcp_core.proofs.PlainTurns.{appends-nothing}
 
@@ -496,3 +505,40 @@ quiet_lost c Is Why Then word files later at i named reads one held lost whole l
     (λ is. if_some_weaker files.held _ _ (λ h at_most. file_taken c word.name h word named refl i later.rest whole at_most is)
     (if_some_when (i ≡ input.Refused refusal.Bytes) files.held files.held (LeavesLong word.name word.most later.rest) refl left))
     rose stayed (λ is. (word, named, refl)) caused (inl (word, named, refl))
+
+-- the one file was read, and the text of its value was written
+pub quiet_printed : (c : About) {V E : Type 0} (Is : List ℕ → V → Type 0) (Why : List ℕ → Refusal → Type 0) (Then : V → Task → Type 0) (word : FileWord)
+    (files later : FilesSeen) (v : V) → FirstRead Is Why word.most word.name files later v → c.files ≢ [] → Among 0 c.ends → (text : List ℕ)
+    → Then v (prints text) → (unit : UnitSeen) (before after : SinkSeen) (result : Result (Unit {0}) E) → WritesTo before after text result
+    → Performs c (λ h task. TakenFile Is Why word.most Then word.name (h word.name) task) files later (moment unit before) (moment unit after)
+    (told_line (text_end result)) (told_status (text_end result))
+quiet_printed c Is Why Then word files later v read reads zero text then unit before after result w =
+    quiet_ended c (λ h task. TakenFile Is Why word.most Then word.name (h word.name) task) files later reads read.held (moment unit before)
+    (moment unit after) read.ended read.faults refl zero text
+    (if_some_weaker files.held _ _
+    (λ h loads. (
+      prints text,
+      file_takes Is Why word.most Then word.name h v (prints text) loads then,
+      (refl, refl),
+      λ part. (refl, (printed text, refl, part)),
+    )) read.loads)
+    result w
+
+-- the source was read, and the image for its program was written
+pub compiled_performs : {E : Type 0} (p : List ℕ) (code : Code) (files later : FilesSeen) (t : Program)
+    → FirstRead TypedOf NotTyped most_source_bytes p files later t → (unit : UnitSeen) (before after : SinkSeen) (text bytes : List ℕ) → IsImageFor t code text
+    → bytes ≡ text → (result : Result (Unit {0}) E) → WritesTo before after bytes result
+    → Performs (about (compile p code)) (TaskOf (compile p code)) files later (moment unit before) (moment unit after) (told_line (text_end result))
+    (told_status (text_end result))
+compiled_performs p code files later t read unit before after text bytes (graph, may, is) same result w =
+    let image = image_of graph code.seed code.step in
+    quiet_ended (about (compile p code)) (TaskOf (compile p code)) files later (λ none. cc) read.held (moment unit before) (moment unit after) read.ended
+    read.faults refl (inl refl) image
+    (if_some_weaker files.held _ _
+    (λ h loads. (
+      compiles t code,
+      file_takes TypedOf NotTyped most_source_bytes (λ t x. x ≡ compiles t code) p h t (compiles t code) loads refl,
+      (refl, (graph, may, refl)),
+      λ part. (refl, (image_answer code graph, (graph, may, refl), part)),
+    )) read.loads)
+    result (subst (λ (b : List ℕ). WritesTo before after b result) (same ∙ is) w)

@@ -11,6 +11,7 @@ use Rattle.vcp_outside.specs.Seen.{SinkSeen}
 use Rattle.op_graph.specs.Lists.{Lists}
 use Rattle.op_graph.specs.GraphRun.{graph_run}
 use Rattle.signature_table.specs.Signatures.{Numbers}
+use Rattle.coded_machine.specs.State.{State}
 use Rattle.coded_machine.specs.declared.cycle_end.CycleEnd.{CycleEnd}
 use Rattle.coded_machine.specs.declared.cycle_end.CycleEnd.TheVariants as cycle
 use Rattle.coded_machine.specs.Calls.{AllRight, Carried}
@@ -355,3 +356,9 @@ rows-shown Keeps kept s code left name g = record {
   last_is = λ now cycles m e came. ap (λ (h : Lists). last_text (subject_outputs s) m.cycles (end_read h e) None) came.machine.graph
       ∙ rows-last (subject_outputs s) m.cycles (run_read (rows_job name code s left) g cycles) g e left.refusal came.there came.machine.cycles came.all_taken;
 }
+
+-- the same of an equal graph
+pub shows_on : {R : Type 0} {first : List (List ℕ) → List ℕ} {row : ℕ → List ℤ → List ℕ} {last : R → State → List (List ℕ) → CycleEnd → List ℕ}
+    {Keeps : R → List (List ℤ) → Type 0} {kept : R} {j : Job} {g h : Lists} → g ≡ h → Shows first row last Keeps kept j g
+    → Shows first row last Keeps kept j h
+shows_on same shows = rw same at shows

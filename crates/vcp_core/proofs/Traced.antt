@@ -12,8 +12,10 @@ use Rattle.coded_machine.specs.State.{State}
 use Rattle.run_report.specs.Lines.{stop_text}
 use Rattle.vcp_inputs.specs.CycleWords.{word_lines}
 use Rattle.vcp_inputs.specs.Reports.{RunEnd, complete, end_read, refused, stopped}
+use Rattle.vcp_core.specs.Faults.{line_end}
 use Rattle.vcp_core.specs.EndLines.{last_text}
 use Rattle.vcp_core.specs.declared.ending.Ending.{Ending}
+use Rattle.vcp_core.specs.declared.ending.Ending.TheVariants as ending
 use Rattle.vcp_core.specs.MachineRun.{EndsAtStop, IsThere, PrintsLast}
 use Rattle.vcp_core.specs.TraceRun.{answered_words, traced_text, words_then}
 use Rattle.vcp_core.proofs.JobRun.{complete-is}
@@ -58,10 +60,12 @@ module _ (m : State) (names : List (List ℕ)) (n : ℕ) (a b c : SinkSeen) wher
       let whole : traced_text m names n e ≡ front ++ (rest ++ more) = all ∙ ap (λ l. l ++ more) is ∙ append_assoc front rest more in
       (failure.cause.failed, (front, rest ++ more, whole, rw (length-append rest more) (omega (arith, some)), taken))
 
-  pub released-cut : (why : Failed) → WritesTo {T = Unit {0}} {E = Failed} a b lines (Ok tt)
-      → WritesTo {T = Unit {0}} {E = Failed} b c (codes "released\n") (Err why)
-      → PrintsLast (traced_text m names n cycle.Released) m.cycles m.graph cycle.Released a c (Err why)
-  released-cut why before failure =
+  -- the line of a release was written behind them, or a part of it
+  pub released-on : (r : Result (Unit {0}) Failed) → WritesTo {T = Unit {0}} {E = Failed} a b lines (Ok tt) → WritesTo b c (codes "released\n") r
+      → PrintsLast (traced_text m names n cycle.Released) m.cycles m.graph cycle.Released a c (line_end r ending.Done)
+  released-on (Ok _) before after =
+      (Appends-trans a.written b.written c.written lines (codes "released\n") before.whole after.whole, refl, after.cause.stayed ∙ before.cause.stayed, tt)
+  released-on (Err why) before failure =
       let (front, rest, is, some, taken) = failure.part in
       let whole : traced_text m names n cycle.Released ≡ (lines ++ front) ++ rest = ap (λ l. lines ++ l) is ∙ sym (append_assoc lines front rest) in (
         omega (arith, before.cause.later, failure.cause.failed),

@@ -1,4 +1,4 @@
--- Faults: how a command ends whose text was written, or whose faults were judged, or whose script of a wire was run; or not all of it.
+-- Faults: how a command ends whose text or last line was written, or whose faults were judged, or whose script of a wire was run; or not all of it.
 use Rattle.std.specs.Prelude.{Result, Ok, Err}
 use Rattle.fault_campaign.specs.declared.fault.CampaignFault.{CampaignFault}
 use Rattle.fault_campaign.specs.declared.fault.CampaignFault.TheVariants as campaign
@@ -14,6 +14,10 @@ use Rattle.vcp_core.specs.Reach.{wire_ending}
 abbrev pub text_end : {E : Type 0} → Result (Unit {0}) E → Result Ending Fault
 text_end (Ok _) = Ok end.Done
 text_end (Err e) = Err fault.Write
+
+abbrev pub line_end : {E : Type 0} → Result (Unit {0}) E → Ending → Result Ending E
+line_end (Ok _) e = Ok e
+line_end (Err f) e = Err f
 
 abbrev pub of_campaign : CampaignFault → Fault
 of_campaign campaign.Write = fault.Write

@@ -5,6 +5,8 @@ use Rattle.vcp_outside.specs.Seen.{FilesSeen}
 use Rattle.signature_table.specs.Signatures.{table_of}
 use Rattle.coded_machine.specs.Moments.{Moment}
 use Rattle.vcp_inputs.specs.Forms.{Form, Rows, exec, trace, inject, pair, pairs}
+use Rattle.vcp_inputs.specs.declared.words.command.ImageRun.{ImageRun}
+use Rattle.vcp_inputs.specs.declared.words.command.ImageRun.TheVariants as how
 use Rattle.vcp_inputs.specs.Images.{ImageOf, NotImage}
 use Rattle.input_rows.specs.Opening.{HasFewCycles}
 use Rattle.vcp_inputs.specs.RowsRead.{graph_columns}
@@ -21,6 +23,14 @@ pub data ReadsImageRows (m : List ℕ) (rows : Rows) : Option ℕ → Form → T
   injecting : (f : List ℕ) → ReadsImageRows m rows None (inject m rows f)
   comparing : (seed : ℕ) → ReadsImageRows m rows (Some seed) (pair m rows seed)
   pairing : (seed : ℕ) (f : List ℕ) → ReadsImageRows m rows (Some seed) (pairs m rows seed f)
+
+-- the seed of the second channel of a run, where it has one
+abbrev pub second_of : ImageRun → Option ℕ
+second_of how.Exec = None
+second_of (how.Trace n) = None
+second_of (how.Inject f) = None
+second_of (how.Pair seed) = Some seed
+second_of (how.Pairs seed f) = Some seed
 
 -- the columns are those of the graph's inputs, the table is the graph's, and there are few cycles
 pub record AreImageRows (r : ImageRows) : Type 0 where

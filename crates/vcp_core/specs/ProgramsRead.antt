@@ -8,6 +8,8 @@ use Rattle.il_front.specs.Answers.{most_il_bytes}
 use Rattle.il_front.specs.Outcomes.{IsTypedIl}
 use Rattle.vcp_inputs.specs.Forms.{Code, Form, Rows, il, plain, run}
 use Rattle.vcp_inputs.specs.declared.refusal.Refusal.{Refusal}
+use Rattle.vcp_inputs.specs.declared.words.command.ProgramRun.{ProgramRun}
+use Rattle.vcp_inputs.specs.declared.words.command.ProgramRun.TheVariants as how
 use Rattle.vcp_inputs.specs.Listings.{NotListing}
 use Rattle.vcp_inputs.specs.Programs.{NotTyped, TypedOf}
 use Rattle.input_rows.specs.Opening.{HasFewCycles}
@@ -32,6 +34,12 @@ NotTypedIn instruction_list = NotListing
 abbrev pub most_in : Language → ℕ
 most_in structured_text = most_source_bytes
 most_in instruction_list = most_il_bytes
+
+-- the one that a run wants
+abbrev pub language_of : ProgramRun → Language
+language_of how.Plain = structured_text
+language_of (how.Run code) = structured_text
+language_of (how.Il code) = instruction_list
 
 -- the command that runs P
 abbrev pub run_of : Language → List ℕ → Rows → Code → Form

@@ -21,8 +21,8 @@ use crate::ending::{Ending, text_ended};
 use crate::fault::Fault;
 use std::alloc::Global;
 use vcp_base::Text;
-use vcp_inputs::{Image, NoInput, Refusal, load_image};
-use vcp_outside::{Files, Sink};
+use vcp_inputs::{Image, NoInput, Refusal};
+use vcp_outside::Sink;
 use weight_audit::weigh::weights;
 use weight_audit::{AuditFault, Weights, write_audit};
 
@@ -42,31 +42,8 @@ fn weights_of(alloc: Global, image: &Image, horizon: u32) -> Result<Weights, NoI
     }
 }
 
-/// Does what the words `audit M HORIZON` say, and writes to `out` alone: M is read whole and
-/// checked, and then the audit of its graph is written.
-pub fn audit_command<'a, F: Files, O: Sink>(
-    alloc: Global,
-    image: &'a Text,
-    horizon: u32,
-    files: &mut F,
-    out: &mut O,
-) -> Result<Ending, Fault<'a>>
-    requires horizon { horizon ≤ most_horizon }
-    ensures { (unit : UnitSeen) → Performs (about (audit image.now horizon)) (TaskOf (audit image.now horizon))
-        (F.seen files.old) (F.seen files.new) (moment unit (O.seen out.old)) (moment unit (O.seen out.new))
-        (told_line result) (told_status result) }
-{
-    match load_image(alloc, files, image) {
-        Ok(loaded) => audit_image(alloc, image, &loaded, horizon, out),
-        Err(input) => Err(Fault::Input {
-            name: image.bytes(),
-            input,
-        }),
-    }
-}
-
 /// Writes the audit of the graph of an image, once its file, which has this name, was read.
-fn audit_image<'a, O: Sink>(
+pub fn audit_image<'a, O: Sink>(
     alloc: Global,
     name: &'a Text,
     image: &Image,

@@ -13,7 +13,7 @@ ghost use Rattle.coded_machine.specs.Moments.{moment};
 ghost use Rattle.vcp_core.specs.Demo.{DemoTask, KeepsSums, first_value as first_value_of, made_held, summed_text};
 ghost use Rattle.vcp_core.specs.Reach.{told_line, told_status};
 
-use crate::ending::{Ending, run_ended};
+use crate::ending::{Ending, line_ended, run_ended};
 use crate::fault::Fault;
 use crate::loading::input_columns;
 use crate::opening::open;
@@ -89,10 +89,10 @@ impl Printed<Sums> for SummedUp {
     ) -> Result<Ending, Failed> {
         let cycles = machine.cycles();
         match end {
-            CycleEnd::Released => {
-                summary_line(out, self.number, cycles, sums.last, sums.sum)?;
-                Ok(Ending::Done)
-            }
+            CycleEnd::Released => line_ended(
+                summary_line(out, self.number, cycles, sums.last, sums.sum),
+                Ending::Done,
+            ),
             CycleEnd::Stopped { .. } | CycleEnd::Refused { .. } => {
                 print_end(out, machine.graph(), outputs, cycles, end)
             }

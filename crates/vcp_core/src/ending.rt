@@ -1,7 +1,7 @@
 //! How commands end.
 
 ghost use Rattle.std.specs.Prelude.{◌≡◌};
-ghost use Rattle.vcp_core.specs.Faults.{campaign_end, text_end};
+ghost use Rattle.vcp_core.specs.Faults.{campaign_end, line_end, text_end};
 ghost use Rattle.vcp_core.specs.Reach.{end_status, run_code, run_line, told_line, told_status};
 
 use crate::fault::Fault;
@@ -45,6 +45,16 @@ pub fn run_ended<'a>(rows: &'a [u8], ended: Result<Ending, RunFault>) -> Result<
         }),
         Err(RunFault::Write) => Err(Fault::Write),
         Err(RunFault::Memory) => Err(Fault::Memory),
+    }
+}
+
+/// How the printing of a run's last line ended that ends the command so, where it was written.
+pub fn line_ended(written: Result<(), Failed>, end: Ending) -> Result<Ending, Failed>
+    ensures { result ≡ line_end written end }
+{
+    match written {
+        Ok(()) => Ok(end),
+        Err(Failed) => Err(Failed),
     }
 }
 

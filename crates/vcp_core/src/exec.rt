@@ -1,51 +1,25 @@
-//! The command `exec`, up to the line of its fault.
+//! The command `exec`: the run of an image's operations, of which each row is printed.
 
 ghost use Rattle.vcp_outside.specs.Seen.{FilesSeen};
-ghost use Rattle.vcp_inputs.specs.Forms.{exec, rows_of, AreFew};
-ghost use Rattle.vcp_inputs.specs.Abouts.{about};
-ghost use Rattle.vcp_inputs.specs.Performing.{Performs};
+ghost use Rattle.vcp_inputs.specs.Forms.{exec, rows_of};
 ghost use Rattle.coded_machine.specs.Moments.{moment};
 ghost use Rattle.vcp_core.specs.ImagesRead.{AreImageRows, PerformsOn};
-ghost use Rattle.vcp_core.specs.Tasks.{TaskOf};
 ghost use Rattle.vcp_core.specs.Reach.{told_line, told_status};
 
 use crate::ending::{Ending, run_ended};
 use crate::every_row::{EveryRow, RowLines};
 use crate::fault::Fault;
-use crate::image_rows::{ImageRows, load_image_rows};
+use crate::image_rows::ImageRows;
 use crate::loading::rows_name;
 use crate::opening::open;
 use crate::printed::run_printed;
 use coded_unit::Unit;
 use std::alloc::Global;
-use vcp_base::Text;
 use vcp_inputs::RowsWord;
-use vcp_outside::{Files, Sink};
-
-/// Does what the words `exec M ROWS` say, and writes to `out` alone: M is read whole and
-/// checked, then ROWS, and then the operations of its graph are run on the rows, on the unit, as
-/// words of its code.
-pub fn exec_command<'a, F: Files, U: Unit, O: Sink>(
-    alloc: Global,
-    image: &'a Text,
-    rows: RowsWord<'a>,
-    files: &mut F,
-    unit: &mut U,
-    out: &mut O,
-) -> Result<Ending, Fault<'a>>
-    requires few { AreFew (rows_of rows) }
-    ensures { Performs (about (exec image.now (rows_of rows.entry))) (TaskOf (exec image.now (rows_of rows.entry)))
-        (F.seen files.old) (F.seen files.new) (moment (U.seen unit.old) (O.seen out.old)) (moment (U.seen unit.new) (O.seen out.new))
-        (told_line result) (told_status result) }
-{
-    match load_image_rows(alloc, files, image, rows, None) {
-        Ok(loaded) => run_image(alloc, &loaded, rows, unit, out),
-        Err(fault) => Err(fault),
-    }
-}
+use vcp_outside::Sink;
 
 /// Runs the operations of an image on its rows, once both were read, on the unit, and prints each row.
-fn run_image<'a, U: Unit, O: Sink>(
+pub fn run_image<'a, U: Unit, O: Sink>(
     alloc: Global,
     loaded: &ImageRows,
     rows: RowsWord<'a>,

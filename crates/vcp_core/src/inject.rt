@@ -1,22 +1,19 @@
-//! The command `inject`, up to the line of its fault.
+//! The command `inject`: the verdict of each group of faults of a script.
 
 ghost use Rattle.std.specs.Prelude.{◌≡◌, ◌≤◌, All, IfErr, IfOk, length};
 ghost use Rattle.vcp_base.specs.Limits.{most_cycles, most_names};
-ghost use Rattle.vcp_inputs.specs.Forms.{inject, rows_of, AreFew, Rows};
+ghost use Rattle.vcp_inputs.specs.Forms.{inject, rows_of, Rows};
 ghost use Rattle.vcp_inputs.specs.Refusals.{IsCaused};
 ghost use Rattle.input_rows.specs.Opening.{HasFewCycles};
 ghost use Rattle.vcp_inputs.specs.RowsOutcome.{source_outcome};
-ghost use Rattle.vcp_inputs.specs.Abouts.{about};
-ghost use Rattle.vcp_inputs.specs.Performing.{Performs};
 ghost use Rattle.coded_machine.specs.Moments.{moment};
 ghost use Rattle.vcp_core.specs.ImagesRead.{AreImageRows, PerformsOn};
-ghost use Rattle.vcp_core.specs.Tasks.{TaskOf};
 ghost use Rattle.vcp_core.specs.Inject.{AllRows, NoRows};
 ghost use Rattle.vcp_core.specs.Reach.{told_line, told_status};
 
 use crate::ending::{Ending, campaign_ended};
 use crate::fault::Fault;
-use crate::image_rows::{ImageRows, load_image_rows};
+use crate::image_rows::ImageRows;
 use crate::loading::rows_name;
 use coded_unit::Unit;
 use fault_campaign::run_campaign;
@@ -55,31 +52,8 @@ fn all_rows(
     Ok(list)
 }
 
-/// Does what the words `inject M ROWS F` say, and writes to `out` alone: M is read whole and
-/// checked, then ROWS with all rows, and then F; and then the run without faults is carried on
-/// the unit, each group of the script is judged by a rerun, and its verdict written, and the totals.
-pub fn inject_command<'a, F: Files, U: Unit, O: Sink>(
-    alloc: Global,
-    image: &'a Text,
-    rows: RowsWord<'a>,
-    script: &'a Text,
-    files: &mut F,
-    unit: &mut U,
-    out: &mut O,
-) -> Result<Ending, Fault<'a>>
-    requires few { AreFew (rows_of rows) }
-    ensures { Performs (about (inject image.now (rows_of rows.entry) script.now)) (TaskOf (inject image.now (rows_of rows.entry) script.now))
-        (F.seen files.old) (F.seen files.new) (moment (U.seen unit.old) (O.seen out.old)) (moment (U.seen unit.new) (O.seen out.new))
-        (told_line result) (told_status result) }
-{
-    match load_image_rows(alloc, files, image, rows, None) {
-        Ok(loaded) => inject_image(alloc, &loaded, rows, script, files, unit, out),
-        Err(fault) => Err(fault),
-    }
-}
-
 /// Reads all rows of an image, once its file and ROWS were read, and goes on with the script.
-fn inject_image<'a, F: Files, U: Unit, O: Sink>(
+pub fn inject_image<'a, F: Files, U: Unit, O: Sink>(
     alloc: Global,
     loaded: &ImageRows,
     rows: RowsWord<'a>,

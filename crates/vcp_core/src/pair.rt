@@ -1,55 +1,27 @@
-//! The command `pair`, up to the line of its fault.
+//! The command `pair`: the run of an image's operations on two channels.
 
 ghost use Rattle.std.specs.Prelude.{◌≢◌, ◌<◌};
 ghost use Rattle.vcp_base.specs.Limits.{seeds};
 ghost use Rattle.vcp_outside.specs.Seen.{FilesSeen};
-ghost use Rattle.vcp_inputs.specs.Forms.{pair, rows_of, AreFew};
-ghost use Rattle.vcp_inputs.specs.Abouts.{about};
-ghost use Rattle.vcp_inputs.specs.Performing.{Performs};
+ghost use Rattle.vcp_inputs.specs.Forms.{pair, rows_of};
 ghost use Rattle.coded_machine.specs.Moments.{moment};
 ghost use Rattle.vcp_core.specs.ImagesRead.{AreImageRows, PerformsOn};
-ghost use Rattle.vcp_core.specs.Tasks.{TaskOf};
 ghost use Rattle.vcp_core.specs.Reach.{told_line, told_status};
 
 use crate::channels::run_channels;
 use crate::ending::{Ending, run_ended};
 use crate::fault::Fault;
-use crate::image_rows::{ImageRows, load_image_rows};
+use crate::image_rows::ImageRows;
 use crate::loading::rows_name;
 use crate::opening::open;
 use coded_unit::Unit;
 use std::alloc::Global;
-use vcp_base::Text;
 use vcp_inputs::RowsWord;
-use vcp_outside::{Files, Sink};
-
-/// Does what the words `pair M ROWS SEED` say, and writes to `out` alone: M is read whole and
-/// checked, and is refused where SEED is its own; then ROWS, and then the operations of its
-/// graph are run on the rows on two channels, of which the second has SEED.
-pub fn pair_command<'a, F: Files, U: Unit, O: Sink>(
-    alloc: Global,
-    image: &'a Text,
-    rows: RowsWord<'a>,
-    seed: u32,
-    files: &mut F,
-    unit: &mut U,
-    out: &mut O,
-) -> Result<Ending, Fault<'a>>
-    requires few { AreFew (rows_of rows) }
-    requires seed { seed < seeds }
-    ensures { Performs (about (pair image.now (rows_of rows.entry) seed)) (TaskOf (pair image.now (rows_of rows.entry) seed))
-        (F.seen files.old) (F.seen files.new) (moment (U.seen unit.old) (O.seen out.old)) (moment (U.seen unit.new) (O.seen out.new))
-        (told_line result) (told_status result) }
-{
-    match load_image_rows(alloc, files, image, rows, Some(seed)) {
-        Ok(loaded) => pair_image(alloc, &loaded, rows, seed, unit, out),
-        Err(fault) => Err(fault),
-    }
-}
+use vcp_outside::Sink;
 
 /// Runs the operations of an image on its rows, once both were read, on two channels, of which the second
 /// has this other seed.
-fn pair_image<'a, U: Unit, O: Sink>(
+pub fn pair_image<'a, U: Unit, O: Sink>(
     alloc: Global,
     loaded: &ImageRows,
     rows: RowsWord<'a>,

@@ -1,4 +1,4 @@
-//! The command `pairs`, up to the line of its fault.
+//! The command `pairs`: what two channels make of each group of faults of a script.
 
 ghost use Rattle.std.specs.Prelude.{◌≡◌, ◌≢◌, ◌<◌, ◌≤◌, All, Err, length};
 ghost use Rattle.vcp_base.specs.Limits.{most_cycles, seeds};
@@ -8,19 +8,16 @@ ghost use Rattle.fault_script.specs.Groups.{GroupFits};
 ghost use Rattle.fault_script.specs.ScriptOf.{most_faults};
 ghost use Rattle.fault_campaign.specs.PairCampaigns.{PairsTold};
 ghost use Rattle.fault_campaign.specs.declared.fault.CampaignFault.TheVariants as fault;
-ghost use Rattle.vcp_inputs.specs.Forms.{pairs, rows_of, AreFew, Rows};
+ghost use Rattle.vcp_inputs.specs.Forms.{pairs, rows_of, Rows};
 ghost use Rattle.vcp_inputs.specs.RowsOutcome.{source_outcome};
 ghost use Rattle.vcp_inputs.specs.RowsRead.{AllRead};
-ghost use Rattle.vcp_inputs.specs.Abouts.{about};
-ghost use Rattle.vcp_inputs.specs.Performing.{Performs};
 ghost use Rattle.coded_machine.specs.Moments.{moment};
 ghost use Rattle.vcp_core.specs.ImagesRead.{AreImageRows, PerformsOn};
-ghost use Rattle.vcp_core.specs.Tasks.{TaskOf};
 ghost use Rattle.vcp_core.specs.Reach.{told_line, told_status};
 
 use crate::ending::{Ending, campaign_ended};
 use crate::fault::Fault;
-use crate::image_rows::{ImageRows, load_image_rows};
+use crate::image_rows::ImageRows;
 use crate::loading::rows_name;
 use coded_unit::Unit;
 use fault_campaign::{CampaignFault, run_pairs};
@@ -32,34 +29,8 @@ use vcp_base::{Memory, Text};
 use vcp_inputs::{Image, RowsWord, load_script, whole_rows};
 use vcp_outside::{Files, Sink};
 
-/// Does what the words `pairs M ROWS SEED F` say, and writes to `out` alone: M is read whole and
-/// checked, and is refused where SEED is its own; then ROWS with all rows, and then F; and
-/// then each group of the script is run on two channels, of which the second has SEED, and its verdict
-/// written, and the totals.
-pub fn pairs_command<'a, F: Files, U: Unit, O: Sink>(
-    alloc: Global,
-    image: &'a Text,
-    rows: RowsWord<'a>,
-    seed: u32,
-    script: &'a Text,
-    files: &mut F,
-    unit: &mut U,
-    out: &mut O,
-) -> Result<Ending, Fault<'a>>
-    requires few { AreFew (rows_of rows) }
-    requires seed { seed < seeds }
-    ensures { Performs (about (pairs image.now (rows_of rows.entry) seed script.now)) (TaskOf (pairs image.now (rows_of rows.entry) seed script.now))
-        (F.seen files.old) (F.seen files.new) (moment (U.seen unit.old) (O.seen out.old)) (moment (U.seen unit.new) (O.seen out.new))
-        (told_line result) (told_status result) }
-{
-    match load_image_rows(alloc, files, image, rows, Some(seed)) {
-        Ok(loaded) => pairs_image(alloc, &loaded, rows, seed, script, files, unit, out),
-        Err(fault) => Err(fault),
-    }
-}
-
 /// Reads all rows of an image, once its file and ROWS were read, and goes on with the script.
-fn pairs_image<'a, F: Files, U: Unit, O: Sink>(
+pub fn pairs_image<'a, F: Files, U: Unit, O: Sink>(
     alloc: Global,
     loaded: &ImageRows,
     rows: RowsWord<'a>,

@@ -21,7 +21,7 @@ ghost use Rattle.vcp_core.specs.EndLines.{last_text};
 ghost use Rattle.vcp_core.specs.MachineRun.{CarriesOut, HasCauses, IsThere, PrintsLast, RunsTo, StandsAs};
 ghost use Rattle.vcp_core.specs.Shown.{Shows, job_of};
 
-use crate::ending::Ending;
+use crate::ending::{Ending, line_ended};
 use coded_machine::{
     CycleEnd, Machine, ReleasedRows, RunFault, rows_before_a_wrong_answer_follow_the_graph,
     run_rows,
@@ -89,22 +89,21 @@ pub fn print_end<O: Sink>(
         (O.seen out.old) (O.seen out.new) result }
 {
     match end {
-        CycleEnd::Released => {
-            end_line(out, cycles)?;
-            Ok(Ending::Done)
-        }
-        CycleEnd::Stopped { op, kind } => {
-            graph_stop_line(out, cycles, *kind, graph, *op)?;
-            Ok(Ending::Stopped)
-        }
+        CycleEnd::Released => line_ended(end_line(out, cycles), Ending::Done),
+        CycleEnd::Stopped { op, kind } => line_ended(
+            graph_stop_line(out, cycles, *kind, graph, *op),
+            Ending::Stopped,
+        ),
         CycleEnd::Refused {
             output,
             found,
             expected,
         } => {
             let name = &outputs.at(*output as usize).name;
-            refused_line(out, cycles, name, *found, *expected)?;
-            Ok(Ending::Refused)
+            line_ended(
+                refused_line(out, cycles, name, *found, *expected),
+                Ending::Refused,
+            )
         }
     }
 }

@@ -1,15 +1,16 @@
-//! ROWS for a program that was read.
+//! A program and ROWS for it, read one after the other.
 
-ghost use Rattle.std.specs.Prelude.{◌≡◌, IfErr, IfOk};
-ghost use Rattle.vcp_inputs.specs.Forms.{rows_of, AreFew};
-ghost use Rattle.vcp_core.specs.ProgramsRead.{AreProgramRows, EndsOn, ReadsOn};
+ghost use Rattle.std.specs.Prelude.{◌≡◌, true, false, cond, IfErr, IfOk};
+ghost use Rattle.vcp_inputs.specs.Forms.{rows_of, AreFew, Rows};
+ghost use Rattle.vcp_core.specs.Loading.{EndsUnread};
+ghost use Rattle.vcp_core.specs.ProgramsRead.{instruction_list, language_of, structured_text, AreProgramRows, EndsOn, ProgramRead, ReadsOn, ReadsProgramRows};
 
 use crate::fault::Fault;
 use crate::loading::{input_columns, rows_name};
 use input_rows::RowsSource;
 use std::alloc::Global;
-use vcp_base::{Columns, Memory};
-use vcp_inputs::{RowsWord, lists_are_told, load_rows};
+use vcp_base::{Columns, Memory, Text};
+use vcp_inputs::{HowOften, ProgramRun, RowsWord, lists_are_told, load_il, load_rows, load_typed};
 use vcp_outside::Files;
 use vcp_typed::Typed;
 
@@ -31,6 +32,55 @@ impl Drop for ProgramRows {
             columns: _,
             rows: _,
         } = self;
+    }
+}
+
+/// Whether a program that is run so is an instruction list.
+fn is_list(run: ProgramRun) -> bool
+    ensures { language_of run ≡ cond result instruction_list structured_text }
+{
+    match run {
+        ProgramRun::Il(_) => true,
+        ProgramRun::Plain | ProgramRun::Run(_) => false,
+    }
+}
+
+/// How often the typed program of a source is made that is run so: where its operations are run, twice.
+fn how_often(run: ProgramRun) -> HowOften {
+    match run {
+        ProgramRun::Plain => HowOften::Once,
+        ProgramRun::Run(_) | ProgramRun::Il(_) => HowOften::Twice,
+    }
+}
+
+/// The program P of a run, which is read whole and checked, in the language that the run wants. Where there is none, the command that
+/// wants it ends so, and nothing is done.
+pub fn load_program<'a, F: Files>(
+    alloc: Global,
+    files: &mut F,
+    source: &'a Text,
+    run: ProgramRun,
+) -> Result<Typed, Fault<'a>>
+    ensures read { IfOk result (ProgramRead (language_of run) source.now (F.seen files.old) (F.seen files.new)) }
+    ensures unread { IfErr result (λ e. (rows : Rows) → EndsUnread (ReadsProgramRows source.now rows (language_of run)) (F.seen files.old) (F.seen files.new) e) }
+{
+    // So an instruction list has the columns of its typed program.
+    lists_are_told();
+    if is_list(run) {
+        return match load_il(alloc, files, source) {
+            Ok(program) => Ok(program),
+            Err(input) => Err(Fault::Input {
+                name: source.bytes(),
+                input,
+            }),
+        };
+    }
+    match load_typed(alloc, files, source, how_often(run)) {
+        Ok(program) => Ok(program),
+        Err(input) => Err(Fault::Input {
+            name: source.bytes(),
+            input,
+        }),
     }
 }
 

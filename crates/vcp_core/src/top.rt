@@ -12,24 +12,16 @@ ghost use Rattle.vcp_core.specs.Performed.{Performed};
 ghost use Rattle.vcp_core.specs.Tasks.{TaskOf};
 ghost use Rattle.vcp_core.specs.Reach.{told_line, told_status};
 
-use crate::audit::audit_command;
 use crate::check::check_command;
 use crate::compile::compile_command;
 use crate::demo::demo_command;
 use crate::ending::{Ending, status_of};
-use crate::exec::exec_command;
 use crate::fault::Fault;
 use crate::format::format_command;
-use crate::il::il_command;
-use crate::inject::inject_command;
-use crate::listing::list_command;
-use crate::pair::pair_command;
-use crate::pairs::pairs_command;
-use crate::plain::plain_command;
-use crate::run::run_command;
+use crate::image::image_command;
+use crate::image_run::image_run_command;
+use crate::program_run::program_run_command;
 use crate::telling::{fault_status, tell, tell_usage};
-use crate::trace::trace_command;
-use crate::widen::widen_command;
 use crate::wire::wire_command;
 use coded_unit::Unit;
 use std::alloc::Global;
@@ -147,35 +139,14 @@ fn perform<'a, F: Files, U: Unit, O: Sink>(
     match command {
         Command::Check { source } => check_command(alloc, source, files, out),
         Command::Format { source } => format_command(alloc, source, files, out),
-        Command::Plain { source, rows } => plain_command(alloc, source, *rows, files, out),
-        Command::Run { source, rows, code } => run_command(
-            alloc, source, *rows, *code, files, unit, out,
-        ),
-        Command::Il { source, rows, code } => il_command(
-            alloc, source, *rows, *code, files, unit, out,
-        ),
         Command::Compile { source, code } => compile_command(alloc, source, *code, files, out),
-        Command::List { image } => list_command(alloc, image, files, out),
-        Command::Exec { image, rows } => exec_command(alloc, image, *rows, files, unit, out),
-        Command::Trace { image, rows, cycle } => trace_command(
-            alloc, image, *rows, *cycle, files, unit, out,
+        Command::ProgramRows { source, rows, run } => program_run_command(
+            alloc, source, *rows, *run, files, unit, out,
         ),
-        Command::Widen { image } => widen_command(alloc, image, files, out),
-        Command::Audit { image, horizon } => audit_command(alloc, image, *horizon, files, out),
-        Command::Inject {
-            image,
-            rows,
-            script,
-        } => inject_command(alloc, image, *rows, script, files, unit, out),
-        Command::Pair { image, rows, seed } => pair_command(
-            alloc, image, *rows, *seed, files, unit, out,
+        Command::Image { image, text } => image_command(alloc, image, *text, files, out),
+        Command::ImageRows { image, rows, run } => image_run_command(
+            alloc, image, *rows, *run, files, unit, out,
         ),
-        Command::Pairs {
-            image,
-            rows,
-            seed,
-            script,
-        } => pairs_command(alloc, image, *rows, *seed, script, files, unit, out),
         Command::Wire { script } => wire_command(alloc, script, files, unit, out),
         Command::Demo { number } => demo_command(alloc, *number, unit, out),
     }

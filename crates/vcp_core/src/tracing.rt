@@ -12,7 +12,7 @@ ghost use Rattle.vcp_core.specs.Tasks.{words_job, table_code};
 ghost use Rattle.vcp_core.specs.MachineRun.{HasCauses, RunsTo};
 ghost use Rattle.vcp_core.specs.TraceRun.{answered_words, traced_text};
 
-use crate::ending::Ending;
+use crate::ending::{Ending, line_ended};
 use crate::printed::{Printed, print_end, run_printed};
 use coded_machine::{CycleEnd, Machine, ReleasedRows, RunFault, right_answers_stand_for_values};
 use coded_unit::Unit;
@@ -67,10 +67,7 @@ impl Printed<NoRows> for EachWord {
     ) -> Result<Ending, Failed> {
         print_begun(out, machine, self.cycle)?;
         match end {
-            CycleEnd::Released => {
-                write_all(out, b"released\n")?;
-                Ok(Ending::Done)
-            }
+            CycleEnd::Released => line_ended(write_all(out, b"released\n"), Ending::Done),
             CycleEnd::Stopped { .. } | CycleEnd::Refused { .. } => {
                 print_end(out, machine.graph(), outputs, machine.cycles(), end)
             }

@@ -5,6 +5,12 @@ use Rattle.vcp_base.specs.Limits.{most_cycles, most_horizon, seeds, most_step}
 use Rattle.vcp_inputs.specs.declared.words.command.Code.{Code as CodeWords}
 use Rattle.vcp_inputs.specs.declared.words.command.Command.{Command}
 use Rattle.vcp_inputs.specs.declared.words.command.Command.TheVariants as command
+use Rattle.vcp_inputs.specs.declared.words.command.ImageRun.{ImageRun}
+use Rattle.vcp_inputs.specs.declared.words.command.ImageRun.TheVariants as image
+use Rattle.vcp_inputs.specs.declared.words.command.ImageText.{ImageText}
+use Rattle.vcp_inputs.specs.declared.words.command.ImageText.TheVariants as text
+use Rattle.vcp_inputs.specs.declared.words.command.ProgramRun.{ProgramRun}
+use Rattle.vcp_inputs.specs.declared.words.command.ProgramRun.TheVariants as program
 use Rattle.vcp_inputs.specs.declared.words.command.RowsWord.{RowsWord}
 use Rattle.vcp_inputs.specs.declared.words.command.RowsWord.TheVariants as word
 use Rattle.vcp_base.specs.Numerals.{numeral_of}
@@ -147,32 +153,52 @@ is_end (w ∷ rest) = false
 abbrev pub end_then : Form → List (List ℕ) → Option Form
 end_then f words = cond (is_end words) (Some f) None
 
--- the command on an image that a name and the words behind it say, a line a form
-abbrev pub image_form : List ℕ → List (List ℕ) → Option Form
-image_form w words =
-    cond (bytes_eq w (codes "list")) (name_then (λ m. end_then (list m)) words)
-    (cond (bytes_eq w (codes "exec")) (name_then (λ m. rows_then (λ rows. end_then (exec m rows))) words)
-    (cond (bytes_eq w (codes "trace")) (name_then (λ m. rows_then (λ rows. number_then 0 (most_cycles - 1) (λ c. end_then (trace m rows c)))) words)
-    (cond (bytes_eq w (codes "widen")) (name_then (λ m. end_then (widen m)) words)
-    (cond (bytes_eq w (codes "audit")) (name_then (λ m. number_then 0 most_horizon (λ h. end_then (audit m h))) words)
-    (cond (bytes_eq w (codes "inject")) (name_then (λ m. rows_then (λ rows. name_then (λ f. end_then (inject m rows f)))) words)
-    (cond (bytes_eq w (codes "pair")) (name_then (λ m. rows_then (λ rows. number_then 0 (seeds - 1) (λ s. end_then (pair m rows s)))) words)
-    (cond (bytes_eq w (codes "pairs")) (name_then (λ m. rows_then (λ rows. number_then 0 (seeds - 1) (λ s. name_then (λ f. end_then (pairs m rows s f))))) words)
-    None)))))))
+-- the run of M on ROWS that a name, SEED and the words behind these say, a line a form
+abbrev pub pair_form : List ℕ → List ℕ → Rows → ℕ → List (List ℕ) → Option Form
+pair_form w m rows seed words =
+    cond (bytes_eq w (codes "pair")) (end_then (pair m rows seed) words)
+    (cond (bytes_eq w (codes "pairs")) (name_then (λ f. end_then (pairs m rows seed f)) words)
+    None)
 
--- the command that words say, a line a form
+-- the run of M on ROWS that a name and the words behind these say, a line a form, or one that has SEED next
+abbrev pub image_run_form : List ℕ → List ℕ → Rows → List (List ℕ) → Option Form
+image_run_form w m rows words =
+    cond (bytes_eq w (codes "exec")) (end_then (exec m rows) words)
+    (cond (bytes_eq w (codes "trace")) (number_then 0 (most_cycles - 1) (λ c. end_then (trace m rows c)) words)
+    (cond (bytes_eq w (codes "inject")) (name_then (λ f. end_then (inject m rows f)) words)
+    (number_then 0 (seeds - 1) (pair_form w m rows) words)))
+
+-- the command that a name, a file's name, ROWS and the words behind these say, a line a form
+abbrev pub rows_form : List ℕ → List ℕ → Rows → List (List ℕ) → Option Form
+rows_form w p rows words =
+    cond (bytes_eq w (codes "plain")) (end_then (plain p rows) words)
+    (cond (bytes_eq w (codes "run")) (code_then (run p rows) words)
+    (cond (bytes_eq w (codes "il")) (code_then (il p rows) words)
+    (image_run_form w p rows words)))
+
+-- the command that a name, an image's name and the words behind it say, a line a form, or one that has ROWS next
+abbrev pub image_form : List ℕ → List ℕ → List (List ℕ) → Option Form
+image_form w m words =
+    cond (bytes_eq w (codes "list")) (end_then (list m) words)
+    (cond (bytes_eq w (codes "widen")) (end_then (widen m) words)
+    (cond (bytes_eq w (codes "audit")) (number_then 0 most_horizon (λ h. end_then (audit m h)) words)
+    (rows_then (rows_form w m) words)))
+
+-- the command that a name, a file's name and the words behind it say, a line a form
+abbrev pub file_form : List ℕ → List ℕ → List (List ℕ) → Option Form
+file_form w p words =
+    cond (bytes_eq w (codes "check")) (end_then (check p) words)
+    (cond (bytes_eq w (codes "format")) (end_then (format p) words)
+    (cond (bytes_eq w (codes "compile")) (code_then (compile p) words)
+    (cond (bytes_eq w (codes "wire")) (end_then (wire p) words)
+    (image_form w p words))))
+
+-- the command that words say: `demo` and its number, or a command's name with a file's name behind it
 abbrev pub form_of : List (List ℕ) → Option Form
 form_of [] = None
 form_of (w ∷ words) =
-    cond (bytes_eq w (codes "check")) (name_then (λ p. end_then (check p)) words)
-    (cond (bytes_eq w (codes "format")) (name_then (λ p. end_then (format p)) words)
-    (cond (bytes_eq w (codes "plain")) (name_then (λ p. rows_then (λ rows. end_then (plain p rows))) words)
-    (cond (bytes_eq w (codes "run")) (name_then (λ p. rows_then (λ rows. code_then (run p rows))) words)
-    (cond (bytes_eq w (codes "il")) (name_then (λ p. rows_then (λ rows. code_then (il p rows))) words)
-    (cond (bytes_eq w (codes "compile")) (name_then (λ p. code_then (compile p)) words)
-    (cond (bytes_eq w (codes "wire")) (name_then (λ f. end_then (wire f)) words)
-    (cond (bytes_eq w (codes "demo")) (number_then 0 most_made (λ n. end_then (demo n)) words)
-    (image_form w words))))))))
+    cond (bytes_eq w (codes "demo")) (number_then 0 most_made (λ n. end_then (demo n)) words)
+    (name_then (file_form w) words)
 
 -- the usage line, which words get that are none of the forms
 abbrev pub usage_text : List ℕ
@@ -189,22 +215,32 @@ rows_of (word.Cycles n) = cycles n
 abbrev pub as_code : CodeWords → Code
 as_code c = record { seed = c.seed; step = c.step }
 
+-- the run of P on ROWS, what is printed of M, and the run of M on ROWS, each as a form
+abbrev pub program_run : List ℕ → Rows → ProgramRun → Form
+program_run p rows program.Plain = plain p rows
+program_run p rows (program.Run code) = run p rows (as_code code)
+program_run p rows (program.Il code) = il p rows (as_code code)
+
+abbrev pub image_text : List ℕ → ImageText → Form
+image_text m text.List = list m
+image_text m text.Widen = widen m
+image_text m (text.Audit horizon) = audit m horizon
+
+abbrev pub image_run : List ℕ → Rows → ImageRun → Form
+image_run m rows image.Exec = exec m rows
+image_run m rows (image.Trace cycle) = trace m rows cycle
+image_run m rows (image.Inject script) = inject m rows script.now
+image_run m rows (image.Pair seed) = pair m rows seed
+image_run m rows (image.Pairs seed script) = pairs m rows seed script.now
+
 -- a command, as a form
 abbrev pub form : Command → Form
 form (command.Check source) = check source.now
 form (command.Format source) = format source.now
-form (command.Plain source rows) = plain source.now (rows_of rows)
-form (command.Run source rows code) = run source.now (rows_of rows) (as_code code)
-form (command.Il source rows code) = il source.now (rows_of rows) (as_code code)
 form (command.Compile source code) = compile source.now (as_code code)
-form (command.List image) = list image.now
-form (command.Exec image rows) = exec image.now (rows_of rows)
-form (command.Trace image rows cycle) = trace image.now (rows_of rows) cycle
-form (command.Widen image) = widen image.now
-form (command.Audit image horizon) = audit image.now horizon
-form (command.Inject image rows script) = inject image.now (rows_of rows) script.now
-form (command.Pair image rows seed) = pair image.now (rows_of rows) seed
-form (command.Pairs image rows seed script) = pairs image.now (rows_of rows) seed script.now
+form (command.ProgramRows source rows how) = program_run source.now (rows_of rows) how
+form (command.Image source which) = image_text source.now which
+form (command.ImageRows source rows how) = image_run source.now (rows_of rows) how
 form (command.Wire script) = wire script.now
 form (command.Demo number) = demo number
 

@@ -10,6 +10,7 @@ pub mod Scripts
 pub mod Wires
 pub mod Forms
 pub mod Tables
+pub mod Told
 pub mod Abouts
 pub mod Answer
 pub mod CampaignKind

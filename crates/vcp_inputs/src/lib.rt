@@ -3,6 +3,7 @@
 #![tactic(auto)]
 
 mod alike;
+mod diagnostics;
 mod images;
 mod listings;
 mod meaning;
@@ -28,4 +29,7 @@ pub use sources::{HowOften, load_program, load_typed, program_of, typed_of};
 pub use telling::{input_status, tell_input, tell_of, tell_place, tell_refusal};
 pub use whole::{graph_columns, whole_rows};
 pub use wires::load_wire;
-pub use words::{Code, Command, CommandWords, DEFAULT_CODE, RowsWord, command_of, usage};
+pub use words::{
+    Code, Command, CommandWords, DEFAULT_CODE, ImageRun, ImageText, ProgramRun, RowsWord,
+    command_of, usage,
+};

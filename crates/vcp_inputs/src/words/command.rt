@@ -26,7 +26,61 @@ pub const DEFAULT_CODE: Code = Code {
     step: 1,
 };
 
-/// A command, with its own words. A name of a file isn't empty and doesn't begin with `-`.
+/// How a program is run on rows.
+#[derive(Clone, Copy)]
+pub enum ProgramRun {
+    /// `plain P ROWS`: the source's own run.
+    Plain,
+    /// `run P ROWS CODE`: the run of the program's operations, on a unit.
+    Run(Code),
+    /// `il P ROWS CODE`: the run of an instruction list's operations, on a unit.
+    Il(Code),
+}
+
+/// What is printed of an image.
+#[derive(Clone, Copy)]
+pub enum ImageText {
+    /// `list M`: its operations.
+    List,
+    /// `widen M`: the image of the same operations and code in words of 64 bits.
+    Widen,
+    /// `audit M HORIZON`: which of its operations are reached and blind.
+    Audit {
+        /// The greatest number of cycle borders, at most 1000.
+        horizon: u32,
+    },
+}
+
+/// How an image is run on rows.
+#[derive(Clone, Copy)]
+pub enum ImageRun<'a> {
+    /// `exec M ROWS`: the run of its operations, on a unit.
+    Exec,
+    /// `trace M ROWS CYCLE`: the words of one cycle of that run.
+    Trace {
+        /// The cycle, counted from 0, below 1,000,000.
+        cycle: u32,
+    },
+    /// `inject M ROWS F`: the verdict of each fault of a script.
+    Inject {
+        /// The name of the script of faults, F.
+        script: &'a Text,
+    },
+    /// `pair M ROWS SEED`: the run of its operations on a pair of channels.
+    Pair {
+        /// The seed of the second channel's signatures, SEED, below 2^30.
+        seed: u32,
+    },
+    /// `pairs M ROWS SEED F`: what a pair of channels makes of each group of a script of faults.
+    Pairs {
+        /// The seed of the second channel's signatures, SEED, below 2^30.
+        seed: u32,
+        /// The name of the script of faults, F.
+        script: &'a Text,
+    },
+}
+
+/// A command, with its own words: those that read the same files are one variant. A name of a file isn't empty and doesn't begin with `-`.
 #[derive(Clone, Copy)]
 pub enum Command<'a> {
     /// `check P`: whether the file is a program, and its Size.
@@ -39,31 +93,6 @@ pub enum Command<'a> {
         /// The name of the program's source, P.
         source: &'a Text,
     },
-    /// `plain P ROWS`: the source's own run on rows.
-    Plain {
-        /// The name of the program's source, P.
-        source: &'a Text,
-        /// The recorded inputs, ROWS.
-        rows: RowsWord<'a>,
-    },
-    /// `run P ROWS CODE`: the run of the program's operations on rows, on a unit.
-    Run {
-        /// The name of the program's source, P.
-        source: &'a Text,
-        /// The recorded inputs, ROWS.
-        rows: RowsWord<'a>,
-        /// The code, CODE.
-        code: Code,
-    },
-    /// `il P ROWS CODE`: the run of an instruction list's operations on rows, on a unit.
-    Il {
-        /// The name of the instruction list, P.
-        source: &'a Text,
-        /// The recorded inputs, ROWS.
-        rows: RowsWord<'a>,
-        /// The code, CODE.
-        code: Code,
-    },
     /// `compile P CODE`: the image of the program's operations, and of a code.
     Compile {
         /// The name of the program's source, P.
@@ -71,67 +100,30 @@ pub enum Command<'a> {
         /// The code, CODE.
         code: Code,
     },
-    /// `list M`: the operations of an image.
-    List {
+    /// A program's run on rows.
+    ProgramRows {
+        /// The name of the program's source or instruction list, P.
+        source: &'a Text,
+        /// The recorded inputs, ROWS.
+        rows: RowsWord<'a>,
+        /// How it is run.
+        run: ProgramRun,
+    },
+    /// The text of an image.
+    Image {
         /// The name of the image, M.
         image: &'a Text,
+        /// Which text.
+        text: ImageText,
     },
-    /// `exec M ROWS`: the run of an image's operations on rows, on a unit.
-    Exec {
+    /// An image's run on rows.
+    ImageRows {
         /// The name of the image, M.
         image: &'a Text,
         /// The recorded inputs, ROWS.
         rows: RowsWord<'a>,
-    },
-    /// `trace M ROWS CYCLE`: the words of one cycle of that run.
-    Trace {
-        /// The name of the image, M.
-        image: &'a Text,
-        /// The recorded inputs, ROWS.
-        rows: RowsWord<'a>,
-        /// The cycle, counted from 0, below 1,000,000.
-        cycle: u32,
-    },
-    /// `widen M`: the image of the same operations and code in words of 64 bits.
-    Widen {
-        /// The name of the image, M.
-        image: &'a Text,
-    },
-    /// `audit M HORIZON`: which operations of an image are reached and blind.
-    Audit {
-        /// The name of the image, M.
-        image: &'a Text,
-        /// The greatest number of cycle borders, at most 1000.
-        horizon: u32,
-    },
-    /// `inject M ROWS F`: the verdict of each fault of a script.
-    Inject {
-        /// The name of the image, M.
-        image: &'a Text,
-        /// The recorded inputs, ROWS.
-        rows: RowsWord<'a>,
-        /// The name of the script of faults, F.
-        script: &'a Text,
-    },
-    /// `pair M ROWS SEED`: the run of an image's operations on rows, on a pair of channels.
-    Pair {
-        /// The name of the image, M.
-        image: &'a Text,
-        /// The recorded inputs, ROWS.
-        rows: RowsWord<'a>,
-        /// The seed of the second channel's signatures, SEED, below 2^30.
-        seed: u32,
-    },
-    /// `pairs M ROWS SEED F`: what a pair of channels makes of each group of a script of faults.
-    Pairs {
-        /// The name of the image, M.
-        image: &'a Text,
-        /// The recorded inputs, ROWS.
-        rows: RowsWord<'a>,
-        /// The seed of the second channel's signatures, SEED, below 2^30.
-        seed: u32,
-        /// The name of the script of faults, F.
-        script: &'a Text,
+        /// How it is run.
+        run: ImageRun<'a>,
     },
     /// `wire F`: the run of a wire's script: values are sent on a unit, and telegrams taken.
     Wire {

@@ -1,12 +1,12 @@
-use Rattle.std.proofs.Common.{◌≡◌, inl, refl, sym, ap, ◌∙◌, Ok}
+use Rattle.std.proofs.Common.{◌≡◌, inl, sym, ap, ◌∙◌, Ok}
 use Rattle.signature_table.specs.Signatures.{Numbers}
 use Rattle.vcp_core.specs.declared.ending.Ending.TheVariants as ending
 use Rattle.vcp_core.specs.Tasks.{pair_job}
 use Rattle.vcp_core.proofs.TwoChannels.{came_to_end, gave_up, wrote}
-use Rattle.coded_machine.specs.declared.rows.fault.RunFault.TheVariants as given_up
 use Rattle.vcp_core.proofs.ImageLoaded.{table-is-of}
-use Rattle.vcp_core.proofs.JobFacts.{failed-causes}
+use Rattle.vcp_core.proofs.JobFacts.{failed-causes, memory-causes}
 use Rattle.vcp_core.proofs.Performing.{still}
+use Rattle.vcp_core.proofs.Facts.{no_error, same_error, same_value}
 use Rattle.vcp_core.proofs.channels.run_channels.Goals as goal
 
 pub run_beside-requires-clause-table : goal.run_beside-requires-clause-table
@@ -28,13 +28,13 @@ returns-clause-ran g c name =
 -- ---- causes
 
 pub returns-in-Err-clause-causes : goal.returns-in-Err-clause-causes
-returns-in-Err-clause-causes g c = failed-causes _ _ given_up.Memory (λ is. absurd cc) (λ no. refl)
+returns-in-Err-clause-causes g c = memory-causes _
 
 pub returns-clause-causes : goal.returns-clause-causes
 returns-clause-causes g c =
     let gone = c.in-Err-run_beside in
     failed-causes _ _ gone.fault (wrote c.args.image.now.graph c.args.image.now.table c.args.rows.now _ _ gone.fault gone.ensures.ran)
-    (λ no. gone.ensures.stayed (λ e. no cc))
+    (λ no. gone.ensures.stayed (λ e. no (same_error e)))
 
 -- ---- it came to its end
 
@@ -45,13 +45,13 @@ returns-in-Ok-run_beside-clause-ran g c name =
 
 pub returns-in-Ok-run_beside-clause-causes : goal.returns-in-Ok-run_beside-clause-causes
 returns-in-Ok-run_beside-clause-causes g c = record {
-  write = λ is. absurd cc;
+  write = λ is. absurd (no_error is);
   refused = λ is.
-      let same : c.ending_of.result ≡ ending.Refused = cc in
+      let same : c.ending_of.result ≡ ending.Refused = same_value is in
       c.in-Ok-run_beside.ensures.ran.0.rose (c.ending_of.ensures.refused same);
   stopped = λ is.
-      let same : c.ending_of.result ≡ ending.Stopped = cc in
+      let same : c.ending_of.result ≡ ending.Stopped = same_value is in
       let (op, why, last) = c.ending_of.ensures.stopped same in
       (op, why, c.in-Ok-run_beside.ensures.stopped op why (ap Ok last));
-  stayed = λ no. c.in-Ok-run_beside.ensures.stayed (λ e. cc);
+  stayed = λ no. c.in-Ok-run_beside.ensures.stayed no_error;
 }

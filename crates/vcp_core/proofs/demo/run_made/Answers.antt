@@ -15,6 +15,7 @@ use Rattle.vcp_core.proofs.Performing.{input_performs, ran, run_ends, run_perfor
 use Rattle.vcp_core.proofs.JobFacts.{as-itself}
 use Rattle.vcp_core.proofs.Loaded.{opens-as}
 use Rattle.vcp_core.proofs.PlainNames.{types-of-inputs}
+use Rattle.std.proofs.lemmas.Bool.{true≢false}
 use Rattle.vcp_core.proofs.demo.run_made.Goals as goal
 
 pub run_program-requires-clause-types : goal.run_program-requires-clause-types
@@ -42,7 +43,7 @@ returns-in-Ok-open g c files =
     (λ e is. run_ends e)
     (λ h may. ran (about (demo number)) files files before after (DemoTask number) j c.run_program.result refl
     (opened_comes number program c.in-Ok-open.rows 0 0 (c.requires.typed 0) opens) c.run_program.ensures.causes.write ended)
-    (λ some. absurd (some refl)) (λ no. absurd cc) (λ calls. c.run_program.ensures.causes.stopped) c.run_program.ensures.causes.refused
+    (λ some. absurd (some refl)) (λ no. absurd (true≢false no)) (λ calls. c.run_program.ensures.causes.stopped) c.run_program.ensures.causes.refused
     c.run_program.ensures.causes.write refl c.run_program.ensures.causes.stayed (inr (inl refl)))
 
 pub returns : goal.returns

@@ -1,9 +1,10 @@
-use Rattle.std.proofs.Common.{◌∙◌, ◌≤◌, ap, arith, refl, subst, sym, []}
+use Rattle.std.proofs.Common.{◌∙◌, ◌≤◌, ap, refl, subst, sym, []}
 use Rattle.vcp_base.specs.Limits.{most_step}
 use Rattle.signature_table.specs.Signatures.{Numbers}
 use Rattle.fault_campaign.specs.GroupLines.{group_text}
 use Rattle.vcp_core.proofs.ImageLoaded.{table-is-of}
-use Rattle.vcp_core.proofs.JudgedTasks.{no_lines_written}
+use Rattle.vcp_core.proofs.Facts.{none_before}
+use Rattle.vcp_core.proofs.JudgedTasks.{campaign_unwritten, no_lines_written}
 use Rattle.vcp_core.proofs.pairs.pair_groups.Goals as goal
 
 pub run_pairs-requires-clause-table : goal.run_pairs-requires-clause-table
@@ -29,11 +30,11 @@ pub returns-in-Err : goal.returns-in-Err
 returns-in-Err g c = record {
   told = record {
     verdicts = [];
-    few = omega (arith);
+    few = none_before;
     ran = refl;
     right = λ h. refl;
     written = no_lines_written group_text c.args.groups.now _;
   };
-  write = λ e. absurd cc;
+  write = λ e. absurd (campaign_unwritten e);
   stayed = λ other. refl;
 }

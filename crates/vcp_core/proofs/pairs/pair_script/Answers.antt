@@ -1,4 +1,4 @@
-use Rattle.std.proofs.Common.{◌≡◌, ◌∙◌, ap, refl, inl, inr, Err, arith}
+use Rattle.std.proofs.Common.{◌≡◌, ◌∙◌, ap, refl, inl, inr, Err}
 use Rattle.vcp_base.specs.Limits.{most_source_bytes}
 use Rattle.vcp_inputs.specs.Forms.{pairs}
 use Rattle.coded_machine.specs.Moments.{moment}
@@ -9,11 +9,12 @@ use Rattle.vcp_inputs.specs.RowsOutcome.{source_outcome}
 use Rattle.vcp_inputs.specs.Scripts.{NotScript}
 use Rattle.vcp_inputs.specs.Abouts.{about, script_word}
 use Rattle.vcp_core.specs.Tasks.{TaskOf}
-use Rattle.vcp_core.proofs.Facts.{if_some_both, if_some_same, if_some_weaker, if_some_when}
+use Rattle.vcp_core.proofs.Facts.{if_some_both, if_some_same, if_some_weaker, if_some_when, no_error, not_none, rose_still, same_error}
 use Rattle.vcp_core.proofs.ImagesRead.{loads_at, rows-width}
 use Rattle.vcp_core.proofs.JudgedTasks.{campaign_ends, campaign_of, lost_for}
 use Rattle.vcp_core.proofs.PairsTasks.{groups_come, pairs_end, script_lost, script_named, script_taken}
 use Rattle.vcp_core.proofs.Performing.{files_lost}
+use Rattle.std.proofs.lemmas.Bool.{true≢false}
 use Rattle.vcp_core.proofs.pairs.pair_script.Goals as goal
 
 pub pair_groups-requires-clause-width : goal.pair_groups-requires-clause-width
@@ -33,8 +34,8 @@ returns-in-Ok g c rows m files read =
     let out = g.O.Sink.seen c.args.out.now in
     let out_after = g.O.Sink.seen c.pair_groups.new.out in
     rw c.campaign_ended.ensures
-    (campaign_ends (about f) (TaskOf f) files later (λ none. cc) (c.load_script.ensures.held ∙ read.file.held) (inl refl) (moment unit out) (moment unit_after out_after)
-    c.in-Ok.ensures.ended (c.in-Ok.ensures.stayed (λ e. cc) ∙ read.file.faults) (λ no. absurd cc) c.pair_groups.result
+    (campaign_ends (about f) (TaskOf f) files later not_none (c.load_script.ensures.held ∙ read.file.held) (inl refl) (moment unit out) (moment unit_after out_after)
+    c.in-Ok.ensures.ended (c.in-Ok.ensures.stayed no_error ∙ read.file.faults) (λ no. absurd (true≢false no)) c.pair_groups.result
     (if_some_both files.held mid.held _ _ _ read.file.held
     (λ h (l, same) found. pairs_end (campaign_of r.image c.args.list.now c.in-Ok.groups) unit unit_after out out_after m rows seed s h files later
     (groups_come m rows seed s h files later r.image c.requires.apart o l same c.args.list.now c.requires.all c.in-Ok.groups found)
@@ -53,7 +54,7 @@ returns-in-Err g c rows m files read =
     let o = source_outcome r.rows r.columns in
     let e = c.in-Err.input in
     rw c.bytes.ensures
-    (files_lost (about f) (TaskOf f) files later (λ none. cc) (c.load_script.ensures.held ∙ read.file.held) (inr (inl refl)) _ s e
+    (files_lost (about f) (TaskOf f) files later not_none (c.load_script.ensures.held ∙ read.file.held) (inr (inl refl)) _ s e
     (if_some_both files.held mid.held _ _ _ read.file.held
     (λ h (l, same) lost. script_lost m rows seed s h files later r.image c.requires.apart o l same c.args.list.now c.requires.all _ e
     (lost_for (NotScript r.image.graph) h s most_source_bytes files.broken mid.broken later.broken e read.file.broken lost))
@@ -63,6 +64,6 @@ returns-in-Err g c rows m files read =
     (λ h at_most. script_taken m rows seed s h e later.rest (λ r why. c.in-Err.ensures.whole r (ap Err why)) at_most is)
     (if_some_when (e ≡ input.Refused refusal.Bytes) mid.held mid.held (LeavesLong s most_source_bytes later.rest) refl
     (λ why. c.in-Err.ensures.left (ap Err why)))))
-    (λ is. omega (arith, read.file.faults, c.in-Err.ensures.unread (ap Err is)))
-    (λ no. c.in-Err.ensures.stayed (λ e. no cc) ∙ read.file.faults)
+    (λ is. rose_still read.file.faults (c.in-Err.ensures.unread (ap Err is)))
+    (λ no. c.in-Err.ensures.stayed (λ e. no (same_error e)) ∙ read.file.faults)
     (λ is. (script_word s, script_named m rows seed s, refl)) c.in-Err.ensures.caused (inl (script_word s, script_named m rows seed s, refl)))

@@ -4,7 +4,7 @@ use Rattle.vcp_inputs.specs.Tables.{rows_name}
 use Rattle.vcp_inputs.specs.RowsOutcome.{source_outcome}
 use Rattle.vcp_inputs.specs.Abouts.{about}
 use Rattle.vcp_core.specs.Tasks.{TaskOf}
-use Rattle.vcp_core.proofs.Facts.{if_some_always, if_some_weaker}
+use Rattle.vcp_core.proofs.Facts.{if_some_always, if_some_weaker, not_none}
 use Rattle.vcp_core.proofs.ImagesRead.{loads_at}
 use Rattle.vcp_core.proofs.LoadedRows.{rows_may}
 use Rattle.vcp_core.proofs.PairsTasks.{none_is_read, rows_lost, rows_named}
@@ -25,7 +25,7 @@ returns-in-Err g c m files read =
     let o = source_outcome r.rows r.columns in
     let e = c.in-Err.input in
     rw c.rows_name.ensures
-    (files_lost (about f) (TaskOf f) files later (λ none. cc) read.file.held (inr (inl refl)) _ (rows_name rows) e
+    (files_lost (about f) (TaskOf f) files later not_none read.file.held (inr (inl refl)) _ (rows_name rows) e
     (if_some_weaker files.held _ _
     (λ h (l, same). rows_lost m rows seed s h files later r.image c.requires.apart o l same _ e c.in-Err.ensures.fault)
     (loads_at m rows files later r c.requires.fit read))

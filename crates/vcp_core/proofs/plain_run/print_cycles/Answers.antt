@@ -1,4 +1,4 @@
-use Rattle.std.proofs.Common.{◌≡◌, ◌≤◌, ℕ, ℤ, suc, Result, Ok, Err, List, ◌∷◌, length, refl, sym, ap, subst, ◌∙◌, arith}
+use Rattle.std.proofs.Common.{◌≡◌, ℤ, suc, Result, Ok, Err, List, ◌∷◌, length, refl, sym, ap, subst, ◌∙◌, arith}
 use Rattle.std.proofs.lemmas.Result.{err_from_is_err_and}
 use Rattle.std.specs.Prelude.{All}
 use Rattle.vcp_base.specs.Types.{AreIn}
@@ -6,7 +6,6 @@ use Rattle.vcp_typed.specs.Checked.{IsChecked}
 use Rattle.vcp_typed.specs.Fitting.{AreFit, input_types, output_types}
 use Rattle.vcp_typed.specs.SourceRun.{Program}
 use Rattle.flat_expr.specs.Told.{names_of}
-use Rattle.vcp_outside.specs.Counts.{Rose}
 use Rattle.input_rows.specs.RowsOf.{RowsLeft}
 use Rattle.coded_machine.specs.Refusals.{given_up_by}
 use Rattle.coded_machine.specs.declared.rows.fault.RunFault.{RunFault}
@@ -15,6 +14,8 @@ use Rattle.vcp_core.specs.declared.ending.Ending.{Ending}
 use Rattle.vcp_core.specs.declared.ending.Ending.TheVariants as end
 use Rattle.coded_machine.specs.declared.rows.fault.RunFault.TheVariants as fault
 use Rattle.vcp_core.proofs.PlainTurns.{going-ends, going-on, fails-here, stops-here, end-fails, ends-here, refused-here, refused-unwritten}
+use Rattle.std.proofs.Math.Nat.{le_trans}
+use Rattle.vcp_core.proofs.Facts.{no_error, rose_later}
 use Rattle.vcp_core.proofs.plain_run.print_cycles.Goals as goal
 
 types-behind : (before left : RowsLeft) (row : List ℤ) → before ≡ record left { rows = row ∷ left.rows } → left.types ≡ before.types
@@ -32,9 +33,6 @@ row-taken P before left row taken h =
     let Q : RowsLeft → Type 0 = λ l. All P l.rows in
     let all : All P (row ∷ left.rows) = subst Q taken h in
     all 0 row (omega arith)
-
-rose-later : (f g h : ℕ) → f ≤ g → Rose g h → Rose f h
-rose-later f g h later rose = omega (arith, later, rose)
 
 pub next-requires : goal.next-requires
 next-requires g c = c.cycles.invariant.inputs ∙ ap length (sym c.cycles.invariant.types)
@@ -79,7 +77,7 @@ returns-in-Err-clause-prints g c =
     (g.O.Sink.seen c.print_cycle.new.out).written (c.in_ok-next.ensures.row c.if-branch.true) part))
 
 pub returns-in-Err-clause-write : goal.returns-in-Err-clause-write
-returns-in-Err-clause-write g c = λ _. rose-later _ _ _ c.cycles.invariant.later c.in-Err.ensures.line.cause.failed
+returns-in-Err-clause-write g c = λ _. rose_later c.cycles.invariant.later c.in-Err.ensures.line.cause.failed
 
 pub returns-in-Err-end_line-clause-prints : goal.returns-in-Err-end_line-clause-prints
 returns-in-Err-end_line-clause-prints g c =
@@ -90,7 +88,7 @@ returns-in-Err-end_line-clause-prints g c =
     (g.O.Sink.seen c.end_line.new.out).written (record { rows = none.0; refusal_is = none.1 }) c.in-Err-end_line.ensures.part))
 
 pub returns-in-Err-end_line-clause-write : goal.returns-in-Err-end_line-clause-write
-returns-in-Err-end_line-clause-write g c = λ _. rose-later _ _ _ c.cycles.invariant.later c.in-Err-end_line.ensures.cause.failed
+returns-in-Err-end_line-clause-write g c = λ _. rose_later c.cycles.invariant.later c.in-Err-end_line.ensures.cause.failed
 
 pub cycles-preserved : goal.cycles-preserved
 cycles-preserved g c =
@@ -106,7 +104,7 @@ cycles-preserved g c =
       typed = rows-behind (AreIn (input_types c.args.plain.now.program.slots)) c.cycles.rows c.next.new.self c.next.new.out taken c.cycles.invariant.typed;
       inputs = c.next.ensures.width ∙ c.cycles.invariant.inputs;
       outputs = here.cells more ∙ c.cycles.invariant.outputs;
-      later = omega (arith, c.cycles.invariant.later, here.line.cause.later);
+      later = le_trans c.cycles.invariant.later here.line.cause.later;
       stayed = here.line.cause.stayed ∙ c.cycles.invariant.stayed;
       going = going-on c.args.plain.now.program c.args.plain.now.values c.args.rows.now (g.O.Sink.seen c.args.out.now).written
           (g.O.Sink.seen c.cycles.out).written (g.O.Sink.seen c.print_cycle.new.out).written c.cycles.count c.cycles.plain.values
@@ -138,10 +136,10 @@ returns-in-Ok-clause-prints g c =
 -- ---- the sink's count of faults
 
 pub returns-in-Ok-false-clause-write : goal.returns-in-Ok-false-clause-write
-returns-in-Ok-false-clause-write g c = λ e. absurd cc
+returns-in-Ok-false-clause-write g c = λ e. absurd (no_error e)
 
 pub returns-in-Ok-clause-write : goal.returns-in-Ok-clause-write
-returns-in-Ok-clause-write g c = λ e. absurd cc
+returns-in-Ok-clause-write g c = λ e. absurd (no_error e)
 
 pub returns-in-Err-clause-stayed : goal.returns-in-Err-clause-stayed
 returns-in-Err-clause-stayed g c = λ other. absurd (other refl)

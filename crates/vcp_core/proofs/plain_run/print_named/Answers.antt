@@ -6,6 +6,7 @@ use Rattle.flat_expr.specs.Told.{names_of}
 use Rattle.vcp_core.specs.PlainRun.{Prints}
 use Rattle.vcp_core.proofs.PlainNames.{outputs-count}
 use Rattle.vcp_core.proofs.PlainTurns.{nothing-printed}
+use Rattle.vcp_core.proofs.JobFacts.{memory_unwritten}
 use Rattle.vcp_core.proofs.plain_run.print_named.Goals as goal
 
 pub print_begun-requires : goal.print_begun-requires
@@ -35,10 +36,10 @@ returns-in-Ok-new g c = record {
 -- ---- memory is wanted
 
 pub returns-in-Err : goal.returns-in-Err
-returns-in-Err g c = record { prints = nothing-printed c.args.program.now c.args.rows.now _; write = λ e. absurd cc; stayed = λ other. refl }
+returns-in-Err g c = record { prints = nothing-printed c.args.program.now c.args.rows.now _; write = λ e. absurd (memory_unwritten e); stayed = λ other. refl }
 
 pub returns-in-Err-zeros : goal.returns-in-Err-zeros
-returns-in-Err-zeros g c = record { prints = nothing-printed c.args.program.now c.args.rows.now _; write = λ e. absurd cc; stayed = λ other. refl }
+returns-in-Err-zeros g c = record { prints = nothing-printed c.args.program.now c.args.rows.now _; write = λ e. absurd (memory_unwritten e); stayed = λ other. refl }
 
 pub returns : goal.returns
-returns g c = record { prints = nothing-printed c.args.program.now c.args.rows.now _; write = λ e. absurd cc; stayed = λ other. refl }
+returns g c = record { prints = nothing-printed c.args.program.now c.args.rows.now _; write = λ e. absurd (memory_unwritten e); stayed = λ other. refl }

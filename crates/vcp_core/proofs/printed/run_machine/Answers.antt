@@ -1,4 +1,4 @@
-use Rattle.std.proofs.Common.{ℕ, ◌≡◌, List, length, None, Ok, refl, sym, ap, subst, ◌∙◌, arith}
+use Rattle.std.proofs.Common.{ℕ, ◌≡◌, List, length, None, Ok, refl, sym, ap, subst, ◌∙◌}
 use Rattle.std.proofs.lemmas.List.{length-map}
 use Rattle.std.specs.Io.KnownBytes.{Appends}
 use Rattle.vcp_outside.specs.Written.{AppendsPart}
@@ -15,6 +15,8 @@ use Rattle.vcp_core.proofs.ImageLoaded.{corrections-long}
 use Rattle.vcp_core.proofs.JobFacts.{first-rows, names-are, leaves-shown, there-is, stop-told, stopped-is, refused-is, failed-causes, rows-rose}
 use Rattle.vcp_core.proofs.PrintedRun.{header-left, given-up-run, last-left, ended-run}
 use Rattle.vcp_core.proofs.WordsRun.{answers-whole}
+use Rattle.std.proofs.Math.Nat.{le_trans}
+use Rattle.vcp_core.proofs.Facts.{no_error, rose_later, same_error, same_value}
 use Rattle.vcp_core.proofs.printed.run_machine.Goals as goal
 
 -- ---- the run came to its end
@@ -50,23 +52,23 @@ returns-in-Err-clause-causes g c =
 
 pub returns-in-Err-run_rows-clause-causes : goal.returns-in-Err-run_rows-clause-causes
 returns-in-Err-run_rows-clause-causes g c =
-    (failed-causes _ _ _ (λ is. omega (arith, c.in-Ok.ensures.cause.later, rows-rose _ _ _ _ _ _ _ c.in-Err-run_rows.ensures.leaves.run is))
-    (λ no. c.in-Err-run_rows.ensures.stayed (λ e. no cc) ∙ c.in-Ok.ensures.cause.stayed))
+    (failed-causes _ _ _ (λ is. rose_later c.in-Ok.ensures.cause.later (rows-rose _ _ _ _ _ _ _ c.in-Err-run_rows.ensures.leaves.run is))
+    (λ no. c.in-Err-run_rows.ensures.stayed (λ e. no (same_error e)) ∙ c.in-Ok.ensures.cause.stayed))
 
 pub returns-in-Err-print_last-clause-causes : goal.returns-in-Err-print_last-clause-causes
 returns-in-Err-print_last-clause-causes g c =
     (failed-causes _ _ given_up.Write
-    (λ is. omega (arith, c.in-Ok.ensures.cause.later, c.run_rows.ensures.later, c.in-Err-print_last.ensures.0)) (λ no. absurd (no refl)))
+    (λ is. rose_later (le_trans c.in-Ok.ensures.cause.later c.run_rows.ensures.later) c.in-Err-print_last.ensures.0) (λ no. absurd (no refl)))
 
 pub returns-in-Ok-print_last-clause-causes : goal.returns-in-Ok-print_last-clause-causes
 returns-in-Ok-print_last-clause-causes g c = record {
-  write = λ is. absurd cc;
+  write = λ is. absurd (no_error is);
   refused = λ is.
-      let same : c.in-Ok-print_last.ending ≡ ending.Refused = cc in
+      let same : c.in-Ok-print_last.ending ≡ ending.Refused = same_value is in
       let (i, found, wanted, e) = refused-is c.run_rows.new.machine.graph c.in-Ok-run_rows.end (ap end_status (sym same) ∙ c.in-Ok-print_last.ensures.1) in
       c.in-Ok-run_rows.ensures.refused i found wanted (ap Ok e);
   stopped = λ is.
-      let same : c.in-Ok-print_last.ending ≡ ending.Stopped = cc in
+      let same : c.in-Ok-print_last.ending ≡ ending.Stopped = same_value is in
       let (k, why, e) = stopped-is c.run_rows.new.machine.graph c.in-Ok-run_rows.end (ap end_status (sym same) ∙ c.in-Ok-print_last.ensures.1) in (
         k,
         why,
@@ -76,7 +78,7 @@ returns-in-Ok-print_last-clause-causes g c = record {
             c.in-Ok-run_rows.ensures.leaves.run.ends.2 c.in-Ok-print_last.ensures.0 c.in-Ok-print_last.ensures.3 e
             (c.in-Ok-run_rows.ensures.stopped k why (ap Ok e)),
       );
-  stayed = λ no. c.in-Ok-print_last.ensures.2 ∙ (c.in-Ok-run_rows.ensures.stayed (λ e. cc) ∙ c.in-Ok.ensures.cause.stayed);
+  stayed = λ no. c.in-Ok-print_last.ensures.2 ∙ (c.in-Ok-run_rows.ensures.stayed no_error ∙ c.in-Ok.ensures.cause.stayed);
 }
 
 -- ---- how far the job's run came

@@ -1,23 +1,24 @@
-use Rattle.std.proofs.Common.{inl, refl, sym, ap, subst, ◌∙◌, length, map}
+use Rattle.std.proofs.Common.{inl, sym, ap, subst, ◌∙◌, length, map}
 use Rattle.op_graph.specs.Lists.{output_column}
 use Rattle.op_graph.specs.Rules.{IsGraph}
 use Rattle.signature_table.specs.Signatures.{IsTable, IsTableOf}
 use Rattle.coded_machine.specs.State.{State, fresh}
-use Rattle.coded_machine.specs.declared.rows.fault.RunFault.TheVariants as given_up
-use Rattle.vcp_core.proofs.JobFacts.{failed-causes}
+use Rattle.vcp_core.specs.MachineRun.{CarriesOut}
+use Rattle.vcp_core.proofs.JobFacts.{memory-causes}
 use Rattle.vcp_core.proofs.Performing.{still}
+use Rattle.vcp_core.proofs.PrintedRun.{shows_on}
 use Rattle.vcp_core.proofs.printed.run_printed.Goals as goal
 
 -- ---- there is no memory
 
 pub returns-in-Err-clause-causes : goal.returns-in-Err-clause-causes
-returns-in-Err-clause-causes g c = failed-causes _ _ given_up.Memory (λ is. absurd cc) (λ no. refl)
+returns-in-Err-clause-causes g c = memory-causes _
 
 pub returns-in-Err-clause-ran : goal.returns-in-Err-clause-ran
 returns-in-Err-clause-ran g c s code name p words carries shows = inl (still _)
 
 pub returns-clause-causes : goal.returns-clause-causes
-returns-clause-causes g c = failed-causes _ _ given_up.Memory (λ is. absurd cc) (λ no. refl)
+returns-clause-causes g c = memory-causes _
 
 pub returns-clause-ran : goal.returns-clause-ran
 returns-clause-ran g c s code name p words carries shows = inl (still _)
@@ -43,4 +44,12 @@ run_machine-requires g c =
     }
 
 pub returns-in-Ok-new : goal.returns-in-Ok-new
-returns-in-Ok-new g c = record { ran = rw c.in-Ok-new.ensures.fresh at c.run_machine.ensures.ran; causes = c.run_machine.ensures.causes }
+returns-in-Ok-new g c =
+    let is = sym c.in-Ok-new.ensures.fresh in
+    record {
+      ran = λ s code name p words carries shows.
+          c.run_machine.ensures.ran s code name p words
+          (subst (λ (m : State). CarriesOut m.graph m.table c.args.rows.now s code) is carries)
+          (shows_on (ap (λ (m : State). m.graph) is) shows);
+      causes = c.run_machine.ensures.causes;
+    }

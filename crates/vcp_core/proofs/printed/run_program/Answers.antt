@@ -1,9 +1,8 @@
 use Rattle.std.proofs.Common.{inl, refl, sym, subst}
 use Rattle.signature_table.specs.Signatures.{Numbers, IsTableOf}
 use Rattle.vcp_core.proofs.Performing.{still}
-use Rattle.coded_machine.specs.declared.rows.fault.RunFault.TheVariants as given_up
 use Rattle.vcp_inputs.specs.Forms.{as_code}
-use Rattle.vcp_core.proofs.JobFacts.{carried-as, failed-causes, width-is}
+use Rattle.vcp_core.proofs.JobFacts.{carried-as, width-is, memory-causes}
 use Rattle.vcp_core.proofs.printed.run_program.Goals as goal
 
 pub new-requires : goal.new-requires
@@ -37,7 +36,7 @@ pub returns-clause-ran : goal.returns-clause-ran
 returns-clause-ran g c s name p words stands shows = inl (still _)
 
 pub returns-in-Err-clause-causes : goal.returns-in-Err-clause-causes
-returns-in-Err-clause-causes g c = failed-causes _ _ given_up.Memory (λ is. absurd cc) (λ no. refl)
+returns-in-Err-clause-causes g c = memory-causes _
 
 pub returns-clause-causes : goal.returns-clause-causes
-returns-clause-causes g c = failed-causes _ _ given_up.Memory (λ is. absurd cc) (λ no. refl)
+returns-clause-causes g c = memory-causes _

@@ -1,10 +1,11 @@
-use Rattle.std.proofs.Common.{◌∙◌, ap, arith, Err}
+use Rattle.std.proofs.Common.{◌∙◌, ap, Err}
 use Rattle.vcp_inputs.specs.Forms.{rows_of}
 use Rattle.vcp_inputs.specs.Abouts.{about}
 use Rattle.vcp_core.specs.Tasks.{TaskOf}
-use Rattle.vcp_core.proofs.Facts.{if_some_same}
+use Rattle.vcp_core.proofs.Facts.{if_some_same, no_error, same_error}
 use Rattle.vcp_core.proofs.Performing.{files_wanted}
 use Rattle.vcp_core.proofs.ProgramsRead.{rows_lost, some_files}
+use Rattle.std.proofs.Math.Nat.{le_trans}
 use Rattle.vcp_core.proofs.program_rows.load_program_rows.Goals as goal
 
 -- memory is wanted
@@ -22,7 +23,7 @@ returns-clause-unread g c l p files read f here reads =
     rw c.rows_name.ensures
     (rows_lost c.lists_are_told.ensures.columns p (rows_of c.args.rows) files mid later c.args.program c.in-Ok.columns c.in-Ok.ensures.columns
     c.load_rows.ensures.held here c.in-Err-load_rows.input c.in-Err-load_rows.ensures.loads
-    (λ is. c.in-Err-load_rows.ensures.begun (ap Err is)) (λ is. c.in-Err-load_rows.ensures.unread (ap Err is)) (λ no. c.in-Err-load_rows.ensures.stayed (λ e. no cc))
+    (λ is. c.in-Err-load_rows.ensures.begun (ap Err is)) (λ is. c.in-Err-load_rows.ensures.unread (ap Err is)) (λ no. c.in-Err-load_rows.ensures.stayed (λ e. no (same_error e)))
     (λ r is other. c.in-Err-load_rows.ensures.whole r (ap Err is) other) (λ is. c.in-Err-load_rows.ensures.long (ap Err is)) c.in-Err-load_rows.ensures.caused l f reads read)
 
 -- they were read
@@ -35,8 +36,8 @@ returns-in-Ok-load_rows-clause-read g c l p files read = record {
   file = record {
     loads = read.loads;
     ended = c.in-Ok-load_rows.ensures.ended read.ended;
-    faults = c.in-Ok-load_rows.ensures.stayed (λ e. cc) ∙ read.faults;
-    broken = omega (arith, read.broken, c.load_rows.ensures.broken_later);
+    faults = c.in-Ok-load_rows.ensures.stayed no_error ∙ read.faults;
+    broken = le_trans read.broken c.load_rows.ensures.broken_later;
     held = c.load_rows.ensures.held ∙ read.held;
   };
   rows_are = if_some_same files.held (g.F.Files.seen c.args.files.now).held _ read.held c.in-Ok-load_rows.ensures.loads;

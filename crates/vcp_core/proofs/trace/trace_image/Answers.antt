@@ -9,12 +9,13 @@ use Rattle.vcp_inputs.specs.Abouts.{about, image_word}
 use Rattle.vcp_inputs.specs.Kinds.{runs as runs_to}
 use Rattle.vcp_core.specs.MachineRun.{RunsTo}
 use Rattle.vcp_core.specs.Tasks.{table_code, words_job, TaskOf}
-use Rattle.vcp_core.proofs.Facts.{if_some_weaker}
+use Rattle.vcp_core.proofs.Facts.{if_some_weaker, not_none}
 use Rattle.vcp_core.proofs.ImageLoaded.{types-width}
 use Rattle.vcp_core.proofs.ImagesRead.{Traced}
 use Rattle.vcp_core.proofs.LoadedRows.{opened_comes, rows_may, rows_unopened}
 use Rattle.vcp_core.proofs.Performing.{files_run, ran, run_ends}
 use Rattle.vcp_core.proofs.WordsRun.{through-few, through-all}
+use Rattle.std.proofs.lemmas.Bool.{true≢false}
 use Rattle.vcp_core.proofs.trace.trace_image.Goals as goal
 
 pub run_words-requires-clause-width : goal.run_words-requires-clause-width
@@ -45,12 +46,12 @@ returns-in-Ok g c later m files read =
     subst (λ left. RunsTo (words_job (rows_name rows) n i.graph (table_code i.table) left) before after c.run_words.result)
     c.through.ensures.rows (c.run_words.ensures.ran (rows_name rows)) in
     rw (c.run_ended.ensures.line, c.run_ended.ensures.status, c.rows_name-name.ensures)
-    (files_run (about f) (TaskOf f) files later (λ none. cc) read.file.held (inr (inl refl)) before after (rows_name rows) c.run_words.result (λ e is. run_ends e)
+    (files_run (about f) (TaskOf f) files later not_none read.file.held (inr (inl refl)) before after (rows_name rows) c.run_words.result (λ e is. run_ends e)
     (if_some_weaker files.held _ _
     (λ h comes. ran (about f) files later before after (TaskOf f h) j c.run_words.result refl comes c.run_words.ensures.causes.write ended)
-    (opened_comes ImageOf NotImage (λ v. graph_columns v.graph) (about f) (image_word m) rows (λ none. cc) (inr (inl refl)) (λ w among. inr among)
+    (opened_comes ImageOf NotImage (λ v. graph_columns v.graph) (about f) (image_word m) rows not_none (inr (inl refl)) (λ w among. inr among)
     (λ n among. among) (Traced m rows n) files later i c.args.loaded.now.columns c.args.loaded.now.rows c.requires.fit.columns read c.in-Ok.rows (λ h. runs_to j) (c.in-Ok.ensures.opens 0 0) (λ h. refl)))
-    read.file.ended (λ no. absurd cc) (λ calls. c.run_words.ensures.causes.stopped) c.run_words.ensures.causes.refused c.run_words.ensures.causes.write
+    read.file.ended (λ no. absurd (true≢false no)) (λ calls. c.run_words.ensures.causes.stopped) c.run_words.ensures.causes.refused c.run_words.ensures.causes.write
     read.file.faults c.run_words.ensures.causes.stayed (rows_may (about f) rows (λ w among. inr among) (λ n among. among)))
 
 -- ---- ROWS aren't opened
@@ -60,7 +61,7 @@ returns-in-Err g c later m files read =
     let rows = rows_of c.args.rows in
     let f = trace m rows c.args.cycle in
     rw c.rows_name-name.ensures
-    (rows_unopened ImageOf NotImage (λ v. graph_columns v.graph) (about f) (image_word m) rows (λ none. cc) (inr (inl refl)) (λ w among. inr among)
+    (rows_unopened ImageOf NotImage (λ v. graph_columns v.graph) (about f) (image_word m) rows not_none (inr (inl refl)) (λ w among. inr among)
     (λ n among. among) (Traced m rows c.args.cycle) files later c.args.loaded.now.image c.args.loaded.now.columns c.args.loaded.now.rows
     c.requires.fit.columns read _ c.in-Err.input (λ is. c.in-Err.ensures.read (ap Err is))
     (c.in-Err.ensures.opens files.broken later.broken) c.in-Err.ensures.caused)

@@ -1,4 +1,4 @@
-use Rattle.std.proofs.Common.{◌≡◌, ◌<◌, ◌∙◌, Some, None, ap, sym, length, take, slice_get, arith}
+use Rattle.std.proofs.Common.{◌≡◌, ◌<◌, ◌∙◌, Some, None, ap, sym, length, take, slice_get, arith, subst, ℕ}
 use Rattle.std.proofs.lemmas.Result.{err_from_is_err_and}
 use Rattle.coded_machine.specs.State.{word_in}
 use Rattle.op_graph.specs.Lists.{Lists}
@@ -12,7 +12,7 @@ returns-in_err-trace_line-in-Some g c =
     let m = c.args.machine.now in
     let q = err_from_is_err_and c.from_residual.result c.from_residual.ensures.1 in
     let below : c.words.i < length m.graph.operations =
-    omega (arith, c.words-test.true, c.len-i-end.ensures.count, ap (λ (h : Lists). length h.operations) c.graph-graph.ensures) in
+    subst (λ (n : ℕ). c.words.i < n) (c.len-i-end.ensures.count ∙ ap (λ (h : Lists). length h.operations) c.graph-graph.ensures) c.words-test.true in
     let there : word_in (slice_get m.answers c.words.i) ≡ Some c.in-Some.word = sym c.word.ensures ∙ c.in-Some.is in
     let whole = whole-there m.graph.operations m.answers c.words.i c.in-Some.word c.requires.whole there in
     rw q.1 (fails m.graph m.table c.args.cycle c.words.i m.answers _ _ _ _ _ _ whole below c.words.invariant c.in-Some.word there
@@ -29,7 +29,7 @@ pub words-preserved : goal.words-preserved
 words-preserved g c =
     let m = c.args.machine.now in
     let below : c.words.i < length m.graph.operations =
-    omega (arith, c.words-test.true, c.len-i-end.ensures.count, ap (λ (h : Lists). length h.operations) c.graph-graph.ensures) in
+    subst (λ (n : ℕ). c.words.i < n) (c.len-i-end.ensures.count ∙ ap (λ (h : Lists). length h.operations) c.graph-graph.ensures) c.words-test.true in
     let there : word_in (slice_get m.answers c.words.i) ≡ Some c.in-Some.word = sym c.word.ensures ∙ c.in-Some.is in
     let whole = whole-there m.graph.operations m.answers c.words.i c.in-Some.word c.requires.whole there in
     goes-on m.graph m.table c.args.cycle c.words.i m.answers _ _ _ _ _ _ whole below c.words.invariant c.in-Some.word there

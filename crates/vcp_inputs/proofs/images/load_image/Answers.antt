@@ -4,6 +4,7 @@ use Rattle.std.proofs.lemmas.Result.{IfOk-weaker}
 use Rattle.vcp_inputs.specs.Images.{ImageOf, NotImage}
 use Rattle.vcp_inputs.proofs.FilesLoaded.{file_lost, file_taken}
 use Rattle.vcp_inputs.proofs.NotBytes.{image_not_bytes}
+use Rattle.vcp_inputs.proofs.RowsLoaded.{no_error}
 use Rattle.vcp_inputs.proofs.images.load_image.Goals as goal
 
 pub returns-in-Err : goal.returns-in-Err
@@ -31,7 +32,7 @@ returns-in-Ok g c =
     let made = c.image_of.ensures in
     let loaded = file_taken ImageOf NotImage (g.F.Files.seen c.args.files.now) (g.F.Files.seen c.read_file.new.files) c.args.name.now most_image_bytes
     c.in-Ok.text _ c.image_of.result c.bytes.ensures (image_not_bytes c.in-Ok.text) read.reads read.ended
-    (read.stayed (λ e. cc)) made.ok made.err made.caused in
+    (read.stayed no_error) made.ok made.err made.caused in
     record {
       loads = loaded.loads;
       table = IfOk-weaker c.image_of.result _ _ (λ i is. is.table) made.ok;

@@ -4,6 +4,7 @@ use Rattle.il_front.specs.Outcomes.{IsTypedIl}
 use Rattle.vcp_inputs.specs.Listings.{NotListing}
 use Rattle.vcp_inputs.proofs.FilesLoaded.{file_lost, file_taken}
 use Rattle.vcp_inputs.proofs.NotBytes.{listing_not_bytes}
+use Rattle.vcp_inputs.proofs.RowsLoaded.{no_error}
 use Rattle.vcp_inputs.proofs.listings.load_il.Goals as goal
 
 pub returns-in-Err : goal.returns-in-Err
@@ -30,7 +31,7 @@ returns-in-Ok g c =
     let made = c.listed_twice.ensures in
     let loaded = file_taken IsTypedIl NotListing (g.F.Files.seen c.args.files.now) (g.F.Files.seen c.read_file.new.files) c.args.name.now most_il_bytes
     c.in-Ok.text _ c.listed_twice.result c.bytes.ensures (listing_not_bytes c.in-Ok.text) read.reads read.ended
-    (read.stayed (λ e. cc)) made.ok made.err made.caused in
+    (read.stayed no_error) made.ok made.err made.caused in
     record {
       loads = loaded.loads;
       unread = loaded.unread;

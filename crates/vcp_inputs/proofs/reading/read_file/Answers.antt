@@ -5,6 +5,7 @@ use Rattle.vcp_inputs.specs.declared.refusal.Refusal.TheVariants as refusal
 use Rattle.vcp_inputs.specs.declared.refusal.NoInput.TheVariants as input
 use Rattle.vcp_inputs.specs.Refusals.{unread}
 use Rattle.vcp_inputs.proofs.Taken.{if_some_weaker, file_left, file_stays, file_unread}
+use Rattle.vcp_inputs.proofs.RowsLoaded.{no_error}
 use Rattle.vcp_inputs.proofs.reading.read_file.Goals as goal
 
 pub returns-in_err-read_all-clause-reads : goal.returns-in_err-read_all-clause-reads
@@ -32,4 +33,4 @@ returns-in_err-read_all-clause-stayed g c =
     file_stays _ _ c.in_err-read_all.field-0.0 _ _ refl (p.1 ∙ ap Err p.2) c.in_err-read_all.ensures.stayed
 
 pub returns-clause-stayed : goal.returns-clause-stayed
-returns-clause-stayed g c = λ other. c.in_ok-read_all.ensures.stayed (λ e. cc)
+returns-clause-stayed g c = λ other. c.in_ok-read_all.ensures.stayed no_error

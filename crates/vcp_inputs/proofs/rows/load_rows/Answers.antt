@@ -1,6 +1,6 @@
 use Rattle.std.proofs.Common.{refl}
 use Rattle.std.proofs.Math.Nat.{le_refl}
-use Rattle.vcp_inputs.proofs.RowsLoaded.{always, end_stays}
+use Rattle.vcp_inputs.proofs.RowsLoaded.{always, end_stays, no_error}
 use Rattle.vcp_inputs.proofs.rows.load_rows.Goals as goal
 
 pub returns-in-File : goal.returns-in-File
@@ -29,11 +29,11 @@ returns-in-Cycles g c = record {
   loads = rw c.in-Cycles.is (always (g.F.Files.seen c.args.files.now).held _ (λ h. refl));
   without_file = rw c.in-Cycles.is (λ off h. refl);
   few = rw c.in-Cycles.is at c.requires.few;
-  unread = λ is. absurd cc;
+  unread = λ is. absurd (no_error is);
   caused = tt;
-  begun = λ is. absurd cc;
-  refused = λ r is on. absurd cc;
-  long = λ is. absurd cc;
+  begun = λ is. absurd (no_error is);
+  refused = λ r is on. absurd (no_error is);
+  long = λ is. absurd (no_error is);
   unbegun = λ off. (refl, refl, refl);
   ended = λ at_end. at_end;
   whole = λ r is other. refl;

@@ -3,6 +3,7 @@ use Rattle.vcp_base.specs.Limits.{most_source_bytes}
 use Rattle.vcp_inputs.specs.Programs.{IsTreeOf, NoProgram}
 use Rattle.vcp_inputs.proofs.FilesLoaded.{file_lost, file_taken}
 use Rattle.vcp_inputs.proofs.NotBytes.{program_not_bytes}
+use Rattle.vcp_inputs.proofs.RowsLoaded.{no_error}
 use Rattle.vcp_inputs.proofs.sources.load_program.Goals as goal
 
 pub returns-in-Err : goal.returns-in-Err
@@ -29,7 +30,7 @@ returns-in-Ok g c =
     let made = c.program_of.ensures in
     let loaded = file_taken IsTreeOf NoProgram (g.F.Files.seen c.args.files.now) (g.F.Files.seen c.read_file.new.files) c.args.name.now most_source_bytes
     c.in-Ok.source _ c.program_of.result c.bytes.ensures (program_not_bytes c.in-Ok.source) read.reads read.ended
-    (read.stayed (λ e. cc)) made.ok made.err made.caused in
+    (read.stayed no_error) made.ok made.err made.caused in
     record {
       loads = loaded.loads;
       unread = loaded.unread;

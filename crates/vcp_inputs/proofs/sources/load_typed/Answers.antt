@@ -3,6 +3,7 @@ use Rattle.vcp_base.specs.Limits.{most_source_bytes}
 use Rattle.vcp_inputs.specs.Programs.{TypedOf, NotTyped}
 use Rattle.vcp_inputs.proofs.FilesLoaded.{file_lost, file_taken}
 use Rattle.vcp_inputs.proofs.NotBytes.{typed_not_bytes}
+use Rattle.vcp_inputs.proofs.RowsLoaded.{no_error}
 use Rattle.vcp_inputs.proofs.sources.load_typed.Goals as goal
 
 pub returns-in-Err : goal.returns-in-Err
@@ -29,7 +30,7 @@ returns-in-Ok g c =
     let made = c.typed_program.ensures in
     let loaded = file_taken TypedOf NotTyped (g.F.Files.seen c.args.files.now) (g.F.Files.seen c.read_file.new.files) c.args.name.now most_source_bytes
     c.in-Ok.source _ c.typed_program.result c.bytes.ensures (typed_not_bytes c.in-Ok.source) read.reads read.ended
-    (read.stayed (λ e. cc)) made.ok made.err made.caused in
+    (read.stayed no_error) made.ok made.err made.caused in
     record {
       loads = loaded.loads;
       unread = loaded.unread;

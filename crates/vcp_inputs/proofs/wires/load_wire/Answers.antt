@@ -3,6 +3,7 @@ use Rattle.vcp_base.specs.Limits.{most_source_bytes}
 use Rattle.vcp_inputs.specs.Wires.{WireOf, NotWire}
 use Rattle.vcp_inputs.proofs.FilesLoaded.{file_lost, file_taken}
 use Rattle.vcp_inputs.proofs.NotBytes.{wire_not_bytes}
+use Rattle.vcp_inputs.proofs.RowsLoaded.{no_error}
 use Rattle.vcp_inputs.proofs.wires.load_wire.Goals as goal
 
 pub returns-in-Err : goal.returns-in-Err
@@ -30,7 +31,7 @@ returns-in-Ok g c =
     let made = c.wire_of.ensures in
     let loaded = file_taken WireOf NotWire (g.F.Files.seen c.args.files.now) (g.F.Files.seen c.read_file.new.files) c.args.name.now most_source_bytes
     c.in-Ok.text _ c.wire_of.result c.bytes.ensures (wire_not_bytes c.in-Ok.text) read.reads read.ended
-    (read.stayed (λ e. cc)) made.ok made.err made.caused in
+    (read.stayed no_error) made.ok made.err made.caused in
     record {
       loads = loaded.loads;
       fits = made.fits;

@@ -1,7 +1,7 @@
 use Rattle.std.proofs.Common.{map}
 use Rattle.std.proofs.lemmas.Result.{err_from_is_err_and}
 use Rattle.vcp_base.specs.declared.columns.Column.{Column}
-use Rattle.vcp_core.proofs.Traced.{words-cut, released-cut, ended-on, not-released}
+use Rattle.vcp_core.proofs.Traced.{words-cut, released-on, ended-on, not-released}
 use Rattle.vcp_core.proofs.tracing.EachWordPrintedNoRows.print_last.Goals as goal
 
 pub returns-in_err-print_begun : goal.returns-in_err-print_begun
@@ -10,13 +10,11 @@ returns-in_err-print_begun g c =
     rw q.1 (words-cut c.args.machine.now (map (λ (x : Column). x.name) c.args.outputs.now) c.args.self.now.cycle (g.O.Sink.seen c.args.out.now)
     (g.O.Sink.seen c.print_begun.new.out) (g.O.Sink.seen c.args.out.now) c.args.end.now c.in_err-print_begun.field-0.0 c.in_err-print_begun.ensures)
 
-pub returns-in_err-write_all-in-Released : goal.returns-in_err-write_all-in-Released
-returns-in_err-write_all-in-Released g c =
-    let q = err_from_is_err_and c.from_residual-in_err-write_all-in-Released.result c.from_residual-in_err-write_all-in-Released.ensures.1 in
-    rw (q.1, c.in-Released.is)
-    (released-cut c.args.machine.now (map (λ (x : Column). x.name) c.args.outputs.now) c.args.self.now.cycle (g.O.Sink.seen c.args.out.now)
-    (g.O.Sink.seen c.print_begun.new.out) (g.O.Sink.seen c.write_all.new.sink) c.in_err-write_all-in-Released.field-0.0 c.in_ok-print_begun.ensures
-    c.in_err-write_all-in-Released.ensures)
+pub returns-in-Released : goal.returns-in-Released
+returns-in-Released g c =
+    rw (c.in-Released.is, c.line_ended.ensures)
+    (released-on c.args.machine.now (map (λ (x : Column). x.name) c.args.outputs.now) c.args.self.now.cycle (g.O.Sink.seen c.args.out.now)
+    (g.O.Sink.seen c.print_begun.new.out) (g.O.Sink.seen c.write_all.new.sink) c.write_all.result c.in_ok-print_begun.ensures c.write_all.ensures)
 
 pub returns-in-Stopped : goal.returns-in-Stopped
 returns-in-Stopped g c =

@@ -3,5 +3,5 @@ use Rattle.vcp_inputs.specs.Forms.{form}
 use Rattle.vcp_inputs.proofs.Sound.{of_form}
 use Rattle.vcp_inputs.proofs.words.words.command_of.Goals as goal
 
-pub returns-clause-sound : goal.returns-clause-sound
-returns-clause-sound c = of_form form c.named_command.result (c.bytes-command.result.now ∷ c.next.new.self) c.named_command.ensures
+pub returns-in-Some-clause-sound : goal.returns-in-Some-clause-sound
+returns-in-Some-clause-sound c = of_form form c.named_command.result (c.bytes.result.now ∷ c.next.new.self) c.named_command.ensures
