@@ -13,7 +13,6 @@ use Rattle.run_picture.specs.declared.fault.RunTextFault.TheVariants as fault
 use Rattle.run_picture.specs.declared.ending.Ending.{Ending}
 use Rattle.run_picture.specs.declared.lines.Line.TheVariants as line
 use Rattle.run_picture.specs.declared.lines.Line.{Line}
-use Rattle.run_picture.specs.Answers.{Answers}
 use Rattle.run_picture.specs.Told.{Tells, IfRow, HasWidth}
 use Rattle.run_picture.specs.Values.{printed_value, values_of, behind}
 use Rattle.run_picture.specs.RunOf.{ToldLines, line_of, row_line, last_line, ended_with, last_of, told_from, names_of}
@@ -159,10 +158,6 @@ is_last w c (f ∷ fields) first count answer at is many last =
     let known : bytes_eq f (decimal c) ≡ false = rw same is in
     let ends : last_line c f fields ≡ answer = rw same (last fields (many ∙ sym (add-one (length fields)))) in
     rw known (ap ended_with ends)
-
-pub refused_line : (expected result : Result Line RunTextFault) (why : RunTextFault) → result ≡ Err why → (why ≢ fault.Memory → expected ≡ Err why)
-    → Answers expected result
-refused_line expected result why e is = subst (Answers expected) (sym e) is
 
 pub row_fits : (w c : ℕ) (read : Result Line RunTextFault) → IfOk read (λ line. IfRow line (λ row. length row ≡ w)) → IfOk read (λ line. c < most_cycles)
     → IfOk read (λ line. IfRow line (λ row. (length row ≡ w) × (c < most_cycles)))

@@ -39,8 +39,10 @@ fn rest_behind<'a>(front: &[u8], text: &'a [u8]) -> Option<&'a [u8]>
 fn rest_behind_number<'a>(word: &[u8], n: u32, text: &'a [u8]) -> Option<&'a [u8]>
     ensures { option_map (λ r. r.now) result ≡ rest_behind_number_of word.now n text.now }
 {
-    let rest = rest_behind(word, text)?;
-    rest_behind(Buffer::new().format(n).as_bytes(), rest)
+    match rest_behind(word, text) {
+        Some(rest) => rest_behind(Buffer::new().format(n).as_bytes(), rest),
+        None => None,
+    }
 }
 
 // Whether the text is the end of a run over so many rows.

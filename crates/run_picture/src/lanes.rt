@@ -22,13 +22,6 @@ fn level(value: i64) -> u64
     if value == 0 { 30 } else { 8 }
 }
 
-// The distance of a level from above.
-fn height(stretch: Stretch) -> u64
-    ensures { result ≡ top_of stretch.column + level_of stretch.first }
-{
-    top(stretch.column) + level(stretch.first)
-}
-
 // Draws a level.
 fn then_level<O: Sink>(line: &mut Line, out: &mut O, layout: Layout, stretch: Stretch)
     requires some { stretch.start < stretch.end }
@@ -36,7 +29,7 @@ fn then_level<O: Sink>(line: &mut Line, out: &mut O, layout: Layout, stretch: St
     ensures { GathersTo (O.seen out.old) (O.seen out.new) line.old line.new
         (element_text (level_element layout stretch)) }
 {
-    let height = height(stretch);
+    let height = top(stretch.column) + level(stretch.first);
     then_slope(
         line,
         out,

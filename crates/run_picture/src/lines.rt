@@ -15,7 +15,7 @@ use csv::ByteRecord;
 use input_rows::{Records, field};
 use itoa::Buffer;
 use std::alloc::Global;
-use vcp_base::{MOST_CYCLES, Row, Text};
+use vcp_base::{MOST_CYCLES, Memory, Row, Text};
 
 // A line behind the header.
 #[derive(Drop)]
@@ -46,7 +46,10 @@ fn row_line_of(
     if cells.len() != width as usize + 1 {
         return Err(RunTextFault::Width { record: cycle + 2 });
     }
-    Ok(Line::Row(values(alloc, cycle + 2, cells)?))
+    match values(alloc, cycle + 2, cells) {
+        Ok(row) => Ok(Line::Row(row)),
+        Err(fault) => Err(fault),
+    }
 }
 
 // The last line, which is one cell.
@@ -61,8 +64,10 @@ fn last_line_of(
 {
     if cells == 1 {
         if let Some(mark) = mark_of(cycle, text) {
-            let text = Text::copy_of(alloc, text)?;
-            return Ok(Ending { mark, text });
+            return match Text::copy_of(alloc, text) {
+                Ok(text) => Ok(Ending { mark, text }),
+                Err(Memory) => Err(RunTextFault::Memory),
+            };
         }
     }
     Err(RunTextFault::Line { record: cycle + 2 })
@@ -87,7 +92,10 @@ fn read_line(
     if first == Buffer::new().format(cycle).as_bytes() {
         row_line_of(alloc, cells, width, cycle)
     } else {
-        Ok(Line::Last(last_line_of(alloc, first, cells.len(), cycle)?))
+        match last_line_of(alloc, first, cells.len(), cycle) {
+            Ok(ending) => Ok(Line::Last(ending)),
+            Err(fault) => Err(fault),
+        }
     }
 }
 
@@ -101,10 +109,11 @@ fn last(
     requires { number < 2 ^ 31 }
     ensures { (left : List (List (List ℕ))) → records.old.left ≡ Some left → Answers (last_of number ending left) result }
 {
-    if records.next(cells)? {
-        return Err(RunTextFault::Rest { record: number + 1 });
+    match records.next(cells) {
+        Ok(true) => Err(RunTextFault::Rest { record: number + 1 }),
+        Ok(false) => Ok(ending),
+        Err(Memory) => Err(RunTextFault::Memory),
     }
-    Ok(ending)
 }
 
 /// The rows and the last line that records tell, under a header of so many names.
@@ -122,15 +131,18 @@ pub(crate) fn read_lines(
     let mut rows = RowTable::new(alloc);
     let mut cycle = 0u32;
     'lines: while records.next(cells)? {
-        match read_line(alloc, cells, width, cycle)? {
-            Line::Row(row) => {
-                rows.push(row)?;
-                cycle += 1;
+        match read_line(alloc, cells, width, cycle) {
+            Ok(Line::Row(row)) => match rows.push(row) {
+                Ok(()) => cycle += 1,
+                Err(Memory) => return Err(RunTextFault::Memory),
+            },
+            Ok(Line::Last(ending)) => {
+                return match last(records, cells, cycle + 2, ending) {
+                    Ok(ending) => Ok((rows, ending)),
+                    Err(fault) => Err(fault),
+                };
             }
-            Line::Last(ending) => {
-                let ending = last(records, cells, cycle + 2, ending)?;
-                return Ok((rows, ending));
-            }
+            Err(fault) => return Err(fault),
         }
     }
     Err(RunTextFault::End)

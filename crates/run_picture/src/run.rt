@@ -16,7 +16,7 @@ use csv::ByteRecord;
 use input_rows::Records;
 use std::alloc::Global;
 use std::marker::Model;
-use vcp_base::{Text, Words};
+use vcp_base::{Memory, Text, Words};
 
 /// A run: the names of its outputs, at most 1,024; the values of each cycle, at most 1,000,000, in the
 /// order of the names; and how it ended.
@@ -64,10 +64,15 @@ fn read_records(
 ) -> Result<Run, RunTextFault>
     ensures { (left : List (List (List ℕ))) → records.old.left ≡ Some left → Answers (run_of_records left) result }
 {
-    if !records.next(cells)? {
-        return Err(RunTextFault::Header);
+    match records.next(cells) {
+        Ok(true) => {}
+        Ok(false) => return Err(RunTextFault::Header),
+        Err(Memory) => return Err(RunTextFault::Memory),
     }
-    let names = names(alloc, cells)?;
+    let names = match names(alloc, cells) {
+        Ok(names) => names,
+        Err(fault) => return Err(fault),
+    };
     match read_lines(alloc, records, cells, names.len() as u32) {
         Ok((rows, ending)) => Ok(Run {
             names,

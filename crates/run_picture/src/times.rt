@@ -89,7 +89,9 @@ fn front_before<'a>(end: &[u8], text: &'a [u8]) -> Option<&'a [u8]>
 fn numbered_in(unit: TimeUnit, digits: &[u8]) -> Option<Period>
     ensures { result ≡ numbered_in_of unit digits.now }
 {
-    let number = numeral(digits)?;
+    let Some(number) = numeral(digits) else {
+        return None;
+    };
     if 1 <= number && number <= MOST_PERIOD {
         Some(Period {
             number: number as u32,
@@ -111,6 +113,8 @@ pub fn period_named(text: &[u8]) -> Option<Period>
     if let Some(digits) = front_before(b"us", text) {
         return numbered_in(TimeUnit::Microseconds, digits);
     }
-    let digits = front_before(b"s", text)?;
-    numbered_in(TimeUnit::Seconds, digits)
+    match front_before(b"s", text) {
+        Some(digits) => numbered_in(TimeUnit::Seconds, digits),
+        None => None,
+    }
 }

@@ -17,7 +17,9 @@ use vcp_base::{Row, Ty, number_in};
 fn printed_value(cell: &[u8]) -> Option<i64>
     ensures { result ≡ printed_value_of cell.now }
 {
-    let value = number_in(Ty::Lint, cell)?;
+    let Some(value) = number_in(Ty::Lint, cell) else {
+        return None;
+    };
     if cell == Buffer::new().format(value).as_bytes() {
         Some(value)
     } else {

@@ -1,9 +1,7 @@
-use Rattle.std.proofs.Common.{Ok, Err, sym, ap, subst, ◌∙◌}
-use Rattle.std.proofs.lemmas.Result.{err_from_is_err_and, IfOk-from_err}
+use Rattle.std.proofs.Common.{Ok, Err, sym, subst, ◌∙◌}
 use Rattle.csv.specs.Records.{fields_of}
 use Rattle.run_picture.specs.Answers.{Answers}
-use Rattle.run_picture.specs.RunOf.{line_of}
-use Rattle.run_picture.proofs.Reading.{some_cells, no_cells, begins_with, is_row, is_last, refused_line, row_fits}
+use Rattle.run_picture.proofs.Reading.{some_cells, no_cells, begins_with, is_row, is_last, row_fits}
 use Rattle.run_picture.proofs.lines.read_line.Goals as goal
 
 pub field-first-requires : goal.field-first-requires
@@ -30,23 +28,20 @@ returns-then-eq c =
       width = row_fits c.args.width c.args.cycle c.row_line_of.result c.row_line_of.ensures.width c.row_line_of.ensures.cycle;
     }
 
-pub returns-in_err-last_line_of : goal.returns-in_err-last_line_of
-returns-in_err-last_line_of c =
+pub returns-in-Err : goal.returns-in-Err
+returns-in-Err c =
     let first = c.field-first.result.now in
     let fields = fields_of c.args.cells.now in
     let same = begins_with first c.as_bytes.result.now c.format.result.now c.args.cycle c.eq.result c.eq.ensures c.as_bytes.ensures.value c.format.ensures.text in
-    let r = c.from_residual.result in
-    let p = err_from_is_err_and r c.from_residual.ensures.1 in
     record {
-      line = refused_line (line_of c.args.width c.args.cycle fields) r c.in_err-last_line_of.field-0.0 (p.1 ∙ ap Err p.2)
-          (λ other. is_last c.args.width c.args.cycle fields first c.len-else-eq.result (Err c.in_err-last_line_of.field-0.0) c.field-first.ensures
-          (same ∙ c.if-eq.false) c.len-else-eq.ensures (λ more many. c.in_err-last_line_of.ensures more many other));
-      width = IfOk-from_err r _ c.from_residual.ensures.0;
+      line = λ other. is_last c.args.width c.args.cycle fields first c.len-else-eq.result (Err c.in-Err.fault) c.field-first.ensures
+          (same ∙ c.if-eq.false) c.len-else-eq.ensures (λ more many. c.in-Err.ensures more many other);
+      width = tt;
     }
 
-pub returns-in_ok-last_line_of-clause-line : goal.returns-in_ok-last_line_of-clause-line
-returns-in_ok-last_line_of-clause-line c =
+pub returns-in-Ok-clause-line : goal.returns-in-Ok-clause-line
+returns-in-Ok-clause-line c =
     let first = c.field-first.result.now in
     let same = begins_with first c.as_bytes.result.now c.format.result.now c.args.cycle c.eq.result c.eq.ensures c.as_bytes.ensures.value c.format.ensures.text in
-    is_last c.args.width c.args.cycle (fields_of c.args.cells.now) first c.len-else-eq.result (Ok c.in_ok-last_line_of.field-0) c.field-first.ensures
-    (same ∙ c.if-eq.false) c.len-else-eq.ensures c.in_ok-last_line_of.ensures
+    is_last c.args.width c.args.cycle (fields_of c.args.cells.now) first c.len-else-eq.result (Ok c.in-Ok.ending) c.field-first.ensures
+    (same ∙ c.if-eq.false) c.len-else-eq.ensures c.in-Ok.ensures

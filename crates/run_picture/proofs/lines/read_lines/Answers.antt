@@ -1,4 +1,4 @@
-use Rattle.std.proofs.Common.{Ok, Err, ◌≤◌, sym, ap, subst, ◌∙◌}
+use Rattle.std.proofs.Common.{Ok, Err, ◌≤◌, refl, sym, ap, subst, ◌∙◌}
 use Rattle.std.proofs.lemmas.Result.{err_from_is_err_and, IfOk-from_err}
 use Rattle.csv.specs.Records.{fields_of}
 use Rattle.vcp_base.specs.Limits.{most_cycles}
@@ -9,13 +9,13 @@ use Rattle.run_picture.proofs.lines.read_lines.Goals as goal
 pub lines-preserved : goal.lines-preserved
 lines-preserved c = record {
   told = λ left begun. row_at c.args.width c.lines.cycle c.lines.rows c.push.new.self c.lines.records.left c.next.new.self.left (fields_of c.next.new.cells)
-      c.in_ok-next.field-0 (told_from c.args.width 0 left) c.in-Row.row (c.lines.invariant.told left begun) c.in_ok-next.ensures.reads c.if-branch.true
-      (c.in_ok-row.ensures.line ∙ ap Ok c.in-Row.is) c.in_ok-push-in-Row.ensures;
+      c.in_ok-next.field-0 (told_from c.args.width 0 left) c.in-Ok-Row.row (c.lines.invariant.told left begun) c.in_ok-next.ensures.reads c.if-branch.true
+      (c.in-Ok-Row.ensures.line ∙ ap Ok c.in-Ok-Row.field-0-is) c.in-Ok.ensures;
   width =
-      wide_more c.args.width c.lines.cycle c.lines.rows c.push.new.self c.in-Row.row c.in_ok-row.field-0 c.lines.invariant.width c.in-Row.is
-      c.in_ok-row.ensures.width c.in_ok-push-in-Row.ensures;
-  count = count_more c.lines.cycle c.lines.rows c.push.new.self c.in-Row.row c.lines.invariant.count c.in_ok-push-in-Row.ensures;
-  few = few_more c.args.width c.lines.cycle c.in-Row.row c.in_ok-row.field-0 c.in-Row.is c.in_ok-row.ensures.width;
+      wide_more c.args.width c.lines.cycle c.lines.rows c.push.new.self c.in-Ok-Row.row c.in-Ok-Row.field-0 c.lines.invariant.width c.in-Ok-Row.field-0-is
+      c.in-Ok-Row.ensures.width c.in-Ok.ensures;
+  count = count_more c.lines.cycle c.lines.rows c.push.new.self c.in-Ok-Row.row c.lines.invariant.count c.in-Ok.ensures;
+  few = few_more c.args.width c.lines.cycle c.in-Ok-Row.row c.in-Ok-Row.field-0 c.in-Ok-Row.field-0-is c.in-Ok-Row.ensures.width;
 }
 
 pub returns-in_err-next : goal.returns-in_err-next
@@ -28,48 +28,35 @@ returns-in_err-next c =
       few = IfOk-from_err r _ c.from_residual.ensures.0;
     }
 
-pub returns-in_err-row : goal.returns-in_err-row
-returns-in_err-row c =
-    let r = c.from_residual-in_err-row.result in
-    let p = err_from_is_err_and r c.from_residual-in_err-row.ensures.1 in
-    record {
-      told = λ left begun. tells_refusal (told_from c.args.width 0 left) r c.in_err-row.field-0.0 (p.1 ∙ ap Err p.2)
-          (λ other. refused_at c.args.width c.lines.cycle c.lines.rows c.lines.records.left c.next.new.self.left (fields_of c.next.new.cells)
-          c.in_ok-next.field-0 (told_from c.args.width 0 left) c.in_err-row.field-0.0 (c.lines.invariant.told left begun) c.in_ok-next.ensures.reads
-          c.if-branch.true (c.in_err-row.ensures.line other));
-      width = IfOk-from_err r _ c.from_residual-in_err-row.ensures.0;
-      few = IfOk-from_err r _ c.from_residual-in_err-row.ensures.0;
-    }
+pub returns-in-Err-push : goal.returns-in-Err-push
+returns-in-Err-push c = record { told = λ left begun. no_memory (told_from c.args.width 0 left) _ refl; width = tt; few = tt }
 
-pub returns-in_err-push-in-Row : goal.returns-in_err-push-in-Row
-returns-in_err-push-in-Row c =
-    let r = c.from_residual-in_err-push-in-Row.result in
-    let p = err_from_is_err_and r c.from_residual-in_err-push-in-Row.ensures.1 in
-    record {
-      told = λ left begun. no_memory (told_from c.args.width 0 left) r (p.1 ∙ ap Err p.2);
-      width = IfOk-from_err r _ c.from_residual-in_err-push-in-Row.ensures.0;
-      few = IfOk-from_err r _ c.from_residual-in_err-push-in-Row.ensures.0;
-    }
+pub returns-in-Err : goal.returns-in-Err
+returns-in-Err c = record {
+  told = λ left begun. tells_refusal (told_from c.args.width 0 left) _ c.in-Err.fault refl
+      (λ other. refused_at c.args.width c.lines.cycle c.lines.rows c.lines.records.left c.next.new.self.left (fields_of c.next.new.cells)
+      c.in_ok-next.field-0 (told_from c.args.width 0 left) c.in-Err.fault (c.lines.invariant.told left begun) c.in_ok-next.ensures.reads
+      c.if-branch.true (c.in-Err.ensures.line other));
+  width = tt;
+  few = tt;
+}
 
-pub returns-in_err-ending-in-Last : goal.returns-in_err-ending-in-Last
-returns-in_err-ending-in-Last c =
-    let r = c.from_residual-in_err-ending-in-Last.result in
-    let p = err_from_is_err_and r c.from_residual-in_err-ending-in-Last.ensures.1 in
-    record {
-      told = λ left begun. tells_refusal (told_from c.args.width 0 left) r c.in_err-ending-in-Last.field-0.0 (p.1 ∙ ap Err p.2)
-          (λ other. ap (λ (t : ToldLines). t.behind) (last_at c.args.width c.lines.cycle c.lines.rows c.lines.records.left c.next.new.self.left
-          (fields_of c.next.new.cells) c.in_ok-next.field-0 (told_from c.args.width 0 left) c.in-Last.ending (Err c.in_err-ending-in-Last.field-0.0)
-          (c.lines.invariant.told left begun) c.in_ok-next.ensures.reads c.if-branch.true (c.in_ok-row.ensures.line ∙ ap Ok c.in-Last.is)
-          (λ more is. c.in_err-ending-in-Last.ensures more is other)));
-      width = IfOk-from_err r _ c.from_residual-in_err-ending-in-Last.ensures.0;
-      few = IfOk-from_err r _ c.from_residual-in_err-ending-in-Last.ensures.0;
-    }
+pub returns-in-Err-last : goal.returns-in-Err-last
+returns-in-Err-last c = record {
+  told = λ left begun. tells_refusal (told_from c.args.width 0 left) _ c.in-Err-last.fault refl
+      (λ other. ap (λ (t : ToldLines). t.behind) (last_at c.args.width c.lines.cycle c.lines.rows c.lines.records.left c.next.new.self.left
+      (fields_of c.next.new.cells) c.in_ok-next.field-0 (told_from c.args.width 0 left) c.in-Ok-Last.ending (Err c.in-Err-last.fault)
+      (c.lines.invariant.told left begun) c.in_ok-next.ensures.reads c.if-branch.true (c.in-Ok-Last.ensures.line ∙ ap Ok c.in-Ok-Last.field-0-is)
+      (λ more is. c.in-Err-last.ensures more is other)));
+  width = tt;
+  few = tt;
+}
 
-pub returns-in-Last : goal.returns-in-Last
-returns-in-Last c = record {
+pub returns-in-Ok-last : goal.returns-in-Ok-last
+returns-in-Ok-last c = record {
   told = λ left begun. last_at c.args.width c.lines.cycle c.lines.rows c.lines.records.left c.next.new.self.left (fields_of c.next.new.cells)
-      c.in_ok-next.field-0 (told_from c.args.width 0 left) c.in-Last.ending (Ok c.in_ok-ending-in-Last.ending) (c.lines.invariant.told left begun)
-      c.in_ok-next.ensures.reads c.if-branch.true (c.in_ok-row.ensures.line ∙ ap Ok c.in-Last.is) c.in_ok-ending-in-Last.ensures;
+      c.in_ok-next.field-0 (told_from c.args.width 0 left) c.in-Ok-Last.ending (Ok c.in-Ok-last.ending) (c.lines.invariant.told left begun)
+      c.in_ok-next.ensures.reads c.if-branch.true (c.in-Ok-Last.ensures.line ∙ ap Ok c.in-Ok-Last.field-0-is) c.in-Ok-last.ensures;
   width = c.lines.invariant.width;
   few = subst (λ n. n ≤ most_cycles) (sym c.lines.invariant.count) c.lines.invariant.few;
 }
