@@ -2,7 +2,7 @@
 
 ghost use Rattle.std.specs.Prelude.{◌≡◌};
 ghost use Rattle.fault_script.specs.Fits.{is_moderate as is_moderate_of};
-ghost use Rattle.fault_names.specs.Lines.{unfit as unfit_of, unfit_other as unfit_other_of, unfit_acts as unfit_acts_of};
+ghost use Rattle.fault_names.specs.Lines.{unfit as unfit_of, unfit_acts as unfit_acts_of};
 
 use crate::meant::Acts;
 use crate::refused::Why;
@@ -42,22 +42,15 @@ fn unfit(kind: Kind, k: u32, n: u32, act: &Act) -> Option<Why>
     None
 }
 
-/// The same of an act that may be there.
-fn unfit_other(kind: Kind, k: u32, n: u32, act: Option<Act>) -> Option<Why>
-    ensures { result ≡ unfit_other_of kind k n act }
-{
-    match act {
-        None => None,
-        Some(act) => unfit(kind, k, n, &act),
-    }
-}
-
 /// The same of the acts of a line.
 pub(crate) fn unfit_acts(kind: Kind, k: u32, n: u32, acts: &Acts) -> Option<Why>
     ensures { result ≡ unfit_acts_of kind k n acts.now }
 {
     match unfit(kind, k, n, &acts.act) {
         Some(why) => Some(why),
-        None => unfit_other(kind, k, n, acts.other),
+        None => match acts.other {
+            Some(other) => unfit(kind, k, n, &other),
+            None => None,
+        },
     }
 }

@@ -4,7 +4,8 @@ ghost use Rattle.std.specs.Prelude.{◌≡◌, ◌<◌, length};
 ghost use Rattle.vcp_base.specs.Words.{words as words_of};
 ghost use Rattle.fault_sites.specs.Sites.{adding as adding_of};
 ghost use Rattle.fault_names.specs.Lines.{act_of, acts_of, fitted as fitted_of, ended as ended_of, timed as timed_of};
-ghost use Rattle.fault_names.specs.Lines.{meant_of, both_flips as both_flips_of, flips_of, plain_acts as plain_acts_of};
+ghost use Rattle.fault_names.specs.Lines.{meant_of, flips_of};
+ghost use Rattle.fault_names.specs.declared.when.Ending.TheVariants as ending;
 
 use crate::doing::{Doing, Target, take_doing, take_target};
 use crate::fitting::unfit_acts;
@@ -51,59 +52,33 @@ fn adding(place: Option<u32>, e: i64) -> Act
 fn act(doing: Doing, place: Option<u32>) -> Option<Act>
     ensures { result ≡ act_of doing place }
 {
-    match doing {
-        Doing::Add { e } => Some(adding(place, e)),
-        Doing::Stale => Some(Act::OperandStale { j: place? }),
-        Doing::Read { r } => Some(Act::OperandFrom { j: place?, r }),
-        Doing::Operator { kind } => if place.is_none() {
-            Some(Act::Operator { kind })
-        } else {
-            None
+    match place {
+        Some(j) => match doing {
+            Doing::Add { e } => Some(Act::OperandAdd { j, e }),
+            Doing::Stale => Some(Act::OperandStale { j }),
+            Doing::Read { r } => Some(Act::OperandFrom { j, r }),
+            Doing::Operator { kind: _ } | Doing::Skip | Doing::Flip => None,
         },
-        Doing::Skip => if place.is_none() {
-            Some(Act::Skip)
-        } else {
-            None
+        None => match doing {
+            Doing::Add { e } => Some(Act::ResultAdd { e }),
+            Doing::Operator { kind } => Some(Act::Operator { kind }),
+            Doing::Skip => Some(Act::Skip),
+            Doing::Stale | Doing::Read { r: _ } | Doing::Flip => None,
         },
-        Doing::Flip => None,
     }
 }
 
-/// The two acts of which one flips a bit.
-fn both_flips(place: Option<u32>, b: u32) -> Acts
-    requires { b < 62 }
-    ensures { result ≡ both_flips_of place b }
+/// The acts of `flip` of a bit.
+fn flips(place: Option<u32>, b: u32) -> Option<Acts>
+    ensures { result ≡ flips_of place (ending.Bit b) }
 {
-    Acts {
-        act: adding(place, power(b)),
-        other: Some(adding(place, -power(b))),
-    }
-}
-
-/// The acts of a line that isn't `flip`.
-fn plain_acts(doing: Doing, place: Option<u32>, ending: Ending) -> Option<Acts>
-    ensures { result ≡ plain_acts_of doing place ending }
-{
-    if let Ending::Bit { b: _ } = ending {
-        return None;
-    }
-    match act(doing, place) {
-        Some(act) => Some(Acts { act, other: None }),
-        None => None,
-    }
-}
-
-/// The acts of `flip`.
-fn flips(place: Option<u32>, ending: Ending) -> Option<Acts>
-    ensures { result ≡ flips_of place ending }
-{
-    match ending {
-        Ending::Bit { b } => if b < 62 {
-            Some(both_flips(place, b))
-        } else {
-            None
-        },
-        Ending::Alone | Ending::Together => None,
+    if b < 62 {
+        Some(Acts {
+            act: adding(place, power(b)),
+            other: Some(adding(place, -power(b))),
+        })
+    } else {
+        None
     }
 }
 
@@ -111,9 +86,15 @@ fn flips(place: Option<u32>, ending: Ending) -> Option<Acts>
 fn acts_said(doing: Doing, place: Option<u32>, ending: Ending) -> Option<Acts>
     ensures { result ≡ acts_of doing place ending }
 {
-    match doing {
-        Doing::Flip => flips(place, ending),
-        _ => plain_acts(doing, place, ending),
+    match ending {
+        Ending::Bit { b } => match doing {
+            Doing::Flip => flips(place, b),
+            _ => None,
+        },
+        Ending::Alone | Ending::Together => match act(doing, place) {
+            Some(act) => Some(Acts { act, other: None }),
+            None => None,
+        },
     }
 }
 

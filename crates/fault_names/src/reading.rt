@@ -6,7 +6,7 @@ ghost use Rattle.vcp_base.specs.Limits.{most_source_bytes};
 ghost use Rattle.vcp_base.specs.Words.{words as words_of};
 ghost use Rattle.fault_script.specs.ScriptOf.{most_faults};
 ghost use Rattle.fault_names.specs.Entries.{image_named as image_named_of, names_other as names_other_of};
-ghost use Rattle.fault_names.specs.Entries.{fault_count as fault_count_of, counted as counted_of, taken as taken_of, lines_checked, checked};
+ghost use Rattle.fault_names.specs.Entries.{fault_count as fault_count_of, taken as taken_of, lines_checked, checked};
 ghost use Rattle.vcp_base.specs.Lines.{read_lines};
 ghost use Rattle.fault_names.specs.Script.{cycles_of};
 
@@ -69,21 +69,7 @@ pub(crate) fn cycles(span: Span) -> u64
     (span.last as u64 + 1).saturating_sub(span.first as u64)
 }
 
-/// How many faults there are with those of a line, at most 10,000.
-fn counted(before: u64, meant: &Meant) -> Result<u64, Why>
-    requires { before ≤ most_faults }
-    ensures count { result ≡ counted_of before meant.now }
-    ensures few { IfOk result (λ n. n ≤ most_faults) }
-{
-    let count = before + fault_count(meant);
-    if count <= MOST_FAULTS as u64 {
-        Ok(count)
-    } else {
-        Err(Why::Faults)
-    }
-}
-
-/// The same of a line that isn't skipped, which has this number.
+/// How many faults there are with those of a line that isn't skipped, at most 10,000; the line has this number.
 fn line_taken(graph: &Graph, before: u64, line: u32, text: &[u8]) -> Result<u64, Refused>
     requires { before ≤ most_faults }
     ensures ok { IfOk result (λ n. taken_of graph.now before text.now ≡ Ok n) }
@@ -91,10 +77,17 @@ fn line_taken(graph: &Graph, before: u64, line: u32, text: &[u8]) -> Result<u64,
     ensures few { IfOk result (λ n. n ≤ most_faults) }
 {
     match meaning(graph, text) {
-        Ok(meant) => match counted(before, &meant) {
-            Ok(count) => Ok(count),
-            Err(why) => Err(Refused { line, why }),
-        },
+        Ok(meant) => {
+            let count = before + fault_count(&meant);
+            if count <= MOST_FAULTS as u64 {
+                Ok(count)
+            } else {
+                Err(Refused {
+                    line,
+                    why: Why::Faults,
+                })
+            }
+        }
         Err(why) => Err(Refused { line, why }),
     }
 }

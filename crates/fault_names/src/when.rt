@@ -2,7 +2,7 @@
 
 ghost use Rattle.std.specs.Prelude.{◌≡◌, ◌<◌, ◌≤◌, IfSome, IfOk};
 ghost use Rattle.vcp_base.specs.Limits.{most_cycles};
-ghost use Rattle.fault_names.specs.Words.{last_of, from_to as from_to_of, span_of};
+ghost use Rattle.fault_names.specs.Words.{last_of, span_of};
 ghost use Rattle.fault_names.specs.Lines.{ending_of, when_of, with_rest, is_together as is_together_of};
 
 use crate::cutting::cut_at;
@@ -45,19 +45,6 @@ fn last(text: &[u8]) -> Option<u32>
     }
 }
 
-/// Cycles from the first to the last.
-fn from_to(first: u32, last: u32) -> Option<Span>
-    ensures value { result ≡ from_to_of first last }
-    ensures order { IfSome result (λ s. s.first ≤ s.last) }
-    ensures last { IfSome result (λ s. s.last ≡ last) }
-{
-    if first <= last {
-        Some(Span { first, last })
-    } else {
-        None
-    }
-}
-
 /// One cycle, or N..M.
 pub(crate) fn cycles_said(word: &[u8]) -> Option<Span>
     ensures value { result ≡ span_of word.now }
@@ -71,7 +58,11 @@ pub(crate) fn cycles_said(word: &[u8]) -> Option<Span>
         },
         Some((front, back)) => match cycle_number(front) {
             Some(first) => match last(back) {
-                Some(last) => from_to(first, last),
+                Some(last) => if first <= last {
+                    Some(Span { first, last })
+                } else {
+                    None
+                },
                 None => None,
             },
             None => None,

@@ -21,14 +21,6 @@ use op_graph::Graph;
 use vcp_base::first_read;
 use vcp_outside::{Failed, Line, Sink};
 
-/// Goes on with the line of a site.
-fn then_fault<O: Sink>(line: &mut Line, out: &mut O, site: &Site)
-    ensures { GathersTo (O.seen out.old) (O.seen out.new) line.old line.new (site_text site.now) }
-{
-    then_site(line, out, site);
-    line.text(out, b"\n");
-}
-
 /// Goes on with an act at operation `k` in each of these cycles.
 fn then_act<O: Sink>(line: &mut Line, out: &mut O, k: u32, span: Span, act: Act)
     ensures { GathersTo (O.seen out.old) (O.seen out.new) line.old line.new (site_lines (sites_over k span act)) }
@@ -39,16 +31,8 @@ fn then_act<O: Sink>(line: &mut Line, out: &mut O, k: u32, span: Span, act: Act)
             op: k,
             act,
         };
-        then_fault(line, out, &site);
-    }
-}
-
-/// The same of an act that may be there.
-fn then_other<O: Sink>(line: &mut Line, out: &mut O, k: u32, span: Span, act: Option<Act>)
-    ensures { GathersTo (O.seen out.old) (O.seen out.new) line.old line.new (site_lines (other_sites k span act)) }
-{
-    if let Some(act) = act {
-        then_act(line, out, k, span, act);
+        then_site(line, out, &site);
+        line.text(out, b"\n");
     }
 }
 
@@ -57,15 +41,9 @@ fn then_faults<O: Sink>(line: &mut Line, out: &mut O, meant: &Meant)
     ensures { GathersTo (O.seen out.old) (O.seen out.new) line.old line.new (site_lines (sites_meant meant.now)) }
 {
     then_act(line, out, meant.op, meant.span, meant.acts.act);
-    then_other(line, out, meant.op, meant.span, meant.acts.other);
-}
-
-/// Goes on with these bytes, where it is so.
-fn then_if<O: Sink>(line: &mut Line, out: &mut O, is: bool, bytes: &[u8])
-    ensures { GathersTo (O.seen out.old) (O.seen out.new) line.old line.new (cond is bytes.now []) }
-{
-    if is {
-        line.text(out, bytes);
+    match meant.acts.other {
+        Some(other) => then_act(line, out, meant.op, meant.span, other),
+        None => {}
     }
 }
 
@@ -73,28 +51,24 @@ fn then_if<O: Sink>(line: &mut Line, out: &mut O, is: bool, bytes: &[u8])
 fn then_meant<O: Sink>(line: &mut Line, out: &mut O, meant: &Meant)
     ensures { GathersTo (O.seen out.old) (O.seen out.new) line.old line.new (meant_text meant.now) }
 {
-    then_if(line, out, meant.together, b"begin\n");
-    then_faults(line, out, meant);
-    then_if(line, out, meant.together, b"end\n");
+    if meant.together {
+        line.text(out, b"begin\n");
+        then_faults(line, out, meant);
+        line.text(out, b"end\n");
+    } else {
+        then_faults(line, out, meant);
+    }
 }
 
-/// Goes on with a line as a remark, and its groups.
-fn then_entry<O: Sink>(line: &mut Line, out: &mut O, text: &[u8], meant: &Meant)
-    ensures { GathersTo (O.seen out.old) (O.seen out.new) line.old line.new (entry_text (record { text = text.now; meant = meant.now })) }
-{
-    line.text(out, b"# ");
-    line.text(out, text);
-    line.text(out, b"\n");
-    then_meant(line, out, meant);
-}
-
-/// The same of a line that isn't skipped, where it means something.
+/// Goes on with a line that isn't skipped as a remark, and its groups, where it means something.
 fn then_line<O: Sink>(line: &mut Line, out: &mut O, graph: &Graph, text: &[u8])
     ensures { GathersTo (O.seen out.old) (O.seen out.new) line.old line.new
         (entry_texts (entry_of text.now (meant_of graph.now (words_of text.now)))) }
 {
     if let Ok(meant) = meaning(graph, text) {
-        then_entry(line, out, text, &meant);
+        line.texts(out, b"# ", text);
+        line.text(out, b"\n");
+        then_meant(line, out, &meant);
     }
 }
 
@@ -125,8 +99,7 @@ pub fn write_script<O: Sink>(
     ensures { WritesTo (O.seen out.old) (O.seen out.new) (text_of_script digest.now graph.now text.now) result }
 {
     let mut line = Line::new();
-    line.text(out, b"# sites named of ");
-    line.text(out, digest);
+    line.texts(out, b"# sites named of ", digest);
     line.text(out, b"\n");
     then_lines(&mut line, out, graph, text);
     line.text(out, b"# end");

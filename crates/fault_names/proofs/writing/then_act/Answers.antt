@@ -7,7 +7,7 @@ pub cycles-init : goal.cycles-init
 cycles-init g c = unmoved
 
 pub cycles-preserved : goal.cycles-preserved
-cycles-preserved g c = same (and_then c.cycles.invariant c.then_fault.ensures) (one_more c.args.k c.args.act c.args.span.first c.cycles.i _ refl)
+cycles-preserved g c = same (and_then c.cycles.invariant (and_then c.then_site.ensures c.text.ensures.gathers)) (one_more c.args.k c.args.act c.args.span.first c.cycles.i _ refl)
 
 pub returns : goal.returns
 returns g c =

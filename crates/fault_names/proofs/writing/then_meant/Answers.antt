@@ -1,5 +1,17 @@
-use Rattle.fault_names.proofs.Going.{and_then}
+use Rattle.std.proofs.Common.{Bool, ap, ◌∙◌, ◌++◌}
+use Rattle.std.proofs.lemmas.List.{append-nil}
+use Rattle.fault_sites.specs.SiteText.{site_lines}
+use Rattle.fault_names.specs.Script.{sites_meant, begin_text, end_text}
+use Rattle.fault_names.proofs.Going.{and_then, same}
 use Rattle.fault_names.proofs.writing.then_meant.Goals as goal
 
-pub returns : goal.returns
-returns g c = and_then c.then_if.ensures (and_then c.then_faults.ensures c.then_if-2.ensures)
+pub returns-then-meant : goal.returns-then-meant
+returns-then-meant g c =
+    let faults = site_lines (sites_meant c.args.meant.now) in
+    same (and_then c.text.ensures.gathers (and_then c.then_faults.ensures c.text-then-meant.ensures.gathers))
+    (ap (λ (b : Bool). begin_text b ++ (faults ++ end_text b)) c.if-meant.true)
+
+pub returns-else-meant : goal.returns-else-meant
+returns-else-meant g c =
+    let faults = site_lines (sites_meant c.args.meant.now) in
+    same c.then_faults-else-meant.ensures (ap (λ (b : Bool). begin_text b ++ (faults ++ end_text b)) c.if-meant.false ∙ append-nil faults)

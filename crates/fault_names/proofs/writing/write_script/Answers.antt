@@ -8,7 +8,6 @@ pieces digest lines = simp append_assoc
 
 pub returns : goal.returns
 returns g c =
-    let first = c.text.ensures.gathers _ _ _ (c.new-line.ensures.begun _ _) in
-    let remark = c.text-3.ensures.gathers _ _ _ (c.text-2.ensures.gathers _ _ _ first) in
-    let told = c.text-4.ensures.gathers _ _ _ (c.then_lines.ensures _ _ _ remark) in
+    let remark = c.text.ensures.gathers _ _ _ (c.texts.ensures.gathers _ _ _ (c.new-line.ensures.begun _ _)) in
+    let told = c.text-2.ensures.gathers _ _ _ (c.then_lines.ensures _ _ _ remark) in
     written_same (c.end.ensures.writes _ _ _ told) (pieces _ _)
