@@ -12,3 +12,4 @@ pub mod Lists
 pub mod RightAnswers
 pub mod Running
 pub mod WorkedEndings
+pub mod WordForms

@@ -144,10 +144,10 @@ fn ending_if(
     ensures { IfOk result (λ e. e ≡ ending_if_of table.now graph.now rows.now group.now verdict) }
 {
     match verdict {
-        Verdict::Same => {
-            let ending = group_ending(alloc, graph, table, rows, without, group)?;
-            Ok(Some(ending))
-        }
+        Verdict::Same => match group_ending(alloc, graph, table, rows, without, group) {
+            Ok(ending) => Ok(Some(ending)),
+            Err(Memory) => Err(Memory),
+        },
         Verdict::Wrong {
             cycle: _,
             output: _,
@@ -189,7 +189,10 @@ pub fn endings_of(
     ensures each { IfOk result (λ es. length es ≡ length script.now) }
     ensures sum { IfOk result (λ es. ended_count 0 es + ended_count 1 es + ended_count 2 es ≡ (totals_of verdicts.now).same) }
 {
-    let without = words_left(alloc, graph, table, rows)?;
+    let without = match words_left(alloc, graph, table, rows) {
+        Ok(without) => without,
+        Err(Memory) => return Err(Memory),
+    };
     let mut endings = Endings::new(alloc);
     'groups: for i in 0..script.len() {
         let verdict = verdicts.at(i);
@@ -223,8 +226,13 @@ pub fn endings_of_parts(
     let mut endings = EndingsOfParts::new(alloc);
     'parts: for k in 0..parts.len() {
         let part = parts.at(k);
-        let own = endings_of(alloc, graph, table, rows, &part.script, &part.verdicts)?;
-        endings.push(own)?;
+        match endings_of(alloc, graph, table, rows, &part.script, &part.verdicts) {
+            Ok(own) => match endings.push(own) {
+                Ok(()) => {}
+                Err(Memory) => return Err(Memory),
+            },
+            Err(Memory) => return Err(Memory),
+        }
     }
     Ok(endings)
 }

@@ -70,7 +70,8 @@ pub fn group_ending(
     requires without { without.now ≡ held_at_end table.now graph.now (acts_of []) rows.now }
     ensures { IfOk result (λ e. e ≡ ending_of table.now graph.now group.now rows.now) }
 {
-    let work = run_group(alloc, graph, table, rows, group)?;
-    let differs = words_differ(&work.held, without);
-    Ok(ending_by(work.reached, differs))
+    match run_group(alloc, graph, table, rows, group) {
+        Ok(work) => Ok(ending_by(work.reached, words_differ(&work.held, without))),
+        Err(Memory) => Err(Memory),
+    }
 }

@@ -193,9 +193,13 @@ pub(crate) fn run_group(
     ensures held { IfOk result (λ w. w.held.items ≡ held_at_end table.now graph.now (acts_of group.now) rows.now) }
     ensures reached { IfOk result (λ w. w.reached ≡ is_reached group.now 0 (run_answers table.now graph.now (acts_of group.now) rows.now)) }
 {
-    let mut work = Work::new(alloc, graph, table)?;
-    run(graph, table, rows, group, &mut work);
-    Ok(work)
+    match Work::new(alloc, graph, table) {
+        Ok(mut work) => {
+            run(graph, table, rows, group, &mut work);
+            Ok(work)
+        }
+        Err(Memory) => Err(Memory),
+    }
 }
 
 /// The words of the cells at the end of the run over rows without faults: behind the last cycle in which no operation stops. `Memory` where there
@@ -211,6 +215,8 @@ pub fn words_left(
     requires few { length rows.now ≤ most_cycles }
     ensures { IfOk result (λ words. words.items ≡ held_at_end table.now graph.now (acts_of []) rows.now) }
 {
-    let work = run_group(alloc, graph, table, rows, &Group::new(alloc))?;
-    Ok(work.into_held())
+    match run_group(alloc, graph, table, rows, &Group::new(alloc)) {
+        Ok(work) => Ok(work.into_held()),
+        Err(Memory) => Err(Memory),
+    }
 }

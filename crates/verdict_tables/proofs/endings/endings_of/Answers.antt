@@ -1,5 +1,4 @@
 use Rattle.std.proofs.Common.{◌+◌, ◌++◌, List, Option, sym, ap, ◌∙◌, arith, drop, length}
-use Rattle.std.proofs.lemmas.Result.{IfOk-from_err}
 use Rattle.verdict_tables.specs.declared.endless.ending.SameEnding.{SameEnding}
 use Rattle.verdict_tables.specs.SameEndings.{endings_for, ended_count}
 use Rattle.verdict_tables.proofs.Apart.{one_ended, none_ended, each_ended, three_are_all}
@@ -7,15 +6,6 @@ use Rattle.verdict_tables.proofs.endings.endings_of.Goals as goal
 
 pub words_left-requires : goal.words_left-requires
 words_left-requires c = record { table = c.requires.table; width = c.requires.width; few = c.requires.few }
-
-pub returns-in_err-without : goal.returns-in_err-without
-returns-in_err-without c =
-    let failed = c.from_residual.ensures.0 in
-    record {
-      endings = IfOk-from_err c.from_residual.result _ failed;
-      each = IfOk-from_err c.from_residual.result _ failed;
-      sum = IfOk-from_err c.from_residual.result _ failed;
-    }
 
 pub ending_if-requires-clause-table : goal.ending_if-requires-clause-table
 ending_if-requires-clause-table c = c.requires.table
@@ -27,13 +17,16 @@ pub ending_if-requires-clause-few : goal.ending_if-requires-clause-few
 ending_if-requires-clause-few c = c.requires.few
 
 pub ending_if-requires-clause-without : goal.ending_if-requires-clause-without
-ending_if-requires-clause-without c = c.deref.ensures.value ∙ c.in_ok-without.ensures
+ending_if-requires-clause-without c = c.deref.ensures.value ∙ c.in-Ok.ensures
 
 pub returns-in-Err-push : goal.returns-in-Err-push
 returns-in-Err-push c = record { endings = tt; each = tt; sum = tt }
 
 pub returns-in-Err : goal.returns-in-Err
 returns-in-Err c = record { endings = tt; each = tt; sum = tt }
+
+pub returns-in-Err-ending_if : goal.returns-in-Err-ending_if
+returns-in-Err-ending_if c = record { endings = tt; each = tt; sum = tt }
 
 pub groups-preserved : goal.groups-preserved
 groups-preserved c =
@@ -44,8 +37,8 @@ groups-preserved c =
     let vs = c.args.verdicts.now in
     let i = c.groups.i in
     c.groups.invariant
-    ∙ (one_ended t g rows groups vs i c.at-group.result.now c.at-verdict.result c.in-Ok.ending c.groups.endings c.at-group.ensures
-    c.at-verdict.ensures c.in-Ok.ensures
+    ∙ (one_ended t g rows groups vs i c.at-group.result.now c.at-verdict.result c.in-Ok-ending_if.ending c.groups.endings c.at-group.ensures
+    c.at-verdict.ensures c.in-Ok-ending_if.ensures
     ∙ ap (λ (es : List (Option SameEnding)). es ++ endings_for t g rows (drop (i + 1) groups) (drop (i + 1) vs)) (sym c.in-Ok-push.ensures.ok))
 
 pub returns : goal.returns

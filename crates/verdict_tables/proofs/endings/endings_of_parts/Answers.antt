@@ -17,8 +17,8 @@ parts-preserved c =
     let rows = c.args.rows.now in
     let parts = c.args.parts.now in
     c.parts.invariant
-    ∙ (one_mapped (endings_in t g rows) parts c.parts.k c.at-part.result.now c.in_ok-own.own c.parts.endings c.at-part.ensures c.in_ok-own.ensures.endings
-    ∙ ap (λ (es : List (List (Option SameEnding))). es ++ endings_over t g rows (drop (c.parts.k + 1) parts)) (sym c.in_ok-push.ensures.ok))
+    ∙ (one_mapped (endings_in t g rows) parts c.parts.k c.at-part.result.now c.in-Ok.own c.parts.endings c.at-part.ensures c.in-Ok.ensures.endings
+    ∙ ap (λ (es : List (List (Option SameEnding))). es ++ endings_over t g rows (drop (c.parts.k + 1) parts)) (sym c.in-Ok-push.ensures.ok))
 
 pub returns : goal.returns
 returns c =

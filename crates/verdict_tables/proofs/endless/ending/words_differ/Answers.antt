@@ -10,7 +10,8 @@ words-preserved c =
     let other : SFits w128 c.get-in-words.result = search rules in
     let same = same_word c.get.result c.get-in-words.result one other c.if-get.false in
     c.words.invariant
-    ∙ differ_behind c.args.words.now c.args.others.now c.words.i _ _ (omega (arith, c.words-test.true, c.min-i-end.ensures)) c.index-words-i.is
+    ∙ differ_behind c.args.words.now c.args.others.now c.words.i c.index-words-i.result c.index-others-i.result
+    (omega (arith, c.words-test.true, c.min-i-end.ensures)) c.index-words-i.is
     c.index-others-i.is (sym c.get.ensures.value ∙ same ∙ c.get-in-words.ensures.value)
 
 pub returns-then-get : goal.returns-then-get
@@ -18,7 +19,8 @@ returns-then-get c =
     let unlike : c.index-words-i.result ≡ c.index-others-i.result → ⊥ =
     λ e. c.if-get.true (ap (of_z w128) (c.get.ensures.value ∙ (e ∙ sym c.get-in-words.ensures.value))) in
     sym (c.words.invariant
-    ∙ differ_here c.args.words.now c.args.others.now c.words.i _ _ (omega (arith, c.words-test.true, c.min-i-end.ensures)) c.index-words-i.is
+    ∙ differ_here c.args.words.now c.args.others.now c.words.i c.index-words-i.result c.index-others-i.result
+    (omega (arith, c.words-test.true, c.min-i-end.ensures)) c.index-words-i.is
     c.index-others-i.is unlike)
 
 pub returns : goal.returns
