@@ -1,5 +1,5 @@
 -- Bits: an integer that is passed on in its bits is the same integer.
-use Rattle.std.proofs.Common.{◌≡◌, ℤ, pos, negsuc, neg_ℤ, ◌≤ℤ◌, ◌<ℤ◌, ◌+ℤ◌, ◌-ℤ◌, Bool, true, sym, ap, subst, ◌∙◌, to_z, of_z, SFits, w64, arith}
+use Rattle.std.proofs.Common.{◌≡◌, ℤ, pos, negsuc, neg_ℤ, ◌≤ℤ◌, ◌<ℤ◌, ◌+ℤ◌, ◌-ℤ◌, Bool, true, sym, ap, subst, ◌∙◌, to_z, of_z, SFits, w64, arith, rules}
 use Rattle.std.specs.Int.{int_max, int_min}
 use Rattle.std.specs.Prelude.{int_div, int_le}
 use Rattle.std.proofs.lemmas.Int.{to_z-of_z, ints, clamps}
@@ -47,6 +47,35 @@ widened (negsuc n) f = record { sfits = omega (arith, ints) }
 
 pub wide_is : (z : ℤ) → SFits w64 z → wide z ≡ z
 wide_is z f = ap (λ x. to_z w128 (of_z w128 x)) (to_z-of_z w64 z f) ∙ to_z-of_z w128 z (widened z f)
+
+-- such a cast, and a sum and a difference of two, fit
+pub cast_fits : (z : ℤ) → SFits w64 z → SFits w128 (to_z w64 (of_z w64 z))
+cast_fits z f = subst (SFits w128) (sym (to_z-of_z w64 z f)) (widened z f)
+
+fit_by : (f : ℤ → ℤ → ℤ) (x y : ℤ) → SFits w64 x → SFits w64 y → SFits w128 (f x y) → SFits w128 (f (wide x) (wide y))
+fit_by f x y p q h =
+    subst (λ z. SFits w128 (f z (wide y))) (sym (wide_is x p)) (subst (λ z. SFits w128 (f x z)) (sym (wide_is y q)) h)
+
+added : (x y : ℤ) → SFits w64 x → SFits w64 y → SFits w128 (x +ℤ y)
+added x y p q = search (ints, rules)
+
+taken_away : (x y : ℤ) → SFits w64 x → SFits w64 y → SFits w128 (x -ℤ y)
+taken_away x y p q = search (ints, rules)
+
+pub sum_fits : (x y : ℤ) → SFits w64 x → SFits w64 y → SFits w128 (wide x +ℤ wide y)
+sum_fits x y p q = fit_by (λ a b. a +ℤ b) x y p q (added x y p q)
+
+pub difference_fits : (x y : ℤ) → SFits w64 x → SFits w64 y → SFits w128 (wide x -ℤ wide y)
+difference_fits x y p q = fit_by (λ a b. a -ℤ b) x y p q (taken_away x y p q)
+
+one_fits : SFits w64 (pos 1)
+one_fits = record { sfits = omega (arith, ints) }
+
+pub more_fits : (x : ℤ) → SFits w64 x → SFits w128 (wide x +ℤ pos 1)
+more_fits x p = subst (λ z. SFits w128 (z +ℤ pos 1)) (sym (wide_is x p)) (added x (pos 1) p one_fits)
+
+pub less_fits : (x : ℤ) → SFits w64 x → SFits w128 (wide x -ℤ pos 1)
+less_fits x p = subst (λ z. SFits w128 (z -ℤ pos 1)) (sym (wide_is x p)) (taken_away x (pos 1) p one_fits)
 
 pub wide_low : (z v : ℤ) → SFits w64 z → z ≤ℤ v → wide z ≤ℤ v
 wide_low z v f h = subst (λ x. x ≤ℤ v) (sym (wide_is z f)) h

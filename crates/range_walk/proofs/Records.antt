@@ -1,13 +1,14 @@
 -- Records: what a loop over the columns and over the records of a table keeps.
 use Rattle.std.specs.Prelude.{IfSome}
-use Rattle.std.proofs.Common.{◌≡◌, ℕ, zero, suc, ◌+◌, ◌-◌, ◌<◌, ◌≤◌, true, false, List, [], ◌∷◌, ◌++◌, length, map, drop, slice_get, Option, Some, None, Ok}
-use Rattle.std.proofs.Common.{Result, Err, slice_set, length-set, refl, sym, ap, subst, ◌∙◌, append_assoc, arith}
+use Rattle.std.proofs.Common.{◌≡◌, ◌≢◌, ℕ, zero, suc, ◌+◌, ◌-◌, ◌<◌, ◌≤◌, true, false, List, [], ◌∷◌, ◌++◌, length, map, drop, slice_get}
+use Rattle.std.proofs.Common.{Option, Some, None, Ok, Result, Err, slice_set, length-set, refl, sym, ap, subst, ◌∙◌, append_assoc, arith}
 use Rattle.vcp_base.specs.declared.columns.Column.{Column}
 use Rattle.input_rows.specs.declared.fault.RowFault.{RowFault}
 use Rattle.input_rows.specs.declared.fault.RowFault.TheVariants as fault
 use Rattle.range_walk.specs.declared.range.Range.{Range}
 use Rattle.input_rows.specs.RecordsLeft.{Takes}
-use Rattle.range_walk.specs.RangeTable.{cells_of, RangeCells, RangesSoFar, place_of, range_in, with_range, with_place, with_cells, after_record, ranges_from}
+use Rattle.range_walk.specs.RangeTable.{cells_of, RangeCells, RangesSoFar, place_of, end_of, range_between, range_in, with_range, with_place, with_cells}
+use Rattle.range_walk.specs.RangeTable.{after_record, ranges_from}
 
 -- ---- lists
 
@@ -27,6 +28,48 @@ pub one_more : {X Y : Type 0} (f : X → Y) (xs : List X) (made : List Y) (j : �
     → map f xs ≡ (made ++ f x ∷ []) ++ map f (drop (j + 1) xs)
 one_more f xs made j x there e =
     e ∙ (ap (λ rest. made ++ map f rest) (at_drop xs j x there) ∙ sym (append_assoc made (f x ∷ []) (map f (drop (j + 1) xs))))
+
+-- ---- cells
+
+-- a record of three cells, and one of more or fewer
+pub three : (fields : List (List ℕ)) (a b c : List ℕ) → length fields ≡ 3 → slice_get fields 0 ≡ Some a → slice_get fields 1 ≡ Some b
+    → slice_get fields 2 ≡ Some c → cells_of fields ≡ Some (record { name = a; least = b; greatest = c })
+three [] a b c many first second third = absurd cc
+three (x ∷ []) a b c many first second third = absurd cc
+three (x ∷ y ∷ []) a b c many first second third = absurd cc
+three (x ∷ y ∷ z ∷ []) a b c many first second third = cc
+three (x ∷ y ∷ z ∷ w ∷ more) a b c many first second third = absurd (omega (arith, many))
+
+pub not_three : (fields : List (List ℕ)) → length fields ≢ 3 → cells_of fields ≡ None
+not_three [] many = refl
+not_three (x ∷ []) many = refl
+not_three (x ∷ y ∷ []) many = refl
+not_three (x ∷ y ∷ z ∷ []) many = absurd (many refl)
+not_three (x ∷ y ∷ z ∷ w ∷ more) many = refl
+
+-- what is told with a record, by the place that its name has
+pub told_by : (columns : List Column) (now : RangesSoFar) (number : ℕ) (fields : List (List ℕ)) (cells : RangeCells) (place : Option ℕ)
+    → cells_of fields ≡ Some cells → place ≡ place_of columns now.free cells.name
+    → with_place columns now number cells place ≡ with_cells columns now number (cells_of fields)
+told_by columns now number fields cells place are is =
+    ap (with_place columns now number cells) is ∙ sym (ap (with_cells columns now number) are)
+
+-- the same where its name has none
+pub not_named : (columns : List Column) (now : RangesSoFar) (number : ℕ) (fields : List (List ℕ)) (a : List ℕ) → length fields ≡ 3
+    → slice_get fields 0 ≡ Some a → None ≡ place_of columns now.free a → Err (fault.Cell number 1) ≡ with_cells columns now number (cells_of fields)
+not_named columns now number [] a many first none = absurd cc
+not_named columns now number (x ∷ []) a many first none = absurd (omega (arith, many))
+not_named columns now number (x ∷ y ∷ []) a many first none = absurd (omega (arith, many))
+not_named columns now number (x ∷ y ∷ z ∷ []) a many first none =
+    let same : a ≡ x = cc in
+    told_by columns now number (x ∷ y ∷ z ∷ []) (record { name = x; least = y; greatest = z }) None refl (none ∙ ap (place_of columns now.free) same)
+not_named columns now number (x ∷ y ∷ z ∷ w ∷ more) a many first none = absurd (omega (arith, many))
+
+-- the same at a place, by the range that its ends give
+pub ranged_by : (columns : List Column) (now : RangesSoFar) (number : ℕ) (cells : RangeCells) (i : ℕ) (column : Column) (r : Result Range RowFault)
+    → slice_get columns i ≡ Some column → r ≡ range_between number (end_of column.ty cells.least) (end_of column.ty cells.greatest)
+    → with_range now i r ≡ with_place columns now number cells (Some i)
+ranged_by columns now number cells i column r there is = ap (with_range now i) (is ∙ sym (ap (λ o. range_in number o cells) there))
 
 -- ---- records
 

@@ -1,14 +1,14 @@
 //! What records have said so far.
 
-ghost use Rattle.std.specs.Prelude.{◌≡◌, ◌<◌, length, slice_get, IfOk, IfSome};
+ghost use Rattle.std.specs.Prelude.{◌≡◌, ◌<◌, length, map, slice_get, IfOk, IfSome};
 ghost use Rattle.csv.specs.Records.{fields_of};
-ghost use Rattle.range_walk.specs.RangeTable.{after, at_first, cells_of, is_free_named as is_free_named_of, place_below};
-ghost use Rattle.range_walk.specs.RangeTable.{range_of_type as range_of, with_place, with_cells};
+ghost use Rattle.range_walk.specs.RangeTable.{after, at_first, cells_of, is_free_named as is_free_named_of, place_below, place_of as place_of_name};
+ghost use Rattle.range_walk.specs.RangeTable.{range_of_type as range_of, with_cells};
 
 use crate::Range;
-use crate::assumed::cells::{Cells, three_cells};
+use crate::assumed::cells::{range_between, word_of};
 use csv::ByteRecord;
-use input_rows::RowFault;
+use input_rows::{RowFault, field};
 use std::alloc::Global;
 use std::marker::Model;
 use vcp_base::{Columns, Memory, Ty, greatest, is_same_name, least};
@@ -55,7 +55,7 @@ fn is_free_named(columns: &Columns, free: &[bool], i: usize, name: &[u8]) -> boo
 }
 
 /// The place of such an input.
-pub(crate) fn place_named(columns: &Columns, free: &[bool], name: &[u8]) -> Option<usize>
+fn place_named(columns: &Columns, free: &[bool], name: &[u8]) -> Option<usize>
     requires { length free.now ≡ length columns.now }
     ensures place { result ≡ place_below columns.now free.now name.now (length columns.now) }
     ensures within { IfSome result (λ i. i < length columns.now) }
@@ -69,16 +69,34 @@ pub(crate) fn place_named(columns: &Columns, free: &[bool], name: &[u8]) -> Opti
     found
 }
 
+/// The place of the input that a cell names, if no record has named it.
+fn place_of(columns: &Columns, free: &[bool], cell: &[u8]) -> Option<usize>
+    requires { length free.now ≡ length columns.now }
+    ensures place { result ≡ place_of_name columns.now free.now cell.now }
+    ensures within { IfSome result (λ i. i < length columns.now) }
+{
+    let name = word_of(cell)?;
+    place_named(columns, free, name)
+}
+
+/// All values of the type of each input.
+fn typed_ranges(alloc: Global, columns: &Columns) -> Result<Vec<Range>, Memory>
+    ensures { IfOk result (λ ranges. ranges.items ≡ map (λ c. range_of c.ty) columns.now) }
+{
+    let mut ranges = Vec::new(alloc);
+    'columns: for i in 0..columns.len() {
+        let column = columns.at(i);
+        ranges.push(range_of_type(column.ty))?;
+    }
+    Ok(ranges)
+}
+
 impl SoFar {
     /// Before the first record: each input has all values of its type.
     pub(crate) fn new(alloc: Global, columns: &Columns) -> Result<SoFar, Memory>
         ensures first { IfOk result (λ s. s ≡ at_first columns.now) }
     {
-        let mut ranges = Vec::new(alloc);
-        'columns: for i in 0..columns.len() {
-            let column = columns.at(i);
-            ranges.push(range_of_type(column.ty))?;
-        }
+        let ranges = typed_ranges(alloc, columns)?;
         let free = vec![in alloc; true; columns.len()]?;
         Ok(SoFar { ranges, free })
     }
@@ -89,33 +107,6 @@ impl SoFar {
     {
         let SoFar { ranges, free: _ } = self;
         ranges
-    }
-
-    /// Takes the range that cells give to the input at a place, where there is one.
-    fn take(
-        &mut self,
-        columns: &Columns,
-        number: u32,
-        cells: &Cells<'_>,
-        place: Option<usize>,
-    ) -> Result<(), RowFault>
-        requires place { IfSome place (λ i. i < length columns.now) }
-        requires ranges { length self.old.ranges ≡ length columns.now }
-        requires free { length self.old.free ≡ length columns.now }
-        ensures { after result self.new ≡ with_place columns.now self.old number cells.now place }
-    {
-        let i = match place {
-            Some(i) => i,
-            None => {
-                return Err(RowFault::Cell {
-                    row: number,
-                    column: 1,
-                });
-            }
-        };
-        self.ranges[i] = cells.range(number, columns.at(i).ty)?;
-        self.free[i] = false;
-        Ok(())
     }
 
     /// Takes the record of this number.
@@ -129,12 +120,23 @@ impl SoFar {
         requires free { length self.old.free ≡ length columns.now }
         ensures { after result self.new ≡ with_cells columns.now self.old number (cells_of (fields_of cells.now)) }
     {
-        match three_cells(cells) {
-            Some(cells) => {
-                let place = cells.place(columns, &self.free);
-                self.take(columns, number, &cells, place)
+        if cells.len() != 3 {
+            return Err(RowFault::Width { row: number });
+        }
+        let Some(i) = place_of(columns, &self.free, field(cells, 0)) else {
+            return Err(RowFault::Cell {
+                row: number,
+                column: 1,
+            });
+        };
+        let ty = columns.at(i).ty;
+        match range_between(number, ty, field(cells, 1), field(cells, 2)) {
+            Ok(range) => {
+                self.ranges[i] = range;
+                self.free[i] = false;
+                Ok(())
             }
-            None => Err(RowFault::Width { row: number }),
+            Err(why) => Err(why),
         }
     }
 }

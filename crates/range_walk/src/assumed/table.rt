@@ -1,27 +1,16 @@
 //! The ranges that a table tells.
 
 ghost use Rattle.std.specs.Prelude.{◌≡◌, ◌≢◌, ◌≤◌, Ok, Err, length, IfOk, IfErr, IfSome};
-ghost use Rattle.csv.specs.Records.{fields_of};
 ghost use Rattle.vcp_base.specs.Limits.{most_names};
-ghost use Rattle.range_walk.specs.RangeTable.{at_first, cells_of, is_head as is_head_of, ranges_from, ranges_of_records, ranges_of_table as ranges_of};
+ghost use Rattle.range_walk.specs.RangeTable.{at_first, ranges_from, ranges_of_records, ranges_of_table as ranges_of};
 
 use crate::Range;
-use crate::assumed::cells::three_cells;
+use crate::assumed::cells::is_head;
 use crate::assumed::so_far::SoFar;
 use csv::ByteRecord;
 use input_rows::{Records, RowFault};
 use std::alloc::Global;
-use vcp_base::Columns;
-
-/// Whether a record is the head.
-fn is_head(cells: &ByteRecord) -> bool
-    ensures { result ≡ is_head_of (cells_of (fields_of cells.now)) }
-{
-    match three_cells(cells) {
-        Some(cells) => cells.are_head(),
-        None => false,
-    }
-}
+use vcp_base::{Columns, Memory};
 
 /// Takes the records behind the head.
 fn take_ranges(
@@ -38,22 +27,18 @@ fn take_ranges(
         ranges_from columns.now (at_first columns.now) (length columns.now) 2 left ≡ Err f)) }
 {
     let count = columns.len() as u32;
-    'records: for k in 0..count {
-        let found = records.next(cells)?;
-        if !found {
-            return Ok(());
+    let mut k = 0;
+    'records: while records.next(cells)? {
+        if k == count {
+            return Err(RowFault::Cell {
+                row: k + 2,
+                column: 1,
+            });
         }
         match told.take_record(columns, k + 2, cells) {
-            Ok(()) => {}
+            Ok(()) => k += 1,
             Err(why) => return Err(why),
         }
-    }
-    let more = records.next(cells)?;
-    if more {
-        return Err(RowFault::Cell {
-            row: count + 2,
-            column: 1,
-        });
     }
     Ok(())
 }
@@ -70,11 +55,15 @@ fn take_records(
     ensures ranges { IfOk result (λ _. IfSome records.old.left (λ left. ranges_of_records columns.now left ≡ Ok told.new.ranges)) }
     ensures refusal { IfErr result (λ f. f ≢ RowFault.Memory → IfSome records.old.left (λ left. ranges_of_records columns.now left ≡ Err f)) }
 {
-    let found = records.next(cells)?;
-    if found && is_head(cells) {
-        take_ranges(columns, records, cells, told)
-    } else {
-        Err(RowFault::Header)
+    match records.next(cells) {
+        Ok(found) => {
+            if found && is_head(cells) {
+                take_ranges(columns, records, cells, told)
+            } else {
+                Err(RowFault::Header)
+            }
+        }
+        Err(Memory) => Err(RowFault::Memory),
     }
 }
 

@@ -1,28 +1,7 @@
-use Rattle.std.proofs.Common.{rules, true, length, replicate, refl, arith, ◌≡◌, ◌+◌, ◌∷◌, [], ◌++◌, map, drop, ap, sym, subst, ◌∙◌}
-use Rattle.std.proofs.lemmas.List.{append-nil}
-use Rattle.std.proofs.Math.Seq.{drop-length}
-use Rattle.vcp_base.specs.declared.columns.Column.{Column}
-use Rattle.range_walk.specs.declared.range.Range.{Range}
-use Rattle.range_walk.specs.RangeTable.{range_of_type}
-use Rattle.range_walk.proofs.Records.{one_more}
+use Rattle.std.proofs.Common.{rules, true, length, replicate, refl, ◌≡◌}
 use Rattle.range_walk.proofs.assumed.so_far.SoFar.new.Goals as goal
-
-pub columns-preserved : goal.columns-preserved
-columns-preserved c =
-    let columns = c.args.columns.now in
-    let made = c.columns.ranges.items in
-    let i = c.columns.i in
-    let f : Column → Range = λ column. range_of_type column.ty in
-    let pushed = c.in_ok-push.ensures.items ∙ ap (λ r. made ++ r ∷ []) c.range_of_type.ensures in
-    subst (λ rs. map f columns ≡ rs ++ map f (drop (i + 1) columns)) (sym pushed)
-    (one_more f columns made i c.at-column.result.now c.at-column.ensures c.columns.invariant)
 
 pub returns : goal.returns
 returns c =
-    let columns = c.args.columns.now in
-    let f : Column → Range = λ column. range_of_type column.ty in
-    let all : c.columns.i ≡ length columns = omega (arith, c.columns-test.false, c.columns.auto.i-end, c.len-i-end.ensures) in
-    let ranges : c.columns.ranges.items ≡ map f columns =
-    sym (c.columns.invariant ∙ ap (λ rest. c.columns.ranges.items ++ map f rest) (ap (λ n. drop n columns) all ∙ drop-length columns) ∙ append-nil c.columns.ranges.items) in
-    let free : c.in_ok-free.free.items ≡ replicate (length columns) true = search rules in
-    record { first = rw (ranges, free) refl }
+    let free : c.in_ok-free.free.items ≡ replicate (length c.args.columns.now) true = search rules in
+    record { first = rw (c.in_ok-ranges.ensures, free) refl }
