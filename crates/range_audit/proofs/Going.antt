@@ -9,6 +9,10 @@ use Rattle.range_audit.specs.RangeText.{spaced}
 pub unmoved : {a : Option (List ℕ)} {f : ℕ} {l : Gathered} → Gathers a a f f l l []
 unmoved start before text is = rw (append-nil text) is
 
+-- the same piece, written otherwise
+pub same : {a b : Option (List ℕ)} {f g : ℕ} {l m : Gathered} {s t : List ℕ} → Gathers a b f g l m s → t ≡ s → Gathers a b f g l m t
+same gathers e start before text is = rw e (gathers start before text is)
+
 -- a name that is there
 pub spaced_some : (name : List ℕ) → length name ≢ 0 → spaced name ≡ codes " " ++ name
 spaced_some name some = ap (λ b. cond b [] (codes " " ++ name)) (false_from_ne_true (length name == 0) (λ e. some (eqb-true (length name) 0 e)))

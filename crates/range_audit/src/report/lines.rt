@@ -1,9 +1,9 @@
 //! The lines of an operation.
 
-ghost use Rattle.std.specs.Prelude.{◌≡◌, [], Some, cond, slice_get, unsigned_abs};
+ghost use Rattle.std.specs.Prelude.{◌≡◌, [], ◌++◌, Some, codes, cond, slice_get};
 ghost use Rattle.run_report.specs.Variables.{variable_of as name_of_variable};
 ghost use Rattle.vcp_outside.specs.Gathering.{GathersTo};
-ghost use Rattle.range_audit.specs.RangeText.{ends_text, range_text, there_text, spaced, short_text, operation_name, read_text, operand_text};
+ghost use Rattle.range_audit.specs.RangeText.{range_text, there_text, spaced, short_text, operation_name, operand_text};
 ghost use Rattle.range_audit.specs.RangeText.{operands_text, named_text, known_text};
 
 use op_graph::{Graph, Op};
@@ -12,23 +12,15 @@ use run_report::{then_source, variable_name};
 use vcp_base::{Kind, StopKind, kind_name, operands, stop_name};
 use vcp_outside::{Line, Sink};
 
-/// Goes on with the ends of a range.
-fn then_ends<O: Sink>(line: &mut Line, out: &mut O, range: Range)
-    ensures { GathersTo (O.seen out.old) (O.seen out.new) line.old line.new (ends_text range) }
-{
-    line.value(out, range.low);
-    line.text(out, b"..");
-    line.value(out, range.high);
-}
-
-/// Goes on with a range.
+/// Goes on with a range behind a space.
 fn then_range<O: Sink>(line: &mut Line, out: &mut O, range: Range)
-    ensures { GathersTo (O.seen out.old) (O.seen out.new) line.old line.new (range_text range) }
+    ensures { GathersTo (O.seen out.old) (O.seen out.new) line.old line.new (codes " " ++ range_text range) }
 {
     if range.is_empty() {
-        line.text(out, b"none");
+        line.text(out, b" none");
     } else {
-        then_ends(line, out, range);
+        line.signed(out, b" ", range.low);
+        line.signed(out, b"..", range.high);
     }
 }
 
@@ -38,7 +30,6 @@ pub(crate) fn then_there<O: Sink>(line: &mut Line, out: &mut O, known: &[Range],
 {
     let place = n as usize;
     if place < known.len() {
-        line.text(out, b" ");
         then_range(line, out, known[place]);
     }
 }
@@ -48,33 +39,23 @@ fn then_spaced<O: Sink>(line: &mut Line, out: &mut O, name: &[u8])
     ensures { GathersTo (O.seen out.old) (O.seen out.new) line.old line.new (spaced name.now) }
 {
     if name.len() != 0 {
-        line.text(out, b" ");
-        line.text(out, name);
+        line.texts(out, b" ", name);
     }
-}
-
-/// The number of an operation's own input, cell or output.
-fn own_number(op: &Op) -> u64
-    ensures { result ≡ unsigned_abs op.now.imm }
-{
-    op.imm.unsigned_abs()
 }
 
 /// The name of the variable that an operation reads or writes; nothing where it does neither.
 fn variable_of<'a>(graph: &'a Graph, op: &Op) -> &'a [u8]
     ensures { result.now ≡ name_of_variable graph.now op.now }
 {
-    let own = own_number(op);
-    variable_name(graph, op.kind, own)
+    variable_name(graph, op.kind, op.imm.unsigned_abs())
 }
 
-/// Goes on with the number, the kind and the variable of an operation.
-fn then_short<O: Sink>(line: &mut Line, out: &mut O, graph: &Graph, i: u32, op: &Op)
-    ensures { GathersTo (O.seen out.old) (O.seen out.new) line.old line.new (short_text graph.now i op.now) }
+/// Goes on with a word and the number, the kind and the variable of an operation.
+fn then_short<O: Sink>(line: &mut Line, out: &mut O, word: &[u8], graph: &Graph, i: u32, op: &Op)
+    ensures { GathersTo (O.seen out.old) (O.seen out.new) line.old line.new (word.now ++ short_text graph.now i op.now) }
 {
-    line.count(out, i as u64);
-    line.text(out, b" ");
-    line.text(out, kind_name(op.kind));
+    line.numbered(out, word, i as u64);
+    line.texts(out, b" ", kind_name(op.kind));
     then_spaced(line, out, variable_of(graph, op));
 }
 
@@ -83,31 +64,11 @@ fn then_operation_name<O: Sink>(line: &mut Line, out: &mut O, graph: &Graph, i: 
     requires { slice_get graph.now.operations i ≡ Some op.now }
     ensures { GathersTo (O.seen out.old) (O.seen out.new) line.old line.new (operation_name graph.now i op.now) }
 {
-    line.text(out, b"operation ");
-    then_short(line, out, graph, i, op);
+    then_short(line, out, b"operation ", graph, i, op);
     then_source(line, out, graph, i);
 }
 
-/// Goes on with a word, operation `n` in short, and its range, where it is there.
-fn then_read<O: Sink>(
-    line: &mut Line,
-    out: &mut O,
-    graph: &Graph,
-    known: &[Range],
-    n: u32,
-    word: &[u8],
-)
-    ensures { GathersTo (O.seen out.old) (O.seen out.new) line.old line.new (read_text graph.now known.now n word.now (slice_get graph.now.operations n)) }
-{
-    if n < graph.len() {
-        let op = graph.operation(n);
-        line.text(out, word);
-        then_short(line, out, graph, n, &op);
-        then_there(line, out, known, n);
-    }
-}
-
-/// The same of operand `j`, which is operation `n`, where the kind has one.
+/// Goes on with a word, operation `n` in short, and its range, where that operation is there and the kind has an operand `j`, which it is.
 fn then_operand<O: Sink>(
     line: &mut Line,
     out: &mut O,
@@ -120,8 +81,13 @@ fn then_operand<O: Sink>(
 )
     ensures { GathersTo (O.seen out.old) (O.seen out.new) line.old line.new (operand_text graph.now known.now kind j n word.now) }
 {
-    if j < operands(kind) {
-        then_read(line, out, graph, known, n, word);
+    if j >= operands(kind) {
+        return;
+    }
+    if n < graph.len() {
+        let op = graph.operation(n);
+        then_short(line, out, word, graph, n, &op);
+        then_there(line, out, known, n);
     }
 }
 
@@ -151,8 +117,7 @@ pub(crate) fn then_named<O: Sink>(
         return;
     }
     then_operation_name(line, out, graph, i, op);
-    line.text(out, b" ");
-    line.text(out, stop_name(why));
+    line.texts(out, b" ", stop_name(why));
     then_operands(line, out, graph, known, op);
     line.text(out, b"\n");
 }

@@ -24,8 +24,7 @@ fn then_variable<O: Sink>(
     ensures { GathersTo (O.seen out.old) (O.seen out.new) line.old line.new (variable_text known.now name.now ty n) }
 {
     line.text(out, name);
-    line.text(out, b" ");
-    line.text(out, ty_name(ty));
+    line.texts(out, b" ", ty_name(ty));
     then_there(line, out, known, n);
     line.text(out, b"\n");
 }

@@ -80,10 +80,8 @@ fn then_counts<O: Sink>(line: &mut Line, out: &mut O, graph: &Graph, ranges: &Ra
     ensures { GathersTo (O.seen out.old) (O.seen out.new) line.old line.new
         (counts_text (named_below ranges.now.stops (length graph.now.operations)) (able_below graph.now (length graph.now.operations))) }
 {
-    line.text(out, b"may stop ");
-    line.count(out, count_named(graph, ranges) as u64);
-    line.text(out, b" of ");
-    line.count(out, count_able(graph) as u64);
+    line.numbered(out, b"may stop ", count_named(graph, ranges) as u64);
+    line.numbered(out, b" of ", count_able(graph) as u64);
 }
 
 /// Writes a line for each way in which an operation may stop, in order, and before these, where `all` are wanted, one with the range of

@@ -1,5 +1,4 @@
 use Rattle.std.proofs.Common.{inl, inr, length, sym, ◌∙◌}
-use Rattle.range_audit.proofs.Steps.{and_so}
 use Rattle.range_audit.proofs.naming.with_box.Goals as goal
 
 pub found_by-requires : goal.found_by-requires
@@ -22,7 +21,8 @@ returns-then-not-any c = record {
 }
 
 pub returns : goal.returns
-returns c = and_so c.found_by.result c.found_by.ensures (λ found more.
+returns c =
+    let more = c.in_ok-found.ensures {u = tt} in
     let here = c.in_ok-here.ensures.found in
     record {
       known = more.known ∙ c.requires.known;
@@ -34,4 +34,4 @@ returns c = and_so c.found_by.result c.found_by.ensures (λ found more.
         names = λ held row vs op why inside row_in given there own no e.
             more.named why (length vs) (inr (here.names held row vs op why inside.1 row_in given there own no e));
       };
-    })
+    }

@@ -6,6 +6,6 @@ returns-then-not-may g c = rw c.if-not-may.true unmoved
 
 pub returns : goal.returns
 returns g c =
-    let why = rw c.stop_name.ensures at c.text-2.ensures.gathers in
+    let why = rw c.stop_name.ensures at c.texts.ensures.gathers in
     rw c.if-not-may.false (and_then c.then_operation_name.ensures
-    (and_then c.text.ensures.gathers (and_then why (and_then c.then_operands.ensures c.text-3.ensures.gathers))))
+    (and_then why (and_then c.then_operands.ensures c.text.ensures.gathers)))

@@ -6,4 +6,4 @@ pub then_source-requires : goal.then_source-requires
 then_source-requires g c = slice_get_within c.args.graph.now.operations c.args.i c.args.op.now c.requires
 
 pub returns : goal.returns
-returns g c = and_then c.text.ensures.gathers (and_then c.then_short.ensures (rw c.requires at c.then_source.ensures))
+returns g c = and_then c.then_short.ensures (rw c.requires at c.then_source.ensures)

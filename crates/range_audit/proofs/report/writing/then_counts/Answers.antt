@@ -3,6 +3,6 @@ use Rattle.range_audit.proofs.report.writing.then_counts.Goals as goal
 
 pub returns : goal.returns
 returns g c =
-    let named = rw c.count_named.ensures at c.count.ensures.gathers in
-    let able = rw c.count_able.ensures at c.count-2.ensures.gathers in
-    and_then c.text.ensures.gathers (and_then named (and_then c.text-2.ensures.gathers able))
+    let named = rw c.count_named.ensures at c.numbered.ensures.gathers in
+    let able = rw c.count_able.ensures at c.numbered-2.ensures.gathers in
+    and_then named able
