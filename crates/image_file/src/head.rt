@@ -93,7 +93,6 @@ fn step_here(bytes: &mut Reader<'_>) -> Result<u16, FieldFault>
 }
 
 /// The numbers of cells, turn nodes and operations at the front, behind the others.
-#[tactic(auto, unfolding(crate::specs::Image::later_counts))]
 fn later_counts_here(
     profile: Profile,
     step: u16,
@@ -125,7 +124,6 @@ fn later_counts_here(
 }
 
 /// The numbers of names, inputs and outputs at the front, and the others.
-#[tactic(auto, unfolding(crate::specs::Image::entry_counts))]
 fn entry_counts_here(
     profile: Profile,
     step: u16,
@@ -141,7 +139,6 @@ fn entry_counts_here(
     later_counts_here(profile, step, seed, names, inputs, outputs, bytes)
 }
 
-#[tactic(auto, unfolding(crate::specs::Image::counts_piece))]
 fn counts_here(bytes: &mut Reader<'_>) -> Result<Counts, FieldFault>
     ensures is { GivesExactly (λ x. (head_of x, bytes.new.left.now)) result (counts_piece.read bytes.old.left.now) }
     ensures below { IfOk result (λ x. (x.step ≤ most_step) × (x.turn_nodes ≤ most_turn_nodes) × (x.operations ≤ most_operations)) }

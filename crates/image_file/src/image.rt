@@ -1,47 +1,20 @@
 //! Bytes, read as a graph and its table.
 
-ghost use Rattle.std.specs.Prelude.{◌≡◌, ◌≤◌, length, ℕ, Err, IfOk, OnErr};
-ghost use Rattle.std.specs.Result.{IsErrOf};
+ghost use Rattle.std.specs.Prelude.{◌≡◌, ◌≤◌, length, ℕ, IfOk};
 ghost use Rattle.vcp_base.specs.Limits.{most_image_bytes};
 ghost use Rattle.op_graph.specs.Lists.{Lists};
 ghost use Rattle.signature_table.specs.Signatures.{IsTableOf, table_of};
 ghost use Rattle.image_file.specs.declared.fields.fault.ReadError.TheVariants as errors;
-ghost use Rattle.image_file.specs.Image.{image_piece, image_of};
-ghost use Rattle.image_file.specs.Views.{parts};
-ghost use Rattle.image_file.specs.Graphs.{lists_of, HasImage, placed as placed_of, Reads, OrMemory};
+ghost use Rattle.image_file.specs.Image.{image_of};
+ghost use Rattle.image_file.specs.Graphs.{HasImage, placed as placed_of, Reads, OrMemory};
 
 use crate::fault::ImageFault;
 use crate::fields::{FieldFault, ReadError};
 use crate::laws::images_are_told_apart;
-use crate::whole::{Whole, loads_of, read, stores_of};
-use op_graph::{Graph, GraphLists};
+use crate::whole::read;
+use op_graph::Graph;
 use signature_table::Table;
 use std::alloc::Global;
-
-/// The graph that an image says, and its table.
-fn graph_of(alloc: Global, whole: Whole) -> Result<(Graph, Table), ReadError>
-    requires { image_piece.fits (parts whole) }
-    ensures graph { IfOk result (λ x. x.0 ≡ lists_of (parts whole)) }
-    ensures table { IfOk result (λ x. x.1 ≡ table_of (parts whole).seed (parts whole).step (lists_of (parts whole))) }
-    ensures memory { OnErr result (IsErrOf result ReadError.Memory) }
-{
-    let loads = loads_of(alloc, &whole.cells)?;
-    let stores = stores_of(alloc, &whole.cells)?;
-    let seed = whole.seed;
-    let step = whole.step;
-    let graph = Graph::from_lists(GraphLists {
-        profile: whole.profile,
-        names: whole.names,
-        inputs: whole.inputs,
-        outputs: whole.outputs,
-        loads,
-        stores,
-        turn_nodes: whole.turn_nodes,
-        operations: whole.operations,
-    });
-    let table = Table::new(alloc, &graph, seed, step)?;
-    Ok((graph, table))
-}
 
 /// The fault with its offset, in so many bytes.
 fn placed(len: usize, fault: FieldFault) -> ImageFault
@@ -98,7 +71,7 @@ fn answered(alloc: Global, bytes: &[u8]) -> Result<(Graph, Table), ImageFault>
         Ok(whole) => whole,
         Err(error) => return Err(told(bytes.len(), error)),
     };
-    match graph_of(alloc, whole) {
+    match whole.into_graph(alloc) {
         Ok(both) => Ok(both),
         Err(_) => Err(ImageFault::Memory),
     }

@@ -190,7 +190,6 @@ struct Operands {
 }
 
 /// The operation with these operands, where its own number, its place, its turn and its correction are at the front.
-#[tactic(auto, unfolding(crate::specs::Image::op_number))]
 fn op_with(
     s: &Scope<'_>,
     p: &Place,
@@ -222,7 +221,6 @@ fn op_with(
 }
 
 /// The operation of a kind and types, where its operands and what follows them are at the front.
-#[tactic(auto, unfolding(crate::specs::Image::op_operands))]
 fn op_of_kind(
     s: &Scope<'_>,
     p: &Place,
@@ -251,7 +249,6 @@ fn op_of_kind(
 }
 
 /// The operation at the front, after others, which is this by the other lists.
-#[tactic(auto, unfolding(crate::specs::Image::op_by))]
 fn op_of(s: &Scope<'_>, p: &Place, earlier: &[Op], bytes: &mut Reader<'_>) -> Result<Op, FieldFault>
     requires step { s.now.step ≤ most_step }
     requires few { length earlier.now ≤ most_operations }

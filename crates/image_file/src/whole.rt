@@ -1,9 +1,12 @@
 //! A whole image, read.
 
-ghost use Rattle.std.specs.Prelude.{◌≡◌, ◌≤◌, map, Ok, Err, IfOk};
+ghost use Rattle.std.specs.Prelude.{◌≡◌, ◌≤◌, map, Ok, Err, IfOk, OnErr};
+ghost use Rattle.std.specs.Result.{IsErrOf};
 ghost use Rattle.vcp_base.specs.Limits.{most_step, most_operations, most_turn_nodes};
+ghost use Rattle.signature_table.specs.Signatures.{table_of};
 ghost use Rattle.image_file.specs.Pieces.{Gives, read_all, FaultOf};
 ghost use Rattle.image_file.specs.Image.{load_of, store_of, image_piece, later_lists};
+ghost use Rattle.image_file.specs.Graphs.{lists_of};
 ghost use Rattle.image_file.specs.Views.{parts, head as head_of, operations_piece, Rising};
 
 use crate::fields::{FieldFault, ReadError, Reader};
@@ -11,12 +14,12 @@ use crate::head::{Counts, head_here};
 use crate::lists::{cells_of, inputs_of, names_of, outputs_of, turns_of};
 use crate::operation::operations_of;
 use crate::scope::Scope;
-use op_graph::{Cell, Loaded, Op, Outlet, TurnNode, Var};
+use op_graph::{Cell, Graph, GraphLists, Loaded, Op, Outlet, TurnNode, Var};
+use signature_table::Table;
 use std::alloc::Global;
 use vcp_base::{Profile, Text};
 
 /// What an image says.
-#[derive(Drop)]
 pub(crate) struct Whole {
     pub(crate) profile: Profile,
     pub(crate) step: u16,
@@ -29,8 +32,80 @@ pub(crate) struct Whole {
     pub(crate) operations: Vec<Op>,
 }
 
-/// The cells' LOADs.
-pub(crate) fn loads_of(alloc: Global, cells: &[Cell]) -> Result<Vec<Loaded>, ReadError>
+// Written out, so that the lists are given up here alone, and not wherever they go out of scope.
+impl Drop for Whole {
+    fn drop(self) {
+        let Whole {
+            profile: _,
+            step: _,
+            seed: _,
+            names: _,
+            inputs: _,
+            outputs: _,
+            cells: _,
+            turn_nodes: _,
+            operations: _,
+        } = self;
+    }
+}
+
+impl Whole {
+    // The numbers in front, and no lists yet.
+    fn begun(alloc: Global, counts: &Counts) -> Whole
+        ensures profile { result.profile ≡ counts.now.profile }
+        ensures step { result.step ≡ counts.now.step }
+        ensures seed { result.seed ≡ counts.now.seed }
+    {
+        Whole {
+            profile: counts.profile,
+            step: counts.step,
+            seed: counts.seed,
+            names: Vec::new(alloc),
+            inputs: Vec::new(alloc),
+            outputs: Vec::new(alloc),
+            cells: Vec::new(alloc),
+            turn_nodes: Vec::new(alloc),
+            operations: Vec::new(alloc),
+        }
+    }
+
+    /// The graph that an image says, and its table.
+    pub(crate) fn into_graph(self, alloc: Global) -> Result<(Graph, Table), ReadError>
+        requires { image_piece.fits (parts self) }
+        ensures graph { IfOk result (λ x. x.0 ≡ lists_of (parts self)) }
+        ensures table { IfOk result (λ x. x.1 ≡ table_of (parts self).seed (parts self).step (lists_of (parts self))) }
+        ensures memory { OnErr result (IsErrOf result ReadError.Memory) }
+    {
+        let loads = loads_of(alloc, &self.cells)?;
+        let stores = stores_of(alloc, &self.cells)?;
+        let Whole {
+            profile,
+            step,
+            seed,
+            names,
+            inputs,
+            outputs,
+            cells: _,
+            turn_nodes,
+            operations,
+        } = self;
+        let graph = Graph::from_lists(GraphLists {
+            profile,
+            names,
+            inputs,
+            outputs,
+            loads,
+            stores,
+            turn_nodes,
+            operations,
+        });
+        let table = Table::new(alloc, &graph, seed, step)?;
+        Ok((graph, table))
+    }
+}
+
+// The cells' LOADs.
+fn loads_of(alloc: Global, cells: &[Cell]) -> Result<Vec<Loaded>, ReadError>
     ensures { Gives (λ v. v.items) result (Ok (map load_of cells.now)) }
 {
     let mut loads = Vec::new(alloc);
@@ -45,8 +120,8 @@ pub(crate) fn loads_of(alloc: Global, cells: &[Cell]) -> Result<Vec<Loaded>, Rea
     Ok(loads)
 }
 
-/// The numbers of the cells' STOREs.
-pub(crate) fn stores_of(alloc: Global, cells: &[Cell]) -> Result<Vec<u32>, ReadError>
+// The numbers of the cells' STOREs.
+fn stores_of(alloc: Global, cells: &[Cell]) -> Result<Vec<u32>, ReadError>
     ensures { Gives (λ v. v.items) result (Ok (map store_of cells.now)) }
 {
     let mut stores = Vec::new(alloc);
@@ -88,20 +163,22 @@ fn operations_after(
 }
 
 /// What an image says, with its outputs, cells, turn nodes and operations at the front.
-#[tactic(auto, unfolding(crate::specs::Image::later_lists))]
 fn later_lists_of(
     alloc: Global,
     counts: &Counts,
-    names: Vec<Text>,
-    inputs: Vec<Var>,
+    whole: &mut Whole,
     bytes: &mut Reader<'_>,
-) -> Result<Whole, ReadError>
+) -> Result<(), ReadError>
+    requires profile { whole.old.profile ≡ counts.now.profile }
+    requires stepped { whole.old.step ≡ counts.now.step }
+    requires seed { whole.old.seed ≡ counts.now.seed }
     requires step { counts.now.step ≤ most_step }
     requires turn_nodes { counts.now.turn_nodes ≤ most_turn_nodes }
     requires few { counts.now.operations ≤ most_operations }
-    ensures { Gives (λ x. (parts x, bytes.new.left.now)) result ((later_lists (head_of counts.now) names.items inputs.items).read bytes.old.left.now) }
+    ensures { Gives (λ x. (parts whole.new, bytes.new.left.now)) result
+        ((later_lists (head_of counts.now) whole.old.names.items whole.old.inputs.items).read bytes.old.left.now) }
 {
-    let outputs = outputs_of(
+    whole.outputs = outputs_of(
         alloc,
         counts.profile,
         counts.names,
@@ -109,7 +186,7 @@ fn later_lists_of(
         counts.outputs,
         bytes,
     )?;
-    let cells = cells_of(
+    whole.cells = cells_of(
         alloc,
         counts.profile,
         counts.names,
@@ -117,29 +194,27 @@ fn later_lists_of(
         counts.cells,
         bytes,
     )?;
-    let turn_nodes = turns_of(alloc, counts.names, counts.turn_nodes, bytes)?;
-    let operations = operations_after(alloc, counts, &inputs, &outputs, &cells, bytes)?;
-    Ok(Whole {
-        profile: counts.profile,
-        step: counts.step,
-        seed: counts.seed,
-        names,
-        inputs,
-        outputs,
-        cells,
-        turn_nodes,
-        operations,
-    })
+    whole.turn_nodes = turns_of(alloc, counts.names, counts.turn_nodes, bytes)?;
+    whole.operations = operations_after(
+        alloc,
+        counts,
+        &whole.inputs,
+        &whole.outputs,
+        &whole.cells,
+        bytes,
+    )?;
+    Ok(())
 }
 
-#[tactic(auto, unfolding(crate::specs::Image::image_piece))]
 fn whole_of(alloc: Global, bytes: &mut Reader<'_>) -> Result<Whole, ReadError>
     ensures { Gives (λ x. (parts x, bytes.new.left.now)) result (image_piece.read bytes.old.left.now) }
 {
     let counts = head_here(bytes)?;
-    let names = names_of(alloc, counts.names, bytes)?;
-    let inputs = inputs_of(alloc, counts.profile, counts.names, counts.inputs, bytes)?;
-    later_lists_of(alloc, &counts, names, inputs, bytes)
+    let mut whole = Whole::begun(alloc, &counts);
+    whole.names = names_of(alloc, counts.names, bytes)?;
+    whole.inputs = inputs_of(alloc, counts.profile, counts.names, counts.inputs, bytes)?;
+    later_lists_of(alloc, &counts, &mut whole, bytes)?;
+    Ok(whole)
 }
 
 /// The image, after which no byte is left.

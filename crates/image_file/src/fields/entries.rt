@@ -156,7 +156,6 @@ pub fn cell_of(
 }
 
 /// The next turn node, after others: its parent, counted from 1, is one of them, or 0 for none.
-#[tactic(auto, unfolding(crate::specs::Entries::turn_piece))]
 pub fn turn_of(
     names: u32,
     before: &[TurnNode],

@@ -1,4 +1,4 @@
-use Rattle.std.proofs.Common.{ℕ, List, Option, take, drop, sym, take-append-drop}
+use Rattle.std.proofs.Common.{rules, ℕ, List, Option, take, drop, sym, take-append-drop}
 use Rattle.std.proofs.KnownBytes.{Appends-kept}
 use Rattle.std.specs.Io.KnownBytes.{Appends, Keeps}
 use Rattle.vcp_outside.specs.Written.{AppendsFront}
@@ -14,3 +14,12 @@ returns-in-Ok-flush-clause-front g c = flushed_front _ _ _ c.in-Ok.count _ c.in-
 
 pub returns-in-Err-clause-front : goal.returns-in-Err-clause-front
 returns-in-Err-clause-front g c = flushed_front _ _ _ c.in-Ok.count _ c.in-Ok.ensures.bytes c.flush.ensures.bytes
+
+pub returns-then-is_empty : goal.returns-then-is_empty
+returns-then-is_empty g c = search rules
+
+pub returns-in-Ok-eq0 : goal.returns-in-Ok-eq0
+returns-in-Ok-eq0 g c = search rules
+
+pub returns-in-Ok-eq0-2 : goal.returns-in-Ok-eq0-2
+returns-in-Ok-eq0-2 g c = search rules

@@ -11,3 +11,6 @@ returns-then-not-append-clause-gathers g c start before text is =
     let flushed = rw (← c.self-2.view_is) at (c.flush.ensures.gathers start before text kept) in
     let none = rw (← c.self-2.view_is) at c.flush.ensures.empty in
     written_at_once _ _ _ _ _ _ _ _ _ _ _ flushed none (rw too_long none) (c.then-self-inside.ensures.writes start before)
+
+pub returns-else-not-append : goal.returns-else-not-append
+returns-else-not-append g c = search rules

@@ -1,4 +1,4 @@
-use Rattle.std.proofs.Common.{arith}
+use Rattle.std.proofs.Common.{rules, arith}
 use Rattle.std.proofs.lemmas.Grind.{elements}
 use Rattle.vcp_outside.proofs.mem_files.MemFilesFiles.begin.Goals as goal
 
@@ -10,3 +10,9 @@ returns-in-Some-clause-begins c = grind (arith, elements)
 
 pub returns-in-Some-clause-fails : goal.returns-in-Some-clause-fails
 returns-in-Some-clause-fails c = grind (arith, elements)
+
+pub returns-then-next : goal.returns-then-next
+returns-then-next c = search rules
+
+pub returns-in-None : goal.returns-in-None
+returns-in-None c = search rules

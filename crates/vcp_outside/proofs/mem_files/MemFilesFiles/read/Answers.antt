@@ -1,4 +1,4 @@
-use Rattle.std.proofs.Common.{arith}
+use Rattle.std.proofs.Common.{rules, arith}
 use Rattle.std.proofs.lemmas.Grind.{common_steps, elements}
 use Rattle.vcp_outside.proofs.mem_files.MemFilesFiles.read.Goals as goal
 
@@ -25,3 +25,9 @@ returns-clause-count c = grind (arith, elements)
 
 pub returns-clause-front : goal.returns-clause-front
 returns-clause-front c = grind (arith, elements)
+
+pub returns-then-next : goal.returns-then-next
+returns-then-next c = search rules
+
+pub returns-in_default : goal.returns-in_default
+returns-in_default c = search rules

@@ -1,0 +1,5 @@
+use Rattle.std.proofs.Common.{rules}
+use Rattle.vcp_outside.proofs.line.Line.long_value.Goals as goal
+
+pub returns : goal.returns
+returns g c = search rules
