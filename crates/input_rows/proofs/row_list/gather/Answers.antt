@@ -1,5 +1,5 @@
 use Rattle.std.proofs.lemmas.Result.{IfOk-from_err}
-use Rattle.std.proofs.Common.{◌≡◌, ℕ, ◌+◌, All, List, ℤ, length, sym, subst, ◌∙◌}
+use Rattle.std.proofs.Common.{rules, ◌≡◌, ℕ, ◌+◌, All, List, ℤ, length, sym, subst, ◌∙◌}
 use Rattle.input_rows.specs.RowLists.{rows_in}
 use Rattle.input_rows.proofs.Flat.{Gathered, gathered_more, rows_width}
 use Rattle.input_rows.proofs.row_list.gather.Goals as goal
@@ -24,29 +24,26 @@ returns-clause-width c =
     subst (λ (n : ℕ). All (λ row. length row ≡ n) (rows_in c.rows.count width c.rows.values.items)) c.rows.invariant.width
     (rows_width c.rows.count width c.rows.values.items c.rows.invariant.gathered.many)
 
-pub returns-in_err-row-clause-rows : goal.returns-in_err-row-clause-rows
-returns-in_err-row-clause-rows c = IfOk-from_err c.from_residual.result _ c.from_residual.ensures.0
+pub returns-in_err-row : goal.returns-in_err-row
+returns-in_err-row c = record {
+  rows = IfOk-from_err c.from_residual.result _ c.from_residual.ensures.0;
+  whole = IfOk-from_err c.from_residual.result _ c.from_residual.ensures.0;
+  width = IfOk-from_err c.from_residual.result _ c.from_residual.ensures.0;
+  refusal = search rules;
+}
 
-pub returns-in_err-row-clause-whole : goal.returns-in_err-row-clause-whole
-returns-in_err-row-clause-whole c = IfOk-from_err c.from_residual.result _ c.from_residual.ensures.0
+pub returns-in_err-next : goal.returns-in_err-next
+returns-in_err-next c = record {
+  rows = IfOk-from_err c.from_residual-in_err-next.result _ c.from_residual-in_err-next.ensures.0;
+  whole = IfOk-from_err c.from_residual-in_err-next.result _ c.from_residual-in_err-next.ensures.0;
+  width = IfOk-from_err c.from_residual-in_err-next.result _ c.from_residual-in_err-next.ensures.0;
+  refusal = search rules;
+}
 
-pub returns-in_err-row-clause-width : goal.returns-in_err-row-clause-width
-returns-in_err-row-clause-width c = IfOk-from_err c.from_residual.result _ c.from_residual.ensures.0
-
-pub returns-in_err-next-clause-rows : goal.returns-in_err-next-clause-rows
-returns-in_err-next-clause-rows c = IfOk-from_err c.from_residual-in_err-next.result _ c.from_residual-in_err-next.ensures.0
-
-pub returns-in_err-next-clause-whole : goal.returns-in_err-next-clause-whole
-returns-in_err-next-clause-whole c = IfOk-from_err c.from_residual-in_err-next.result _ c.from_residual-in_err-next.ensures.0
-
-pub returns-in_err-next-clause-width : goal.returns-in_err-next-clause-width
-returns-in_err-next-clause-width c = IfOk-from_err c.from_residual-in_err-next.result _ c.from_residual-in_err-next.ensures.0
-
-pub returns-in_err-append-clause-rows : goal.returns-in_err-append-clause-rows
-returns-in_err-append-clause-rows c = IfOk-from_err c.from_residual-in_err-append.result _ c.from_residual-in_err-append.ensures.0
-
-pub returns-in_err-append-clause-whole : goal.returns-in_err-append-clause-whole
-returns-in_err-append-clause-whole c = IfOk-from_err c.from_residual-in_err-append.result _ c.from_residual-in_err-append.ensures.0
-
-pub returns-in_err-append-clause-width : goal.returns-in_err-append-clause-width
-returns-in_err-append-clause-width c = IfOk-from_err c.from_residual-in_err-append.result _ c.from_residual-in_err-append.ensures.0
+pub returns-in_err-append : goal.returns-in_err-append
+returns-in_err-append c = record {
+  rows = IfOk-from_err c.from_residual-in_err-append.result _ c.from_residual-in_err-append.ensures.0;
+  whole = IfOk-from_err c.from_residual-in_err-append.result _ c.from_residual-in_err-append.ensures.0;
+  width = IfOk-from_err c.from_residual-in_err-append.result _ c.from_residual-in_err-append.ensures.0;
+  refusal = search rules;
+}

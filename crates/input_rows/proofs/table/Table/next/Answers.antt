@@ -1,4 +1,4 @@
-use Rattle.std.proofs.Common.{◌≡◌, ◌∙◌, sym, ap, length, Option, List, ℕ, ◌+◌, arith}
+use Rattle.std.proofs.Common.{rules, ◌≡◌, ◌∙◌, sym, ap, length, Option, List, ℕ, ◌+◌, arith}
 use Rattle.input_rows.specs.RowsOf.{RowsLeft}
 use Rattle.input_rows.specs.TableLeft.{Ordered, left_from}
 use Rattle.input_rows.proofs.Lefts.{left-types, left-fresh}
@@ -32,3 +32,6 @@ returns-in-Err-clause-types c =
 
 pub returns-in-Err-clause-fresh : goal.returns-in-Err-clause-fresh
 returns-in-Err-clause-fresh c = left-fresh c.self.inside.layout c.self.inside.cycle c.read_row.new.records.left
+
+pub returns-in-Ok-false : goal.returns-in-Ok-false
+returns-in-Ok-false c = search rules
