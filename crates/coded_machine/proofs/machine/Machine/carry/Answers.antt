@@ -21,11 +21,11 @@ calls-preserved g c = record {
       c.calls.invariant.same c.append_answer.ensures c.in-Some.ensures.next c.calls.invariant.carried c.perform-answer.ensures.log c.perform-answer.ensures.wrong;
 }
 
-pub begin-begun-requires-clause-cycle : goal.begin-begun-requires-clause-cycle
-begin-begun-requires-clause-cycle g c = c.requires.cycle
-
-pub begin-begun-requires-clause-going : goal.begin-begun-requires-clause-going
-begin-begun-requires-clause-going g c = c.requires.going
+pub begin-begun-requires : goal.begin-begun-requires
+begin-begun-requires g c = record {
+  cycle = c.requires.cycle;
+  going = c.requires.going;
+}
 
 pub calls-init : goal.calls-init
 calls-init g c =
@@ -34,30 +34,23 @@ calls-init g c =
     let begun = c.begin-begun.ensures.machine in
     record { same = begun_same m first begun; way = ap (λ (k : State). k.under_way) begun; carried = begun_carried m first c.args.row.now _ _ begun }
 
-pub following-requires-clause-cycle : goal.following-requires-clause-cycle
-following-requires-clause-cycle g c = subst (λ (m : State). m.cycles < most_cycles) (sym c.calls.invariant.same) c.requires.cycle
-
-pub following-requires-clause-going : goal.following-requires-clause-going
-following-requires-clause-going g c = ap (λ (m : State). m.ended) c.calls.invariant.same ∙ c.requires.going
-
-pub following-requires-clause-way : goal.following-requires-clause-way
-following-requires-clause-way g c = c.calls.invariant.way
-
-pub following-requires-clause-number : goal.following-requires-clause-number
-following-requires-clause-number g c = c.begin-begun.ensures.cycle ∙ sym (ap (λ (m : State). m.cycles) c.calls.invariant.same)
-
-pub following-requires-clause-begun : goal.following-requires-clause-begun
-following-requires-clause-begun g c =
-    subst (λ (m : State). IsBegun m.graph m.table c.begin-begun.result) (sym c.calls.invariant.same) c.begin-begun.ensures.begun
+pub following-requires : goal.following-requires
+following-requires g c = record {
+  cycle = subst (λ (m : State). m.cycles < most_cycles) (sym c.calls.invariant.same) c.requires.cycle;
+  going = ap (λ (m : State). m.ended) c.calls.invariant.same ∙ c.requires.going;
+  way = c.calls.invariant.way;
+  number = c.begin-begun.ensures.cycle ∙ sym (ap (λ (m : State). m.cycles) c.calls.invariant.same);
+  begun = subst (λ (m : State). IsBegun m.graph m.table c.begin-begun.result) (sym c.calls.invariant.same) c.begin-begun.ensures.begun;
+}
 
 pub perform-answer-requires : goal.perform-answer-requires
 perform-answer-requires g c = c.in-Some.ensures.asked
 
-pub append_answer-requires-clause-awaits : goal.append_answer-requires-clause-awaits
-append_answer-requires-clause-awaits g c = c.in-Some.ensures.some
-
-pub append_answer-requires-clause-way : goal.append_answer-requires-clause-way
-append_answer-requires-clause-way g c = c.calls.invariant.way
+pub append_answer-requires : goal.append_answer-requires
+append_answer-requires g c = record {
+  awaits = c.in-Some.ensures.some;
+  way = c.calls.invariant.way;
+}
 
 pub returns-then-not-has_own_number : goal.returns-then-not-has_own_number
 returns-then-not-has_own_number g c = absurd (true≢false (sym c.has_own_number.ensures ∙ c.if-not-has_own_number.true))

@@ -1,4 +1,4 @@
-use Rattle.std.proofs.Common.{◌≡◌, sym, ap, subst, ◌∙◌, [], cond, false, vec_capacity, None}
+use Rattle.std.proofs.Common.{rules, ◌≡◌, sym, ap, subst, ◌∙◌, [], cond, false, vec_capacity, None}
 use Rattle.coded_machine.specs.Calls.{AllWords}
 use Rattle.coded_machine.specs.Sound.{Sound}
 use Rattle.coded_machine.specs.CycleEnds.{first_outside}
@@ -33,3 +33,12 @@ release-requires-clause-inside c =
     ∙ ap (λ xs. cond c.self.inside.under_way xs []) c.deref.ensures.value in
     subst (λ (m : State). first_outside m.graph.profile (given m) m.graph.outputs ≡ None) c.self.view_is
     (subst (λ xs. first_outside c.self.inside.graph.now.profile xs c.self.inside.graph.now.outputs ≡ None) same none.1)
+
+pub returns-then-not-release : goal.returns-then-not-release
+returns-then-not-release c = search rules
+
+pub returns-then-not-is_released : goal.returns-then-not-is_released
+returns-then-not-is_released c = search rules
+
+pub returns-else-not-release : goal.returns-else-not-release
+returns-else-not-release c = search rules

@@ -1,4 +1,4 @@
-use Rattle.std.proofs.Common.{◌≡◌, ◌≤◌, ◌+◌, ◌∙◌, ap, refl, subst, sym, arith, IfSome, None, true≢false, vec_capacity}
+use Rattle.std.proofs.Common.{rules, ◌≡◌, ◌≤◌, ◌+◌, ◌∙◌, ap, refl, subst, sym, arith, IfSome, None, true≢false, vec_capacity}
 use Rattle.std.proofs.lemmas.Option.{none-some}
 use Rattle.coded_machine.specs.State.{State, setting}
 use Rattle.coded_machine.specs.Sound.{Sound}
@@ -80,3 +80,6 @@ carry-requires-clause-going g c = sym c.repeated.ensures.end ∙ c.in_default.is
 
 pub returns-then-not-carry : goal.returns-then-not-carry
 returns-then-not-carry g c = absurd (true≢false (sym c.carry.ensures.sure ∙ c.if-not-carry.true))
+
+pub end-requires : goal.end-requires
+end-requires g c = search rules

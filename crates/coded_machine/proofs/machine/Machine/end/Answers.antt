@@ -1,4 +1,4 @@
-use Rattle.std.proofs.Common.{subst, ◌≡◌, refl, sym, ap, ◌∙◌, IfSome, Some, None, vec_capacity}
+use Rattle.std.proofs.Common.{rules, subst, ◌≡◌, refl, sym, ap, ◌∙◌, IfSome, Some, None, vec_capacity}
 use Rattle.std.proofs.lemmas.Option.{none-some}
 use Rattle.coded_machine.specs.State.{State, given}
 use Rattle.coded_machine.specs.Sound.{Sound}
@@ -67,3 +67,6 @@ returns-in-None-clause-machine c = c.conclude.ensures.machine
 
 pub returns-in-None-clause-out : goal.returns-in-None-clause-out
 returns-in-None-clause-out c = c.conclude.ensures.out
+
+pub conclude-requires : goal.conclude-requires
+conclude-requires c = search rules

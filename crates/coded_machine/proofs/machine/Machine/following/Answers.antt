@@ -1,4 +1,4 @@
-use Rattle.std.proofs.Common.{◌≡◌, ap, subst, sym, ◌∙◌, arith, [], cond, true, false, Some, slice_get, vec_capacity, length}
+use Rattle.std.proofs.Common.{rules, ◌≡◌, ap, subst, sym, ◌∙◌, arith, [], cond, true, false, Some, slice_get, vec_capacity, length}
 use Rattle.std.proofs.lemmas.Option.{none-some}
 use Rattle.coded_machine.specs.Calls.{Next, call_of}
 use Rattle.coded_machine.specs.Runs.{setting_at}
@@ -62,3 +62,6 @@ returns-clause-none c = λ e. absurd (none-some _ (sym e))
 
 pub returns-clause-asked : goal.returns-clause-asked
 returns-clause-asked c = c.call_after_words.ensures.asked
+
+pub call_after_words-requires : goal.call_after_words-requires
+call_after_words-requires c = search rules

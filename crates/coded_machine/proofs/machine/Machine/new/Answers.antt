@@ -1,4 +1,4 @@
-use Rattle.std.proofs.Common.{subst, sym, arith}
+use Rattle.std.proofs.Common.{rules, subst, sym, arith}
 use Rattle.op_graph.specs.GraphRun.{initial}
 use Rattle.signature_table.specs.Signatures.{stamp_before}
 use Rattle.coded_machine.specs.Honest.{CellsHold}
@@ -26,3 +26,9 @@ returns-clause-cells c =
     let t = c.args.table.now in
     subst (λ held. CellsHold g t.seed (stamp_before t.step 0) held (initial g)) (sym c.in_ok-held.ensures.words)
     (c.right_answers_stand_for_values.ensures.cells_at_first g t.seed t.step c.len-operations.ensures.rules)
+
+pub returns-in_err-held : goal.returns-in_err-held
+returns-in_err-held c = search rules
+
+pub returns-in_err-with_capacity : goal.returns-in_err-with_capacity
+returns-in_err-with_capacity c = search rules

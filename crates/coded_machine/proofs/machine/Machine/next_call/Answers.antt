@@ -1,4 +1,4 @@
-use Rattle.std.proofs.Common.{sym, subst, refl}
+use Rattle.std.proofs.Common.{rules, sym, subst, refl}
 use Rattle.coded_machine.specs.Calls.{Next, HasOwnNumber}
 use Rattle.coded_machine.specs.State.{setting, given}
 use Rattle.coded_machine.proofs.Growth.{next_is}
@@ -20,3 +20,6 @@ returns-in-Some-clause-own c =
 
 pub returns-in-None-clause-some : goal.returns-in-None-clause-some
 returns-in-None-clause-some c = (λ e. absurd cc, λ w. absurd (finished_not_awaits c.args.self.now (c.pending.ensures.none c.in-None.is) w))
+
+pub call-requires : goal.call-requires
+call-requires c = search rules

@@ -1,4 +1,4 @@
-use Rattle.std.proofs.Common.{◌≡◌, ap, subst, ◌∙◌, arith, [], cond, true, false, vec_capacity, length}
+use Rattle.std.proofs.Common.{rules, ◌≡◌, ap, subst, ◌∙◌, arith, [], cond, true, false, vec_capacity, length}
 use Rattle.coded_machine.specs.State.{State, given}
 use Rattle.coded_machine.specs.Sound.{Sound}
 use Rattle.coded_machine.proofs.Turns.{halted_finished, all_finished}
@@ -22,3 +22,9 @@ returns-then-answered-len-clause-none c = λ e.
     c.given.ensures ∙ ap (λ xs. cond c.self.inside.under_way xs []) c.deref.ensures.value ∙ ap given c.self.view_is in
     all_finished c.args.self.now _ going
     (omega (arith, ap length same, ap (λ (m : State). length m.graph.operations) c.self.view_is, c.len.ensures.count, c.if-answered-len.true))
+
+pub returns-then-is_some : goal.returns-then-is_some
+returns-then-is_some c = search rules
+
+pub returns : goal.returns
+returns c = search rules

@@ -83,22 +83,18 @@ returns-in_err-next g c =
       numbered = e.numbered;
     }
 
-pub run_cycle-requires-clause-going : goal.run_cycle-requires-clause-going
-run_cycle-requires-clause-going g c = c.cycles.invariant.so_far.run.going
-
-pub run_cycle-requires-clause-between : goal.run_cycle-requires-clause-between
-run_cycle-requires-clause-between g c = c.cycles.invariant.so_far.between
-
-pub run_cycle-requires-clause-few : goal.run_cycle-requires-clause-few
-run_cycle-requires-clause-few g c =
-    let m = c.args.machine.now in
-    let so_far = c.cycles.invariant in
-    let one = c.in_ok-next.ensures.row c.if-branch.true in
-    cycles_left m.graph m.table (g.S.RowReader.left c.args.rows.now) (g.S.RowReader.left c.cycles.rows) (g.S.RowReader.left c.next.new.self) g.R.ReleasedRows.text _ _ (g.R.ReleasedRows.Keeps c.args.released.now)
-    (g.R.ReleasedRows.Keeps c.cycles.released) c.cycles.machine c.next.new.out so_far.so_far c.requires.few one
-
-pub run_cycle-requires-clause-width : goal.run_cycle-requires-clause-width
-run_cycle-requires-clause-width g c = c.cycles.invariant.outputs ∙ ap (λ (x : Lists). length x.outputs) (sym c.cycles.invariant.so_far.run.graph)
+pub run_cycle-requires : goal.run_cycle-requires
+run_cycle-requires g c = record {
+  going = c.cycles.invariant.so_far.run.going;
+  between = c.cycles.invariant.so_far.between;
+  few = (
+      let m = c.args.machine.now in
+      let so_far = c.cycles.invariant in
+      let one = c.in_ok-next.ensures.row c.if-branch.true in
+      cycles_left m.graph m.table (g.S.RowReader.left c.args.rows.now) (g.S.RowReader.left c.cycles.rows) (g.S.RowReader.left c.next.new.self) g.R.ReleasedRows.text _ _ (g.R.ReleasedRows.Keeps c.args.released.now)
+      (g.R.ReleasedRows.Keeps c.cycles.released) c.cycles.machine c.next.new.out so_far.so_far c.requires.few one);
+  width = c.cycles.invariant.outputs ∙ ap (λ (x : Lists). length x.outputs) (sym c.cycles.invariant.so_far.run.graph);
+}
 
 pub returns-in_err-end : goal.returns-in_err-end
 returns-in_err-end g c =
