@@ -1,4 +1,4 @@
-use Rattle.std.proofs.Common.{ap, ◌∙◌, ◌≡◌, ℤ, arith, to_z, of_z, to_z-of_z, w64}
+use Rattle.std.proofs.Common.{rules, ap, ◌∙◌, ◌≡◌, ℤ, arith, to_z, of_z, to_z-of_z, w64}
 use Rattle.coded_unit.specs.declared.call.Answer.TheVariants as answer
 use Rattle.coded_unit.specs.Right.{Right}
 use Rattle.telegram.specs.Sendings.{telegram_word}
@@ -15,3 +15,6 @@ returns-clause-honest g c = λ same small.
 pub returns-clause-failed : goal.returns-clause-failed
 returns-clause-failed g c = λ none.
     failed_rose _ _ _ _ _ (ap Right c.call_of-call.ensures.call ∙ c.call_of-call.ensures.right) c.perform.ensures.wrong none
+
+pub call_of-call-requires : goal.call_of-call-requires
+call_of-call-requires g c = search rules

@@ -1,4 +1,4 @@
-use Rattle.std.proofs.Common.{◌≤◌, ◌+◌, ◌*◌, ◌∙◌, ℕ, ℤ, ◌+ℤ◌, List, length, slice_get, Some, Err, arith, refl, ap, sym, subst}
+use Rattle.std.proofs.Common.{rules, ◌≤◌, ◌+◌, ◌*◌, ◌∙◌, ℕ, ℤ, ◌+ℤ◌, List, length, slice_get, Some, Err, arith, refl, ap, sym, subst}
 use Rattle.std.proofs.Math.Nat.{le_refl, le_trans}
 use Rattle.std.proofs.lemmas.List.{drop_all}
 use Rattle.std.proofs.lemmas.Result.{err_from_is_err_and}
@@ -294,3 +294,6 @@ returns-in_err-end_line-clause-later g c = le_trans c.events.invariant.faults c.
 
 pub returns-clause-later : goal.returns-clause-later
 returns-clause-later g c = le_trans c.events.invariant.faults c.in_ok-end_line.ensures.cause.later
+
+pub new-receiver-requires : goal.new-receiver-requires
+new-receiver-requires g c = search rules

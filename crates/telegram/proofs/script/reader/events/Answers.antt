@@ -1,4 +1,4 @@
-use Rattle.std.proofs.Common.{◌≡◌, ◌<◌, ◌+◌, List, length, sym, subst, ◌∙◌, arith}
+use Rattle.std.proofs.Common.{rules, ◌≡◌, ◌<◌, ◌+◌, List, length, sym, subst, ◌∙◌, arith}
 use Rattle.std.specs.Str.Lines.{lines}
 use Rattle.vcp_base.specs.Lines.{Line, read_lines}
 use Rattle.std.proofs.lemmas.Result.{IfOk-from_err}
@@ -49,3 +49,6 @@ returns-in_err-push-clause-fits c = IfOk-from_err c.from_residual-in_err-push.re
 
 pub returns-in_err-push-clause-sent : goal.returns-in_err-push-clause-sent
 returns-in_err-push-clause-sent c = IfOk-from_err c.from_residual-in_err-push.result _ c.from_residual-in_err-push.ensures.0
+
+pub returns : goal.returns
+returns c = search rules
