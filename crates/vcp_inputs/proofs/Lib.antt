@@ -12,6 +12,7 @@ pub mod TakenScripts
 pub mod TakenWires
 pub mod CodeWords
 pub mod FormRows
+mod FormsByFiles
 pub mod Sound
 pub mod WordsSteps
 mod Causing

@@ -6,7 +6,7 @@ use Rattle.vcp_base.specs.Limits.{most_cycles, most_horizon, seeds, most_step}
 use Rattle.vcp_base.specs.Numerals.{numeral_of}
 use Rattle.vcp_inputs.specs.Forms.{Rows, Code, Form, file, cycles, within, number_within, name_and_rest, cycles_and_rest, rows_and_rest, number_and_rest}
 use Rattle.vcp_inputs.specs.Forms.{code_with, code_of, seed_of, step_of, default_seed, default_step, followed, name_then, rows_then, number_then, code_then, is_file_name, end_then}
-use Rattle.vcp_inputs.specs.Forms.{file_form, image_form, image_run_form, pair_form, rows_form, form_of, most_made, AreFew, IsCode, IsSound}
+use Rattle.vcp_inputs.specs.Forms.{image_form, form_of, most_made, AreFew, IsCode, IsSound}
 use Rattle.vcp_inputs.specs.Forms.{check, format, plain, run, il, compile, list, exec, trace, widen, audit, inject, pair, pairs, wire, demo}
 
 -- any form that may be given is sound
@@ -136,47 +136,34 @@ ended f (w ∷ rest) h = tt
 
 -- ---- forms
 
-of_pair : (w m : List ℕ) (rows : Rows) (seed : ℕ) (words : List (List ℕ)) → AreFew rows → seed < seeds → Sound (pair_form w m rows seed words)
-of_pair w m rows seed words few below =
-    either IsSound (bytes_eq w (codes "pair")) _ _ (ended (pair m rows seed) words (few, below))
-    (either IsSound (bytes_eq w (codes "pairs")) _ None (named _ words (λ f r. ended (pairs m rows seed f) r (few, below)))
-    tt)
-
-of_image_run : (w m : List ℕ) (rows : Rows) (words : List (List ℕ)) → AreFew rows → Sound (image_run_form w m rows words)
-of_image_run w m rows words few =
-    either IsSound (bytes_eq w (codes "exec")) _ _ (ended (exec m rows) words few)
+of_image : (w : List ℕ) (words : List (List ℕ)) → Sound (image_form w words)
+of_image w words =
+    either IsSound (bytes_eq w (codes "list")) _ _ (named _ words (λ m r. ended (list m) r tt))
+    (either IsSound (bytes_eq w (codes "exec")) _ _ (named _ words (λ m r. timed _ r (λ rows u few. ended (exec m rows) u few)))
     (either IsSound (bytes_eq w (codes "trace")) _ _
-    (numbered 0 (most_cycles - 1) _ words (λ n r h. ended (trace m rows n) r (few, grind (arith, h))))
-    (either IsSound (bytes_eq w (codes "inject")) _ _ (named _ words (λ f r. ended (inject m rows f) r few))
-    (numbered 0 (seeds - 1) _ words (λ n r h. of_pair w m rows n r few (grind (arith, h))))))
-
-of_rows : (w p : List ℕ) (rows : Rows) (words : List (List ℕ)) → AreFew rows → Sound (rows_form w p rows words)
-of_rows w p rows words few =
-    either IsSound (bytes_eq w (codes "plain")) _ _ (ended (plain p rows) words few)
-    (either IsSound (bytes_eq w (codes "run")) _ _ (coded (run p rows) words (λ code h. (few, h)))
-    (either IsSound (bytes_eq w (codes "il")) _ _ (coded (il p rows) words (λ code h. (few, h)))
-    (of_image_run w p rows words few)))
-
-of_image : (w m : List ℕ) (words : List (List ℕ)) → Sound (image_form w m words)
-of_image w m words =
-    either IsSound (bytes_eq w (codes "list")) _ _ (ended (list m) words tt)
-    (either IsSound (bytes_eq w (codes "widen")) _ _ (ended (widen m) words tt)
-    (either IsSound (bytes_eq w (codes "audit")) _ _ (numbered 0 most_horizon _ words (λ n r h. ended (audit m n) r h))
-    (timed _ words (λ rows r few. of_rows w m rows r few))))
-
-of_file : (w p : List ℕ) (words : List (List ℕ)) → Sound (file_form w p words)
-of_file w p words =
-    either IsSound (bytes_eq w (codes "check")) _ _ (ended (check p) words tt)
-    (either IsSound (bytes_eq w (codes "format")) _ _ (ended (format p) words tt)
-    (either IsSound (bytes_eq w (codes "compile")) _ _ (coded (compile p) words (λ code h. h))
-    (either IsSound (bytes_eq w (codes "wire")) _ _ (ended (wire p) words tt)
-    (of_image w p words))))
+    (named _ words (λ m r. timed _ r (λ rows u few. numbered 0 (most_cycles - 1) _ u (λ n v h. ended (trace m rows n) v (few, grind (arith, h))))))
+    (either IsSound (bytes_eq w (codes "widen")) _ _ (named _ words (λ m r. ended (widen m) r tt))
+    (either IsSound (bytes_eq w (codes "audit")) _ _ (named _ words (λ m r. numbered 0 most_horizon _ r (λ n u h. ended (audit m n) u h)))
+    (either IsSound (bytes_eq w (codes "inject")) _ _
+    (named _ words (λ m r. timed _ r (λ rows u few. named _ u (λ f v. ended (inject m rows f) v few))))
+    (either IsSound (bytes_eq w (codes "pair")) _ _
+    (named _ words (λ m r. timed _ r (λ rows u few. numbered 0 (seeds - 1) _ u (λ n v h. ended (pair m rows n) v (few, grind (arith, h))))))
+    (either IsSound (bytes_eq w (codes "pairs")) _ None
+    (named _ words (λ m r. timed _ r (λ rows u few. numbered 0 (seeds - 1) _ u (λ n v h. named _ v (λ f x. ended (pairs m rows n f) x (few, grind (arith, h)))))))
+    tt)))))))
 
 pub sound : (words : List (List ℕ)) → IfSome (form_of words) IsSound
 sound [] = tt
 sound (w ∷ words) =
-    either IsSound (bytes_eq w (codes "demo")) _ _ (numbered 0 most_made _ words (λ n r h. ended (demo n) r tt))
-    (named _ words (λ p r. of_file w p r))
+    either IsSound (bytes_eq w (codes "check")) _ _ (named _ words (λ p r. ended (check p) r tt))
+    (either IsSound (bytes_eq w (codes "format")) _ _ (named _ words (λ p r. ended (format p) r tt))
+    (either IsSound (bytes_eq w (codes "plain")) _ _ (named _ words (λ p r. timed _ r (λ rows u few. ended (plain p rows) u few)))
+    (either IsSound (bytes_eq w (codes "run")) _ _ (named _ words (λ p r. timed _ r (λ rows u few. coded (run p rows) u (λ code h. (few, h)))))
+    (either IsSound (bytes_eq w (codes "il")) _ _ (named _ words (λ p r. timed _ r (λ rows u few. coded (il p rows) u (λ code h. (few, h)))))
+    (either IsSound (bytes_eq w (codes "compile")) _ _ (named _ words (λ p r. coded (compile p) r (λ code h. h)))
+    (either IsSound (bytes_eq w (codes "wire")) _ _ (named _ words (λ f r. ended (wire f) r tt))
+    (either IsSound (bytes_eq w (codes "demo")) _ (image_form w words) (numbered 0 most_made _ words (λ n r h. ended (demo n) r tt))
+    (of_image w words))))))))
 
 -- a command with a form that words say is sound
 pub of_form : {X : Type 0} (form : X → Form) (o : Option X) (words : List (List ℕ)) → option_map form o ≡ form_of words

@@ -153,52 +153,32 @@ is_end (w ∷ rest) = false
 abbrev pub end_then : Form → List (List ℕ) → Option Form
 end_then f words = cond (is_end words) (Some f) None
 
--- the run of M on ROWS that a name, SEED and the words behind these say, a line a form
-abbrev pub pair_form : List ℕ → List ℕ → Rows → ℕ → List (List ℕ) → Option Form
-pair_form w m rows seed words =
-    cond (bytes_eq w (codes "pair")) (end_then (pair m rows seed) words)
-    (cond (bytes_eq w (codes "pairs")) (name_then (λ f. end_then (pairs m rows seed f)) words)
-    None)
+-- the command on an image that a name and the words behind it say, a line a form
+abbrev pub image_form : List ℕ → List (List ℕ) → Option Form
+image_form w words =
+    cond (bytes_eq w (codes "list")) (name_then (λ m. end_then (list m)) words)
+    (cond (bytes_eq w (codes "exec")) (name_then (λ m. rows_then (λ rows. end_then (exec m rows))) words)
+    (cond (bytes_eq w (codes "trace")) (name_then (λ m. rows_then (λ rows. number_then 0 (most_cycles - 1) (λ c. end_then (trace m rows c)))) words)
+    (cond (bytes_eq w (codes "widen")) (name_then (λ m. end_then (widen m)) words)
+    (cond (bytes_eq w (codes "audit")) (name_then (λ m. number_then 0 most_horizon (λ h. end_then (audit m h))) words)
+    (cond (bytes_eq w (codes "inject")) (name_then (λ m. rows_then (λ rows. name_then (λ f. end_then (inject m rows f)))) words)
+    (cond (bytes_eq w (codes "pair")) (name_then (λ m. rows_then (λ rows. number_then 0 (seeds - 1) (λ s. end_then (pair m rows s)))) words)
+    (cond (bytes_eq w (codes "pairs")) (name_then (λ m. rows_then (λ rows. number_then 0 (seeds - 1) (λ s. name_then (λ f. end_then (pairs m rows s f))))) words)
+    None)))))))
 
--- the run of M on ROWS that a name and the words behind these say, a line a form, or one that has SEED next
-abbrev pub image_run_form : List ℕ → List ℕ → Rows → List (List ℕ) → Option Form
-image_run_form w m rows words =
-    cond (bytes_eq w (codes "exec")) (end_then (exec m rows) words)
-    (cond (bytes_eq w (codes "trace")) (number_then 0 (most_cycles - 1) (λ c. end_then (trace m rows c)) words)
-    (cond (bytes_eq w (codes "inject")) (name_then (λ f. end_then (inject m rows f)) words)
-    (number_then 0 (seeds - 1) (pair_form w m rows) words)))
-
--- the command that a name, a file's name, ROWS and the words behind these say, a line a form
-abbrev pub rows_form : List ℕ → List ℕ → Rows → List (List ℕ) → Option Form
-rows_form w p rows words =
-    cond (bytes_eq w (codes "plain")) (end_then (plain p rows) words)
-    (cond (bytes_eq w (codes "run")) (code_then (run p rows) words)
-    (cond (bytes_eq w (codes "il")) (code_then (il p rows) words)
-    (image_run_form w p rows words)))
-
--- the command that a name, an image's name and the words behind it say, a line a form, or one that has ROWS next
-abbrev pub image_form : List ℕ → List ℕ → List (List ℕ) → Option Form
-image_form w m words =
-    cond (bytes_eq w (codes "list")) (end_then (list m) words)
-    (cond (bytes_eq w (codes "widen")) (end_then (widen m) words)
-    (cond (bytes_eq w (codes "audit")) (number_then 0 most_horizon (λ h. end_then (audit m h)) words)
-    (rows_then (rows_form w m) words)))
-
--- the command that a name, a file's name and the words behind it say, a line a form
-abbrev pub file_form : List ℕ → List ℕ → List (List ℕ) → Option Form
-file_form w p words =
-    cond (bytes_eq w (codes "check")) (end_then (check p) words)
-    (cond (bytes_eq w (codes "format")) (end_then (format p) words)
-    (cond (bytes_eq w (codes "compile")) (code_then (compile p) words)
-    (cond (bytes_eq w (codes "wire")) (end_then (wire p) words)
-    (image_form w p words))))
-
--- the command that words say: `demo` and its number, or a command's name with a file's name behind it
+-- the command that words say, a line a form
 abbrev pub form_of : List (List ℕ) → Option Form
 form_of [] = None
 form_of (w ∷ words) =
-    cond (bytes_eq w (codes "demo")) (number_then 0 most_made (λ n. end_then (demo n)) words)
-    (name_then (file_form w) words)
+    cond (bytes_eq w (codes "check")) (name_then (λ p. end_then (check p)) words)
+    (cond (bytes_eq w (codes "format")) (name_then (λ p. end_then (format p)) words)
+    (cond (bytes_eq w (codes "plain")) (name_then (λ p. rows_then (λ rows. end_then (plain p rows))) words)
+    (cond (bytes_eq w (codes "run")) (name_then (λ p. rows_then (λ rows. code_then (run p rows))) words)
+    (cond (bytes_eq w (codes "il")) (name_then (λ p. rows_then (λ rows. code_then (il p rows))) words)
+    (cond (bytes_eq w (codes "compile")) (name_then (λ p. code_then (compile p)) words)
+    (cond (bytes_eq w (codes "wire")) (name_then (λ f. end_then (wire f)) words)
+    (cond (bytes_eq w (codes "demo")) (number_then 0 most_made (λ n. end_then (demo n)) words)
+    (image_form w words))))))))
 
 -- the usage line, which words get that are none of the forms
 abbrev pub usage_text : List ℕ

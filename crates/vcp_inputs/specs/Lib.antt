@@ -9,6 +9,7 @@ pub mod RowsRead
 pub mod Scripts
 pub mod Wires
 pub mod Forms
+pub mod FormsByFiles
 pub mod Tables
 pub mod Told
 pub mod Abouts

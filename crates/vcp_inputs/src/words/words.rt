@@ -2,8 +2,8 @@
 
 ghost use Rattle.std.specs.Prelude.{◌≡◌, ◌∷◌, List, ℕ, IfSome};
 ghost use Rattle.std.specs.Option.{option_map};
-ghost use Rattle.vcp_inputs.specs.Forms.{end_then, file_form, form, form_of, image_form, image_run, image_run_form, pair_form, rows_form, rows_of};
-ghost use Rattle.vcp_inputs.specs.Forms.{usage_text, IsSound, Rows};
+ghost use Rattle.vcp_inputs.specs.Forms.{end_then, form, form_of, image_run, rows_of, usage_text, IsSound, Rows};
+ghost use Rattle.vcp_inputs.specs.FormsByFiles.{form_behind_file, form_behind_rows, form_behind_seed, form_by_files, form_of_image, form_of_image_run};
 
 use crate::words::command::{Command, ImageRun, ImageText, ProgramRun, RowsWord};
 use crate::words::words_left::CommandWords;
@@ -33,7 +33,7 @@ pub fn command_of(words: &Words) -> Option<Command<'_>>
 
 /// The command that its name and its own words say.
 fn named_command<'a>(command: &[u8], words: &mut CommandWords<'a>) -> Option<Command<'a>>
-    ensures { option_map form result ≡ form_of (command.now ∷ words.old) }
+    ensures { option_map form result ≡ form_by_files (command.now ∷ words.old) }
 {
     if same_bytes(command, b"demo") {
         let Some(number) = words.number(0, u32::MAX) else {
@@ -53,7 +53,7 @@ fn file_command<'a>(
     name: &'a Text,
     words: &mut CommandWords<'a>,
 ) -> Option<Command<'a>>
-    ensures { option_map form result ≡ file_form command.now name.now words.old }
+    ensures { option_map form result ≡ form_behind_file command.now name.now words.old }
 {
     if same_bytes(command, b"check") {
         return ended(Command::Check { source: name }, words);
@@ -79,7 +79,7 @@ fn image_command<'a>(
     image: &'a Text,
     words: &mut CommandWords<'a>,
 ) -> Option<Command<'a>>
-    ensures { option_map form result ≡ image_form command.now image.now words.old }
+    ensures { option_map form result ≡ form_of_image command.now image.now words.old }
 {
     if same_bytes(command, b"list") {
         let text = ImageText::List;
@@ -109,7 +109,7 @@ fn rows_command<'a>(
     rows: RowsWord<'a>,
     words: &mut CommandWords<'a>,
 ) -> Option<Command<'a>>
-    ensures { option_map form result ≡ rows_form command.now name.now (rows_of rows.entry) words.old }
+    ensures { option_map form result ≡ form_behind_rows command.now name.now (rows_of rows.entry) words.old }
 {
     if same_bytes(command, b"plain") {
         let run = ProgramRun::Plain;
@@ -156,7 +156,7 @@ fn rows_command<'a>(
 
 /// How an image is run on rows, by the command's name and the words behind ROWS.
 fn image_run_of<'a>(command: &[u8], words: &mut CommandWords<'a>) -> Option<ImageRun<'a>>
-    ensures { (m : List ℕ) (rows : Rows) → option_map (image_run m rows) result ≡ image_run_form command.now m rows words.old }
+    ensures { (m : List ℕ) (rows : Rows) → option_map (image_run m rows) result ≡ form_of_image_run command.now m rows words.old }
 {
     if same_bytes(command, b"exec") {
         return run_ended(ImageRun::Exec, words);
@@ -181,7 +181,7 @@ fn image_run_of<'a>(command: &[u8], words: &mut CommandWords<'a>) -> Option<Imag
 
 /// How an image is run on two channels, by the command's name, SEED and the words behind it.
 fn pair_run_of<'a>(command: &[u8], seed: u32, words: &mut CommandWords<'a>) -> Option<ImageRun<'a>>
-    ensures { (m : List ℕ) (rows : Rows) → option_map (image_run m rows) result ≡ pair_form command.now m rows seed words.old }
+    ensures { (m : List ℕ) (rows : Rows) → option_map (image_run m rows) result ≡ form_behind_seed command.now m rows seed words.old }
 {
     if same_bytes(command, b"pair") {
         return run_ended(ImageRun::Pair { seed }, words);
