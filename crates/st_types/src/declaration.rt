@@ -60,12 +60,27 @@ fn note_misfit(kind: Kind, spot: Spot, first: &mut Option<Fault>)
     }
 }
 
-// The number of the next slot. From 2^32 on there is no room for one.
-fn next_slot(slots: &Slots) -> Result<u32, Memory>
-    ensures { IfOk result (λ n. n ≡ length slots.now.items.items) }
+// The entry of a name; a variable's slot is the next one. From 2^32 slots on there is no room for one.
+fn entry_of(alloc: Global, slots: &Slots, kind: Kind, d: &Declared) -> Result<Entry, Memory>
+    ensures { IfOk result (λ e. e ≡ record {
+      name = d.now.name;
+      section = kind.section;
+      ty = kind.ty;
+      value = zero_or kind.init;
+      slot = length slots.now.items.items;
+    }) }
 {
     match u32::try_from(slots.len()) {
-        Ok(n) => Ok(n),
+        Ok(slot) => match Text::copy_of(alloc, d.name.bytes()) {
+            Ok(name) => Ok(Entry {
+                name,
+                section: kind.section,
+                ty: kind.ty,
+                value: value_or_zero(kind.init),
+                slot,
+            }),
+            Err(Memory) => Err(Memory),
+        },
         Err(_) => Err(Memory),
     }
 }
@@ -89,32 +104,35 @@ fn add_slot(alloc: Global, slots: &mut Slots, kind: Kind, d: &Declared) -> Resul
     }
 }
 
-// Adds a name; one that is declared before is noted, and the first declaration counts.
-fn add_name(
-    alloc: Global,
-    made: &mut Declarations,
-    kind: Kind,
-    d: &Declared,
-    first: &mut Option<Fault>,
-) -> Result<(), Memory>
-    ensures notes { OnOk result (Notes first.old first.new (λ f. (f ≡ fault rule_.Duplicate d.now.spot) × (is_new (made_by made.old) d.now.name ≡ false))) }
+// Adds a name, unless it is declared before, and says whether it did: the first declaration counts.
+fn add_new(alloc: Global, made: &mut Declarations, kind: Kind, d: &Declared) -> Result<bool, Memory>
+    ensures said { IfOk result (λ r. r ≡ is_new (made_by made.old) d.now.name) }
     ensures gives { OnOk result (made_by made.new ≡ after_name (made_by made.old) kind.section kind.ty (zero_or kind.init) (declared_tree d.now)) }
 {
-    let slot = next_slot(&made.slots)?;
-    let entry = Entry {
-        name: Text::copy_of(alloc, d.name.bytes())?,
-        section: kind.section,
-        ty: kind.ty,
-        value: value_or_zero(kind.init),
-        slot,
-    };
-    match made.names.declare(entry) {
-        Ok(true) => add_slot(alloc, &mut made.slots, kind, d),
-        Ok(false) => {
-            note(first, Rule::Duplicate, d.spot);
-            Ok(())
-        }
+    match entry_of(alloc, &made.slots, kind, d) {
+        Ok(entry) => match made.names.declare(entry) {
+            Ok(true) => match add_slot(alloc, &mut made.slots, kind, d) {
+                Ok(()) => Ok(true),
+                Err(Memory) => Err(Memory),
+            },
+            Ok(false) => Ok(false),
+            Err(Memory) => Err(Memory),
+        },
         Err(Memory) => Err(Memory),
+    }
+}
+
+// Adds a name; one that is declared before is noted.
+fn add_name(alloc: Global, made: &mut Declarations, kind: Kind, d: &Declared, noted: &mut Noted)
+    ensures { UnlessFull noted.old.full noted.new.full
+        (Makes noted.old.first noted.new.first (made_by made.new)
+        (after_name (made_by made.old) kind.section kind.ty (zero_or kind.init) (declared_tree d.now))
+        (λ f. (f ≡ fault rule_.Duplicate d.now.spot) × (is_new (made_by made.old) d.now.name ≡ false))) }
+{
+    match add_new(alloc, made, kind, d) {
+        Ok(true) => {}
+        Ok(false) => note(&mut noted.first, Rule::Duplicate, d.spot),
+        Err(Memory) => noted.full = true,
     }
 }
 
@@ -124,15 +142,15 @@ fn add_names(
     made: &mut Declarations,
     kind: Kind,
     names: &[Declared],
-    first: &mut Option<Fault>,
-) -> Result<(), Memory>
-    ensures { OnOk result (MakesNames kind.section kind.ty kind.init (map declared_tree names.now) (made_by made.old) (made_by made.new) first.old first.new) }
+    noted: &mut Noted,
+)
+    ensures { UnlessFull noted.old.full noted.new.full
+        (MakesNames kind.section kind.ty kind.init (map declared_tree names.now) (made_by made.old) (made_by made.new) noted.old.first noted.new.first) }
 {
     'each: for d in names {
-        add_name(alloc, made, kind, d, first)?;
-        note_misfit(kind, d.spot, first);
+        add_name(alloc, made, kind, d, noted);
+        note_misfit(kind, d.spot, &mut noted.first);
     }
-    Ok(())
 }
 
 // The constant that an initial value is, where one is given.
@@ -155,19 +173,20 @@ fn add_declaration(
     made: &mut Declarations,
     section: Section,
     d: &Decl,
-    first: &mut Option<Fault>,
-) -> Result<(), Memory>
-    ensures { OnOk result (Makes first.old first.new (made_by made.new)
+    noted: &mut Noted,
+)
+    ensures { UnlessFull noted.old.full noted.new.full
+        (Makes noted.old.first noted.new.first (made_by made.new)
         (after_decl section (made_by made.old) (decl_tree d.now))
         (DeclForm section (made_by made.old) (decl_tree d.now))) }
 {
-    let init = initial_or_none(made, &d.init, first);
+    let init = initial_or_none(made, &d.init, &mut noted.first);
     let kind = Kind {
         section,
         ty: d.ty,
         init,
     };
-    add_names(alloc, made, kind, &d.names.items, first)
+    add_names(alloc, made, kind, &d.names.items, noted);
 }
 
 // Adds the declarations of a block.
@@ -176,29 +195,24 @@ fn add_declarations(
     made: &mut Declarations,
     section: Section,
     decls: &[Decl],
-    first: &mut Option<Fault>,
-) -> Result<(), Memory>
-    ensures { OnOk result (MakesDecls section (map decl_tree decls.now) (made_by made.old) (made_by made.new) first.old first.new) }
+    noted: &mut Noted,
+)
+    ensures { UnlessFull noted.old.full noted.new.full
+        (MakesDecls section (map decl_tree decls.now) (made_by made.old) (made_by made.new) noted.old.first noted.new.first) }
 {
     'each: for d in decls {
-        add_declaration(alloc, made, section, d, first)?;
+        add_declaration(alloc, made, section, d, noted);
     }
-    Ok(())
 }
 
 // Adds all blocks.
-fn add_blocks(
-    alloc: Global,
-    made: &mut Declarations,
-    blocks: &[Block],
-    first: &mut Option<Fault>,
-) -> Result<(), Memory>
-    ensures { OnOk result (MakesBlocks (map block_tree blocks.now) (made_by made.old) (made_by made.new) first.old first.new) }
+fn add_blocks(alloc: Global, made: &mut Declarations, blocks: &[Block], noted: &mut Noted)
+    ensures { UnlessFull noted.old.full noted.new.full
+        (MakesBlocks (map block_tree blocks.now) (made_by made.old) (made_by made.new) noted.old.first noted.new.first) }
 {
     'each: for b in blocks {
-        add_declarations(alloc, made, b.section, &b.decls.items, first)?;
+        add_declarations(alloc, made, b.section, &b.decls.items, noted);
     }
-    Ok(())
 }
 
 // Before the first declaration.
@@ -211,42 +225,19 @@ fn nothing(alloc: Global) -> Declarations
     }
 }
 
-// Adds all blocks, then notes the faults inside their initial values.
-fn add_all(
-    alloc: Global,
-    made: &mut Declarations,
-    blocks: &[Block],
-    noted: &mut Noted,
-) -> Result<(), Memory>
-    ensures { OnOk result (UnlessFull noted.old.full noted.new.full
-        (MakesAll (map block_tree blocks.now) (made_by made.old) (made_by made.new) noted.old.first noted.new.first)) }
-{
-    match add_blocks(alloc, made, blocks, &mut noted.first) {
-        Ok(()) => {
-            let whole = Environment {
-                alloc,
-                names: &made.names,
-                held: &[],
-            };
-            whole.inside_blocks(blocks, noted);
-            Ok(())
-        }
-        Err(Memory) => Err(Memory),
-    }
-}
-
-/// What the blocks of a program declare; their faults are noted. `Memory` where there is no room, also for 2^32 slots.
-pub(crate) fn declared(
-    alloc: Global,
-    blocks: &[Block],
-    noted: &mut Noted,
-) -> Result<Declarations, Memory>
-    ensures { IfOk result (λ r. UnlessFull noted.old.full noted.new.full
-        (MakesAll (map block_tree blocks.now) nothing_made (made_by r) noted.old.first noted.new.first)) }
+/// What the blocks of a program declare: their faults are noted, those inside initial values as well. There is no room
+/// for more than 2^32 slots.
+pub(crate) fn declared(alloc: Global, blocks: &[Block], noted: &mut Noted) -> Declarations
+    ensures { UnlessFull noted.old.full noted.new.full
+        (MakesAll (map block_tree blocks.now) nothing_made (made_by result) noted.old.first noted.new.first) }
 {
     let mut made = nothing(alloc);
-    match add_all(alloc, &mut made, blocks, noted) {
-        Ok(()) => Ok(made),
-        Err(Memory) => Err(Memory),
-    }
+    add_blocks(alloc, &mut made, blocks, noted);
+    let whole = Environment {
+        alloc,
+        names: &made.names,
+        held: &[],
+    };
+    whole.inside_blocks(blocks, noted);
+    made
 }

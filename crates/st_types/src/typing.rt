@@ -7,13 +7,11 @@ ghost use Rattle.vcp_typed.specs.SourceRun.{Program as TypedProgram};
 ghost use Rattle.vcp_typed.specs.TStmtViews.{tstmt_trees};
 ghost use Rattle.st_types.specs.declared.fault.TypeFault.TheVariants as told_;
 ghost use Rattle.st_tree.specs.Declarable.{HasNames};
-ghost use Rattle.st_types.specs.DeclSteps.{made_by, MakesAll};
-ghost use Rattle.st_types.specs.DeclTyping.{nothing_made};
 ghost use Rattle.st_types.specs.Faults.{IsLeast};
-ghost use Rattle.st_types.specs.Notes.{Notes, UnlessFull};
+ghost use Rattle.st_types.specs.Notes.{Notes};
 ghost use Rattle.st_types.specs.Typing.{FaultAt, IsFaultless, IsTyped, Refuses, typed_of};
 
-use crate::declaration::{Declarations, declared};
+use crate::declaration::declared;
 use crate::environment::Environment;
 use crate::fault::{Fault, Rule, TypeFault};
 use crate::note::Noted;
@@ -21,7 +19,7 @@ use crate::place::name_at;
 use crate::refusals::discard_body;
 use st_tree::Program;
 use std::alloc::Global;
-use vcp_base::{MOST_NAMES, MOST_SIZE, Memory};
+use vcp_base::{MOST_NAMES, MOST_SIZE};
 use vcp_typed::{Slots, TStmts, Typed, size_of};
 
 // The answer that tells a fault.
@@ -101,44 +99,6 @@ fn answered(
     }
 }
 
-// The same once the declarations are read.
-fn body_judged(
-    alloc: Global,
-    program: &Program,
-    made: Declarations,
-    before: Noted,
-) -> Result<Typed, TypeFault>
-    requires names { HasNames (program_tree program.now) }
-    requires made { UnlessFull false before.full (MakesAll (program_tree program.now).blocks nothing_made (made_by made) None before.first) }
-    ensures ok { IfOk result (λ t. IsTyped (program_tree program.now) t) }
-    ensures err { IfErr result (Refuses (program_tree program.now)) }
-{
-    let mut noted = before;
-    let whole = Environment {
-        alloc,
-        names: &made.names,
-        held: &[],
-    };
-    let body = whole.type_stmts(&program.body.items, &mut noted);
-    answered(program, made.slots, body, noted)
-}
-
-// The checked program, or why there is none: the least fault first, then the limits.
-fn judged(alloc: Global, program: &Program) -> Result<Typed, TypeFault>
-    requires names { HasNames (program_tree program.now) }
-    ensures ok { IfOk result (λ t. IsTyped (program_tree program.now) t) }
-    ensures err { IfErr result (Refuses (program_tree program.now)) }
-{
-    let mut noted = Noted {
-        first: None,
-        full: false,
-    };
-    match declared(alloc, &program.blocks.items, &mut noted) {
-        Ok(made) => body_judged(alloc, program, made, noted),
-        Err(Memory) => Err(TypeFault::Memory),
-    }
-}
-
 /// The checked program of a tree: it has no fault, declares at most 1,024 names and has a Size of at most 65,536.
 ///
 /// Each declared name has 1 to 1,048,576 bytes: a letter or `_`, and then letters, digits and `_`. Else the answer is the
@@ -154,5 +114,16 @@ pub fn typed(alloc: Global, program: &Program) -> Result<Typed, TypeFault>
     ensures err { IfErr result (Refuses (program_tree program.now)) }
     ensures only { (t : TypedProgram) → IsTyped (program_tree program.now) t → IfErr result (λ e. e ≡ told_.Memory) }
 {
-    judged(alloc, program)
+    let mut noted = Noted {
+        first: None,
+        full: false,
+    };
+    let made = declared(alloc, &program.blocks.items, &mut noted);
+    let whole = Environment {
+        alloc,
+        names: &made.names,
+        held: &[],
+    };
+    let body = whole.type_stmts(&program.body.items, &mut noted);
+    answered(program, made.slots, body, noted)
 }

@@ -1,12 +1,15 @@
-use Rattle.std.proofs.Common.{drop, map, Option}
+use Rattle.std.proofs.Common.{drop, map}
 use Rattle.st_tree.specs.ProgramViews.{declared_tree}
-use Rattle.st_types.specs.declared.fault.Fault.{Fault}
+use Rattle.st_types.specs.declared.note.Noted.{Noted}
+use Rattle.st_types.specs.Notes.{UnlessFull}
 use Rattle.st_types.specs.DeclTyping.{Made}
 use Rattle.st_types.specs.DeclSteps.{made_by, MakesNames}
 use Rattle.st_types.proofs.declaration.add_names.Given as goal
 
 -- what the rest makes from here on, all names make from the start on
 abbrev pub invariant-each : goal.invariant-each
-invariant-each l = (n : Made) (end : Option Fault)
-    → MakesNames l.kind.section l.kind.ty l.kind.init (map declared_tree (drop l.d-index l.names)) (made_by l.made) n l.first end
-    → MakesNames l.kind.section l.kind.ty l.kind.init (map declared_tree l.names) (made_by l.initial.made) n l.initial.first end
+invariant-each l = (n : Made) (end : Noted)
+    → UnlessFull l.noted.full end.full (MakesNames l.kind.section l.kind.ty l.kind.init (map declared_tree (drop l.d-index l.names))
+    (made_by l.made) n l.noted.first end.first)
+    → UnlessFull l.initial.noted.full end.full (MakesNames l.kind.section l.kind.ty l.kind.init (map declared_tree l.names)
+    (made_by l.initial.made) n l.initial.noted.first end.first)
