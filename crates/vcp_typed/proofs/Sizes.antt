@@ -17,7 +17,9 @@ use Rattle.vcp_typed.specs.Items.{tarm_items, tbranch_items}
 use Rattle.vcp_typed.specs.TExprViews.{texpr_tree, texpr_trees}
 use Rattle.vcp_typed.specs.TStmtTree.{TStmtTrees, for_}
 use Rattle.vcp_typed.specs.TStmtViews.{tstmt_tree, tstmt_trees, tarm_trees, tbranch_trees, tother_tree}
-use Rattle.vcp_typed.specs.Size.{cut, function_size, expr_size, exprs_size, stmt_size, stmts_size, arms_size, branches_size, other_size}
+use Rattle.st_tree.specs.declared.program.Section.{Section}
+use Rattle.st_tree.specs.declared.program.Section.TheVariants as section
+use Rattle.vcp_typed.specs.Size.{cut, function_size, expr_size, exprs_size, stmt_size, stmts_size, arms_size, branches_size, other_size, section_size}
 use Rattle.vcp_typed.proofs.Rows.{tree-call, tree-if, tree-case, tree-for}
 
 pub size-call : (e : TExpr) (f : Fun) (t : Ty) (es : TExprs) (s : Spot) → e ≡ Call f t es s
@@ -37,17 +39,7 @@ size-case d e branches o s xs is same =
     ap (λ (x : TStmt). stmt_size (tstmt_tree x)) is ∙ ap stmt_size (tree-case e branches o s)
     ∙ sym (ap (λ (x : List TBranch). expr_size (texpr_tree e) + branches_size (tbranch_trees x) + other_size (tother_tree o)) same)
 
-turns-size : (slot : ℕ) (first by : ℤ) (turns : ℕ) (b : TStmtTrees) (s : Spot) → 0 < turns
-    → stmt_size (for_ slot first by turns b s) ≡ turns * (2 + stmts_size b)
-turns-size slot first by zero b s h = absurd (omega arith)
-turns-size slot first by (suc n) b s h = refl
-
-pub size-for : (d : TStmt) (slot : ℕ) (first by : ℤ) (turns : ℕ) (body : TStmts) (s : Spot) → d ≡ For slot first by turns body s → 0 < turns
-    → stmt_size (tstmt_tree d) ≡ turns * (2 + stmts_size (tstmt_trees body.items.items))
-size-for d slot first by turns body s is h =
-    ap (λ (x : TStmt). stmt_size (tstmt_tree x)) is ∙ ap stmt_size (tree-for slot first by turns body s) ∙ turns-size slot first by turns _ s h
-
-pub cut-times : (n a : ℕ) → 0 < n → cut (n * cut a) ≡ cut (n * a)
+cut-times : (n a : ℕ) → 0 < n → cut (n * cut a) ≡ cut (n * a)
 cut-times zero a h = absurd (omega arith)
 cut-times (suc k) a h = elim (order a 65537) [
   | inl low ↦ let e : cut a ≡ a = omega (arith, low) in ap (λ x. cut (suc k * x)) e
@@ -58,8 +50,44 @@ cut-times (suc k) a h = elim (order a 65537) [
       ap (λ x. cut (suc k * x)) e ∙ l ∙ sym r
 ]
 
-pub cut-two : (r d e : ℕ) → d ≡ cut e → r ≡ cut (2 + d) → r ≡ cut (2 + e)
+cut-two : (r d e : ℕ) → d ≡ cut e → r ≡ cut (2 + d) → r ≡ cut (2 + e)
 cut-two r d e h k = omega arith
+
+for-size : (slot : ℕ) (first by : ℤ) (n : ℕ) (b : TStmtTrees) (s : Spot) (r d : ℕ) → (n ≡ 0 → r ≡ 2) → (0 < n → r ≡ cut (n * cut (2 + d)))
+    → d ≡ cut (stmts_size b) → r ≡ cut (stmt_size (for_ slot first by n b s))
+for-size slot first by zero b s r d none some h = none refl
+for-size slot first by (suc k) b s r d none some h =
+    some (omega arith) ∙ ap (λ x. cut (suc k * x)) (cut-two (cut (2 + d)) d (stmts_size b) h refl) ∙ cut-times (suc k) (2 + stmts_size b) (omega arith)
+
+-- the Size of a FOR, of its turns or of none
+pub size-for : (d : TStmt) (slot : ℕ) (first by : ℤ) (turns : ℕ) (body : TStmts) (s : Spot) → d ≡ For slot first by turns body s → (r m : ℕ)
+    → (turns ≡ 0 → r ≡ 2) → (0 < turns → r ≡ cut (turns * cut (2 + m))) → m ≡ cut (stmts_size (tstmt_trees body.items.items))
+    → r ≡ cut (stmt_size (tstmt_tree d))
+size-for d slot first by turns body s is r m none some h =
+    for-size slot first by turns (tstmt_trees body.items.items) s r m none some h
+    ∙ sym (ap (λ (x : TStmt). cut (stmt_size (tstmt_tree x))) is ∙ ap (λ x. cut (stmt_size x)) (tree-for slot first by turns body s))
+
+-- the Size of a variable is small
+pub small-size : (s : Section) → section_size s ≡ cut (section_size s)
+small-size section.Input = refl
+small-size section.Output = refl
+small-size section.Local = refl
+small-size section.Retain = refl
+small-size section.Constant = refl
+
+-- a total of nothing yet
+pub low-none : (r : ℕ) → r ≡ 0 → r ≤ 65537
+low-none r h = omega arith
+
+pub begun : (r n : ℕ) → r ≡ 0 → cut (r + n) ≡ cut n
+begun r n h = omega arith
+
+-- a Size and a cut one
+pub joined : (r a b x y : ℕ) → a ≡ x → b ≡ cut y → r ≡ cut (a + b) → r ≡ cut (x + y)
+joined r a b x y h k l = omega arith
+
+pub joined-none : (r a b y : ℕ) → a ≡ 0 → b ≡ cut y → r ≡ cut (a + b) → r ≡ cut y
+joined-none r a b y h k l = omega arith
 
 -- a sum of cut Sizes is cut as that of the Sizes
 pub sum-right : (r a b y : ℕ) → b ≡ cut y → r ≡ cut (a + b) → r ≡ cut (a + y)

@@ -188,13 +188,6 @@ impl TExprs {
     }
 }
 
-/// The expression in a box; `Memory` where there is no room for it.
-fn boxed(alloc: Global, e: TExpr) -> Result<Box<TExpr>, Memory>
-    ensures { IfOk result (λ b. b.value ≡ e) }
-{
-    Ok(Box::new(alloc, e)?)
-}
-
 impl TExpr {
     /// A value of the type: a literal, or a constant by its value.
     pub fn literal(ty: Ty, value: i64, spot: Spot) -> TExpr
@@ -216,7 +209,7 @@ impl TExpr {
     {
         Ok(TExpr::Widen {
             ty,
-            arg: boxed(alloc, arg)?,
+            arg: Box::new(alloc, arg)?,
         })
     }
 
@@ -227,7 +220,7 @@ impl TExpr {
         Ok(TExpr::Unary {
             op,
             ty,
-            arg: boxed(alloc, arg)?,
+            arg: Box::new(alloc, arg)?,
             spot,
         })
     }
@@ -247,8 +240,8 @@ impl TExpr {
         Ok(TExpr::Binary {
             op,
             ty,
-            left: boxed(alloc, left)?,
-            right: boxed(alloc, right)?,
+            left: Box::new(alloc, left)?,
+            right: Box::new(alloc, right)?,
             spot,
         })
     }

@@ -7,16 +7,15 @@
 mod expr;
 mod laws;
 mod list;
-mod size;
+mod measure;
 mod slot;
 mod stmt;
 mod typed;
 mod types;
-mod wide;
 
 pub use expr::{Fun, TExpr, TExprs, conversion};
 pub use laws::{causes_of_stops, trees_of_appended, trees_of_nodes, turns_name_slots, values_fit};
-pub use size::size_of;
+pub use measure::size_of;
 pub use slot::{Slot, Slots};
 pub use stmt::{TArm, TArms, TBranch, TBranches, TLabel, TLabels, TStmt, TStmts, next_value};
 pub use typed::Typed;

@@ -7,10 +7,9 @@ ghost use Rattle.vcp_typed.specs.Size.{size};
 ghost use Rattle.vcp_typed.specs.Wide.{wide};
 ghost use Rattle.vcp_typed.specs.TStmtViews.{tstmt_trees};
 
-use crate::size::size_of;
+use crate::measure::{is_wide, size_of};
 use crate::slot::{Slot, Slots};
 use crate::stmt::TStmts;
-use crate::wide::is_wide;
 use st_tree::Section;
 use std::alloc::Global;
 use std::marker::Model;

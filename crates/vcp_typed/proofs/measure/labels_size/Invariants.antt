@@ -1,6 +1,6 @@
 use Rattle.std.proofs.Common.{◌≡◌, ◌+◌, ◌≤◌, drop, sum_by}
 use Rattle.vcp_typed.specs.Size.{cut, label_size}
-use Rattle.vcp_typed.proofs.size.labels_size.Given as goal
+use Rattle.vcp_typed.proofs.measure.labels_size.Given as goal
 
 abbrev pub invariant-each : goal.invariant-each
 invariant-each l = record {
