@@ -1,6 +1,6 @@
 //! The state of a flattening.
 
-ghost use Rattle.std.specs.Prelude.{◌≡◌, ◌<◌, ◌≤◌, ◌↔◌, ◌+◌, ℤ, true, length, get_or, slice_get, set, Some, None, Ok, Err, IfOk, IfErr, OnOk, OnErr, [], All};
+ghost use Rattle.std.specs.Prelude.{◌≡◌, ◌<◌, ◌≤◌, ◌↔◌, ◌+◌, true, length, get_or, slice_get, set, Some, None, Ok, Err, IfOk, IfErr, OnOk, OnErr, [], All};
 ghost use Rattle.std.specs.Prelude.{cond};
 ghost use Rattle.op_graph.specs.Rules.{OpFits, Admitted, TurnNodeFits, operand_fits, types_fit, is_number};
 ghost use Rattle.op_graph.specs.Building.{nowhere, with_input};
@@ -14,7 +14,7 @@ ghost use Rattle.flat_expr.specs.State.{IsState, IsPlace, IsA, Pushes, Makes, is
 ghost use Rattle.flat_expr.specs.State.{with_neutral, masks, guards, is_arithmetic, divides, is_comparison, denies, operates, signs, Reads, Flattens};
 ghost use Rattle.flat_expr.specs.State.{FlattensOne, FunFits, last_type, Allows, SlotsAllowed, applies, argument as argument_of, one_reads, one_size};
 ghost use Rattle.flat_expr.specs.State.{picks, limits};
-ghost use Rattle.flat_expr.specs.State.{has_all as has_all_of, selects, narrows, copies, sizes_up, placed, one_slot, Leaves, Refuses, Assigns, Nests};
+ghost use Rattle.flat_expr.specs.State.{has_all as has_all_of, narrows, sizes_up, placed, one_slot, Leaves, Refuses, Assigns, Nests};
 ghost use Rattle.flat_expr.specs.State.{Finishes, whole_size};
 ghost use Rattle.flat_expr.specs.Told.{names_of};
 ghost use Rattle.vcp_base.specs.declared.kind.Kind.TheVariants as kind_of;
@@ -548,12 +548,12 @@ impl<'a> Flat<'a> {
             Fun::Min => self.pick(ty, b, a, a, b, spot),
             Fun::Max => self.pick(ty, a, b, a, b, spot),
             Fun::Limit => self.limit(ty, a, b, c, spot),
-            Fun::Sel => self.select(ty, a, b, c, spot),
+            Fun::Sel => self.add(Kind::Sel, ty, ty, a, b, c, spot),
             _ => unreachable!(),
         }
     }
 
-    // A conversion. It can stop only where not every value of the one type is one of the other.
+    // A conversion. It can stop, and so is masked, only where not every value of the one type is one of the other.
     fn convert(&mut self, from: Ty, to: Ty, a: u32, spot: Spot) -> Result<u32, Build>
         requires types { types_fit kind_of.Conv from to ≡ true }
         requires from { admits self.old.graph.profile from ≡ true }
@@ -563,7 +563,7 @@ impl<'a> Flat<'a> {
         ensures refuses { IfErr result (λ why. Refuses self.old self.new 2 why) }
     {
         if has_all(from, to) {
-            self.copy(from, to, a, spot)
+            self.add(Kind::Conv, from, to, a, 0, 0, spot)
         } else {
             self.narrow(from, to, a, spot)
         }
@@ -680,18 +680,6 @@ impl<'a> Flat<'a> {
         self.pick(ty, high, m, m, high, spot)
     }
 
-    // `a` where the BOOL `g` is 0, and else `b`.
-    fn select(&mut self, ty: Ty, g: u32, a: u32, b: u32, spot: Spot) -> Result<u32, Build>
-        requires code { admits self.old.graph.profile ty ≡ true }
-        requires g { IsA type_of.Bool self.old.graph.operations g }
-        requires a { IsA ty self.old.graph.operations a }
-        requires b { IsA ty self.old.graph.operations b }
-        ensures made { IfOk result (λ k. Makes self.old self.new ty 3 (selects g a b) k) }
-        ensures refuses { IfErr result (λ why. Refuses self.old self.new 3 why) }
-    {
-        self.add(Kind::Sel, ty, ty, g, a, b, spot)
-    }
-
     // A conversion from a number to a narrower one, which can stop.
     fn narrow(&mut self, from: Ty, to: Ty, a: u32, spot: Spot) -> Result<u32, Build>
         requires types { types_fit kind_of.Conv from to ≡ true }
@@ -704,19 +692,6 @@ impl<'a> Flat<'a> {
     {
         let m = self.mask(a, from, false, spot)?;
         self.add(Kind::Conv, from, to, m, 0, 0, spot)
-    }
-
-    // A conversion to a wider number, or from BOOL to INT, which can't stop.
-    fn copy(&mut self, from: Ty, to: Ty, a: u32, spot: Spot) -> Result<u32, Build>
-        requires types { types_fit kind_of.Conv from to ≡ true }
-        requires from { admits self.old.graph.profile from ≡ true }
-        requires to { admits self.old.graph.profile to ≡ true }
-        requires wider { (v : ℤ) → fits from v ≡ true → fits to v ≡ true }
-        requires a { IsA from self.old.graph.operations a }
-        ensures made { IfOk result (λ k. Makes self.old self.new to 2 (copies a) k) }
-        ensures refuses { IfErr result (λ why. Refuses self.old self.new 2 why) }
-    {
-        self.add(Kind::Conv, from, to, a, 0, 0, spot)
     }
 
     // ABS: the masked argument, where it isn't less than 0, and else its NEG.

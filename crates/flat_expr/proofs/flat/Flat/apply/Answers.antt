@@ -10,7 +10,8 @@ use Rattle.vcp_typed.specs.Meaning.{lesser, greater}
 use Rattle.vcp_typed.specs.Size.{function_size}
 use Rattle.flat_expr.specs.State.{Makes, Refuses, FunFits, applies}
 use Rattle.flat_expr.proofs.Conversions.{conversion_fits, conversion_last, conversion_size, argument_fits, converted}
-use Rattle.flat_expr.proofs.Operators.{total_step}
+use Rattle.flat_expr.proofs.Operators.{selected, total_step}
+use Rattle.flat_expr.proofs.Ops.{sel_types}
 use Rattle.flat_expr.proofs.flat.Flat.apply.Goals as goal
 
 pub returns-in-Min-clause-made : goal.returns-in-Min-clause-made
@@ -39,11 +40,13 @@ returns-in-Limit-clause-made c =
 
 pub returns-in-Sel-clause-made : goal.returns-in-Sel-clause-made
 returns-in-Sel-clause-made c =
-    IfOk-weaker c.select.result _ _ (λ k p.
-    subst (λ f. Makes c.args.self.now c.select.new.self c.args.ty (function_size f)
+    let f = subst (λ f. FunFits f c.args.ty c.args.self.now.graph.operations c.args.a c.args.b c.args.c) c.in-Sel.is c.requires.arguments in
+    IfOk-weaker c.add.result _ _ (λ k p.
+    subst (λ f. Makes c.args.self.now c.add.new.self c.args.ty (function_size f)
     (applies c.args.self.now f c.args.ty c.args.a c.args.b c.args.c c.args.spot) k) (sym c.in-Sel.is)
-    (total_step c.args.self.now c.select.new.self c.args.ty _ (λ vs. cond (same (at vs c.args.a) (pos 0)) (at vs c.args.b) (at vs c.args.c)) _ _ k (omega arith)
-    (λ now vs types. refl) p)) c.select.ensures.made
+    (total_step c.args.self.now c.add.new.self c.args.ty _ (λ vs. cond (same (at vs c.args.a) (pos 0)) (at vs c.args.b) (at vs c.args.c)) _ _ k (omega arith)
+    (λ now vs types. refl)
+    (selected c.args.self.now c.add.new.self c.args.ty c.args.a c.args.b c.args.c k c.args.spot f.1 f.2 p))) c.add.ensures.made
 
 pub convert-requires-clause-types : goal.convert-requires-clause-types
 convert-requires-clause-types c = conversion_fits c.args.fun (c.in-Some.from, c.in-Some.to) (sym c.conversion.ensures ∙ c.in-Some.is)
@@ -123,12 +126,12 @@ returns-in-Limit-clause-refuses c =
     more_refuses c.args.self.now c.limit.new.self 6 (function_size c.args.fun) c.limit.result
     (at_least 6 0 (function_size c.args.fun) (ap function_size c.in-Limit.is)) c.limit.ensures.refuses
 
-pub select-requires : goal.select-requires
-select-requires c =
+pub add-requires : goal.add-requires
+add-requires c =
     let f = subst (λ f. FunFits f c.args.ty c.args.self.now.graph.operations c.args.a c.args.b c.args.c) c.in-Sel.is c.requires.arguments in
-    record { code = c.requires.ty; g = f.0; a = f.1; b = f.2 }
+    record { plain = refl; types = sel_types c.args.ty; from = c.requires.ty; ty = c.requires.ty; a = f.0; b = f.1; c = f.2 }
 
 pub returns-in-Sel-clause-refuses : goal.returns-in-Sel-clause-refuses
 returns-in-Sel-clause-refuses c =
-    more_refuses c.args.self.now c.select.new.self 3 (function_size c.args.fun) c.select.result
-    (at_least 3 0 (function_size c.args.fun) (ap function_size c.in-Sel.is)) c.select.ensures.refuses
+    more_refuses c.args.self.now c.add.new.self 1 (function_size c.args.fun) c.add.result
+    (at_least 1 2 (function_size c.args.fun) (ap function_size c.in-Sel.is)) c.add.ensures.refuses
