@@ -11,6 +11,7 @@ mod Ranged
 mod Rows
 mod SameGraphs
 mod SumWords
+mod Sums
 mod Tables
 mod TextFaults
 mod Weights

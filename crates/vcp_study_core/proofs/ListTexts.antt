@@ -70,11 +70,6 @@ is_text_of columns law list i p text is same (own, (q, typed, (g, h, list_stands
 
 -- ---- what is found of graphs
 
-pub both_graphs : {E : Type 0} (p q : Program) (g : Lists) (r : Result Bool E) → StandsFor p g
-    → IfOk r (λ is. IsTrue is → (h : Lists) × StandsFor q h × AreSameButForPlaces g h) → IfOk r (λ is. IsTrue is → HaveSameGraph p q)
-both_graphs p q g (Ok is) stands found = λ yes. let (h, beside, same) = found yes in (g, h, stands, beside, same)
-both_graphs p q g (Err e) stands found = tt
-
 pub same_graph_of : {E : Type 0} (p : Program) (text : List ℕ) (q : Program) (r : Result Bool E)
     → ((found : List ℕ) × (Some text ≡ Some found) × (length found ≤ most_source_bytes) × TypedOf found q)
     → IfOk r (λ is. IsTrue is → HaveSameGraph p q) → IfOk r (λ is. IsTrue is → HasSameGraph p text)

@@ -12,19 +12,15 @@ none_named : (n : ℕ) (found : Bool) → found ≡ are_named n → found ≡ fa
 none_named zero found is none = refl
 none_named (suc n) found is none = absurd cc
 
--- where nothing is named, no run over rows in the ranges ends at a stop; and all rows are in no ranges
-abbrev Law : Type 0
-Law = (g : Lists) (inputs : List Range) (a : KnownRanges) → IsAuditWithin g inputs a → named_below a.stops (length g.operations) ≡ 0 → NeverStopsWithin g inputs
-
 of_all : (g : Lists) (inputs : List Range) → ((rows : List (List ℤ)) → RowsIn [] rows) → NeverStopsWithin g inputs → inputs ≡ [] → NeverStops g
 of_all g inputs within never none rows fit = never rows (subst (λ is. RowsIn is rows) (sym none) (within rows)) fit
 
 -- the text, and whether one is named, by how many are
 pub ranged : (g : Lists) (inputs : List Range) (all : Bool) (a : KnownRanges) → IsAuditWithin g inputs a → (named : ℕ) (found : Bool)
-    → named ≡ named_below a.stops (length g.operations) → found ≡ are_named named → Law → ((rows : List (List ℤ)) → RowsIn [] rows)
+    → named ≡ named_below a.stops (length g.operations) → found ≡ are_named named → (named_below a.stops (length g.operations) ≡ 0 → NeverStopsWithin g inputs) → ((rows : List (List ℤ)) → RowsIn [] rows)
     → IsRanged g inputs all (ranges_text all g a) found
-ranged g inputs all a is named found counted told law within =
-    let never : found ≡ false → NeverStopsWithin g inputs = λ none. law g inputs a is (rw (← counted) (none_named named found told none)) in
+ranged g inputs all a is named found counted told none_stops within =
+    let never : found ≡ false → NeverStopsWithin g inputs = λ none. none_stops (rw (← counted) (none_named named found told none)) in
     record {
       audit = a;
       is = is;

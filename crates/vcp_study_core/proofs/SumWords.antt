@@ -6,7 +6,7 @@ use Rattle.std.proofs.lemmas.List.{drop_more}
 use Rattle.std.proofs.lemmas.Option.{get_or_from_slice_get, slice_get_within}
 use Rattle.vcp_inputs.specs.Forms.{Rows, file as from_file, cycles as from_cycles, is_end, is_file_name, name_and_rest, rows_and_rest, rows_of}
 use Rattle.verdict_tables.specs.Parts.{most_parts}
-use Rattle.vcp_study_core.specs.Forms.{no_more, a_part, the_rows, part_by, next_by, next_of, Behind, one_more, behind_by, behind_of, names_in, sum_with, sum_behind, sum_form}
+use Rattle.vcp_study_core.specs.Forms.{no_more, a_part, the_rows, part_by, next_by, next_of, Behind, one_more, behind_by, behind_of, names_in, sum_with, sum_behind, sum_form, form_of, named_form}
 use Rattle.vcp_study_core.specs.declared.words.NextWord.{NextWord}
 use Rattle.vcp_study_core.specs.declared.words.NextWord.TheVariants as word
 use Rattle.vcp_study_core.specs.SumSteps.{as_next, ended_of}
@@ -149,6 +149,12 @@ behind_name all words rest name are is = dropped_two all rest name (sym are ∙ 
 
 pub behind_first : (all rest : List (List ℕ)) (w : List ℕ) → all ≡ w ∷ rest → rest ≡ drop 1 all
 behind_first all rest w is = ap (drop 1) (sym is)
+
+-- the command that a name and a file's name say
+pub form_named : (all rest later : List (List ℕ)) (w name : List ℕ) → all ≡ w ∷ rest → Some (name, later) ≡ name_and_rest rest
+    → named_form w name later ≡ form_of all
+form_named all rest later w name are is =
+    sym (ap form_of are ∙ ap (option_and_then (λ (m : List ℕ × List (List ℕ)). named_form w m.0 m.1)) (sym is))
 
 -- the form of these words, where so much stands behind M
 pub form_behind : (words : List (List ℕ)) (d : Option Behind) → d ≡ behind_of most_parts words → option_and_then (sum_behind words) d ≡ sum_form words

@@ -253,8 +253,7 @@ abbrev pub study : ImageStudy → Study
 study (image.Alone s) = alone s
 study (image.Ranges all inputs) = ranges all (option_map (λ f. f.now) inputs)
 study (image.RunSites rows class which) = run_sites (rows_of rows) class which
-study (image.Sum parts) = sum (names_of parts)
-study (image.SumApart parts rows) = sum_apart (names_of parts) (rows_of rows)
+study (image.Sum parts rows) = sum_with (names_of parts) (option_map rows_of rows)
 study (image.Faults names) = faults (as_names names)
 study (image.Script named) = script_named named.now
 

@@ -97,17 +97,12 @@ pub enum ImageStudy<'a> {
         /// What is written.
         chosen: Chosen,
     },
-    /// `sum M SCRIPT VERDICTS ..`: tables of the verdicts that were printed on scripts.
+    /// `sum M SCRIPT VERDICTS ..`, with ROWS behind it or without: tables of the verdicts that were printed on scripts.
     Sum {
         /// The names of the scripts, and of what was printed on each.
         parts: PartWords<'a>,
-    },
-    /// `sum M SCRIPT VERDICTS .. ROWS`: the same with those that are `same` distinguished by runs over ROWS.
-    SumApart {
-        /// The names of the scripts, and of what was printed on each.
-        parts: PartWords<'a>,
-        /// ROWS.
-        rows: RowsWord<'a>,
+        /// ROWS, by runs over which the verdicts that are `same` are distinguished.
+        rows: Option<RowsWord<'a>>,
     },
     /// `faults M SCRIPT VERDICTS`: the picture of its graph by the same.
     Faults {

@@ -2,14 +2,10 @@
 
 ghost use Rattle.std.specs.Prelude.{◌≤◌, IfOk, IfSome, IsTrue, length};
 ghost use Rattle.il_front.specs.Answers.{most_il_bytes};
-ghost use Rattle.op_graph.specs.Lists.{Lists};
-ghost use Rattle.vcp_inputs.specs.GraphsOf.{StandsFor};
 ghost use Rattle.vcp_study_core.specs.ListTexts.{IsCanonicalOf, IsItsCanonical, IsTextFor, HasSameGraph, HaveSameGraph};
-ghost use Rattle.vcp_study_core.specs.SameGraphs.{AreSameButForPlaces};
 
 use crate::rough_text::rough_text;
 use crate::same_graphs::same_but_for_places;
-use op_graph::Graph;
 use st_writer::write_program;
 use std::alloc::Global;
 use vcp_base::{MOST_SOURCE_BYTES, Memory, Text};
@@ -44,22 +40,15 @@ fn is_canonical(alloc: Global, text: &Text) -> Result<bool, Memory>
     }
 }
 
-/// Whether a program has this graph, but for places, as far as is found.
-fn is_graph_of(alloc: Global, graph: &Graph, program: &Typed) -> Result<bool, Memory>
-    ensures { IfOk result (λ is. IsTrue is → (h : Lists) × StandsFor program.now h × AreSameButForPlaces graph.now h) }
-{
-    match graph_of(alloc, program) {
-        Ok(beside) => Ok(same_but_for_places(graph, &beside)),
-        Err(Memory) => Err(Memory),
-    }
-}
-
 /// Whether two programs have the same graph, but for places, as far as is found.
 fn have_same_graph(alloc: Global, program: &Typed, other: &Typed) -> Result<bool, Memory>
     ensures { IfOk result (λ is. IsTrue is → HaveSameGraph program.now other.now) }
 {
     match graph_of(alloc, program) {
-        Ok(graph) => is_graph_of(alloc, &graph, other),
+        Ok(graph) => match graph_of(alloc, other) {
+            Ok(beside) => Ok(same_but_for_places(&graph, &beside)),
+            Err(Memory) => Err(Memory),
+        },
         Err(Memory) => Err(Memory),
     }
 }
@@ -89,24 +78,17 @@ fn if_text_for(alloc: Global, text: Text, program: &Typed) -> Result<Option<Text
     }
 }
 
-/// The canonical text of the program that a rough text is, where that is one for this program; None where none is found.
-fn text_by(alloc: Global, rough: &Text, program: &Typed) -> Result<Option<Text>, Memory>
-    ensures { IfOk result (λ found. IfSome found (IsTextFor program.now)) }
-{
-    match canonical_of(alloc, rough) {
-        Ok(Some(text)) => if_text_for(alloc, text, program),
-        Ok(None) => Ok(None),
-        Err(Memory) => Err(Memory),
-    }
-}
-
 /// The canonical text of a program in Structured Text that has the run of a list with this text and this typed program; None where none is found.
 pub(crate) fn text_for(alloc: Global, list: &[u8], program: &Typed) -> Result<Option<Text>, Memory>
     requires { length list.now ≤ most_il_bytes }
     ensures { IfOk result (λ found. IfSome found (IsTextFor program.now)) }
 {
     match rough_text(alloc, list, program) {
-        Ok(rough) => text_by(alloc, &rough, program),
+        Ok(rough) => match canonical_of(alloc, &rough) {
+            Ok(Some(text)) => if_text_for(alloc, text, program),
+            Ok(None) => Ok(None),
+            Err(Memory) => Err(Memory),
+        },
         Err(Memory) => Err(Memory),
     }
 }

@@ -4,7 +4,6 @@ ghost use Rattle.std.specs.Prelude.{◌≡◌, ◌<◌, ◌≤◌, ◌^◌, All,
 ghost use Rattle.std.specs.Io.KnownBytes.{IsAtEnd};
 ghost use Rattle.vcp_base.specs.Limits.{most_cycles, most_names};
 ghost use Rattle.vcp_outside.specs.Counts.{Rose};
-ghost use Rattle.signature_table.specs.Signatures.{table_of};
 ghost use Rattle.vcp_inputs.specs.Forms.{rows_of, AreFew};
 ghost use Rattle.vcp_inputs.specs.Tables.{rows_name as rows_name_of};
 ghost use Rattle.vcp_inputs.specs.RowsOutcome.{rows_outcome};
@@ -12,15 +11,13 @@ ghost use Rattle.vcp_inputs.specs.declared.refusal.NoInput.TheVariants as input;
 ghost use Rattle.vcp_study_core.specs.CarriedOut.{Fetches};
 ghost use Rattle.vcp_study_core.specs.FromFiles.{as_found};
 ghost use Rattle.vcp_study_core.specs.Parts.{ReadsRows, RowsFrom};
-ghost use Rattle.vcp_study_core.specs.Tasks.{BytesFrom, ImageFrom};
+ghost use Rattle.vcp_study_core.specs.Tasks.{BytesFrom};
 
 use crate::fault::Fault;
 use input_rows::RowList;
 use std::alloc::Global;
 use vcp_base::{Columns, Text};
-use vcp_inputs::{
-    Image, NoInput, RowsWord, graph_columns, load_image, load_rows, read_file, whole_rows,
-};
+use vcp_inputs::{Image, NoInput, RowsWord, graph_columns, load_rows, read_file, whole_rows};
 use vcp_outside::Files;
 
 /// The bytes of the file under a name, which has at most so many.
@@ -36,24 +33,6 @@ pub(crate) fn bytes_under<'a, F: Files>(
 {
     match read_file(alloc, files, name, limit) {
         Ok(text) => Ok(text),
-        Err(input) => Err(Fault::Input {
-            name: name.bytes(),
-            input,
-        }),
-    }
-}
-
-/// The image under a name.
-pub(crate) fn image_under<'a, F: Files>(
-    alloc: Global,
-    files: &mut F,
-    name: &'a Text,
-) -> Result<Image, Fault<'a>>
-    ensures fetches { Fetches (ImageFrom name.now) (F.seen files.old) (F.seen files.new) (as_found result) }
-    ensures table { IfOk result (λ i. i.table ≡ table_of i.table.seed i.table.step i.graph) }
-{
-    match load_image(alloc, files, name) {
-        Ok(image) => Ok(image),
         Err(input) => Err(Fault::Input {
             name: name.bytes(),
             input,

@@ -9,7 +9,6 @@ ghost use Rattle.fault_script.specs.ScriptOf.{most_faults};
 ghost use Rattle.fault_injector.specs.Names.{Names};
 ghost use Rattle.verdict_tables.specs.Reading.{verdicts_in as verdicts_in_text};
 ghost use Rattle.verdict_tables.specs.Parts.{most_parts, IsWhole, PartFits};
-ghost use Rattle.vcp_inputs.specs.Refusals.{unscripted};
 ghost use Rattle.vcp_study_core.specs.CarriedOut.{Fetches, Studies, WritesSo, told_line, told_status};
 ghost use Rattle.vcp_study_core.specs.Forms.{as_names, faults, names_of};
 ghost use Rattle.vcp_study_core.specs.FromFiles.{as_found};
@@ -21,7 +20,7 @@ ghost use Rattle.vcp_study_core.specs.Texts.{ShowsPart};
 use crate::fault::{Fault, StudyRefusal, told};
 use crate::loading::bytes_under;
 use crate::part_words::{Named, PartWords};
-use fault_script::{Script, ScriptFault, read_script};
+use fault_script::{Script, read_script};
 use fault_sites::image_digest;
 use graph_picture::{layout_of, write_faults};
 use op_graph::Graph;
@@ -32,13 +31,6 @@ use vcp_outside::{Files, Sink};
 use verdict_tables::{
     Part, Parts, Verdicts, VerdictsFault, is_for, read_verdicts, shows_unseen, totals_of_all,
 };
-
-/// Why a text is no script, as of a file.
-fn no_script(why: ScriptFault) -> NoInput
-    ensures { result ≡ unscripted why }
-{
-    NoInput::from(why)
-}
 
 /// The script that the text of the file under a name is for an image: one that names another image is refused before its lines are read.
 fn script_in<'a>(
@@ -66,7 +58,7 @@ fn script_in<'a>(
         Ok(script) => Ok(script),
         Err(why) => Err(Fault::Input {
             name: name.bytes(),
-            input: no_script(why),
+            input: NoInput::from(why),
         }),
     }
 }

@@ -19,30 +19,13 @@ use crate::loading::bytes_under;
 use input_rows::RowFault;
 use op_graph::Graph;
 use range_audit::{
-    all_rows_are_in_no_ranges, count_named, ranges_within, what_names_nothing_never_stops_within,
-    write_ranges as write_ranges_text,
+    all_rows_are_in_no_ranges, count_named, ranges_within, write_ranges as write_ranges_text,
 };
 use range_walk::{Range, Ranges, ranges_of_table};
 use std::alloc::Global;
-use vcp_base::{Columns, MOST_SOURCE_BYTES, Text};
+use vcp_base::{Columns, MOST_SOURCE_BYTES, Memory, Text};
 use vcp_inputs::{Image, NoInput, Refusal, graph_columns};
 use vcp_outside::{Files, Sink};
-
-/// What is reported of the operations of a graph, on rows whose inputs are in these ranges. Where all are reported, it is searched for closer ranges.
-fn audit_of<'a>(
-    alloc: Global,
-    graph: &Graph,
-    inputs: &[Range],
-    all: bool,
-) -> Result<Ranges, Fault<'a>>
-    ensures audit { IfOk result (λ a. IsAuditWithin graph.now inputs.now a) }
-    ensures fault { IfErr result (λ e. e ≡ fault.Memory) }
-{
-    match ranges_within(alloc, graph, inputs, all) {
-        Ok(ranges) => Ok(ranges),
-        Err(_) => Err(Fault::Memory),
-    }
-}
 
 /// Whether an operation may stop, by how many may.
 fn is_named(named: u32) -> bool
@@ -61,14 +44,13 @@ fn write_ranges<'a, O: Sink>(
 ) -> Result<bool, Fault<'a>>
     ensures { WritesSo (WritesOne (IsRanged graph.now inputs.now all)) (O.seen out.old) (O.seen out.new) (told_line result) (told_status result) }
 {
-    what_names_nothing_never_stops_within();
     all_rows_are_in_no_ranges();
-    match audit_of(alloc, graph, inputs, all) {
+    match ranges_within(alloc, graph, inputs, all) {
         Ok(ranges) => {
             let named = is_named(count_named(graph, &ranges));
             told(write_ranges_text(out, graph, &ranges, all), named)
         }
-        Err(why) => Err(why),
+        Err(Memory) => Err(Fault::Memory),
     }
 }
 

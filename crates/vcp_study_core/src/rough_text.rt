@@ -4,7 +4,7 @@ ghost use Rattle.std.specs.Prelude.{◌≤◌, length};
 ghost use Rattle.il_front.specs.Answers.{most_il_bytes};
 
 use itoa::Buffer;
-use st_lexer::{LexFault, Token, lex};
+use st_lexer::{LexFault, lex};
 use st_tree::{Section, UnOp};
 use st_writer::operator_text;
 use std::alloc::Global;
@@ -27,7 +27,11 @@ pub(crate) fn rough_text(alloc: Global, list: &[u8], program: &Typed) -> Result<
         is_given_up: false,
     };
     text.program(alloc, list, program);
-    text.finish()
+    if text.is_given_up {
+        Err(Memory)
+    } else {
+        Ok(Text::from_vec(text.bytes))
+    }
 }
 
 /// The words with which the block of a section begins.
@@ -52,15 +56,6 @@ fn has_plain_form(ty: Ty, value: i64) -> bool {
 }
 
 impl Growing {
-    /// The text, unless it was given up.
-    fn finish(self) -> Result<Text, Memory> {
-        if self.is_given_up {
-            Err(Memory)
-        } else {
-            Ok(Text::from_vec(self.bytes))
-        }
-    }
-
     fn put(&mut self, bytes: &[u8]) {
         if self.is_given_up {
             return;
@@ -92,18 +87,14 @@ impl Growing {
     {
         match lex(alloc, list) {
             Ok(tokens) => if tokens.len() >= 2 {
-                self.word(list, tokens.at(1));
+                let name = tokens.at(1);
+                match list.get(name.from as usize..name.to as usize) {
+                    Some(bytes) => self.put(bytes),
+                    None => {}
+                }
             },
             Err(LexFault::Memory) => self.is_given_up = true,
             Err(_) => {}
-        }
-    }
-
-    /// A token of a list's text.
-    fn word(&mut self, list: &[u8], token: Token) {
-        match list.get(token.from as usize..token.to as usize) {
-            Some(bytes) => self.put(bytes),
-            None => {}
         }
     }
 
@@ -113,19 +104,14 @@ impl Growing {
         for slot in slots {
             let words = block_words(slot.section);
             if words != open {
-                self.begin_block(open, words);
+                self.end_block(open);
+                self.put(words);
+                self.put(b"\n");
                 open = words;
             }
             self.declaration(slot);
         }
         self.end_block(open);
-    }
-
-    /// Begins a block, behind the one that is open.
-    fn begin_block(&mut self, open: &[u8], words: &[u8]) {
-        self.end_block(open);
-        self.put(words);
-        self.put(b"\n");
     }
 
     /// Ends a block, where one is open.

@@ -12,15 +12,14 @@ use crate::command::{AloneStudy, ImageStudy};
 use crate::cover::write_cover;
 use crate::fault::Fault;
 use crate::graph::{write_dot, write_graph};
-use crate::loading::image_under;
 use crate::parts::faults_of_image;
 use crate::ranges::ranges_of_image;
 use crate::script::script_of_image;
 use crate::sites::{run_sites_of_image, write_rests, write_sites};
-use crate::sum::{apart_of_image, sum_of_image};
+use crate::sum::sum_of_image;
 use std::alloc::Global;
 use vcp_base::Text;
-use vcp_inputs::Image;
+use vcp_inputs::{Image, load_image};
 use vcp_outside::{Files, Sink};
 
 /// Does what is to be done with an image for which no other file is read, and writes to `out` alone. Answers whether it found what it looks for.
@@ -77,10 +76,7 @@ fn study_image<'a, F: Files, O: Sink>(
             class,
             chosen,
         } => run_sites_of_image(alloc, name, image, *rows, *class, chosen, files, out),
-        ImageStudy::Sum { parts } => sum_of_image(alloc, image, parts, files, out),
-        ImageStudy::SumApart { parts, rows } => apart_of_image(
-            alloc, image, *rows, parts, files, out,
-        ),
+        ImageStudy::Sum { parts, rows } => sum_of_image(alloc, image, parts, *rows, files, out),
         ImageStudy::Faults { names } => faults_of_image(alloc, image, names, files, out),
         ImageStudy::Script { named } => script_of_image(alloc, image, named, files, out),
     }
@@ -98,8 +94,11 @@ pub(crate) fn image_command<'a, F: Files, O: Sink>(
     ensures { Studies (TaskOf (on name.now (study_form study.now)))
         (F.seen files.old) (F.seen files.new) (O.seen out.old) (O.seen out.new) (told_line result) (told_status result) }
 {
-    match image_under(alloc, files, name) {
+    match load_image(alloc, files, name) {
         Ok(image) => study_image(alloc, name, &image, study, files, out),
-        Err(why) => Err(why),
+        Err(input) => Err(Fault::Input {
+            name: name.bytes(),
+            input,
+        }),
     }
 }

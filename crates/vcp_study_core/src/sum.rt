@@ -1,6 +1,7 @@
 //! The command `sum`, behind its image.
 
-ghost use Rattle.std.specs.Prelude.{ℕ, List, ◌≡◌, ◌≤◌, All, length};
+ghost use Rattle.std.specs.Prelude.{ℕ, List, ◌≡◌, ◌≤◌, All, IfSome, length};
+ghost use Rattle.std.specs.Option.{option_map};
 ghost use Rattle.std.specs.Io.KnownBytes.{IsAtEnd};
 ghost use Rattle.vcp_base.specs.Limits.{most_cycles};
 ghost use Rattle.signature_table.specs.Signatures.{table_of};
@@ -9,7 +10,7 @@ ghost use Rattle.verdict_tables.specs.SameEndings.{endings_over, sum_apart_text}
 ghost use Rattle.verdict_tables.specs.SumText.{sum_text};
 ghost use Rattle.vcp_inputs.specs.Forms.{rows_of, AreFew};
 ghost use Rattle.vcp_study_core.specs.CarriedOut.{Studies, WritesSo, told_line, told_status};
-ghost use Rattle.vcp_study_core.specs.Forms.{names_of, sum, sum_apart};
+ghost use Rattle.vcp_study_core.specs.Forms.{names_of, sum_apart, sum_with};
 ghost use Rattle.vcp_study_core.specs.Tasks.{StudyOf};
 ghost use Rattle.vcp_study_core.specs.Texts.{sums_up};
 
@@ -39,25 +40,6 @@ fn write_tables<'a, O: Sink>(graph: &Graph, parts: &Parts, out: &mut O) -> Resul
     told(write_sum(out, graph, parts), unseen)
 }
 
-/// Reads the parts for an image, and writes the tables of their verdicts; whether a fault is unseen.
-pub(crate) fn sum_of_image<'a, F: Files, O: Sink>(
-    alloc: Global,
-    image: &Image,
-    names: &PartWords<'a>,
-    files: &mut F,
-    out: &mut O,
-) -> Result<bool, Fault<'a>>
-    requires table { image.now.table ≡ table_of image.now.table.seed image.now.table.step image.now.graph }
-    requires few { length (names_of names.now) ≤ most_parts }
-    ensures { IsAtEnd (F.seen files.old).rest → (m : List ℕ) → Studies (StudyOf (sum (names_of names.now)) m image.now)
-        (F.seen files.old) (F.seen files.new) (O.seen out.old) (O.seen out.new) (told_line result) (told_status result) }
-{
-    match load_parts(alloc, image, names, files) {
-        Ok(parts) => write_tables(&image.graph, &parts, out),
-        Err(why) => Err(why),
-    }
-}
-
 /// Writes the tables of the verdicts of parts, in which those that are `same` are distinguished by runs over rows; whether a fault is unseen.
 fn write_tables_apart<'a, O: Sink>(
     alloc: Global,
@@ -85,7 +67,7 @@ fn write_tables_apart<'a, O: Sink>(
 }
 
 /// Reads ROWS for an image, then the parts, and writes the tables of their verdicts, distinguished by runs over ROWS; whether a fault is unseen.
-pub(crate) fn apart_of_image<'a, F: Files, O: Sink>(
+fn apart_of_image<'a, F: Files, O: Sink>(
     alloc: Global,
     image: &Image,
     rows: RowsWord<'a>,
@@ -105,5 +87,30 @@ pub(crate) fn apart_of_image<'a, F: Files, O: Sink>(
             Err(why) => Err(why),
         },
         Err(why) => Err(why),
+    }
+}
+
+/// Reads the parts for an image, behind ROWS where it is there, and writes the tables of their verdicts; whether a fault is unseen.
+pub(crate) fn sum_of_image<'a, F: Files, O: Sink>(
+    alloc: Global,
+    image: &Image,
+    names: &PartWords<'a>,
+    rows: Option<RowsWord<'a>>,
+    files: &mut F,
+    out: &mut O,
+) -> Result<bool, Fault<'a>>
+    requires table { image.now.table ≡ table_of image.now.table.seed image.now.table.step image.now.graph }
+    requires few_rows { IfSome rows (λ r. AreFew (rows_of r)) }
+    requires few { length (names_of names.now) ≤ most_parts }
+    ensures { IsAtEnd (F.seen files.old).rest → (m : List ℕ)
+        → Studies (StudyOf (sum_with (names_of names.now) (option_map rows_of rows.entry)) m image.now)
+        (F.seen files.old) (F.seen files.new) (O.seen out.old) (O.seen out.new) (told_line result) (told_status result) }
+{
+    match rows {
+        Some(rows) => apart_of_image(alloc, image, rows, names, files, out),
+        None => match load_parts(alloc, image, names, files) {
+            Ok(parts) => write_tables(&image.graph, &parts, out),
+            Err(why) => Err(why),
+        },
     }
 }

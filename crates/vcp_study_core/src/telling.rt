@@ -36,17 +36,10 @@ pub(crate) fn tell<E: Sink>(err: &mut E, fault: &Fault<'_>) -> Result<(), Failed
 {
     match fault {
         Fault::Input { name, input } => tell_input(err, name, input),
-        Fault::Refused { name, why } => tell_own(err, name, why),
+        Fault::Refused { name, why } => tell_said(err, name, said_of(why)),
         Fault::Write => write_all(err, b"write fault\n"),
         Fault::Memory => write_all(err, b"no memory\n"),
     }
-}
-
-/// Prints the line of the file under a name that only this program refuses.
-fn tell_own<E: Sink>(err: &mut E, name: &[u8], why: &StudyRefusal) -> Result<(), Failed>
-    ensures { WritesTo (E.seen err.old) (E.seen err.new) (own_text name.now why.now) result }
-{
-    tell_said(err, name, said_of(why))
 }
 
 /// What a line says of a file.

@@ -5,10 +5,10 @@ ghost use Rattle.std.specs.Option.{option_map};
 ghost use Rattle.vcp_base.specs.Limits.{most_cycles, most_horizon};
 ghost use Rattle.vcp_study_core.specs.Forms.{list_image, list_text};
 ghost use Rattle.vcp_study_core.specs.Forms.{form, form_of, named_form, waves, waves_form, last_name as last_name_of};
-ghost use Rattle.vcp_study_core.specs.Forms.{study, study_of, fault_study_of, graph, dot, last_horizon as last_horizon_of, alone, as_ranges, ranges_form};
+ghost use Rattle.vcp_study_core.specs.Forms.{study, study_of, fault_study_of, graph, dot, last_horizon as last_horizon_of, as_ranges, ranges_form};
 ghost use Rattle.vcp_study_core.specs.Forms.{all_form, inputs_form, cover_form, IsSound, IsSoundStudy};
 ghost use Rattle.vcp_study_core.specs.Forms.{faults_form, sites_form, behind_form, class_form, cycles_in as cycles_in_of};
-ghost use Rattle.vcp_study_core.specs.Forms.{rest_form, run_sites, names_of, next_by, next_of, behind_of, sum_with, sum_form, script_form, chosen_of};
+ghost use Rattle.vcp_study_core.specs.Forms.{rest_form, run_sites, next_by, next_of, behind_of, sum_form, script_form, chosen_of};
 ghost use Rattle.vcp_study_core.specs.SumSteps.{as_next, as_behind, ended_of, IsFew, FewBehind};
 ghost use Rattle.verdict_tables.specs.Parts.{most_parts};
 ghost use Rattle.vcp_inputs.specs.Forms.{rows_of, AreFew, code_of, is_end};
@@ -131,16 +131,16 @@ fn study_words<'a>(
     ensures sound { IfSome result (λ s. IsSoundStudy (study s)) }
 {
     if same_bytes(command, b"graph") {
-        return alone_words(graph_words(words));
+        return graph_words(words);
     }
     if same_bytes(command, b"dot") {
-        return alone_words(dot_words(words));
+        return dot_words(words);
     }
     if same_bytes(command, b"ranges") {
         return ranges_words(words);
     }
     if same_bytes(command, b"cover") {
-        return alone_words(cover_words(words));
+        return cover_words(words);
     }
     fault_study_words(all, command, words)
 }
@@ -191,36 +191,24 @@ fn last_horizon(words: &mut CommandWords<'_>) -> Option<u32>
     }
 }
 
-/// What is done with an image for which no other file is read, where it is said.
-fn alone_words<'a>(said: Option<AloneStudy>) -> Option<ImageStudy<'a>>
-    requires { IfSome said (λ s. IsSoundStudy (alone s)) }
-    ensures form { option_map study result ≡ option_map alone said }
+/// The word of `graph`.
+fn graph_words<'a>(words: &mut CommandWords<'_>) -> Option<ImageStudy<'a>>
+    ensures form { option_map study result ≡ option_map graph (last_horizon_of words.old) }
     ensures sound { IfSome result (λ s. IsSoundStudy (study s)) }
 {
-    match said {
-        Some(own) => Some(ImageStudy::Alone(own)),
-        None => None,
-    }
-}
-
-/// The word of `graph`.
-fn graph_words(words: &mut CommandWords<'_>) -> Option<AloneStudy>
-    ensures form { option_map alone result ≡ option_map graph (last_horizon_of words.old) }
-    ensures sound { IfSome result (λ s. IsSoundStudy (alone s)) }
-{
     match last_horizon(words) {
-        Some(horizon) => Some(AloneStudy::Graph { horizon }),
+        Some(horizon) => Some(ImageStudy::Alone(AloneStudy::Graph { horizon })),
         None => None,
     }
 }
 
 /// The word of `dot`.
-fn dot_words(words: &mut CommandWords<'_>) -> Option<AloneStudy>
-    ensures form { option_map alone result ≡ option_map dot (last_horizon_of words.old) }
-    ensures sound { IfSome result (λ s. IsSoundStudy (alone s)) }
+fn dot_words<'a>(words: &mut CommandWords<'_>) -> Option<ImageStudy<'a>>
+    ensures form { option_map study result ≡ option_map dot (last_horizon_of words.old) }
+    ensures sound { IfSome result (λ s. IsSoundStudy (study s)) }
 {
     match last_horizon(words) {
-        Some(horizon) => Some(AloneStudy::Dot { horizon }),
+        Some(horizon) => Some(ImageStudy::Alone(AloneStudy::Dot { horizon })),
         None => None,
     }
 }
@@ -295,9 +283,9 @@ fn ranges_words<'a>(words: &mut CommandWords<'a>) -> Option<ImageStudy<'a>>
 }
 
 /// The words of `cover`: HORIZON and CLASS.
-fn cover_words(words: &mut CommandWords<'_>) -> Option<AloneStudy>
-    ensures form { option_map alone result ≡ cover_form words.old }
-    ensures sound { IfSome result (λ s. IsSoundStudy (alone s)) }
+fn cover_words<'a>(words: &mut CommandWords<'_>) -> Option<ImageStudy<'a>>
+    ensures form { option_map study result ≡ cover_form words.old }
+    ensures sound { IfSome result (λ s. IsSoundStudy (study s)) }
 {
     let Some(horizon) = words.number(0, MOST_HORIZON) else {
         return None;
@@ -307,7 +295,7 @@ fn cover_words(words: &mut CommandWords<'_>) -> Option<AloneStudy>
     };
     match cover_classes_named(class.bytes()) {
         Some(classes) => if words.is_end() {
-            Some(AloneStudy::Cover { horizon, classes })
+            Some(ImageStudy::Alone(AloneStudy::Cover { horizon, classes }))
         } else {
             None
         },
@@ -333,9 +321,13 @@ fn chosen_words(words: &mut CommandWords<'_>) -> Option<Chosen>
     if !words.is_end() {
         return None;
     }
-    let skip = numeral(first.bytes())?;
-    let left = numeral(second.bytes())?;
-    Some(Chosen::Part(Part { skip, left }))
+    match numeral(first.bytes()) {
+        Some(skip) => match numeral(second.bytes()) {
+            Some(left) => Some(Chosen::Part(Part { skip, left })),
+            None => None,
+        },
+        None => None,
+    }
 }
 
 /// CYCLES, where a file's name may be too.
@@ -344,31 +336,35 @@ fn cycles_in(rows: RowsWord<'_>) -> Option<u32>
     ensures few { IfSome result (λ n. n ≤ most_cycles) }
 {
     match rows {
-        RowsWord::File(word) => {
-            let cycles = numeral(word.bytes())?;
-            if 1 <= cycles && cycles <= MOST_CYCLES as u64 {
+        RowsWord::File(word) => match numeral(word.bytes()) {
+            Some(cycles) => if 1 <= cycles && cycles <= MOST_CYCLES as u64 {
                 Some(cycles as u32)
             } else {
                 None
-            }
-        }
+            },
+            None => None,
+        },
         RowsWord::Cycles(_) => None,
     }
 }
 
 /// CYCLES, CLASS, and which of the sites.
-fn class_words(rows: RowsWord<'_>, class: &Text, words: &mut CommandWords<'_>) -> Option<AloneStudy>
-    ensures form { option_map alone result ≡ class_form (rows_of rows.entry) class.now words.old }
-    ensures sound { IfSome result (λ s. IsSoundStudy (alone s)) }
+fn class_words<'a>(
+    rows: RowsWord<'_>,
+    class: &Text,
+    words: &mut CommandWords<'_>,
+) -> Option<ImageStudy<'a>>
+    ensures form { option_map study result ≡ class_form (rows_of rows.entry) class.now words.old }
+    ensures sound { IfSome result (λ s. IsSoundStudy (study s)) }
 {
     match cycles_in(rows) {
         Some(cycles) => match classes_named(class.bytes()) {
             Some(classes) => match chosen_words(words) {
-                Some(chosen) => Some(AloneStudy::Sites {
+                Some(chosen) => Some(ImageStudy::Alone(AloneStudy::Sites {
                     cycles,
                     classes,
                     chosen,
-                }),
+                })),
                 None => None,
             },
             None => None,
@@ -398,13 +394,13 @@ fn run_words<'a>(
 }
 
 /// CYCLES, and which of the groups of `rest`.
-fn rest_words(rows: RowsWord<'_>, words: &mut CommandWords<'_>) -> Option<AloneStudy>
-    ensures form { option_map alone result ≡ rest_form (rows_of rows.entry) words.old }
-    ensures sound { IfSome result (λ s. IsSoundStudy (alone s)) }
+fn rest_words<'a>(rows: RowsWord<'_>, words: &mut CommandWords<'_>) -> Option<ImageStudy<'a>>
+    ensures form { option_map study result ≡ rest_form (rows_of rows.entry) words.old }
+    ensures sound { IfSome result (λ s. IsSoundStudy (study s)) }
 {
     match cycles_in(rows) {
         Some(cycles) => match chosen_words(words) {
-            Some(chosen) => Some(AloneStudy::RestSites { cycles, chosen }),
+            Some(chosen) => Some(ImageStudy::Alone(AloneStudy::RestSites { cycles, chosen })),
             None => None,
         },
         None => None,
@@ -419,11 +415,11 @@ fn behind_words<'a>(rows: RowsWord<'a>, words: &mut CommandWords<'a>) -> Option<
 {
     match words.next() {
         Some(word) => if same_bytes(word.bytes(), b"rest") {
-            alone_words(rest_words(rows, words))
+            rest_words(rows, words)
         } else {
             match run_class_named(word.bytes()) {
                 Some(class) => run_words(rows, class, words),
-                None => alone_words(class_words(rows, word, words)),
+                None => class_words(rows, word, words),
             }
         },
         None => None,
@@ -517,26 +513,17 @@ fn behind_image<'a>(words: &mut CommandWords<'a>) -> Option<BehindWords<'a>>
     ensures few { IfSome result FewBehind }
 {
     'parts: for i in 0..MOST_PARTS {
-        let next = next_behind(words)?;
-        match ended(i, next) {
-            Some(behind) => return Some(behind),
-            None => {}
+        match next_behind(words) {
+            Some(next) => match ended(i, next) {
+                Some(behind) => return Some(behind),
+                None => {}
+            },
+            None => return None,
         }
     }
-    let last = next_behind(words)?;
-    ended(MOST_PARTS, last)
-}
-
-/// What is done with these parts, with ROWS or without.
-fn sum_of<'a>(parts: PartWords<'a>, rows: Option<RowsWord<'a>>) -> ImageStudy<'a>
-    requires few { IfSome rows (λ r. AreFew (rows_of r)) }
-    requires parts { length (names_of parts) ≤ most_parts }
-    ensures form { study result ≡ sum_with (names_of parts.entry) (option_map rows_of rows.entry) }
-    ensures sound { IsSoundStudy (study result) }
-{
-    match rows {
-        None => ImageStudy::Sum { parts },
-        Some(rows) => ImageStudy::SumApart { parts, rows },
+    match next_behind(words) {
+        Some(last) => ended(MOST_PARTS, last),
+        None => None,
     }
 }
 
@@ -546,7 +533,9 @@ fn sum_words<'a>(all: &'a Words, words: &mut CommandWords<'a>) -> Option<ImageSt
     ensures form { option_map study result ≡ sum_form words.old }
     ensures sound { IfSome result (λ s. IsSoundStudy (study s)) }
 {
-    let behind = behind_image(words)?;
+    let Some(behind) = behind_image(words) else {
+        return None;
+    };
     if behind.parts == 0 {
         return None;
     }
@@ -555,7 +544,10 @@ fn sum_words<'a>(all: &'a Words, words: &mut CommandWords<'a>) -> Option<ImageSt
         at: 2,
         left: behind.parts,
     };
-    Some(sum_of(parts, behind.rows))
+    Some(ImageStudy::Sum {
+        parts,
+        rows: behind.rows,
+    })
 }
 
 /// The words of `faults`: SCRIPT and VERDICTS.

@@ -18,6 +18,6 @@ returns-in-Ok-read_script-clause-reads c =
 
 pub returns-in-Err-read_script-clause-reads : goal.returns-in-Err-read_script-clause-reads
 returns-in-Err-read_script-clause-reads c =
-    rw (c.bytes-in-Err-read_script.ensures, c.no_script.ensures)
+    rw (c.bytes-in-Err-read_script.ensures, c.from.ensures)
     (no_script_in_text c.args.image.now c.args.name.now c.args.text.now c.in-Ok.digest c.in-Ok.ensures.digits (sym c.is_for.ensures ∙ c.if-not-is_for.false)
     c.in-Err-read_script.why c.in-Err-read_script.ensures.refusal)

@@ -1,4 +1,5 @@
 use Rattle.std.proofs.Common.{refl}
+use Rattle.range_audit.specs.Audit.{IsAuditWithin}
 use Rattle.range_audit.specs.RangeText.{ranges_text}
 use Rattle.vcp_study_core.specs.Texts.{IsRanged, WritesOne}
 use Rattle.vcp_study_core.proofs.Facts.{appends-nothing}
@@ -10,11 +11,21 @@ pub returns-in-Ok : goal.returns-in-Ok
 returns-in-Ok g c =
     let graph = c.args.graph.now in
     let inputs = c.args.inputs.now in
+    let known = c.in-Ok.ensures in
+    let audit : IsAuditWithin graph inputs c.in-Ok.ranges = record {
+      known = known.known;
+      stops = known.stops;
+      holds = known.holds;
+      names = known.names;
+      ends = known.ends;
+      able = known.able;
+      types = known.types;
+    } in
     let text = ranges_text c.args.all graph c.in-Ok.ranges in
-    let is = ranged graph inputs c.args.all c.in-Ok.ranges c.in-Ok.ensures.audit c.count_named.result c.is_named-named.result c.count_named.ensures
-    c.is_named-named.ensures c.what_names_nothing_never_stops_within.ensures c.all_rows_are_in_no_ranges.ensures in
+    let is = ranged graph inputs c.args.all c.in-Ok.ranges audit c.count_named.result c.is_named-named.result c.count_named.ensures
+    c.is_named-named.ensures known.never c.all_rows_are_in_no_ranges.ensures in
     wrote (WritesOne (IsRanged graph inputs c.args.all)) _ _ text c.is_named-named.result (text, c.is_named-named.result, is, refl) c.write_ranges.result
     c.write_ranges.ensures c.told.result c.told.ensures.ok c.told.ensures.err
 
 pub returns-in-Err : goal.returns-in-Err
-returns-in-Err g c = rw c.in-Err.ensures.fault (no_memory _ _ _ (appends-nothing _))
+returns-in-Err g c = no_memory _ _ _ (appends-nothing _)

@@ -1,4 +1,5 @@
 use Rattle.vcp_study_core.proofs.Carrying.{only_writes}
+use Rattle.vcp_study_core.proofs.Sums.{few_names, few_rows}
 use Rattle.vcp_study_core.proofs.studies.study_image.Goals as goal
 
 pub returns-in-Alone : goal.returns-in-Alone
@@ -13,8 +14,11 @@ returns-in-RunSites g c end = rw c.in-RunSites.is (c.run_sites_of_image.ensures 
 pub returns-in-Sum : goal.returns-in-Sum
 returns-in-Sum g c end = rw c.in-Sum.is (c.sum_of_image.ensures end c.args.name.now)
 
-pub returns-in-SumApart : goal.returns-in-SumApart
-returns-in-SumApart g c end = rw c.in-SumApart.is (c.apart_of_image.ensures end c.args.name.now)
+pub sum_of_image-requires-clause-few : goal.sum_of_image-requires-clause-few
+sum_of_image-requires-clause-few g c = few_names _ c.in-Sum.rows (rw c.in-Sum.is at c.requires.sound)
+
+pub sum_of_image-requires-clause-few_rows : goal.sum_of_image-requires-clause-few_rows
+sum_of_image-requires-clause-few_rows g c = few_rows _ c.in-Sum.rows (rw c.in-Sum.is at c.requires.sound)
 
 pub returns-in-Faults : goal.returns-in-Faults
 returns-in-Faults g c end = rw c.in-Faults.is (c.faults_of_image.ensures c.args.name.now)

@@ -4,7 +4,7 @@ pub returns-in-Input : goal.returns-in-Input
 returns-in-Input g c = rw c.in-Input.is c.tell_input.ensures
 
 pub returns-in-Refused : goal.returns-in-Refused
-returns-in-Refused g c = rw c.in-Refused.is c.tell_own.ensures
+returns-in-Refused g c = rw c.in-Refused.is (rw (c.said_of.ensures c.in-Refused.name.now) at c.tell_said.ensures)
 
 pub returns-in-Write : goal.returns-in-Write
 returns-in-Write g c = rw c.in-Write.is c.write_all.ensures

@@ -1,14 +1,13 @@
-use Rattle.std.proofs.Common.{◌∙◌}
 use Rattle.vcp_study_core.proofs.WordForms.{this_form, other_form}
 use Rattle.vcp_study_core.proofs.words.study_words.Goals as goal
 
 pub returns-then-same_bytes-clause-form : goal.returns-then-same_bytes-clause-form
-returns-then-same_bytes-clause-form c = this_form _ _ _ _ _ c.same_bytes.ensures c.if-same_bytes.true (c.alone_words.ensures.form ∙ c.graph_words.ensures.form)
+returns-then-same_bytes-clause-form c = this_form _ _ _ _ _ c.same_bytes.ensures c.if-same_bytes.true c.graph_words.ensures.form
 
 pub returns-then-same_bytes-2-clause-form : goal.returns-then-same_bytes-2-clause-form
 returns-then-same_bytes-2-clause-form c =
     other_form _ _ _ _ _ c.same_bytes.ensures c.if-same_bytes.false
-    (this_form _ _ _ _ _ c.same_bytes-2.ensures c.if-same_bytes-2.true (c.alone_words-then-same_bytes-2.ensures.form ∙ c.dot_words.ensures.form))
+    (this_form _ _ _ _ _ c.same_bytes-2.ensures c.if-same_bytes-2.true c.dot_words.ensures.form)
 
 pub returns-then-same_bytes-3-clause-form : goal.returns-then-same_bytes-3-clause-form
 returns-then-same_bytes-3-clause-form c =
@@ -21,7 +20,7 @@ returns-then-same_bytes-4-clause-form c =
     other_form _ _ _ _ _ c.same_bytes.ensures c.if-same_bytes.false
     (other_form _ _ _ _ _ c.same_bytes-2.ensures c.if-same_bytes-2.false
     (other_form _ _ _ _ _ c.same_bytes-3.ensures c.if-same_bytes-3.false
-    (this_form _ _ _ _ _ c.same_bytes-4.ensures c.if-same_bytes-4.true (c.alone_words-then-same_bytes-4.ensures.form ∙ c.cover_words.ensures.form))))
+    (this_form _ _ _ _ _ c.same_bytes-4.ensures c.if-same_bytes-4.true c.cover_words.ensures.form)))
 
 pub returns-clause-form : goal.returns-clause-form
 returns-clause-form c =
