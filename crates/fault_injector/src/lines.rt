@@ -2,11 +2,11 @@
 //! sink and takes no memory. It answers `Failed` only where the sink's count of faults rose, and then
 //! a part of the line is written.
 
-ghost use Rattle.std.specs.Prelude.{◌≡◌, ◌<◌, length, slice_get};
+ghost use Rattle.std.specs.Prelude.{◌≡◌, ◌<◌, length};
 ghost use Rattle.vcp_outside.specs.Written.{WritesTo};
 ghost use Rattle.fault_injector.specs.Names.{Names};
 ghost use Rattle.vcp_outside.specs.Gathering.{GathersTo};
-ghost use Rattle.fault_injector.specs.FaultLines.{wrong_text, ran_on_text, stopped_at, stopped_text, what_shows, verdict_text, faults as faults_of};
+ghost use Rattle.fault_injector.specs.FaultLines.{wrong_text, stopped_text, what_shows, verdict_text, faults as faults_of};
 ghost use Rattle.fault_injector.specs.FaultLines.{counted, no_verdicts, totals_front, totals_text};
 
 use crate::Verdict;
@@ -80,24 +80,7 @@ fn then_wrong<O: Sink>(line: &mut Line, out: &mut O, cycle: u32, name: &Text, go
     line.signed(out, b" want ", want);
 }
 
-// Goes on with the cycle up to which no output was refused.
-fn then_ran_on<O: Sink>(line: &mut Line, out: &mut O, cycle: u32)
-    ensures { GathersTo (O.seen out.old) (O.seen out.new) line.old line.new (ran_on_text cycle) }
-{
-    line.numbered(out, b"ran-on ", cycle as u64);
-}
-
-// Goes on with why operation `op` stopped, its place in the source, and the turns round it.
-fn then_stopped_at<O: Sink>(line: &mut Line, out: &mut O, kind: StopKind, graph: &Graph, op: u32)
-    requires { op < length graph.now.operations }
-    ensures { GathersTo (O.seen out.old) (O.seen out.new) line.old line.new
-        (stopped_at graph.now kind (slice_get graph.now.operations op)) }
-{
-    then_cause(line, out, kind, graph.operation(op).spot);
-    then_turns_round(line, out, graph, op);
-}
-
-// Goes on with the cycle and the operation of a stop.
+// Goes on with the cycle and the operation of a stop, why it stopped, its place in the source, and the turns round it.
 fn then_stopped<O: Sink>(
     line: &mut Line,
     out: &mut O,
@@ -112,7 +95,8 @@ fn then_stopped<O: Sink>(
     line.numbered(out, b"stopped ", cycle as u64);
     line.numbered(out, b" ", op as u64);
     line.text(out, b" ");
-    then_stopped_at(line, out, kind, graph, op);
+    then_cause(line, out, kind, graph.operation(op).spot);
+    then_turns_round(line, out, graph, op);
 }
 
 /// Goes on with a verdict: in which cycle it shows, at which output or operation of the graph, and by what.
@@ -128,7 +112,8 @@ pub fn then_verdict<O: Sink>(line: &mut Line, out: &mut O, graph: &Graph, verdic
             got,
             want,
         } => then_wrong(line, out, cycle, output_name(graph, output), got, want),
-        Verdict::RanOn { cycle } => then_ran_on(line, out, cycle),
+        // Up to that cycle no output was refused.
+        Verdict::RanOn { cycle } => line.numbered(out, b"ran-on ", cycle as u64),
         Verdict::Refused {
             cycle,
             output,
