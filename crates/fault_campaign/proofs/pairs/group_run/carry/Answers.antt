@@ -1,4 +1,4 @@
-use Rattle.std.proofs.Common.{◌∙◌, refl, ap, sym, arith}
+use Rattle.std.proofs.Common.{◌∙◌, refl, ap, sym, arith, rules}
 use Rattle.coded_machine.specs.Calls.{CallsOf}
 use Rattle.coded_machine.specs.State.{State, given, with_answer, setting}
 use Rattle.fault_injector.specs.Carried.{faults_of, keeps_of}
@@ -70,3 +70,6 @@ returns-clause-asked g c =
     cycle_asked old.first p.first c.args.inputs.now (faults_of c.args.scripted.now.carried.items) (keeps_of c.args.scripted.now.carried.items)
     (keeps_of c.calls.scripted.carried.items) c.args.scripted.now.wrong c.calls.scripted.wrong (g.U.Unit.seen c.args.scripted.now.unit.now)
     (g.U.Unit.seen c.calls.scripted.unit.now) new.first.answers (c.end.ensures.concluded going).first_answers i.so_far
+
+pub end-requires : goal.end-requires
+end-requires g c = search rules

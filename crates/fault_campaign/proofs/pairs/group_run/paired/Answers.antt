@@ -1,4 +1,4 @@
-use Rattle.std.proofs.Common.{◌∙◌, ap, length, refl}
+use Rattle.std.proofs.Common.{◌∙◌, ap, length, refl, rules}
 use Rattle.std.proofs.lemmas.List.{length-replicate}
 use Rattle.fault_campaign.proofs.pairs.group_run.paired.Goals as goal
 
@@ -19,3 +19,12 @@ returns-in-Ok g c = record { same = c.carry_rows.ensures.same; ran = c.carry_row
 
 pub returns : goal.returns
 returns g c = record { same = refl; ran = tt; none = refl }
+
+pub returns-in_err-inputs : goal.returns-in_err-inputs
+returns-in_err-inputs g c = search rules
+
+pub returns-in_err-outputs : goal.returns-in_err-outputs
+returns-in_err-outputs g c = search rules
+
+pub new-requires : goal.new-requires
+new-requires g c = search rules

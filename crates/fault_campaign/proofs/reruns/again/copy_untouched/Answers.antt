@@ -1,4 +1,4 @@
-use Rattle.std.proofs.Common.{◌∷◌, [], sym, subst, ap, ◌∙◌, arith, get_or, length, refl, slice_get}
+use Rattle.std.proofs.Common.{◌∷◌, [], sym, subst, ap, ◌∙◌, arith, get_or, length, refl, slice_get, rules}
 use Rattle.std.proofs.Math.Nat.{le_trans}
 use Rattle.std.proofs.lemmas.List.{length-append}
 use Rattle.coded_unit.specs.declared.call.Answer.TheVariants as answer
@@ -35,3 +35,9 @@ words-preserved c =
       few = omega (arith, longer, i.count, i.within, c.words-test.true);
       room = le_trans i.room c.append.ensures.capacity;
     }
+
+pub returns-then-mark : goal.returns-then-mark
+returns-then-mark c = search rules
+
+pub returns : goal.returns
+returns c = search rules

@@ -1,4 +1,4 @@
-use Rattle.std.proofs.Common.{◌≡◌, ◌+◌, ℕ, ◌∷◌, ◌++◌, [], List, Option, sym, subst, ap, ◌∙◌, arith, length, slice_get}
+use Rattle.std.proofs.Common.{◌≡◌, ◌+◌, ℕ, ◌∷◌, ◌++◌, [], List, Option, sym, subst, ap, ◌∙◌, arith, length, slice_get, rules}
 use Rattle.std.proofs.Math.Nat.{le_trans}
 use Rattle.std.proofs.lemmas.List.{length-append}
 use Rattle.coded_unit.specs.declared.call.Answer.{Answer}
@@ -142,3 +142,6 @@ returns-clause-few g c = c.operations.invariant.few
 
 pub returns-clause-capacity : goal.returns-clause-capacity
 returns-clause-capacity g c = c.operations.invariant.room
+
+pub answer_again-requires : goal.answer_again-requires
+answer_again-requires g c = search rules

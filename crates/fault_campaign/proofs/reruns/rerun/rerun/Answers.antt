@@ -1,4 +1,4 @@
-use Rattle.std.proofs.Common.{Option, subst, arith}
+use Rattle.std.proofs.Common.{Option, subst, arith, rules}
 use Rattle.fault_injector.specs.declared.verdict.Verdict.{Verdict}
 use Rattle.fault_campaign.specs.Crossing.{CycleRan}
 use Rattle.fault_campaign.specs.References.{KeptRun}
@@ -119,3 +119,9 @@ returns g c =
     let now = g.U.Unit.seen c.cycles.unit in
     ends r c.args.group.now c.cycles.n _ w.held.items w.cell_marks.items first.log now.log first.wrong now.wrong
     (omega (arith, c.cycles-test.false, c.cycles-count.ensures.count)) i.between
+
+pub advance-here-requires : goal.advance-here-requires
+advance-here-requires g c = search rules
+
+pub rerun_one-requires : goal.rerun_one-requires
+rerun_one-requires g c = search rules

@@ -1,8 +1,12 @@
-use Rattle.std.proofs.Common.{◌≡◌, ◌<◌, ◌≤◌, All, List, [], None, refl, ℤ, sym, ap, subst, ◌∙◌, arith, length, slice_get, slice_index_or}
+use Rattle.std.proofs.Common.{◌≡◌, ◌<◌, ◌≤◌, All, List, [], None, refl, ℤ, sym, ap, subst, ◌∙◌, length, slice_get, slice_index_or}
 use Rattle.std.proofs.Math.Nat.{le_trans}
 use Rattle.std.proofs.lemmas.Option.{get_or_from_slice_get}
 use Rattle.coded_unit.specs.declared.call.Answer.{Answer}
+use Rattle.vcp_base.specs.Limits.{most_operations}
 use Rattle.op_graph.specs.Lists.{Lists}
+use Rattle.op_graph.specs.Rules.{IsGraph}
+use Rattle.signature_table.specs.Signatures.{IsTableOf, Numbers}
+use Rattle.coded_machine.specs.Calls.{AllWords}
 use Rattle.coded_machine.specs.CycleEnds.{end_of, first_outside, stored_words}
 use Rattle.fault_script.specs.Changes.{acts_of}
 use Rattle.fault_campaign.specs.Begun.{RanAgain, answers_in}
@@ -15,6 +19,69 @@ use Rattle.fault_campaign.proofs.KeptRuns.{width_there}
 use Rattle.fault_campaign.proofs.OneCycle.{answers_same, begins_same, marks_same, read_same, rows_same}
 use Rattle.fault_campaign.proofs.OutputsRead.{none_outside}
 use Rattle.fault_campaign.proofs.reruns.rerun.rerun_one.Goals as goal
+
+pub cycle-other-requires : goal.cycle-other-requires
+cycle-other-requires g c = c.requires.there
+
+pub end-other_end-requires : goal.end-other_end-requires
+end-other_end-requires g c = c.requires.there
+
+pub gather-requires : goal.gather-requires
+gather-requires g c = record { room = c.requires.faults }
+
+pub mark_again-requires : goal.mark_again-requires
+mark_again-requires g c =
+    let r : KeptRun = c.args.reference.now in
+    let w : Work = c.args.work.now in
+    let room = c.requires.room in
+    let there = ap (λ (rows : List (List ℤ)). slice_get rows c.args.n) (sym c.rows.ensures) ∙ c.get.ensures in
+    record {
+      standing = c.deref.ensures.value ∙ c.gather.ensures.faults;
+      room = subst (λ (h : Lists). Room h (record w { inputs = c.get.new.out })) (sym c.graph-graph.ensures) (record {
+        own = room.own;
+        past = room.past;
+        touched = room.touched;
+        past_held = room.past_held;
+        cell_marks = room.cell_marks;
+        marked_by = room.marked_by;
+        steady = room.steady;
+        held = room.held;
+        inputs = width_there r.rows (length r.graph.inputs) c.args.n c.get.new.out c.cycles-cycles.ensures.sound.4 there;
+      });
+    }
+
+pub rerun_cycle-halted-requires : goal.rerun_cycle-halted-requires
+rerun_cycle-halted-requires g c =
+    let r : KeptRun = c.args.reference.now in
+    let h : Lists = c.graph-graph.result.now in
+    let t : Numbers = c.table-table.result.now in
+    let cycles = c.cycles-cycles.ensures in
+    record {
+      empty = c.clear.ensures.items;
+      room = subst (λ k. length h.operations ≤ k) (sym c.clear.ensures.capacity) c.mark_again.ensures.room.own;
+      few = subst (λ (x : Lists). length x.operations ≤ most_operations) (sym c.graph-graph.ensures) cycles.sound.0.part.few_operations;
+      table = subst (λ (x : Numbers). IsTableOf x h) (sym c.table-table.ensures) (subst (IsTableOf r.table) (sym c.graph-graph.ensures) cycles.sound.2);
+      standing = c.deref.ensures.value ∙ c.gather.ensures.faults;
+      cycle = le_trans c.requires.there (le_trans (subst (λ k. k ≤ length r.rows) cycles.count cycles.few) cycles.sound.3);
+    }
+
+pub end_of_answers-end-requires : goal.end_of_answers-end-requires
+end_of_answers-end-requires g c =
+    let r : KeptRun = c.args.reference.now in
+    let h : Lists = c.graph-graph.result.now in
+    let t : Numbers = c.table-table.result.now in
+    let cycles = c.cycles-cycles.ensures in
+    let few = subst (λ (x : Lists). length x.operations ≤ most_operations) (sym c.graph-graph.ensures) cycles.sound.0.part.few_operations in
+    record {
+      few = subst (λ (xs : List Answer). length xs ≤ most_operations) (sym c.deref-6.ensures.value) (le_trans c.rerun_cycle-halted.ensures.few few);
+      words = λ on. subst AllWords (sym c.deref-6.ensures.value) (c.rerun_cycle-halted.ensures.words on);
+      graph = subst IsGraph (sym c.graph-graph.ensures) cycles.sound.0;
+      table = subst (λ (x : Numbers). IsTableOf x h) (sym c.table-table.ensures) (subst (IsTableOf r.table) (sym c.graph-graph.ensures) cycles.sound.2);
+      cycle = le_trans c.requires.there (le_trans (subst (λ k. k ≤ length r.rows) cycles.count cycles.few) cycles.sound.3);
+    }
+
+pub returns-clause-faults : goal.returns-clause-faults
+returns-clause-faults g c = c.gather.ensures.capacity
 
 pub read-verdict-requires-clause-inside : goal.read-verdict-requires-clause-inside
 read-verdict-requires-clause-inside g c = λ released.
@@ -42,7 +109,7 @@ cross-requires g c =
     let there = ap (λ (rows : List (List ℤ)). slice_get rows c.args.n) (sym c.rows.ensures) ∙ c.get.ensures in
     record {
       room = record {
-        own = omega (arith, room.own, c.clear.ensures.capacity, c.rerun_cycle-halted.ensures.capacity);
+        own = le_trans (subst (λ k. length c.graph-graph.result.now.operations ≤ k) (sym c.clear.ensures.capacity) room.own) c.rerun_cycle-halted.ensures.capacity;
         past = room.past;
         touched = room.touched;
         past_held = room.past_held;
