@@ -119,11 +119,11 @@ some_row s n true is some = absurd (some (eqb-true n 0 is))
 some_row s n false is some = ap (λ (c : Bool). cond c [] s) is
 
 -- a row of some, and one of none
-pub a_row : {a b c d : Option (List ℕ)} {f g h i : ℕ} {k l m o : Gathered} (n : ℕ) (columns name : List ℕ) → n ≢ 0
-    → Gathers a b f g k l (columns ++ codes "  ") → Gathers b c g h l m name → Gathers c d h i m o (codes "\n")
-    → Gathers a d f i k o (cond (n == 0) [] (columns ++ (codes "  " ++ (name ++ codes "\n"))))
-a_row n columns name some first second last =
-    same (and_then first (and_then second last))
+pub a_row : {a b c : Option (List ℕ)} {f g h : ℕ} {k l m : Gathered} (n : ℕ) (columns name : List ℕ) → n ≢ 0
+    → Gathers a b f g k l (columns ++ codes "  ") → Gathers b c g h l m (name ++ codes "\n")
+    → Gathers a c f h k m (cond (n == 0) [] (columns ++ (codes "  " ++ (name ++ codes "\n"))))
+a_row n columns name some first last =
+    same (and_then first last)
     (some_row (columns ++ (codes "  " ++ (name ++ codes "\n"))) n (n == 0) refl some ∙ sym (append_assoc columns (codes "  ") (name ++ codes "\n")))
 
 pub no_row : {a : Option (List ℕ)} {f : ℕ} {l : Gathered} (n : ℕ) (s : List ℕ) → n ≡ 0 → Gathers a a f f l l (cond (n == 0) [] s)

@@ -1,6 +1,6 @@
 //! Counts of what faults are reported as.
 
-ghost use Rattle.std.specs.Prelude.{◌≡◌, ◌+◌, ◌<◌, ◌^◌, ◌++◌, ◌∷◌, [], ◌==◌, ℕ, List, IfOk, OnOk, Some, length, slice_get};
+ghost use Rattle.std.specs.Prelude.{◌≡◌, ◌+◌, ◌<◌, ◌^◌, ◌++◌, ◌∷◌, [], ◌==◌, ℕ, List, IfOk, Some, length, slice_get};
 ghost use Rattle.range_walk.specs.declared.range.Stops.{Stops};
 ghost use Rattle.signature_table.specs.Signatures.{IsTableOf};
 ghost use Rattle.verdict_tables.specs.Tables.{is_delay};
@@ -101,14 +101,6 @@ fn count_class(subject: &Subject<'_>, class: CoverClass) -> ClassCount
     ClassCount { class, counting }
 }
 
-/// What is counted of one class more.
-fn add_count(counts: &mut Vec<ClassCount>, count: ClassCount) -> Result<(), Memory>
-    ensures { OnOk result (counts.new.items ≡ counts.old.items ++ count ∷ []) }
-{
-    counts.push(count)?;
-    Ok(())
-}
-
 /// What is counted of each of these classes. Nothing is written.
 pub(crate) fn count_classes(
     alloc: Global,
@@ -124,8 +116,7 @@ pub(crate) fn count_classes(
     let mut counts = Vec::new(alloc);
     'classes: for i in 0..classes.len() {
         let class = class_in(classes, i);
-        let count = count_class(subject, class);
-        add_count(&mut counts, count)?;
+        counts.push(count_class(subject, class))?;
     }
     Ok(counts)
 }

@@ -62,12 +62,14 @@ fn divided(profile: Profile, z: Residue, first: Division, second: Division) -> D
     divided(profile, z, second, Division { divisor, factor })
 }
 
-/// The greatest common divisor of the constant and a residue, and the factor by which the residue becomes it.
-fn bezout(profile: Profile, z: Residue) -> Division
+/// Whether a residue has an inverse: the factor is found by which it becomes the greatest common divisor of the constant and it, and tried by one
+/// multiplication.
+pub(crate) fn has_inverse(profile: Profile, z: Residue) -> bool
     requires { z < modulus_of profile }
-    ensures bezout { IsBezout profile z (modulus_of profile) z result.divisor result.factor }
-    ensures below { result.factor < modulus_of profile }
+    ensures yes { result ≡ true → HasInverse profile (pos z) }
+    ensures no { result ≡ false → HasInverse profile (pos z) → ⊥ }
 {
+    constants_are_in_range();
     words_split_in_one_way();
     let constant = Division {
         divisor: modulus(profile),
@@ -77,18 +79,7 @@ fn bezout(profile: Profile, z: Residue) -> Division
         divisor: z,
         factor: 1,
     };
-    divided(profile, z, constant, residue)
-}
-
-/// Whether a residue has an inverse: a factor is found, and tried by one multiplication.
-pub(crate) fn has_inverse(profile: Profile, z: Residue) -> bool
-    requires { z < modulus_of profile }
-    ensures yes { result ≡ true → HasInverse profile (pos z) }
-    ensures no { result ≡ false → HasInverse profile (pos z) → ⊥ }
-{
-    constants_are_in_range();
-    words_split_in_one_way();
-    let found = bezout(profile, z);
+    let found = divided(profile, z, constant, residue);
     remainder(profile, product(z, found.factor)) == 1
 }
 

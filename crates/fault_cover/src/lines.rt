@@ -102,8 +102,7 @@ fn then_column<O: Sink>(line: &mut Line, out: &mut O, n: u64)
     ensures { GathersTo (O.seen out.old) (O.seen out.new) line.old line.new (column_text n) }
 {
     let width: usize = 12;
-    line.text(out, blanks(width.saturating_sub(digits_in(n))));
-    line.count(out, n);
+    line.numbered(out, blanks(width.saturating_sub(digits_in(n))), n);
 }
 
 /// Goes on with the columns of a tally, and two blanks.
@@ -132,8 +131,7 @@ pub(crate) fn then_class_row<O: Sink>(
         return;
     }
     then_columns(line, out, tally);
-    line.text(out, class_name(class));
-    line.text(out, b"\n");
+    line.texts(out, class_name(class), b"\n");
 }
 
 /// Goes on with the row of a number of cycles, where any fault is refused so late.
@@ -153,32 +151,24 @@ pub(crate) fn then_delay_row<O: Sink>(line: &mut Line, out: &mut O, n: u32, refu
 pub(crate) fn then_heading<O: Sink>(line: &mut Line, out: &mut O, about: &[u8])
     ensures { GathersTo (O.seen out.old) (O.seen out.new) line.old line.new (heading_text about.now) }
 {
-    line.text(
+    line.texts(
         out,
         b"      faults     refused     nothing       shows     runs-on      beyond  ",
+        about,
     );
-    line.text(out, about);
     line.text(out, b"\n");
-}
-
-/// Goes on with a word and a number behind it.
-fn then_counted<O: Sink>(line: &mut Line, out: &mut O, word: &[u8], n: u64)
-    ensures { GathersTo (O.seen out.old) (O.seen out.new) line.old line.new (word.now ++ decimal n) }
-{
-    line.text(out, word);
-    line.count(out, n);
 }
 
 /// Goes on with the totals, without the LF.
 pub(crate) fn then_totals<O: Sink>(line: &mut Line, out: &mut O, tally: &Tally)
     ensures { sum_of tally.now < 2 ^ 63 → GathersTo (O.seen out.old) (O.seen out.new) line.old line.new (totals_line tally.now) }
 {
-    then_counted(line, out, b"faults ", tally.sum());
-    then_counted(line, out, b" refused ", tally.refused);
-    then_counted(line, out, b" nothing ", tally.nothing);
-    then_counted(line, out, b" shows ", tally.shows);
-    then_counted(line, out, b" runs-on ", tally.runs_on);
-    then_counted(line, out, b" beyond ", tally.beyond);
+    line.numbered(out, b"faults ", tally.sum());
+    line.numbered(out, b" refused ", tally.refused);
+    line.numbered(out, b" nothing ", tally.nothing);
+    line.numbered(out, b" shows ", tally.shows);
+    line.numbered(out, b" runs-on ", tally.runs_on);
+    line.numbered(out, b" beyond ", tally.beyond);
 }
 
 /// The first word of a fault, and a space.
@@ -193,14 +183,6 @@ fn front(disturbance: &Disturbance) -> &'static [u8]
     }
 }
 
-/// Goes on with the number of an operand or a reading, and words behind it.
-fn then_number<O: Sink>(line: &mut Line, out: &mut O, n: u32, words: &[u8])
-    ensures { GathersTo (O.seen out.old) (O.seen out.new) line.old line.new (codes " " ++ (decimal n ++ words.now)) }
-{
-    then_counted(line, out, b" ", n as u64);
-    line.text(out, words);
-}
-
 /// Goes on with what is behind the operation of a fault.
 fn then_back<O: Sink>(line: &mut Line, out: &mut O, disturbance: &Disturbance)
     ensures { GathersTo (O.seen out.old) (O.seen out.new) line.old line.new (back_of disturbance.now) }
@@ -208,26 +190,18 @@ fn then_back<O: Sink>(line: &mut Line, out: &mut O, disturbance: &Disturbance)
     match *disturbance {
         Disturbance::AddToResult => line.text(out, b" add any"),
         Disturbance::AddToOperand { j: n } | Disturbance::AddToRest { right: n } => {
-            then_number(line, out, n, b" add any")
+            line.numbered(out, b" ", n as u64);
+            line.text(out, b" add any");
         }
         Disturbance::Late { j, r } => {
-            then_number(line, out, j, b" late ");
-            line.count(out, r as u64);
+            line.numbered(out, b" ", j as u64);
+            line.numbered(out, b" late ", r as u64);
         }
         Disturbance::Does(act) => then_rest(line, out, &act),
     }
 }
 
-/// Goes on with a fault at operation `k`, as a script spells it, but for its cycle.
-fn then_single<O: Sink>(line: &mut Line, out: &mut O, k: u32, disturbance: &Disturbance)
-    ensures { GathersTo (O.seen out.old) (O.seen out.new) line.old line.new (single_text (fault_at k disturbance.now)) }
-{
-    line.text(out, front(disturbance));
-    then_counted(line, out, b"N ", k as u64);
-    then_back(line, out, disturbance);
-}
-
-/// Goes on with a fault at operation `k`, and with the operation.
+/// Goes on with a fault at operation `k`, as a script spells it but for its cycle, and with the operation.
 fn then_fault<O: Sink>(
     line: &mut Line,
     out: &mut O,
@@ -238,8 +212,9 @@ fn then_fault<O: Sink>(
     ensures { GathersTo (O.seen out.old) (O.seen out.new) line.old line.new (codes ": " ++ (single_text (fault_at k disturbance.now)
         ++ (codes ": " ++ (place_text graph.now k ++ codes "\n")))) }
 {
-    line.text(out, b": ");
-    then_single(line, out, k, disturbance);
+    line.texts(out, b": ", front(disturbance));
+    line.numbered(out, b"N ", k as u64);
+    then_back(line, out, disturbance);
     line.text(out, b": ");
     then_operation(line, out, graph, k);
     line.text(out, b"\n");
@@ -257,9 +232,8 @@ fn then_shows<O: Sink>(
 )
     ensures { GathersTo (O.seen out.old) (O.seen out.new) line.old line.new (shows_text graph.now (fault_at k disturbance.now) (told.Shows borders output)) }
 {
-    then_counted(line, out, b"shows ", borders as u64);
-    line.text(out, b" ");
-    line.text(out, variable_name(graph, Kind::Out, output as u64));
+    line.numbered(out, b"shows ", borders as u64);
+    line.texts(out, b" ", variable_name(graph, Kind::Out, output as u64));
     then_fault(line, out, graph, k, disturbance);
 }
 
@@ -293,8 +267,8 @@ fn then_left_effect<O: Sink>(line: &mut Line, out: &mut O, told: LeftEffect)
 {
     match told {
         LeftEffect::RunsOn { borders, op } => {
-            then_counted(line, out, b"runs-on ", borders);
-            then_counted(line, out, b" ", op);
+            line.numbered(out, b"runs-on ", borders);
+            line.numbered(out, b" ", op);
         }
         LeftEffect::Beyond => line.text(out, b"beyond"),
     }
@@ -305,7 +279,7 @@ fn then_left_line<O: Sink>(line: &mut Line, out: &mut O, graph: &Graph, left: &L
     ensures { GathersTo (O.seen out.old) (O.seen out.new) line.old line.new (line_text graph.now left.now) }
 {
     then_left_effect(line, out, left.told);
-    then_counted(line, out, b": faults ", left.faults);
+    line.numbered(out, b": faults ", left.faults);
     line.text(out, b" of ");
     then_operation(line, out, graph, left.at);
     line.text(out, b"\n");
@@ -339,11 +313,8 @@ pub(crate) fn then_remark<O: Sink>(
 )
     ensures { GathersTo (O.seen out.old) (O.seen out.new) line.old line.new (remark classes horizon digest.now) }
 {
-    line.text(out, b"# cover ");
-    line.text(out, classes_name(classes));
-    line.text(out, b" ");
-    line.count(out, horizon as u64);
-    line.text(out, b" of ");
-    line.text(out, digest);
+    line.texts(out, b"# cover ", classes_name(classes));
+    line.numbered(out, b" ", horizon as u64);
+    line.texts(out, b" of ", digest);
     line.text(out, b"\n");
 }

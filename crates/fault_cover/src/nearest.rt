@@ -211,14 +211,6 @@ fn begin(alloc: Global, graph: &Graph, wanted: &[bool]) -> Result<Vec<Option<Nea
     Ok(found)
 }
 
-/// Whether no more is found.
-fn is_over(more: bool) -> bool
-    ensures over { result ≡ true → more ≡ false }
-    ensures going { result ≡ false → more ≡ true }
-{
-    !more
-}
-
 /// From what is reached without a border to what is reached at all.
 fn walk(graph: &Graph, found: &mut [Option<Nearest>])
     requires graph { IsGraph graph.now }
@@ -229,8 +221,7 @@ fn walk(graph: &Graph, found: &mut [Option<Nearest>])
     'borders: for borders in 0..graph.cells() {
         sweep(graph, found);
         let more = cross_all(graph, borders, found);
-        let over = is_over(more);
-        if over {
+        if !more {
             return;
         }
     }

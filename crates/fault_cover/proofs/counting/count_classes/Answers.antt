@@ -8,8 +8,8 @@ use Rattle.fault_cover.proofs.counting.count_classes.Goals as goal
 pub classes-preserved : goal.classes-preserved
 classes-preserved c = λ stops survey.
     counts_next (subject c.args.subject.now.graph.now c.args.subject.now.table.now c.args.subject.now.survey.now.horizon stops) c.args.classes.now c.classes.i
-    c.class_in-class.result _ _ c.count_class-count.result c.class_in-class.ensures (c.classes.invariant stops survey)
-    (c.count_class-count.ensures stops survey) c.in_ok-add_count.ensures
+    c.class_in-class.result _ _ c.count_class.result c.class_in-class.ensures (c.classes.invariant stops survey)
+    (c.count_class.ensures stops survey) c.in_ok-push.ensures.items
 
 pub returns : goal.returns
 returns c = λ stops survey.

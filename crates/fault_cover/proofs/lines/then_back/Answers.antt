@@ -1,4 +1,4 @@
-use Rattle.std.proofs.Common.{◌++◌, ◌∙◌, ap, append_assoc, codes, decimal, sym}
+use Rattle.std.proofs.Common.{ap}
 use Rattle.fault_cover.specs.CoverText.{back}
 use Rattle.fault_cover.proofs.Going.{and_then, same}
 use Rattle.fault_cover.proofs.lines.then_back.Goals as goal
@@ -7,9 +7,7 @@ pub returns-in-AddToResult : goal.returns-in-AddToResult
 returns-in-AddToResult g c = same c.text.ensures.gathers (ap back c.in-AddToResult.is)
 
 pub returns-in-Late : goal.returns-in-Late
-returns-in-Late g c =
-    same (and_then c.then_number.ensures c.count.ensures.gathers)
-    (ap back c.in-Late.is ∙ ap (λ xs. codes " " ++ xs) (sym (append_assoc (decimal c.in-Late.j) (codes " late ") (decimal c.in-Late.r))))
+returns-in-Late g c = same (and_then c.numbered.ensures.gathers c.numbered-in-Late.ensures.gathers) (ap back c.in-Late.is)
 
 pub returns-in-Does : goal.returns-in-Does
 returns-in-Does g c = same c.then_rest.ensures (ap back c.in-Does.is)

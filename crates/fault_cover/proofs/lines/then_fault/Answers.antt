@@ -1,7 +1,13 @@
-use Rattle.fault_cover.proofs.Going.{and_then}
+use Rattle.fault_cover.proofs.Going.{and_then, same}
+use Rattle.std.proofs.Common.{◌++◌, append_assoc, ap, codes, decimal, sym}
+use Rattle.fault_cover.specs.CoverText.{back, front, place_text}
 use Rattle.fault_cover.proofs.lines.then_fault.Goals as goal
 
 pub returns : goal.returns
 returns g c =
-    and_then c.text.ensures.gathers (and_then c.then_single.ensures (and_then c.text-2.ensures.gathers (and_then c.then_operation.ensures
-    c.text-3.ensures.gathers)))
+    let d = c.args.disturbance.now in
+    let place = codes ": " ++ (place_text c.args.graph.now c.args.k ++ codes "\n") in
+    let own = codes "N " ++ (decimal c.args.k ++ back d) in
+    same (and_then (rw c.front.ensures at c.texts.ensures.gathers) (and_then (and_then c.numbered.ensures.gathers c.then_back.ensures)
+    (and_then c.text.ensures.gathers (and_then c.then_operation.ensures c.text-2.ensures.gathers))))
+    (ap (λ t. codes ": " ++ t) (append_assoc (front d) own place))

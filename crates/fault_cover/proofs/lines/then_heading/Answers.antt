@@ -2,7 +2,4 @@ use Rattle.fault_cover.proofs.Going.{and_then}
 use Rattle.fault_cover.proofs.lines.then_heading.Goals as goal
 
 pub returns : goal.returns
-returns g c =
-    and_then c.text.ensures.gathers
-    (and_then c.text-2.ensures.gathers
-    (c.text-3.ensures.gathers))
+returns g c = and_then c.texts.ensures.gathers c.text.ensures.gathers

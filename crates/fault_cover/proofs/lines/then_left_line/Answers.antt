@@ -3,5 +3,5 @@ use Rattle.fault_cover.proofs.lines.then_left_line.Goals as goal
 
 pub returns : goal.returns
 returns g c =
-    and_then c.then_left_effect.ensures (and_then c.then_counted.ensures (and_then c.text.ensures.gathers (and_then c.then_operation.ensures
+    and_then c.then_left_effect.ensures (and_then c.numbered.ensures.gathers (and_then c.text.ensures.gathers (and_then c.then_operation.ensures
     c.text-2.ensures.gathers)))

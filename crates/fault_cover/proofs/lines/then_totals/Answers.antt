@@ -3,5 +3,5 @@ use Rattle.fault_cover.proofs.lines.then_totals.Goals as goal
 
 pub returns : goal.returns
 returns g c = λ few.
-    and_then (rw (c.sum.ensures few) at c.then_counted.ensures) (and_then c.then_counted-2.ensures (and_then c.then_counted-3.ensures
-    (and_then c.then_counted-4.ensures (and_then c.then_counted-5.ensures c.then_counted-6.ensures))))
+    and_then (rw (c.sum.ensures few) at c.numbered.ensures.gathers) (and_then c.numbered-2.ensures.gathers (and_then c.numbered-3.ensures.gathers
+    (and_then c.numbered-4.ensures.gathers (and_then c.numbered-5.ensures.gathers c.numbered-6.ensures.gathers))))

@@ -48,13 +48,13 @@ borders-preserved c =
       crosses = crossed.crosses;
       few =
           let most = stays_missing g b old mid swept in
-          let less = crossed.fewer (c.is_over-over.ensures.going c.if-over.false) in
+          let less = crossed.fewer c.if-not-more.false in
           let few = i.few in
           omega (arith, most, less, few);
     }
 
-pub returns-then-over : goal.returns-then-over
-returns-then-over c = λ wanted begun.
+pub returns-then-not-more : goal.returns-then-not-more
+returns-then-not-more c = λ wanted begun.
     let g = c.args.graph.now in
     let b = c.borders.borders in
     let i = c.borders.invariant in
@@ -64,7 +64,7 @@ returns-then-over c = λ wanted begun.
     let old = c.borders.found in
     let mid = c.sweep.new.found in
     let new = c.cross_all-more.new.found in
-    let closed = closed_early g b mid new (crossed.none (c.is_over-over.ensures.over c.if-over.true))
+    let closed = closed_early g b mid new (crossed.none c.if-not-more.true)
     (c.sweep.ensures.within b i.within) c.sweep.ensures.reads crossed.crosses in
     are_nearest g wanted new closed
     (stays_begun g (b + 1) mid new crossed.swept wanted (stays_begun g b old mid swept wanted (i.begun wanted (begun_begun g wanted first begun))))

@@ -1,7 +1,0 @@
-use Rattle.fault_cover.proofs.Going.{and_then}
-use Rattle.fault_cover.proofs.lines.then_counted.Goals as goal
-
-pub returns : goal.returns
-returns g c =
-    and_then c.text.ensures.gathers
-    (c.count.ensures.gathers)
