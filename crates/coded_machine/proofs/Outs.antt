@@ -26,10 +26,6 @@ found_at (p ∷ outputs) (suc i) o j there rises =
     let rest = found_at outputs i o (j + 1) there (λ k d lt. rises (suc k) d (omega (arith, lt))) in
     rw (ne_eqb p.op o.op other) (rest ∙ ap (λ k. Some (entry k o.ty)) (omega arith))
 
-and_left : (a b : Bool) → (a && b) ≡ true → a ≡ true
-and_left true b e = refl
-and_left false b e = absurd cc
-
 and_right : (a b : Bool) → (a && b) ≡ true → b ≡ true
 and_right true b e = e
 and_right false b e = absurd cc

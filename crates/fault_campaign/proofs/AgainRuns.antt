@@ -213,9 +213,6 @@ words_more (o ∷ own) a all word = (all.0, words_more own a all.1 word)
 one_more : {X : Type 0} (xs : List X) (x : X) → length xs + 1 ≡ length (xs ++ x ∷ [])
 one_more xs x = let more = length-append xs (x ∷ []) in omega (arith, more)
 
-pub over_none : (c : CycleAgain) (own : List Answer) → GoesOver c own own
-over_none c own = λ more. refl
-
 pub over_word : (c : CycleAgain) (before own : List Answer) (op : Op) (w : ℤ) → slice_get c.setting.graph.operations (length own) ≡ Some op
     → mark c.touched (length own) ≡ false → slice_get c.other (length own) ≡ Some (answer.Word w) → GoesOver c before own
     → GoesOver c before (own ++ answer.Word w ∷ [])

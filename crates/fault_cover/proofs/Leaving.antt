@@ -99,9 +99,6 @@ least_first xs x from most high low none = record {
   least = still_none xs x from x (λ y up down. none y up (omega (arith, down, low))) (inr (omega arith));
 }
 
-pub least_of_none : (from most : ℕ) → IsLeast [] from most None
-least_of_none from most key low high = refl
-
 -- ---- lines of numbers
 
 no_line : (k w : ℕ) (keys : List ℕ) (key : ℕ) → count_key keys key ≡ 0 → key_line k w keys key ≡ []

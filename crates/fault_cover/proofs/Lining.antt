@@ -1,5 +1,5 @@
 -- Lining: the lines of one operation behind those of others.
-use Rattle.std.proofs.Common.{◌≡◌, ℕ, ◌+◌, ◌*◌, ◌<◌, ◌^◌, ◌==◌, false, List, [], ◌++◌, length, refl, sym, ap, ap₂, subst, ◌∙◌, add-one, arith}
+use Rattle.std.proofs.Common.{◌≡◌, ℕ, ◌+◌, ◌*◌, ◌<◌, ◌^◌, ◌==◌, false, List, ◌++◌, length, sym, ap, ap₂, subst, ◌∙◌, add-one, arith}
 use Rattle.std.proofs.lemmas.List.Sums.{count_by-le-length, length-filter}
 use Rattle.fault_sites.specs.Sites.{each_below}
 use Rattle.fault_cover.specs.declared.class.CoverClass.{CoverClass}
@@ -33,9 +33,6 @@ lines_added s classes k l keys w old new heard kept those width leaves inside ar
     is ∙ ap (λ m. old ++ (each_below (key_line k w keys) ((m + 1) * w) ++ beyond_line k l.beyond)) far
     ∙ ap (λ m. old ++ (each_below (key_line k m keys) ((s.horizon + 1) * m) ++ beyond_line k l.beyond)) width
     ∙ ap₂ (λ (ks : List ℕ) m. old ++ (each_below (key_line k n ks) ((s.horizon + 1) * n) ++ beyond_line k m)) keys_are beyond
-
-pub lines_none : (s : Subject) (classes : List CoverClass) → AreLinesOf s classes 0 []
-lines_none s classes covered are = refl
 
 pub lines_more : (s : Subject) (classes : List CoverClass) (k : ℕ) (old new : List LeftLine) → AreLinesOf s classes k old → AreLinesAt s classes k old new
     → AreLinesOf s classes (k + 1) new

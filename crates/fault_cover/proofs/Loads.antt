@@ -41,10 +41,6 @@ both_true false b e = absurd cc
 agreed : (b : Bool) → agree true b ≡ true → b ≡ true
 agreed b e = e
 
-some_there : {X : Type 0} (o : Option X) → is_some o ≡ true → (x : X) × (o ≡ Some x)
-some_there None e = absurd cc
-some_there (Some x) e = (x, refl)
-
 load_fits : (p : Place) → kind_fits p kind.Load ≡ true → is_some p.load ≡ true
 load_fits p e =
     let first = both_true (agree false (is_some p.input)) (is_some p.load) (front e) in

@@ -1,9 +1,8 @@
 -- Nearing: which of two is nearer, and what is handed on.
-use Rattle.std.proofs.Common.{◌≡◌, ◌≢◌, ◌⊎◌, ⊎_elim, inl, inr, ℕ, suc, ◌<◌, ◌≤◌, ◌==◌, ◌&&◌, ◌||◌, nat_lt, cond, Bool, true, false, List, length, Option}
+use Rattle.std.proofs.Common.{◌≡◌, ◌≢◌, ◌⊎◌, ⊎_elim, inl, inr, ℕ, suc, ◌<◌, ◌≤◌, ◌==◌, ◌&&◌, ◌||◌, nat_lt, cond, Bool, true, false, List, Option}
 use Rattle.std.proofs.Common.{Some, None, ap, ap₂, sym, subst, ◌∙◌, refl, arith}
 use Rattle.std.proofs.lemmas.Bool.Decides.{eqb_tells, leb_tells}
 use Rattle.op_graph.specs.declared.op.Op.{Op}
-use Rattle.weight_audit.specs.Sweeping.{Takes}
 use Rattle.fault_cover.specs.declared.nearest.Nearest.{Nearest}
 use Rattle.fault_cover.specs.Walks.{is_nearer, nearer, further, AsNear, NotFurther, kept, Got, HandsOn}
 
@@ -109,25 +108,6 @@ further_more (Some m) (Some n) more (inr e) = inr (let same = e.0 in omega (arit
 
 -- ---- handing on
 
--- one place got the nearer of two
-pub offered : (op : Op) (near : Option Nearest) (n : ℕ) (old new : List (Option Nearest)) → Takes op n → length new ≡ length old
-    → kept new n ≡ nearer (kept old n) near → ((k : ℕ) → k ≢ n → kept new k ≡ kept old k) → HandsOn op near old new
-offered op near n old new takes many here other = record {
-  many = many;
-  each = λ k. ⊎_elim
-      (λ (h : ((k == n) ≡ true) × (k ≡ n)). subst (λ m. (kept new m ≡ kept old m) ⊎ Got op near new m) (sym h.1) (⊎_elim
-      (λ (e : nearer (kept old n) near ≡ kept old n). inl (here ∙ e))
-      (λ (e : nearer (kept old n) near ≡ near). inr (record { takes = takes; is = here ∙ e }))
-      (nearer_either (kept old n) near)))
-      (λ (h : ((k == n) ≡ false) × (k ≢ n)). inl (other k h.1))
-      (eqb_tells k n);
-  no_further = λ k. ⊎_elim
-      (λ (h : ((k == n) ≡ true) × (k ≡ n)).
-      subst (λ m. NotFurther (kept new m) (kept old m)) (sym h.1) (subst (λ x. NotFurther x (kept old n)) (sym here) (nearer_first (kept old n) near)))
-      (λ (h : ((k == n) ≡ false) × (k ≢ n)). subst (λ x. NotFurther x (kept old k)) (sym (other k h.1)) (no_further_same (kept old k)))
-      (eqb_tells k n);
-}
-
 pub hands_nothing : (op : Op) (near : Option Nearest) (old : List (Option Nearest)) → HandsOn op near old old
 hands_nothing op near old = record { many = refl; each = λ k. inl refl; no_further = λ k. no_further_same (kept old k) }
 
@@ -144,8 +124,3 @@ hands_both op near old mid new first second = record {
       (second.each k);
   no_further = λ k. no_further_through (kept new k) (kept mid k) (kept old k) (second.no_further k) (first.no_further k);
 }
-
--- what was handed on stays so
-pub stays_handed : (op : Op) (near : Option Nearest) (old new : List (Option Nearest)) (n : ℕ) → HandsOn op near old new → NotFurther (kept old n) near
-    → NotFurther (kept new n) near
-stays_handed op near old new n hands was = no_further_through (kept new n) (kept old n) near (hands.no_further n) was

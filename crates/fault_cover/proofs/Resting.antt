@@ -83,15 +83,6 @@ kept_or_not (Some f) sum (Some w) n e = by_test (is_nearer w f) refl
         )
     by_test false h = inl (sym (ap (λ b. cond b (Some w) (Some f)) h) ∙ e, ap (λ b. cond b 0 sum) h)
 
-pub before_below : (p : ℕ) (old : Option Nearest) (sum : ℕ) (x : Option Nearest) → 0 < p → sum < p → before_of old sum x < p
-before_below p None sum x above below = above
-before_below p (Some f) sum None above below = below
-before_below p (Some f) sum (Some w) above below = by_test (is_nearer w f)
-  where
-    by_test : (b : Bool) → cond b 0 sum < p
-    by_test true = above
-    by_test false = below
-
 module _ (g : Lists) (v : Surveyed) (maps : AreMaps g v) (unreached : WeightsAreOfPaths g) (laws : WordLaws g.profile) where
   -- the output of what is reached first is its OUT's
   output_is : (n : Nearest) (o : Outlet) → IsOutputOf g v n o → is_wanted maps.outs n.op ≡ true → o.op ≡ n.op

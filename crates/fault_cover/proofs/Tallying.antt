@@ -114,9 +114,6 @@ tally_both one other new xs ys counts few is are =
 
 -- ---- delays
 
-pub delay_stays : (rows : List ℕ) (xs : List Heard) (h : Heard) → ((n : ℕ) → is_late n h.told ≡ false) → AreDelays rows xs → AreDelays rows (xs ++ h ∷ [])
-delay_stays rows xs h none are = record { many = are.many; each = λ n lt. are.each n lt ∙ stays (is_late n) xs h (none n) }
-
 pub delay_rises : (old new : List ℕ) (xs : List Heard) (h : Heard) (row : ℕ) → row < 17 → ((n : ℕ) → n < 17 → is_late n h.told ≡ (n == row))
     → new ≡ set old row (slice_index_or old row 0 + 1) → AreDelays old xs → AreDelays new (xs ++ h ∷ [])
 delay_rises old new xs h row inside tells is are = record {

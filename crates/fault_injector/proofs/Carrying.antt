@@ -11,7 +11,7 @@ use Rattle.coded_unit.specs.Right.{Right}
 use Rattle.fault_script.specs.declared.act.Act.{Act}
 use Rattle.fault_script.specs.declared.act.Act.TheVariants as act
 use Rattle.fault_script.specs.declared.act.Fault.{Fault}
-use Rattle.fault_script.specs.Changes.{with_operand, changed, answered, is_skip, is_call_of, act_with, act_at_call, kept_at_call}
+use Rattle.fault_script.specs.Changes.{with_operand, changed, answered, is_skip, act_at_call}
 use Rattle.fault_injector.specs.declared.runs.scripted.Carried.{Carried}
 use Rattle.fault_injector.specs.Carried.{faults_of, keeps_of}
 use Rattle.coded_unit.specs.Seen.{StoodStill}
@@ -122,24 +122,6 @@ right_of faults keeps call result x y i j h honest =
     right_from (act_at_call faults keeps call) (word_at_call faults keeps call) call result h.inner i j h.gives h.counted honest
 
 -- ---- the fault of a call, among the faults
-
--- a fault at another call
-other_fault : (one : Carried) (more : List Carried) (call : Call) → is_call_of one.fault.cycle one.fault.op call ≡ false
-    → (act_at_call (faults_of (one ∷ more)) (keeps_of (one ∷ more)) call ≡ act_at_call (faults_of more) (keeps_of more) call)
-    × (word_at_call (faults_of (one ∷ more)) (keeps_of (one ∷ more)) call ≡ word_at_call (faults_of more) (keeps_of more) call)
-other_fault one more call other = (
-  ap (λ (b : Bool). cond b (act_with one.fault.act one.kept) (act_at_call (faults_of more) (keeps_of more) call)) other,
-  ap (λ (b : Bool). word (cond b one.kept (kept_at_call (faults_of more) (keeps_of more) call))) other,
-)
-
--- the fault of this call
-this_fault : (one : Carried) (more : List Carried) (call : Call) → is_call_of one.fault.cycle one.fault.op call ≡ true
-    → (act_at_call (faults_of (one ∷ more)) (keeps_of (one ∷ more)) call ≡ act_with one.fault.act one.kept)
-    × (word_at_call (faults_of (one ∷ more)) (keeps_of (one ∷ more)) call ≡ word one.kept)
-this_fault one more call this = (
-  ap (λ (b : Bool). cond b (act_with one.fault.act one.kept) (act_at_call (faults_of more) (keeps_of more) call)) this,
-  ap (λ (b : Bool). word (cond b one.kept (kept_at_call (faults_of more) (keeps_of more) call))) this,
-)
 
 -- of all faults the same is carried out as of those from a place on
 pub record DoneFrom (all rest : List Carried) (call : Call) : Type 0 where

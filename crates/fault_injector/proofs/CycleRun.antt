@@ -147,10 +147,6 @@ operand_is laws b past held values before front op come j =
 
 -- ---- the word that an act takes
 
-and_first : (x y : Bool) → x && y ≡ true → x ≡ true
-and_first true y h = refl
-and_first false y h = h
-
 pub and_second : (x y : Bool) → x && y ≡ true → y ≡ true
 and_second true y h = h
 and_second false y h = absurd (grind (arith, h))

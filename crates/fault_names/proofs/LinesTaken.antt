@@ -1,5 +1,5 @@
 -- LinesTaken: what the lines so far leave.
-use Rattle.std.proofs.Common.{◌≡◌, ℕ, List, [], ◌∷◌, Result, Ok, Err, Bool, true, false, cond, ap, refl, sym, ◌∙◌}
+use Rattle.std.proofs.Common.{◌≡◌, ℕ, List, [], ◌∷◌, Result, Ok, Err, Bool, false, cond, ap, sym, ◌∙◌}
 use Rattle.op_graph.specs.Lists.{Lists}
 use Rattle.vcp_base.specs.Lines.{Line}
 use Rattle.fault_names.specs.declared.refused.Refused.{Refused}
@@ -21,9 +21,6 @@ refuses g before r l ls more is same err =
 -- no line is left
 pub ends : (g : Lists) (before : ℕ) (ls : List Line) → ls ≡ [] → lines_checked g before ls ≡ Ok tt
 ends g before ls none = ap (lines_checked g before) none
-
-pub image_first : (b : Bool) (why : Refused) (r : Result (Unit {0}) Refused) → b ≡ true → cond b (Err why) r ≡ Err why
-image_first b why r is = rw is refl
 
 pub no_other : (b : Bool) (why : Refused) (r s : Result (Unit {0}) Refused) → b ≡ false → r ≡ s → cond b (Err why) r ≡ s
 no_other b why r s is same = rw is same

@@ -28,9 +28,6 @@ or_no : (a b : Bool) → (a || b) ≡ false → (a ≡ false) × (b ≡ false)
 or_no true b h = absurd cc
 or_no false b h = (refl, h)
 
-no_or : (a b : Bool) → a ≡ false → b ≡ false → (a || b || false) ≡ false
-no_or a b none free = rw (none, free) refl
-
 -- a fault at a place of its own goes behind the others
 pub apart_push : (faults : List Fault) (f : Fault) → Apart faults → is_taken f faults ≡ false → Apart (faults ++ f ∷ [])
 apart_push [] f apart free = (refl, tt)
@@ -43,25 +40,6 @@ apart_push (h ∷ faults) f apart free =
     )
 
 -- ---- what was read
-
-pub begins_fit : (g : Lists) (r : State) (n : ℕ) → r.opened ≡ None → ReadingFits g r
-    → ReadingFits g (record { script = r.script; opened = Some (record { line = n; group = [] }); count = r.count })
-begins_fit g r n none fits =
-    let before : fault_count r.script + pending None ≡ r.count = subst (λ (o : Option Opened). fault_count r.script + pending o ≡ r.count) none fits.all in
-    record { groups = fits.groups; opened = (All-nil (Fits g), tt); all = before; few = fits.few }
-
-pub ends_fit : (g : Lists) (r : State) (o : Opened) → r.opened ≡ Some o → 0 < length o.group → ReadingFits g r
-    → ReadingFits g (record { script = r.script ++ o.group ∷ []; opened = None; count = r.count })
-ends_fit g r o is some fits =
-    let so_far : OpenFits g (Some o) = subst (λ (o : Option Opened). OpenFits g o) is fits.opened in
-    let before : fault_count r.script + length o.group ≡ r.count =
-    subst (λ (o : Option Opened). fault_count r.script + pending o ≡ r.count) is fits.all in
-    record {
-      groups = All-push (GroupFits g) r.script o.group fits.groups (record { some = some; fits = so_far.0; apart = so_far.1 });
-      opened = tt;
-      all = omega (arith, sum_by_push (λ (faults : List Fault). length faults) r.script o.group, before);
-      few = fits.few;
-    }
 
 pub alone_fits : (g : Lists) (r : State) (f : Fault) → r.opened ≡ None → r.count < most_faults → Fits g f → ReadingFits g r
     → ReadingFits g (record { script = r.script ++ (f ∷ []) ∷ []; opened = None; count = r.count + 1 })

@@ -1,5 +1,5 @@
 -- LinesRead: a script read line by line.
-use Rattle.std.proofs.Common.{◌≡◌, ◌≢◌, ℕ, ◌+◌, ◌<◌, Bool, true, false, cond, List, [], ◌∷◌, ◌++◌, length, Option, Some, None, Result, Ok, Err, IfErr, refl, sym, ap, ◌∙◌, arith}
+use Rattle.std.proofs.Common.{◌≡◌, ◌≢◌, ℕ, ◌+◌, Bool, true, false, cond, List, [], ◌∷◌, ◌++◌, Option, Some, None, Result, Ok, Err, IfErr, refl, sym, ap, ◌∙◌}
 use Rattle.std.specs.Str.Lines.{lines}
 use Rattle.std.proofs.lemmas.List.{append_assoc, append-nil}
 use Rattle.op_graph.specs.Lists.{Lists}
@@ -13,7 +13,7 @@ use Rattle.vcp_base.specs.Lines.{Line, is_skipped, read_lines}
 use Rattle.vcp_base.specs.Words.{words}
 use Rattle.fault_script.specs.Forms.{mark_of}
 use Rattle.fault_script.specs.Groups.{is_taken}
-use Rattle.fault_script.specs.ScriptOf.{Item, begins, ends, says, said_after, item_by, item_of, items_of, counted, onto, ended, with_fault}
+use Rattle.fault_script.specs.ScriptOf.{Item, ends, says, item_by, item_of, items_of, counted, onto, with_fault}
 use Rattle.fault_script.specs.ScriptOf.{groups_of, script_of}
 use Rattle.fault_script.specs.Reading.{behind, comes, Goes, Refuses}
 
@@ -25,35 +25,6 @@ Groups = Result (List (List Fault)) ScriptFault
 behind_onto : (groups : List (List Fault)) (faults : List Fault) (r : Groups) → behind groups (onto faults r) ≡ behind (groups ++ faults ∷ []) r
 behind_onto groups faults (Ok more) = ap (λ (gs : List (List Fault)). Ok gs) (sym (append_assoc groups (faults ∷ []) more))
 behind_onto groups faults (Err why) = refl
-
-behind_ended : (groups : List (List Fault)) (n : ℕ) (faults : List Fault) (r : Groups) → 0 < length faults
-    → behind groups (ended n faults r) ≡ behind (groups ++ faults ∷ []) r
-behind_ended groups n [] r some = absurd (omega arith)
-behind_ended groups n (f ∷ faults) r some = behind_onto groups (f ∷ faults) r
-
--- a group begins
-pub begins_go : (r : State) (n : ℕ) → r.opened ≡ None → Goes (begins n) r (record { script = r.script; opened = Some (record { line = n; group = [] }); count = r.count })
-begins_go r n none = record { comes_to = λ later. ap (λ (o : Option Opened). behind r.script (groups_of (begins n ∷ later) o)) none; count = refl }
-
-pub begins_refused : (r : State) (n : ℕ) (o : Opened) → r.opened ≡ Some o → Refuses (begins n) r (refusal.Group n)
-begins_refused r n o is later = ap (λ (o : Option Opened). behind r.script (groups_of (begins n ∷ later) o)) is
-
--- a group ends
-pub ends_go : (r : State) (n : ℕ) (o : Opened) → r.opened ≡ Some o → 0 < length o.group
-    → Goes (ends n) r (record { script = r.script ++ o.group ∷ []; opened = None; count = r.count })
-ends_go r n o is some = record {
-  comes_to = λ later.
-      ap (λ (o : Option Opened). behind r.script (groups_of (ends n ∷ later) o)) is ∙ behind_ended r.script n o.group (groups_of later None) some;
-  count = refl;
-}
-
-pub ends_outside : (r : State) (n : ℕ) → r.opened ≡ None → Refuses (ends n) r (refusal.Group n)
-ends_outside r n none later = ap (λ (o : Option Opened). behind r.script (groups_of (ends n ∷ later) o)) none
-
-pub ends_empty : (r : State) (n : ℕ) (o : Opened) → r.opened ≡ Some o → o.group ≡ [] → Refuses (ends n) r (refusal.Group n)
-ends_empty r n o is empty later =
-    ap (λ (o : Option Opened). behind r.script (groups_of (ends n ∷ later) o)) is
-    ∙ ap (λ (faults : List Fault). behind r.script (ended n faults (groups_of later None))) empty
 
 -- a fault outside a group
 pub alone_goes : (r : State) (f : Fault) → r.opened ≡ None
@@ -80,19 +51,8 @@ twice r f o is taken later = taken_or r f o true later is taken
 
 -- ---- what a line says, by what it is
 
-pub begins_is : (g : Lists) (n : ℕ) (line : Line) → mark.Begin ≡ mark_of (words line.text) → begins line.number ≡ item_of g n line
-begins_is g n line is = ap (item_by g n line) is
-
 pub ends_is : (g : Lists) (n : ℕ) (line : Line) → mark.End ≡ mark_of (words line.text) → ends line.number ≡ item_of g n line
 ends_is g n line is = ap (item_by g n line) is
-
-pub says_is : (g : Lists) (n : ℕ) (line : Line) (told : Result Fault ScriptFault) → told ≡ said_after g n line → mark.Fault ≡ mark_of (words line.text)
-    → says told ≡ item_of g n line
-says_is g n line told same is = ap (λ (t : Result Fault ScriptFault). says t) same ∙ ap (item_by g n line) is
-
--- a fault line that is refused by itself
-pub refused_alone : (r : State) (why : ScriptFault) → Refuses (says (Err why)) r why
-refused_alone r why later = refl
 
 -- ---- the lines of a text
 

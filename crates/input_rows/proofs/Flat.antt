@@ -5,7 +5,7 @@ use Rattle.std.proofs.Math.Nat.{mul-le-mul_right, suc-mul}
 use Rattle.std.proofs.Math.Seq.{take-suc}
 use Rattle.std.proofs.lemmas.List.Elements.{All-cons}
 use Rattle.std.proofs.lemmas.Option.{get_or_from_slice_get, slice_get_within}
-use Rattle.std.proofs.lemmas.List.{append-nil, append_assoc, drop-append-le, drop-drop, ext_get_or, get_or-drop, get_or-take, length-append, length-drop}
+use Rattle.std.proofs.lemmas.List.{append_assoc, drop-append-le, drop-drop, ext_get_or, get_or-drop, get_or-take, length-append, length-drop}
 use Rattle.std.proofs.lemmas.List.{length-take-le, take-append-le, take_all}
 use Rattle.input_rows.specs.RowLists.{rows_in}
 use Rattle.input_rows.specs.RowsOf.{RowsLeft}
@@ -95,11 +95,6 @@ gathered_more start old new count width values row h is same =
       many = omega (arith, length-append values row, h.many, same, suc-mul count width, ap (λ (n : ℕ). n * width) (plus_one count));
       number = omega (arith, h.number, ap length rows);
     }
-
-pub all_gathered : (start left : RowsLeft) (count width : ℕ) (values : List ℤ) → Gathered start left count width values → left.rows ≡ [] →
-    rows_in count width values ≡ start.rows
-all_gathered start left count width values h none =
-    sym (h.rows ∙ (ap (λ (rs : List (List ℤ)). rows_in count width values ++ rs) none ∙ append-nil (rows_in count width values)))
 
 -- ---- a row copied value by value
 

@@ -1,7 +1,6 @@
 -- Steps of reading a header.
-use Rattle.std.proofs.Common.{◌≡◌, ◌<◌, ◌≤◌, ℕ, ◌+◌, zero, suc, Bool, true, false, ◌&&◌, List, [], ◌∷◌, ◌++◌, length, drop, slice_get, get_or, slice_set}
-use Rattle.std.proofs.Common.{replicate, append-nil, Option, Some, None, option_map, refl, ap, sym, ◌∙◌, arith, add-one, append_assoc}
-use Rattle.std.proofs.lemmas.List.{drop_all}
+use Rattle.std.proofs.Common.{◌≡◌, ◌<◌, ℕ, ◌+◌, zero, suc, Bool, true, false, ◌&&◌, List, [], ◌∷◌, ◌++◌, length, drop, slice_get, get_or, slice_set}
+use Rattle.std.proofs.Common.{replicate, Option, Some, None, option_map, refl, ap, sym, ◌∙◌, arith, add-one, append_assoc}
 use Rattle.std.proofs.lemmas.Bool.{eq-eqb}
 use Rattle.vcp_base.specs.declared.columns.Column.{Column}
 use Rattle.vcp_base.specs.Names.{is_same_name}
@@ -20,17 +19,9 @@ from-next : (i : ℕ) (o : Option ℕ) → from_place i (option_map (λ p. p + 1
 from-next i None = refl
 from-next i (Some p) = ap Some (omega arith)
 
-from-none : (o : Option ℕ) → from_place 0 o ≡ o
-from-none None = refl
-from-none (Some p) = ap Some (omega arith)
-
 before-next : (ps : List ℕ) (p : ℕ) (o : Option (List ℕ)) → before_places ps (option_map (λ qs. p ∷ qs) o) ≡ before_places (ps ++ p ∷ []) o
 before-next ps p None = refl
 before-next ps p (Some qs) = ap Some (sym (append_assoc ps (p ∷ []) qs))
-
-before-none : (o : Option (List ℕ)) → before_places [] o ≡ o
-before-none None = refl
-before-none (Some qs) = refl
 
 -- the column at i isn't the one
 place-next : (columns : List Column) (free : List Bool) (name : List ℕ) (i : ℕ) (c : Column) → slice_get columns i ≡ Some c → i < length free
@@ -55,16 +46,6 @@ place-here (d ∷ columns) (b ∷ free) name zero c e l f =
     let test : (b && is_same_name d.name name) ≡ true = rw same f in
     rw test refl
 place-here (d ∷ columns) (b ∷ free) name (suc i) c e l f = place-here columns free name i c e (omega arith) f
-
--- no column is left
-pub place-end : (columns : List Column) (free : List Bool) (name : List ℕ) (i : ℕ) → length free ≡ length columns → length free ≤ i
-    → place_of (drop i columns) (drop i free) name ≡ None
-place-end [] [] name zero e l = refl
-place-end [] [] name (suc i) e l = refl
-place-end [] (b ∷ free) name i e l = absurd (omega arith)
-place-end (d ∷ columns) [] name i e l = absurd (omega arith)
-place-end (d ∷ columns) (b ∷ free) name zero e l = absurd (omega arith)
-place-end (d ∷ columns) (b ∷ free) name (suc i) e l = place-end columns free name i (omega arith) (omega arith)
 
 pub goes_on : (columns : List Column) (free : List Bool) (name : List ℕ) (i : ℕ) (c : Column) (o : Option ℕ)
     → o ≡ from_place i (place_of (drop i columns) (drop i free) name) → slice_get columns i ≡ Some c → i < length free
@@ -109,11 +90,6 @@ one_place columns free fields ps j p f o h e n =
     (places-next columns free fields j f e ∙ ap (λ p. places_after p (λ i. places_of columns (slice_set free i false) (drop (suc j) fields))) n)
     ∙ before-next ps p (places_of columns (slice_set free p false) (drop (suc j) fields)) in
     simp add-one k
-
--- no field is left
-pub all_places : (columns : List Column) (free : List Bool) (fields : List (List ℕ)) (ps : List ℕ) (j : ℕ) (o : Option (List ℕ))
-    → o ≡ before_places ps (places_of columns free (drop j fields)) → length fields ≤ j → o ≡ Some ps
-all_places columns free fields ps j o h l = h ∙ ap (λ fs. before_places ps (places_of columns free fs)) (drop_all j fields l) ∙ ap Some (append-nil ps)
 
 -- the order of a header of the right length
 pub order-here : (columns : List Column) (header : List (List ℕ)) → length header ≡ length columns

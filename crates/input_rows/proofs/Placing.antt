@@ -1,10 +1,10 @@
 -- Rows whose values are set at their places.
-use Rattle.std.proofs.Common.{◌≡◌, ◌≢◌, ◌⊎◌, inl, inr, ◌<◌, ◌≤◌, ℕ, ◌+◌, zero, suc, true, false, eqb, List, [], ◌∷◌, length, map, drop, get_or, slice_get}
+use Rattle.std.proofs.Common.{◌≡◌, ◌≢◌, ◌⊎◌, inl, inr, ◌<◌, ℕ, ◌+◌, zero, suc, true, false, eqb, List, [], ◌∷◌, length, map, drop, get_or, slice_get}
 use Rattle.std.proofs.Common.{slice_index_or, slice_set, replicate, length-set, Contains, Option, Some, None, Result, Ok, Err, ℤ, pos, refl, ap, sym, ◌∙◌}
 use Rattle.std.proofs.Common.{arith, add-one}
-use Rattle.std.proofs.lemmas.Bool.{eq-eqb, ne_eqb}
+use Rattle.std.proofs.lemmas.Bool.{eq-eqb}
 use Rattle.std.proofs.lemmas.Bool.Decides.{eqb_tells}
-use Rattle.std.proofs.lemmas.List.{get_or-set_other, get_or-set_same, same_lists, drop_all, length-replicate, length-map}
+use Rattle.std.proofs.lemmas.List.{get_or-set_other, get_or-set_same, same_lists, length-replicate, length-map}
 use Rattle.vcp_base.specs.declared.ty.Ty.{Ty}
 use Rattle.input_rows.specs.declared.fault.RowFault.{RowFault}
 use Rattle.input_rows.specs.declared.fault.RowFault.TheVariants as fault
@@ -13,11 +13,6 @@ use Rattle.input_rows.specs.Header.{IsOrder}
 use Rattle.input_rows.specs.TableLeft.{Ordered}
 use Rattle.vcp_base.specs.declared.columns.Column.{Column}
 use Rattle.input_rows.specs.RowsOf.{type_at, types_of, row_of, values_of, values_after, placed, row_onto}
-
-pub length-placed : (ps : List ℕ) (vs row : List ℤ) → length (placed ps vs row) ≡ length row
-length-placed [] vs row = refl
-length-placed (p ∷ ps) [] row = refl
-length-placed (p ∷ ps) (v ∷ vs) row = length-placed ps vs (slice_set row p v) ∙ length-set row p v
 
 -- rows that agree where no value is set are one, once the values are set
 same-placed : (ps : List ℕ) (vs a b : List ℤ) → length vs ≡ length ps → length a ≡ length b
@@ -94,11 +89,6 @@ cell_refused types places cells number j row p cell ep ec ev =
     ∙ ap (λ o. row_onto row (p ∷ drop (suc j) places) number
     (values_after (j + 1) o (values_of (j + 1 + 1) (map (type_at types) (drop (suc j) places)) (drop (suc j) cells)))) ev
 
--- no cell is left
-pub cells_end : (types : List Ty) (places : List ℕ) (cells : List (List ℕ)) (number j : ℕ) (row : List ℤ) → length places ≤ j
-    → expected types places cells number j row ≡ Ok row
-cells_end types places cells number j row l = rw (drop_all j places l) refl
-
 -- as many values as types
 length-values : (column : ℕ) (types : List Ty) (cells : List (List ℕ)) (vs : List ℤ) → length types ≡ length cells → values_of column types cells ≡ Ok vs
     → length vs ≡ length types
@@ -127,11 +117,6 @@ row-over n types order number cells row is e w l =
         (length-values 1 (map (type_at types) order) cells vs (length-map order (type_at types) ∙ sym w) h ∙ length-map order (type_at types))
         (length-replicate (length types) (pos 0) ∙ sym e) (l ∙ sym e))
     by_values (Err k) h = refl
-
--- a record of another width
-pub row-width : (types : List Ty) (order : List ℕ) (number : ℕ) (cells : List (List ℕ)) → length cells ≢ length types
-    → row_of types order number cells ≡ Err (fault.Width number)
-row-width types order number cells ne = rw (ne_eqb (length cells) (length types) ne) refl
 
 -- the order of a layout, as its value tells it
 pub order-seen : (columns : List Column) (places : List ℕ) (o : Ordered) → record { types = types_of columns; places = places } ≡ o

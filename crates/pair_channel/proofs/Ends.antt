@@ -72,27 +72,10 @@ equal_stops k l why cause h =
 
 -- ---- both ends alike, or not
 
-pub both_stop : (k : ℕ) (why : StopKind) (row other : List ℤ) → both (end.Stopped k why) (end.Stopped k why) row other ≡ pair.Stopped k why
-both_stop k why row other =
-    ap (λ b. cond b (pair.Stopped k why) (pair.Parted (end.Stopped k why) (end.Stopped k why))) (stop_self k why)
-
 pub both_released : (e f : CycleEnd) (row other : List ℤ) → e ≡ end.Released → f ≡ end.Released → row ≡ other → both e f row other ≡ pair.Released
 both_released e f row other is that same =
     ap (λ x. both x f row other) is ∙ (ap (λ x. both end.Released x row other) that
     ∙ (ap (λ r. released_unless (first_difference r other 0)) same ∙ ap released_unless (same_row other 0)))
-
-pub both_apart : (e f : CycleEnd) (row other : List ℤ) → e ≢ f → both e f row other ≡ pair.Parted e f
-both_apart end.Released end.Released row other h = absurd (h refl)
-both_apart end.Released (end.Stopped l cause) row other h = refl
-both_apart end.Released (end.Refused i found wanted) row other h = refl
-both_apart (end.Stopped k why) end.Released row other h = refl
-both_apart (end.Stopped k why) (end.Stopped l cause) row other h =
-    ap (λ b. cond b (pair.Stopped k why) (pair.Parted (end.Stopped k why) (end.Stopped l cause)))
-    (not_true (k == l && same_stop why cause) (λ e. h (sym (stops_equal k l why cause e))))
-both_apart (end.Stopped k why) (end.Refused i found wanted) row other h = refl
-both_apart (end.Refused j got want) end.Released row other h = refl
-both_apart (end.Refused j got want) (end.Stopped l cause) row other h = refl
-both_apart (end.Refused j got want) (end.Refused i found wanted) row other h = refl
 
 -- the second channel's row counts only where it released
 pub both_second_row : (e f : CycleEnd) (row other more : List ℤ) → (f ≡ end.Released → other ≡ more) → both e f row other ≡ both e f row more

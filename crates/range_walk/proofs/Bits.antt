@@ -1,5 +1,5 @@
 -- Bits: an integer that is passed on in its bits is the same integer.
-use Rattle.std.proofs.Common.{◌≡◌, ℤ, pos, negsuc, neg_ℤ, ◌≤ℤ◌, ◌<ℤ◌, ◌+ℤ◌, ◌-ℤ◌, Bool, true, sym, ap, subst, ◌∙◌, to_z, of_z, SFits, w64, arith, rules}
+use Rattle.std.proofs.Common.{◌≡◌, ℤ, pos, negsuc, neg_ℤ, ◌≤ℤ◌, ◌<ℤ◌, ◌+ℤ◌, ◌-ℤ◌, true, sym, ap, subst, ◌∙◌, to_z, of_z, SFits, w64, arith, rules}
 use Rattle.std.specs.Int.{int_max, int_min}
 use Rattle.std.specs.Prelude.{int_div, int_le}
 use Rattle.std.proofs.lemmas.Int.{to_z-of_z, ints, clamps}
@@ -8,14 +8,6 @@ use Rattle.vcp_base.specs.declared.ty.Ty.{Ty}
 use Rattle.vcp_base.specs.Types.{fits, least, greatest}
 use Rattle.range_walk.proofs.Integers.{le_trans, sized}
 use Rattle.range_walk.proofs.ValueBounds.{tested, between_fits}
-use Rattle.range_walk.specs.Intervals.{Between}
-
--- between two ends
-pub between_bits : (w : Width) (low high : ℤ) (nonzero : Bool) (v : ℤ) → SFits w low → SFits w high → Between low high nonzero v
-    → Between (to_z w (of_z w low)) (to_z w (of_z w high)) nonzero v
-between_bits w low high nonzero v f g b =
-    subst (λ x. Between x (to_z w (of_z w high)) nonzero v) (sym (to_z-of_z w low f))
-    (subst (λ x. Between low x nonzero v) (sym (to_z-of_z w high g)) b)
 
 -- an operation on two
 pub of_bits : (w : Width) (f : ℤ → ℤ → ℤ) (x y : ℤ) → SFits w x → SFits w y → f (to_z w (of_z w x)) (to_z w (of_z w y)) ≡ f x y

@@ -81,10 +81,6 @@ drawn_more h f n = ap (drawn_text h) (each_more f n) ∙ drawn_append h (each_be
 pub drawn_one : {X : Type 0} (h : X → List Element) (x : X) → drawn_text h (x ∷ []) ≡ flat_map element_text (h x)
 drawn_one h x = ap (flat_map element_text) (append-nil (h x))
 
-pub drawn_single : {X : Type 0} (h : X → List Element) (f : ℕ → X) (n : ℕ)
-    → drawn_text h (each_below (λ i. f i ∷ []) (n + 1)) ≡ drawn_text h (each_below (λ i. f i ∷ []) n) ++ flat_map element_text (h (f n))
-drawn_single h f n = drawn_more h (λ i. f i ∷ []) n ∙ ap (λ t. drawn_text h (each_below (λ i. f i ∷ []) n) ++ t) (drawn_one h (f n))
-
 pub three_texts : (v : Element) (a b : List Element)
     → flat_map element_text (v ∷ (a ++ b)) ≡ element_text v ++ (flat_map element_text a ++ flat_map element_text b)
 three_texts v a b = ap (λ t. element_text v ++ t) (flat_map-append element_text a b)

@@ -65,19 +65,6 @@ row_read width cycle row h few =
 
 -- ---- the last line
 
--- no digits begin as a last line does
-abbrev is_letter_first : List ℕ → Bool
-is_letter_first [] = false
-is_letter_first (c ∷ text) = nat_lt 57 c
-
-digits_first : (n : ℕ) (ds : List ℕ) → IsDigits n ds → is_letter_first ds ≡ false
-digits_first n [] is = refl
-digits_first n (c ∷ ds) is = of_digit (is_ascii_digit c) refl is.digits
-  where
-    of_digit : (a : Bool) → is_ascii_digit c ≡ a → (a && list_all is_ascii_digit ds) ≡ true → nat_lt 57 c ≡ false
-    of_digit true e h = grind (arith, nat_tests)
-    of_digit false e h = absurd cc
-
 -- a text that begins with a digit is no last line
 no_last : (n : ℕ) (c : ℕ) (text : List ℕ) → is_ascii_digit c ≡ true → mark_of n (c ∷ text) ≡ None
 no_last n c text h =

@@ -54,11 +54,6 @@ no_value fields j row cell all at is e =
     e ∙ (ap (λ (cells : List (List ℕ)). behind row (values_of (j + 1) cells)) first
     ∙ ap (λ (o : Option ℤ). behind row (values_after (j + 1) o (values_of (j + 1 + 1) (drop (j + 1) fields)))) is)
 
--- all cells
-pub all_values : (fields : List (List ℕ)) (j : ℕ) (row : List ℤ) (all : Result (List ℤ) ℕ) → length fields ≤ j
-    → all ≡ behind row (values_of (j + 1) (drop j fields)) → all ≡ Ok row
-all_values fields j row all h e = e ∙ rw (none_left fields j h, append-nil row) refl
-
 -- ---- the header
 
 pub one_name : (fields names rest : List (List ℕ)) (j : ℕ) (name : List ℕ) → slice_get fields j ≡ Some name → rest ≡ names ++ drop j fields

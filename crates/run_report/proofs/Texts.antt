@@ -25,9 +25,3 @@ and_then {s = s} {t = t} first second start before text is = rw (← (append_ass
 pub flat_map-next : {X : Type 0} (f : X → List ℕ) (front : List ℕ) (xs : List X) (i : ℕ) (x : X) → slice_get xs i ≡ Some x
     → front ++ flat_map f (take (i + 1) xs) ≡ (front ++ flat_map f (take i xs)) ++ f x
 flat_map-next f front xs i x is = rw (take-next xs i x is) (sym (flat_map_more f front (take i xs) x))
-
--- the text of one more element, of which it is two pieces
-pub flat_map-next_two : {X : Type 0} (f : X → List ℕ) (front : List ℕ) (xs : List X) (i : ℕ) (x : X) (p q : List ℕ) → slice_get xs i ≡ Some x
-    → f x ≡ p ++ q → front ++ flat_map f (take (i + 1) xs) ≡ front ++ flat_map f (take i xs) ++ p ++ q
-flat_map-next_two f front xs i x p q is pieces =
-    rw (flat_map-next f front xs i x is, pieces) (sym (append_assoc (front ++ flat_map f (take i xs)) p q))

@@ -1,8 +1,8 @@
 -- The spot behind one byte more.
-use Rattle.std.proofs.Common.{◌≡◌, ℕ, ◌+◌, ◌<◌, Bool, false, cond, not, List, [], ◌∷◌, ◌++◌, length, take, get_or, sym, ap, ◌∙◌, append_assoc, arith, reverse}
+use Rattle.std.proofs.Common.{◌≡◌, ℕ, ◌+◌, Bool, false, cond, not, List, [], ◌∷◌, ◌++◌, sym, ap, arith, reverse}
 use Rattle.std.specs.Prelude.{◌==◌}
 use Rattle.std.specs.List.{prefix_len, count_by}
-use Rattle.std.proofs.lemmas.List.{reverse-append, take_more}
+use Rattle.std.proofs.lemmas.List.{reverse-append}
 use Rattle.std.proofs.lemmas.List.Sums.{sum_by-append}
 use Rattle.std.proofs.lemmas.Bool.Decides.{nat_tests}
 use Rattle.vcp_base.specs.declared.spot.Spot.{Spot}
@@ -40,8 +40,3 @@ behind-other spot before b e h =
           (λ (x : Spot). x.col) e,
     ) in
     λ i. record { line = sym n i; col = sym m i }
-
-pub behind-more : (spot now : Spot) (before bytes : List ℕ) (i : ℕ) → i < length bytes → now ≡ spot_after ((before ++ take i bytes) ++ get_or bytes i 0 ∷ [])
-    → now ≡ spot_after (before ++ take (i + 1) bytes)
-behind-more spot now before bytes i h e = e
-    ∙ ap spot_after (append_assoc before (take i bytes) (get_or bytes i 0 ∷ []) ∙ ap (λ (l : List ℕ). before ++ l) (sym (take_more bytes i 0 h)))

@@ -1,5 +1,5 @@
 -- Looking a word or a symbol up in its table, from place i of the table on.
-use Rattle.std.proofs.Common.{◌≡◌, ℕ, ◌+◌, ◌<◌, ◌≤◌, Bool, true, false, sym, cond, List, ◌∷◌, length, get_or, drop, Option, Some, None, refl, ◌∙◌}
+use Rattle.std.proofs.Common.{◌≡◌, ℕ, ◌+◌, ◌<◌, ◌≤◌, sym, cond, List, ◌∷◌, length, get_or, drop, Some, None, refl, ◌∙◌}
 use Rattle.std.specs.Str.{str_eq_ignore_ascii_case}
 use Rattle.std.proofs.lemmas.List.{at_drop_more, at_drop_all}
 use Rattle.st_lexer.specs.declared.token.Key.{Key}
@@ -40,11 +40,3 @@ unfolding symbols.symbol_among
 symbol-all ys s i h = at_drop_all (λ (l : List Sym). symbols.symbol_among l s) ys i h
 
 pub ruleset symbol_rules = (symbol-drop, symbol-all)
-
-only-else : (t : Bool) (x y z : Option Key) → t ≡ false → x ≡ cond t y z → z ≡ x
-only-else true x y z e f = absurd cc
-only-else false x y z e f = sym f
-
-pub key-next : (ks : List Key) (w : List ℕ) (i : ℕ) → i < length ks → str_eq_ignore_ascii_case w (words.spelling (get_or ks i key.Program)) ≡ false
-    → words.key_among (drop (i + 1) ks) w ≡ words.key_among (drop i ks) w
-key-next ks w i h e = only-else _ _ _ _ e (key-drop ks w i h)

@@ -1,5 +1,5 @@
 -- ExprEarliest: what was read of an expression begins one.
-use Rattle.std.proofs.Common.{◌≡◌, ℕ, ◌+◌, ◌<◌, ◌≤◌, Bool, true, false, cond, leb, List, [], ◌∷◌, ◌++◌, None, Result, Ok, Err, pos, sym, refl, subst, arith}
+use Rattle.std.proofs.Common.{◌≡◌, ℕ, ◌+◌, ◌<◌, Bool, true, false, cond, leb, List, [], ◌∷◌, ◌++◌, None, Result, Ok, Err, pos, sym, refl, subst, arith}
 use Rattle.std.proofs.Common.{append_assoc}
 use Rattle.std.proofs.lemmas.Bool.{leb-false}
 use Rattle.std.proofs.lemmas.List.{append-nil}
@@ -9,8 +9,8 @@ use Rattle.st_lexer.specs.declared.token.Tok.TheVariants as tok
 use Rattle.st_lexer.specs.declared.token.Token.{Token}
 use Rattle.st_tree.specs.ExprTree.{ExprTree, literal, name, unary, binary, call}
 use Rattle.st_tree.specs.Appended.{exprs_and}
-use Rattle.st_tree.specs.Operators.{any_level, unary_level, level, chain}
-use Rattle.st_tree.specs.Placed.{Placed, at, Within}
+use Rattle.st_tree.specs.Operators.{any_level, unary_level, level}
+use Rattle.st_tree.specs.Placed.{Placed, at}
 use Rattle.st_tree.specs.Expressions.{SpellsExpr, spells_literal}
 use Rattle.st_parser.specs.declared.fault.SyntaxFault.{SyntaxFault}
 use Rattle.st_parser.specs.declared.fault.SyntaxFault.TheVariants as fault
@@ -22,8 +22,7 @@ use Rattle.st_parser.specs.Marks.{begins_by, goes_by}
 use Rattle.st_parser.specs.ExprMachine.{Context, Form, sign_of, left_of, bracket, arguments, Mode, want, after_name, have, Reading, depth_in, close, no_deeper}
 use Rattle.st_parser.specs.ExprMachine.{operand, close_at, part_at, go_on, go_on_name, step}
 use Rattle.st_parser.proofs.ExprTables.{Began, begun}
-use Rattle.st_parser.proofs.ExprComplete.{within-split}
-use Rattle.st_parser.proofs.ExprSound.{Opened, Has, Holds, HasRead, close-bracket, close-arguments, close-sign, close-left, settle, has-name, wants-top}
+use Rattle.st_parser.proofs.ExprSound.{Opened, Has, Holds, close-bracket, close-arguments, close-sign, close-left, settle, has-name, wants-top}
 use Rattle.st_parser.proofs.ExprSound.{alone-spelled}
 
 -- ---- what completes an expression
@@ -91,33 +90,6 @@ completes c d fs (after_name f s) ps h = closes c d fs unary_level (name f s) ps
 completes c d fs (have e) ps h = closes c d fs unary_level e ps h
 
 -- ---- how deep the completion is
-
--- the closing brackets are no deeper than the brackets that they close
-pub closers-within : (c : Context) (d most : ℕ) (fs : List Form) (ps : List Placed) → Opened c d fs ps → Within most ps → Within most (closers d fs)
-closers-within c d most [] ps o within = tt
-closers-within c d most (sign_of op s ∷ fs) ps o within =
-    let parts = within-split most o.0 (at (d + depth_in fs) o.1 ∷ []) (subst (Within most) o.5 within) in
-    closers-within c d most fs o.0 o.2 parts.0
-closers-within c d most (left_of op a s ∷ fs) ps o within =
-    let parts = within-split most (o.0 ++ o.1) (at ((d + depth_in fs) + chain (level op) a) o.2 ∷ []) (subst (Within most) o.8 within) in
-    closers-within c d most fs o.0 o.3 (within-split most o.0 o.1 parts.0).0
-closers-within c d most (bracket ∷ fs) ps o within =
-    let parts = within-split most o.0 (at (d + depth_in fs) o.1 ∷ []) (subst (Within most) o.4 within) in
-    (parts.1.0, closers-within c d most fs o.0 o.2 parts.0)
-closers-within c d most (arguments f s es ∷ fs) ps o within =
-    let parts = within-split most o.0 (at (d + depth_in fs) o.1 ∷ at (d + depth_in fs) o.2 ∷ o.3) (subst (Within most) o.10 within) in
-    (parts.1.0, closers-within c d most fs o.0 o.4 parts.0)
-
--- the completion is within the limit of what was read, where a wanted operand has room
-pub completion-within : (c : Context) (d : ℕ) (fs : List Form) (m : Mode) (ps : List Placed) → HasRead c d fs m ps → d + depth_in fs ≤ c.most
-    → Within c.most (completion d fs m)
-completion-within c d fs want ps h le = (le, closers-within c d c.most fs ps h.0 h.1)
-completion-within c d fs (after_name f s) ps h le =
-    let w = within-split c.most h.0.0 (at (d + depth_in fs) h.0.1 ∷ []) (subst (Within c.most) h.0.6 h.1) in
-    closers-within c d c.most fs h.0.0 h.0.2 w.0
-completion-within c d fs (have e) ps h le =
-    let w = within-split c.most h.0.before h.0.ts (subst (Within c.most) h.0.placed h.1) in
-    closers-within c d c.most fs h.0.before h.0.opened w.0
 
 -- ---- a token that is too deep
 

@@ -27,10 +27,6 @@ pub if_some_when : {X : Type 0} (A : Type 0) (o p : Option X) (Q : X → Type 0)
 if_some_when A None p Q e h = tt
 if_some_when A (Some x) p Q e h = λ a. rw e at (h a)
 
-pub if_some_and : {X : Type 0} (o : Option X) (P Q : X → Type 0) → IfSome o P → IfSome o Q → IfSome o (λ x. P x × Q x)
-if_some_and None P Q h k = tt
-if_some_and (Some x) P Q h k = (h, k)
-
 -- ---- what can't be, and what is the same: lemmas, since a tactic in an answer reads all that the function knows
 
 pub not_none : {X : Type 0} {x : X} {xs : List X} → x ∷ xs ≡ [] → ⊥

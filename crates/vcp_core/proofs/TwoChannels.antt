@@ -26,7 +26,7 @@ use Rattle.input_rows.specs.declared.source.RowsSource.{RowsSource}
 use Rattle.vcp_inputs.specs.Images.{ImageOf, NotImage}
 use Rattle.vcp_inputs.specs.Lines.{input_status, input_text, refusal_text}
 use Rattle.vcp_inputs.specs.Refusals.{no_rows}
-use Rattle.vcp_inputs.specs.Abouts.{About, about}
+use Rattle.vcp_inputs.specs.Abouts.{About}
 use Rattle.vcp_inputs.specs.FileTasks.{TakenFile, missing, taken, untaken, TakenRows}
 use Rattle.vcp_inputs.specs.Kinds.{Task, compares, refusal_task}
 use Rattle.vcp_inputs.specs.PairKind.{PairJob, pair_answer, pair_behind, pair_read, pair_status}
@@ -199,9 +199,3 @@ seeds_same c m seed Then held i files later at loads same =
     done (refusal_task m refusal.Seed) (record { out = []; err = refusal_text m refusal.Seed; status = 1 })
     (file_takes ImageOf NotImage most_image_bytes (Apart m seed Then) m held i (refusal_task m refusal.Seed) loads (same_seed same)) (refl, refl)
     (still at).out refl refl
-
-pub seed_refused : (m : List ℕ) (rows : Rows) (seed : ℕ) (held : Held) (i : Image) (files later : FilesSeen) (at : Moment) →
-    ((text : List ℕ) × (held m ≡ Some text) × (length text ≤ most_image_bytes) × ImageOf text i) → seed ≡ i.table.seed →
-    Reaches (about (form.pair m rows seed)) (TaskOf (form.pair m rows seed) held) files later at at (refusal_text m refusal.Seed) 1
-seed_refused m rows seed held i files later at loads same =
-    seeds_same (about (form.pair m rows seed)) m seed (Compared rows held) held i files later at loads same

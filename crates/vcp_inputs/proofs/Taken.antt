@@ -144,11 +144,6 @@ module _ {V : Type 0} (Is : List ℕ → V → Type 0) (Why : List ℕ → Refus
   by_result (Ok v) read is none = taken v read is
   by_result (Err i) read is none = not_taken i read none
 
--- a refusal for another cause than its bytes comes from a text that was read
-pub not_bytes : (held : Held) (name : List ℕ) (limit b n : ℕ) (r : Refusal) → FileRead held name limit b n (Err (input.Refused r)) → r ≡ refusal.Bytes
-not_bytes held name limit b n r (text, is, long l) = refl
-not_bytes held name limit b n r (text, is, short _ l never) = absurd never
-
 -- rows whose file isn't read, for some columns
 pub rows_unread : (held : Held) (name : List ℕ) (columns : List Column) (b n : ℕ) (i : NoInput) → length columns ≢ 0
     → FileRead held name most_rows_bytes b n (Err i) → Opens (rows_outcome (file name) held columns) b n (Err i)

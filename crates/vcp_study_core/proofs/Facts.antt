@@ -23,7 +23,3 @@ if_some_both (Some x) p P Q R e f h k = f x h (rw e at k)
 pub appends-nothing : (old : Option (List ℕ)) → Appends old old []
 appends-nothing None = tt
 appends-nothing (Some bytes) = sym (append-nil bytes)
-
-pub if_none : {X : Type 0} (o : Option X) (P : X → Type 0) → None ≡ o → IfSome o P
-if_none None P e = tt
-if_none (Some y) P e = absurd cc

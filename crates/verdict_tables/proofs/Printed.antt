@@ -21,10 +21,6 @@ same_line line text b is holds = (bytes_eq-Decides (ended line) text).0 (is ∙ 
 
 -- ---- one line
 
-of_confirmed : (line text : List ℕ) (v w : Verdict) (b : Bool) → is_line line text ≡ b → cond b (Some v) None ≡ Some w → (v ≡ w) × (b ≡ true)
-of_confirmed line text v w true is e = let same : v ≡ w = cc in (same, refl)
-of_confirmed line text v w false is e = absurd cc
-
 of_meant : (g : Lists) (at number : ℕ) (line : List ℕ) (o : Option Verdict) (v : Verdict) → verdict_or number (confirmed g at line o) ≡ Ok v
     → ended line ≡ verdict_text g at v
 of_meant g at number line None v e = absurd cc

@@ -1,5 +1,5 @@
 -- Running: the cycles of a run, one after another.
-use Rattle.std.proofs.Common.{◌≡◌, ℕ, suc, ◌+◌, ◌≤◌, ◌||◌, Bool, true, false, cond, List, ◌∷◌, length, drop, slice_get, Some, ℤ, refl, ap, subst, sym, ◌∙◌, add-one}
+use Rattle.std.proofs.Common.{◌≡◌, ℕ, suc, ◌+◌, ◌||◌, Bool, true, false, cond, List, ◌∷◌, drop, slice_get, Some, ℤ, refl, ap, subst, sym, ◌∙◌, add-one}
 use Rattle.std.specs.List.{list_any}
 use Rattle.coded_unit.specs.declared.call.Answer.{Answer}
 use Rattle.op_graph.specs.Lists.{Lists}
@@ -13,7 +13,7 @@ use Rattle.verdict_tables.specs.AnswersOver.{all_words, and_later, answers_in, r
 use Rattle.verdict_tables.specs.Endings.{comes_to, is_reached}
 use Rattle.verdict_tables.specs.declared.endless.run.Work.{Work}
 use Rattle.verdict_tables.specs.Moments.{CycleDone, past_of}
-use Rattle.verdict_tables.proofs.Lists.{drop_there, drop_behind}
+use Rattle.verdict_tables.proofs.Lists.{drop_there}
 
 -- before cycle n: what the run comes to is what its later cycles come to from here on
 pub record SoFar (t : Numbers) (g : Lists) (faults : List Fault) (rows : List (List ℤ)) (n : ℕ) (past : Words) (held : List ℤ) (reached : Bool) :
@@ -74,16 +74,6 @@ ran_out t g faults rows n past held row own reached there is words h =
       h.reached_is
           ∙ (ap (λ (xs : List (List Answer)). reached || is_reached faults n xs) all
           ∙ ap (λ (b : Bool). reached || b) (or_none (list_any (comes_to n own) faults))),
-    )
-
--- the rows end
-pub rows_end : (t : Numbers) (g : Lists) (faults : List Fault) (rows : List (List ℤ)) (n : ℕ) (past : Words) (held : List ℤ) (reached : Bool) →
-    length rows ≤ n → SoFar t g faults rows n past held reached →
-    (held_at_end t g (acts_of faults) rows ≡ held) × (is_reached faults 0 (run_answers t g (acts_of faults) rows) ≡ reached)
-rows_end t g faults rows n past held reached over h =
-    let none = ap (λ (xs : List (List ℤ)). answers_over t g (acts_of faults) n past held xs) (drop_behind rows n over) in (
-      h.held_is ∙ ap (held_behind g held) none,
-      h.reached_is ∙ (ap (λ (xs : List (List Answer)). reached || is_reached faults n xs) none ∙ or_none reached),
     )
 
 -- ---- the same of what a run works on

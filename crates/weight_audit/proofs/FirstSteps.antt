@@ -77,6 +77,3 @@ share-read op j n k m w reads names is =
     by_test : (b : Bool) → cond b (m *ℤ w) (pos 0) ≡ cond (true && b) (multiplier op.kind j) (pos 0) *ℤ w
     by_test true = ap (λ f. f *ℤ w) is
     by_test false = sym (zero-*ℤ w)
-
-pub share-unread : (op : Op) (j k : ℕ) (w : ℤ) → is_some (reads_as op.kind op.from j) ≡ false → share op k j *ℤ w ≡ pos 0
-share-unread op j k w none = ap (λ b. cond (b && (k == named op j)) (multiplier op.kind j) (pos 0) *ℤ w) none ∙ zero-*ℤ w
