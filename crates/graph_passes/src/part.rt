@@ -25,29 +25,6 @@ impl Drop for Places {
     }
 }
 
-impl Places {
-    /// No places. It takes no memory.
-    pub(crate) fn new(alloc: Global) -> Places
-        ensures kept { result.kept.items ≡ [] }
-        ensures numbers { result.numbers.items ≡ [] }
-    {
-        Places {
-            kept: Vec::new(alloc),
-            numbers: Vec::new(alloc),
-        }
-    }
-
-    /// Appends a place.
-    pub(crate) fn push(&mut self, kept: bool, number: u32) -> Result<(), Memory>
-        ensures kept { OnOk result (self.new.kept.items ≡ self.old.kept.items ++ kept ∷ []) }
-        ensures numbers { OnOk result (self.new.numbers.items ≡ self.old.numbers.items ++ number ∷ []) }
-    {
-        self.kept.push(kept)?;
-        self.numbers.push(number)?;
-        Ok(())
-    }
-}
-
 /// The part of a graph by its operations and cells that are kept, where that is a graph. What it changes
 /// is made anew, and all other lists are the graph's own.
 pub(crate) fn part(
