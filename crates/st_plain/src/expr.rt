@@ -2,7 +2,6 @@
 
 ghost use Rattle.std.specs.Prelude.{◌≡◌, []};
 ghost use Rattle.vcp_typed.specs.Meaning.{value as value_of};
-ghost use Rattle.vcp_typed.specs.TExprTree.{call as call_tree};
 ghost use Rattle.vcp_typed.specs.TExprViews.{texpr_tree, texpr_trees};
 ghost use Rattle.st_plain.specs.Arguments.{argument_at};
 ghost use Rattle.st_plain.specs.Outcomes.{outside};
@@ -10,8 +9,8 @@ ghost use Rattle.st_plain.specs.Sound.{SoundExpr, SoundExprs};
 
 use crate::operators::{apply, operate, sign};
 use crate::stop::Stop;
-use vcp_base::{Row, Spot, Ty};
-use vcp_typed::{Fun, TExpr, trees_of_nodes, values_fit};
+use vcp_base::Row;
+use vcp_typed::{TExpr, trees_of_nodes, values_fit};
 
 /// The value of an expression where the slots have these values, or its stop.
 #[cycle(expr)]
@@ -46,21 +45,13 @@ pub fn evaluate(e: &TExpr, values: &Row) -> Result<i64, Stop>
             spot,
         } => {
             trees_of_nodes();
-            call(*fun, *ty, *spot, &args.items, values)
+            let args: &[TExpr] = &args.items;
+            let a = argument(args, 0, values)?;
+            let b = argument(args, 1, values)?;
+            let c = argument(args, 2, values)?;
+            apply(*fun, *ty, *spot, a, b, c)
         }
     }
-}
-
-/// The value of a function, or the stop of the first argument that stops, or its own.
-#[cycle(expr)]
-fn call(fun: Fun, ty: Ty, spot: Spot, args: &[TExpr], values: &Row) -> Result<i64, Stop>
-    requires { SoundExpr (call_tree fun ty (texpr_trees args.now) spot) values.now }
-    ensures { outside result ≡ value_of [] (call_tree fun ty (texpr_trees args.now) spot) values.now }
-{
-    let a = argument(args, 0, values)?;
-    let b = argument(args, 1, values)?;
-    let c = argument(args, 2, values)?;
-    apply(fun, ty, spot, a, b, c)
 }
 
 /// The value of an operand, or its stop. That of a literal or a variable takes no call.

@@ -1,14 +1,8 @@
-use Rattle.std.proofs.Common.{rules, ◌≡◌, true, List, [], refl, ap, sym, subst, ◌∙◌, Ok, w64, SFits, arith}
+use Rattle.std.proofs.Common.{rules, ◌≡◌, true, ap, sym, subst, ◌∙◌, Ok, w64, SFits, arith}
 use Rattle.std.proofs.lemmas.Int.{to_z-of_z}
 use Rattle.vcp_base.specs.declared.ty.Ty.TheVariants as ty
 use Rattle.vcp_base.specs.Types.{fits}
-use Rattle.vcp_base.specs.declared.spot.Spot.{Spot}
-use Rattle.vcp_base.specs.declared.ty.Ty.{Ty}
-use Rattle.vcp_typed.specs.declared.expr.Fun.{Fun}
-use Rattle.vcp_typed.specs.declared.expr.TExpr.{TExpr}
-use Rattle.vcp_typed.specs.Meaning.{value}
-use Rattle.vcp_typed.specs.TExprTree.{TExprTree, unary, call}
-use Rattle.st_plain.specs.Sound.{SoundExpr}
+use Rattle.vcp_typed.specs.TExprTree.{unary}
 use Rattle.vcp_typed.specs.TExprViews.{texpr_tree, texpr_trees}
 use Rattle.std.proofs.lemmas.Result.{err_from_is_err_and}
 use Rattle.st_plain.specs.Weight.{expr_weight}
@@ -56,60 +50,64 @@ evaluate-sign-requires t c not =
     (ap texpr_tree c.in-Unary.is ∙ ap (λ x. unary c.in-Unary.op c.in-Unary.ty (texpr_tree x) c.in-Unary.spot) (sym c.deref-in-Unary.ensures))
     c.requires c.in_ok-a-in-Unary.ensures not)
 
-pub evaluate-call-requires : goal.evaluate-call-requires
-evaluate-call-requires t c =
-    let e = tree-of-call c.args.e.now c.in-Call.fun c.in-Call.ty c.in-Call.args c.in-Call.spot c.deref-in-Call.result.now c.in-Call.is
-    (c.trees_of_nodes.ensures.call _ _ _ _) c.deref-in-Call.ensures.value in
-    (omega (arith, ap expr_weight e), subst (λ (x : TExprTree). SoundExpr x c.args.values.now) e c.requires)
+pub evaluate-argument-requires : goal.evaluate-argument-requires
+evaluate-argument-requires t c =
+    let e = tree-of-call c.args.e.now c.in-Call.fun c.in-Call.ty c.in-Call.args c.in-Call.spot c.deref-args.result.now c.in-Call.is
+    (c.trees_of_nodes.ensures.call _ _ _ _) c.deref-args.ensures.value in (
+      omega (arith, ap expr_weight e),
+      call-sound (texpr_tree c.args.e.now) c.in-Call.fun c.in-Call.ty (texpr_trees c.deref-args.result.now) c.in-Call.spot c.args.values.now
+          e c.requires,
+    )
 
-pub evaluate-returns-in-Call : goal.evaluate-returns-in-Call
-evaluate-returns-in-Call t c =
-    let e = tree-of-call c.args.e.now c.in-Call.fun c.in-Call.ty c.in-Call.args c.in-Call.spot c.deref-in-Call.result.now c.in-Call.is
-    (c.trees_of_nodes.ensures.call _ _ _ _) c.deref-in-Call.ensures.value in
-    c.call.ensures ∙ ap (λ x. value [] x c.args.values.now) (sym e)
+pub evaluate-argument-requires-in-Call : goal.evaluate-argument-requires-in-Call
+evaluate-argument-requires-in-Call t c =
+    let e = tree-of-call c.args.e.now c.in-Call.fun c.in-Call.ty c.in-Call.args c.in-Call.spot c.deref-args.result.now c.in-Call.is
+    (c.trees_of_nodes.ensures.call _ _ _ _) c.deref-args.ensures.value in (
+      omega (arith, ap expr_weight e),
+      call-sound (texpr_tree c.args.e.now) c.in-Call.fun c.in-Call.ty (texpr_trees c.deref-args.result.now) c.in-Call.spot c.args.values.now
+          e c.requires,
+    )
 
--- ---- a function of its arguments
+pub evaluate-argument-requires-in-Call-2 : goal.evaluate-argument-requires-in-Call-2
+evaluate-argument-requires-in-Call-2 t c =
+    let e = tree-of-call c.args.e.now c.in-Call.fun c.in-Call.ty c.in-Call.args c.in-Call.spot c.deref-args.result.now c.in-Call.is
+    (c.trees_of_nodes.ensures.call _ _ _ _) c.deref-args.ensures.value in (
+      omega (arith, ap expr_weight e),
+      call-sound (texpr_tree c.args.e.now) c.in-Call.fun c.in-Call.ty (texpr_trees c.deref-args.result.now) c.in-Call.spot c.args.values.now
+          e c.requires,
+    )
 
-abbrev called : Fun → Ty → List TExpr → Spot → TExprTree
-called fun ty args spot = call fun ty (texpr_trees args) spot
+pub evaluate-returns-in_err-a-in-Call : goal.evaluate-returns-in_err-a-in-Call
+evaluate-returns-in_err-a-in-Call t c =
+    let p = err_from_is_err_and c.from_residual-in_err-a-in-Call.result c.from_residual-in_err-a-in-Call.ensures.1 in
+    let e = tree-of-call c.args.e.now c.in-Call.fun c.in-Call.ty c.in-Call.args c.in-Call.spot c.deref-args.result.now c.in-Call.is
+    (c.trees_of_nodes.ensures.call _ _ _ _) c.deref-args.ensures.value in
+    rw (p.1, p.2)
+    (first-stops (texpr_tree c.args.e.now) c.in-Call.fun c.in-Call.ty
+    (texpr_trees c.deref-args.result.now) c.in-Call.spot c.args.values.now _ e c.requires c.in_err-a-in-Call.ensures)
 
-pub call-argument-requires : goal.call-argument-requires
-call-argument-requires t c = (
-  omega arith,
-  call-sound (called c.args.fun c.args.ty c.args.args.now c.args.spot) c.args.fun c.args.ty (texpr_trees c.args.args.now) c.args.spot c.args.values.now refl c.requires,
-)
+pub evaluate-returns-in_err-b-in-Call : goal.evaluate-returns-in_err-b-in-Call
+evaluate-returns-in_err-b-in-Call t c =
+    let p = err_from_is_err_and c.from_residual-in_err-b-in-Call.result c.from_residual-in_err-b-in-Call.ensures.1 in
+    let e = tree-of-call c.args.e.now c.in-Call.fun c.in-Call.ty c.in-Call.args c.in-Call.spot c.deref-args.result.now c.in-Call.is
+    (c.trees_of_nodes.ensures.call _ _ _ _) c.deref-args.ensures.value in
+    rw (p.1, p.2)
+    (second-stops (texpr_tree c.args.e.now) c.in-Call.fun c.in-Call.ty
+    (texpr_trees c.deref-args.result.now) c.in-Call.spot c.args.values.now _ _ e c.requires c.in_ok-a-in-Call.ensures c.in_err-b-in-Call.ensures)
 
-pub call-argument-requires-2 : goal.call-argument-requires-2
-call-argument-requires-2 t c = (
-  omega arith,
-  call-sound (called c.args.fun c.args.ty c.args.args.now c.args.spot) c.args.fun c.args.ty (texpr_trees c.args.args.now) c.args.spot c.args.values.now refl c.requires,
-)
+pub evaluate-returns-in_err-c-in-Call : goal.evaluate-returns-in_err-c-in-Call
+evaluate-returns-in_err-c-in-Call t c =
+    let p = err_from_is_err_and c.from_residual-in_err-c-in-Call.result c.from_residual-in_err-c-in-Call.ensures.1 in
+    let e = tree-of-call c.args.e.now c.in-Call.fun c.in-Call.ty c.in-Call.args c.in-Call.spot c.deref-args.result.now c.in-Call.is
+    (c.trees_of_nodes.ensures.call _ _ _ _) c.deref-args.ensures.value in
+    rw (p.1, p.2) (third-stops (texpr_tree c.args.e.now) c.in-Call.fun c.in-Call.ty (texpr_trees c.deref-args.result.now) c.in-Call.spot c.args.values.now _ _ _ e c.requires c.in_ok-a-in-Call.ensures c.in_ok-b-in-Call.ensures c.in_err-c-in-Call.ensures)
 
-pub call-argument-requires-3 : goal.call-argument-requires-3
-call-argument-requires-3 t c = (
-  omega arith,
-  call-sound (called c.args.fun c.args.ty c.args.args.now c.args.spot) c.args.fun c.args.ty (texpr_trees c.args.args.now) c.args.spot c.args.values.now refl c.requires,
-)
-
-pub call-returns-in_err-a : goal.call-returns-in_err-a
-call-returns-in_err-a t c =
-    let p = err_from_is_err_and c.from_residual.result c.from_residual.ensures.1 in
-    rw (p.1, p.2) (first-stops (called c.args.fun c.args.ty c.args.args.now c.args.spot) c.args.fun c.args.ty (texpr_trees c.args.args.now) c.args.spot c.args.values.now _ refl c.requires c.in_err-a.ensures)
-
-pub call-returns-in_err-b : goal.call-returns-in_err-b
-call-returns-in_err-b t c =
-    let p = err_from_is_err_and c.from_residual-in_err-b.result c.from_residual-in_err-b.ensures.1 in
-    rw (p.1, p.2) (second-stops (called c.args.fun c.args.ty c.args.args.now c.args.spot) c.args.fun c.args.ty (texpr_trees c.args.args.now) c.args.spot c.args.values.now _ _ refl c.requires c.in_ok-a.ensures c.in_err-b.ensures)
-
-pub call-returns-in_err-c : goal.call-returns-in_err-c
-call-returns-in_err-c t c =
-    let p = err_from_is_err_and c.from_residual-in_err-c.result c.from_residual-in_err-c.ensures.1 in
-    rw (p.1, p.2) (third-stops (called c.args.fun c.args.ty c.args.args.now c.args.spot) c.args.fun c.args.ty (texpr_trees c.args.args.now) c.args.spot c.args.values.now _ _ _ refl c.requires c.in_ok-a.ensures c.in_ok-b.ensures c.in_err-c.ensures)
-
-pub call-returns : goal.call-returns
-call-returns t c =
-    let f : SFits w64 c.in_ok-a.a = search rules in
-    let g : SFits w64 c.in_ok-b.b = search rules in
-    let h : SFits w64 c.in_ok-c.c = search rules in
-    c.apply.ensures ∙ apply-at c.args.fun c.args.ty c.args.spot _ _ _ _ _ _ (to_z-of_z w64 _ f) (to_z-of_z w64 _ g) (to_z-of_z w64 _ h)
-    ∙ none-stops (called c.args.fun c.args.ty c.args.args.now c.args.spot) c.args.fun c.args.ty (texpr_trees c.args.args.now) c.args.spot c.args.values.now _ _ _ refl c.requires c.in_ok-a.ensures c.in_ok-b.ensures c.in_ok-c.ensures
+pub evaluate-returns-in_ok-c-in-Call : goal.evaluate-returns-in_ok-c-in-Call
+evaluate-returns-in_ok-c-in-Call t c =
+    let e = tree-of-call c.args.e.now c.in-Call.fun c.in-Call.ty c.in-Call.args c.in-Call.spot c.deref-args.result.now c.in-Call.is
+    (c.trees_of_nodes.ensures.call _ _ _ _) c.deref-args.ensures.value in
+    let f : SFits w64 c.in_ok-a-in-Call.a = search rules in
+    let g : SFits w64 c.in_ok-b-in-Call.b = search rules in
+    let h : SFits w64 c.in_ok-c-in-Call.c = search rules in
+    c.apply.ensures ∙ apply-at c.in-Call.fun c.in-Call.ty c.in-Call.spot _ _ _ _ _ _ (to_z-of_z w64 _ f) (to_z-of_z w64 _ g) (to_z-of_z w64 _ h)
+    ∙ none-stops (texpr_tree c.args.e.now) c.in-Call.fun c.in-Call.ty (texpr_trees c.deref-args.result.now) c.in-Call.spot c.args.values.now _ _ _ e c.requires c.in_ok-a-in-Call.ensures c.in_ok-b-in-Call.ensures c.in_ok-c-in-Call.ensures

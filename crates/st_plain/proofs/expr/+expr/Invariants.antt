@@ -11,6 +11,3 @@ decreases-operand l = 2 * expr_weight (texpr_tree l.e.now) + 1
 
 abbrev pub decreases-argument : goal.decreases-argument
 decreases-argument l = 2 * exprs_weight (texpr_trees l.args.now)
-
-abbrev pub decreases-call : goal.decreases-call
-decreases-call l = 2 * exprs_weight (texpr_trees l.args.now) + 1
