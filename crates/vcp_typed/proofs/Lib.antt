@@ -1,5 +1,6 @@
 pub mod Rows
 pub mod Appends
+pub mod Columns
 pub mod Sizes
 pub mod Wides
 pub mod Keeps

@@ -2,7 +2,7 @@
 
 ghost use Rattle.std.specs.Prelude.{◌≡◌, [], ◌∷◌, ◌++◌, IfOk, OnOk};
 ghost use Rattle.vcp_typed.specs.Checked.{IsChecked};
-ghost use Rattle.vcp_typed.specs.Fitting.{input_columns, output_columns as output_columns_of};
+ghost use Rattle.vcp_typed.specs.Fitting.{columns_in, input_columns, is_of, output_columns as output_columns_of};
 ghost use Rattle.vcp_typed.specs.Size.{size};
 ghost use Rattle.vcp_typed.specs.Wide.{wide};
 ghost use Rattle.vcp_typed.specs.TStmtViews.{tstmt_trees};
@@ -96,14 +96,14 @@ impl Typed {
     pub fn columns(&self, alloc: Global) -> Result<Columns, Memory>
         ensures { IfOk result (λ columns. columns ≡ input_columns self.now.slots) }
     {
-        inputs_of(alloc, &self.slots.items)
+        columns_of(alloc, &self.slots.items, Section::Input)
     }
 
     /// The names and types of the outputs, in order of declaration; `Memory` where there is no room for them.
     pub fn output_columns(&self, alloc: Global) -> Result<Columns, Memory>
         ensures { IfOk result (λ columns. columns ≡ output_columns_of self.now.slots) }
     {
-        outputs_of(alloc, &self.slots.items)
+        columns_of(alloc, &self.slots.items, Section::Output)
     }
 
     /// Whether a slot or a node has the type LINT, so that the program's words need the wide code.
@@ -122,50 +122,43 @@ impl Typed {
     }
 }
 
-// The columns of the inputs among the slots.
-fn inputs_of(alloc: Global, slots: &[Slot]) -> Result<Columns, Memory>
-    ensures { IfOk result (λ columns. columns ≡ input_columns slots.now) }
+/// Whether the section is the wanted one, that of inputs or of outputs.
+fn is_of(wanted: Section, section: Section) -> bool
+    ensures { result ≡ is_of wanted section }
+{
+    match wanted {
+        Section::Input => matches!(section, Section::Input),
+        Section::Output => matches!(section, Section::Output),
+        _ => false,
+    }
+}
+
+/// The columns of the inputs, or of the outputs, among the slots.
+fn columns_of(alloc: Global, slots: &[Slot], wanted: Section) -> Result<Columns, Memory>
+    ensures { IfOk result (λ columns. columns ≡ columns_in wanted slots.now) }
 {
     let mut columns = Columns::new(alloc);
     'each: for slot in slots {
-        add_input(alloc, &mut columns, slot)?;
+        add_column(alloc, &mut columns, slot, wanted)?;
     }
     Ok(columns)
 }
 
-/// Appends the slot's column where the slot is an input.
-fn add_input(alloc: Global, columns: &mut Columns, slot: &Slot) -> Result<(), Memory>
-    ensures { OnOk result (columns.new ≡ columns.old ++ input_columns (slot.now ∷ [])) }
+/// Appends the slot's column where the slot is an input, or an output.
+fn add_column(
+    alloc: Global,
+    columns: &mut Columns,
+    slot: &Slot,
+    wanted: Section,
+) -> Result<(), Memory>
+    ensures { OnOk result (columns.new ≡ columns.old ++ columns_in wanted (slot.now ∷ [])) }
 {
-    match slot.section {
-        Section::Input => columns.push(Column {
+    if is_of(wanted, slot.section) {
+        columns.push(Column {
             name: Text::copy_of(alloc, slot.name.bytes())?,
             ty: slot.ty,
-        }),
-        _ => Ok(()),
-    }
-}
-
-// The columns of the outputs among the slots.
-fn outputs_of(alloc: Global, slots: &[Slot]) -> Result<Columns, Memory>
-    ensures { IfOk result (λ columns. columns ≡ output_columns_of slots.now) }
-{
-    let mut columns = Columns::new(alloc);
-    'each: for slot in slots {
-        add_output(alloc, &mut columns, slot)?;
-    }
-    Ok(columns)
-}
-
-/// Appends the slot's column where the slot is an output.
-fn add_output(alloc: Global, columns: &mut Columns, slot: &Slot) -> Result<(), Memory>
-    ensures { OnOk result (columns.new ≡ columns.old ++ output_columns_of (slot.now ∷ [])) }
-{
-    match slot.section {
-        Section::Output => columns.push(Column {
-            name: Text::copy_of(alloc, slot.name.bytes())?,
-            ty: slot.ty,
-        }),
-        _ => Ok(()),
+        })
+    } else {
+        Ok(())
     }
 }
