@@ -1,6 +1,7 @@
 -- Turns: assignments, statements one after another, and the turns of FOR.
-use Rattle.std.proofs.Common.{◌≡◌, ℕ, ◌+◌, ◌≤◌, ℤ, Bool, true, false, cond, List, [], ◌∷◌, ◌++◌, length, length-append, slice_set, Result, Ok, Err, refl, sym}
+use Rattle.std.proofs.Common.{◌≡◌, ℕ, ◌+◌, ◌<◌, ◌≤◌, ℤ, Bool, true, false, cond, List, [], ◌∷◌, ◌++◌, length, length-append, slice_set, Result, Ok, Err, refl, sym}
 use Rattle.std.proofs.Common.{ap, ◌∙◌, subst, arith}
+use Rattle.std.proofs.lemmas.List.{length-map}
 use Rattle.vcp_base.specs.declared.turns.Turn.{Turn}
 use Rattle.vcp_base.specs.declared.ty.Ty.{Ty}
 use Rattle.vcp_base.specs.declared.ty.Ty.TheVariants as ty
@@ -218,3 +219,13 @@ turned laws s0 s1 s2 s3 s4 t slot n k nb v body nest f g d =
 
     first : Does (record s1 { turn = n }) s3 2 (setting slot v)
     first = assigned_constant laws (record s1 { turn = n }) s2 s3 t v slot k f g
+
+-- a turn node that was added is there, and so is a slot's name
+pub nest_there : (old new : State) (node : TurnNode) (n : ℕ) → Nests old new node n → n ≤ length new.graph.turn_nodes
+nest_there old new node n h =
+    let all = ap (λ (s : State). length s.graph.turn_nodes) h.is in
+    let long = length-append old.graph.turn_nodes (node ∷ []) in
+    omega (arith, all, long, h.number)
+
+pub slot_named : (s : State) (slot : ℕ) → IsState s → slot < length s.slots → slot < length s.graph.names
+slot_named s slot i inside = let names = ap length i.names in let all = length-map s.slots (λ x. x.name) in omega (arith, inside, names, all)

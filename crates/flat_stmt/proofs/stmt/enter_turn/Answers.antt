@@ -1,10 +1,24 @@
-use Rattle.std.proofs.Common.{◌≡◌, refl, true, sym, ap, ap₂, ◌∙◌, subst, rules, w64, SFits, to_z, of_z, length, slice_get, Some, ◌<◌}
+use Rattle.std.proofs.Common.{◌≡◌, refl, true, sym, ap, ap₂, ◌∙◌, subst, rules, w64, SFits, to_z, of_z, length, slice_get, Some, ◌<◌, ◌≤◌}
 use Rattle.std.proofs.lemmas.Int.{to_z-of_z}
 use Rattle.vcp_base.specs.Types.{fits}
 use Rattle.flat_expr.specs.State.{State, Nests, reserved}
 use Rattle.flat_stmt.specs.Steps.{Sets}
 use Rattle.flat_stmt.proofs.Rooms.{last_added, part_of, same_more}
+use Rattle.flat_stmt.proofs.Turns.{nest_there, slot_named}
 use Rattle.flat_stmt.proofs.stmt.enter_turn.Goals as goal
+
+pub turn-requires : goal.turn-requires
+turn-requires c =
+    let state = c.turn_now-outer.ensures.state in record {
+      few = c.requires.room;
+      fits = record {
+        parent = subst (λ n. n ≤ length c.args.flat.now.graph.turn_nodes) (sym c.turn_now-outer.ensures.value) state.turn;
+        name = slot_named c.args.flat.now c.args.slot state c.requires.slot;
+      };
+    }
+
+pub set_turn-requires : goal.set_turn-requires
+set_turn-requires c = nest_there c.args.flat.now c.turn.new.self _ c.in_ok-node.node c.in_ok-node.ensures.made
 
 pub add_value-requires : goal.add_value-requires
 add_value-requires c =
