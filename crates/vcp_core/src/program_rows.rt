@@ -62,7 +62,8 @@ pub fn load_program<'a, F: Files>(
     run: ProgramRun,
 ) -> Result<Typed, Fault<'a>>
     ensures read { IfOk result (ProgramRead (language_of run) source.now (F.seen files.old) (F.seen files.new)) }
-    ensures unread { IfErr result (λ e. (rows : Rows) → EndsUnread (ReadsProgramRows source.now rows (language_of run)) (F.seen files.old) (F.seen files.new) e) }
+    ensures unread { IfErr result (λ e. (rows : Rows) →
+        EndsUnread (ReadsProgramRows source.now rows (language_of run)) (F.seen files.old) (F.seen files.new) e) }
 {
     // So an instruction list has the columns of its typed program.
     lists_are_told();

@@ -21,12 +21,17 @@ pub(crate) fn have_same_operations(
 pub fn are_alike(graph: &Graph, other: &Graph) -> bool {
     graph.profile() == other.profile()
         && are_same_operations(graph.operations(), other.operations())
-        && graph.all_inputs() == other.all_inputs()
+        && have_same_places(graph, other)
+        && graph.all_turn_nodes() == other.all_turn_nodes()
+        && are_same_names(graph.all_names(), other.all_names())
+}
+
+// Whether two graphs have the same inputs, outputs and cells.
+fn have_same_places(graph: &Graph, other: &Graph) -> bool {
+    graph.all_inputs() == other.all_inputs()
         && graph.all_outputs() == other.all_outputs()
         && graph.loads() == other.loads()
         && graph.stores() == other.stores()
-        && graph.all_turn_nodes() == other.all_turn_nodes()
-        && are_same_names(graph.all_names(), other.all_names())
 }
 
 // Whether two lists of operations are the same.

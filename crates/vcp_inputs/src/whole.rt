@@ -37,6 +37,8 @@ pub fn whole_rows(alloc: Global, inputs: &RowsSource, columns: &Columns) -> Resu
         Ok(rows) => rows,
         Err(fault) => return Err(NoInput::from(fault)),
     };
-    let list = collect_rows(alloc, rows)?;
-    Ok(list)
+    match collect_rows(alloc, rows) {
+        Ok(list) => Ok(list),
+        Err(fault) => Err(NoInput::from(fault)),
+    }
 }
