@@ -1,5 +1,5 @@
 -- Going: one piece of a text behind another.
-use Rattle.std.proofs.Common.{◌≡◌, ℕ, suc, ◌<◌, arith, length, get_or, take, take-suc, List, [], ◌∷◌, ◌++◌, Option, refl, append_assoc, flat_map, ◌∙◌, ap, add-one, ◌+◌}
+use Rattle.std.proofs.Common.{◌≡◌, ℕ, suc, ◌<◌, arith, length, get_or, take, take-suc, List, [], ◌∷◌, ◌++◌, Option, refl, sym, append_assoc, flat_map, ◌∙◌, ap, add-one, ◌+◌}
 use Rattle.std.proofs.lemmas.Grind.{flat_map-append}
 use Rattle.std.proofs.lemmas.List.{append-nil}
 use Rattle.vcp_outside.specs.Gathering.{Gathered, Gathers}
@@ -87,3 +87,10 @@ taken_more f xs k d there =
     let next : k + 1 ≡ suc k = omega arith in
     ap (λ n. flat_map f (take n xs)) next ∙ ap (flat_map f) (take-suc xs k d there) ∙ flat_map-append f (take k xs) (get_or xs k d ∷ [])
     ∙ ap (λ t. flat_map f (take k xs) ++ t) (append-nil (f (get_or xs k d)))
+
+-- the same behind some text
+pub taken_behind : {X : Type 0} {a b c : Option (List ℕ)} {e g h : ℕ} {l m n : Gathered} (before : List ℕ) (f : X → List ℕ) (xs : List X) (k : ℕ) (d : X)
+    → k < length xs → Gathers a b e g l m (before ++ flat_map f (take k xs)) → Gathers b c g h m n (f (get_or xs k d))
+    → Gathers a c e h l n (before ++ flat_map f (take (k + 1) xs))
+taken_behind before f xs k d there first second =
+    both _ _ _ first second (ap (λ t. before ++ t) (taken_more f xs k d there) ∙ sym (append_assoc before (flat_map f (take k xs)) (f (get_or xs k d))))

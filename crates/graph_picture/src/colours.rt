@@ -1,6 +1,6 @@
 //! The colours of operations.
 
-ghost use Rattle.std.specs.Prelude.{◌≡◌, ◌<◌, ◌≤◌, ◌+◌, ◌&&◌, length};
+ghost use Rattle.std.specs.Prelude.{◌≡◌, ◌<◌, ◌≤◌, ◌+◌, length};
 ghost use Rattle.graph_picture.specs.Colours.{seen_then, seen_after, colour_of as colour_of_kept};
 
 use weight_audit::{Weights, is_blind};

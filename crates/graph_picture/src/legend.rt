@@ -1,8 +1,7 @@
 //! The legend of a picture, and its style.
 
-ghost use Rattle.std.specs.Prelude.{◌≡◌, flat_map};
+ghost use Rattle.std.specs.Prelude.{flat_map};
 ghost use Rattle.vcp_outside.specs.Gathering.{GathersTo};
-ghost use Rattle.vcp_outside.specs.Characters.{piece_bytes};
 ghost use Rattle.vcp_outside.specs.Elements.{element_text};
 ghost use Rattle.graph_picture.specs.Elements.{swatch, caption, sample_of, legend_of};
 
@@ -72,16 +71,6 @@ fn then_sample<O: Sink>(line: &mut Line, out: &mut O, shown: &Sample<'_>)
     then_caption(line, out, shown.x, shown.told, shown.many);
 }
 
-/// Draws samples, one beside the other.
-fn then_samples<O: Sink>(line: &mut Line, out: &mut O, samples: &[Sample<'_>])
-    ensures { GathersTo (O.seen out.old) (O.seen out.new) line.old line.new
-        (flat_map (λ s. flat_map element_text (sample_of s)) samples.now) }
-{
-    'samples: for i in 0..samples.len() {
-        then_sample(line, out, &samples[i]);
-    }
-}
-
 /// Draws the style and the legend: what the colours say.
 pub(crate) fn then_legend<O: Sink>(
     line: &mut Line,
@@ -92,5 +81,7 @@ pub(crate) fn then_legend<O: Sink>(
     ensures { GathersTo (O.seen out.old) (O.seen out.new) line.old line.new (flat_map element_text (legend_of rules.now samples.now)) }
 {
     then_element(line, out, Tag::Style, &[], &[Piece::Bytes(rules)]);
-    then_samples(line, out, samples);
+    'samples: for i in 0..samples.len() {
+        then_sample(line, out, &samples[i]);
+    }
 }

@@ -1,6 +1,6 @@
 //! The picture of a graph.
 
-ghost use Rattle.std.specs.Prelude.{◌≤◌, ◌≡◌};
+ghost use Rattle.std.specs.Prelude.{◌≤◌};
 ghost use Rattle.vcp_outside.specs.Written.{WritesTo};
 ghost use Rattle.vcp_base.specs.Limits.{most_horizon};
 ghost use Rattle.weight_audit.specs.Audit.{IsAudit};

@@ -1,6 +1,6 @@
 //! The rows of operations: each of a column has its own.
 
-ghost use Rattle.std.specs.Prelude.{◌≡◌, ◌<◌, ◌≤◌, ◌^◌, ◌+◌, ℕ, length, slice_get, slice_index_or, slice_set, replicate, true, false, Some, IfOk, IfSome};
+ghost use Rattle.std.specs.Prelude.{◌≡◌, ◌<◌, ◌≤◌, ◌^◌, ◌+◌, ℕ, length, slice_get, slice_index_or, slice_set, replicate, false, Some, IfOk, IfSome};
 ghost use Rattle.graph_picture.specs.declared.layout.BoxPlace.{BoxPlace as PlaceOf};
 ghost use Rattle.op_graph.specs.declared.op.Op.{Op as OpOf};
 ghost use Rattle.graph_picture.specs.Arrangement.{HaveOwnRows, IsWithin};

@@ -1,6 +1,6 @@
 //! The edges of cells.
 
-ghost use Rattle.std.specs.Prelude.{◌≡◌, ◌<◌, length, slice_get};
+ghost use Rattle.std.specs.Prelude.{◌<◌, length, slice_get};
 ghost use Rattle.vcp_outside.specs.Gathering.{GathersTo};
 ghost use Rattle.op_graph.specs.Lists.{cells};
 ghost use Rattle.graph_picture.specs.DotText.{cell_text, cells_below};

@@ -1,6 +1,6 @@
 //! The laws of pictures by verdicts. The functions do nothing: they state laws.
 
-ghost use Rattle.std.specs.Prelude.{ℕ, List};
+ghost use Rattle.std.specs.Prelude.{List};
 ghost use Rattle.op_graph.specs.Lists.{Lists};
 ghost use Rattle.vcp_outside.specs.WellFormed.{IsDocument};
 ghost use Rattle.fault_script.specs.declared.act.Fault.{Fault as FaultOf};
