@@ -3,7 +3,7 @@
 ghost use Rattle.std.specs.Prelude.{◌≡◌, ◌<◌, length};
 ghost use Rattle.vcp_base.specs.Words.{words as words_of};
 ghost use Rattle.fault_sites.specs.Sites.{adding as adding_of};
-ghost use Rattle.fault_names.specs.Lines.{act_of, acts_of, fitted as fitted_of, ended as ended_of, timed as timed_of};
+ghost use Rattle.fault_names.specs.Lines.{act_of, acts_of, ended as ended_of, timed as timed_of};
 ghost use Rattle.fault_names.specs.Lines.{meant_of, flips_of};
 ghost use Rattle.fault_names.specs.declared.when.Ending.TheVariants as ending;
 
@@ -98,24 +98,7 @@ fn acts_said(doing: Doing, place: Option<u32>, ending: Ending) -> Option<Acts>
     }
 }
 
-/// The acts at an operation, where they may be there.
-fn fitted(graph: &Graph, op: u32, span: Span, together: bool, acts: Acts) -> Result<Meant, Why>
-    requires { op < length graph.now.operations }
-    ensures { result ≡ fitted_of graph.now op span together acts }
-{
-    let operation = graph.operation(op);
-    match unfit_acts(operation.kind, op, span.first, &acts) {
-        Some(why) => Err(why),
-        None => Ok(Meant {
-            op,
-            span,
-            together,
-            acts,
-        }),
-    }
-}
-
-/// What a line means whose words are these.
+/// What a line means whose words are these, where the acts may be at the operation.
 fn ended(
     graph: &Graph,
     doing: Doing,
@@ -126,9 +109,22 @@ fn ended(
     requires { target.op < length graph.now.operations }
     ensures { result ≡ ended_of graph.now doing target span ending }
 {
-    match acts_said(doing, target.operand, ending) {
-        Some(acts) => fitted(graph, target.op, span, is_together(ending), acts),
-        None => Err(Why::Form),
+    let Some(acts) = acts_said(doing, target.operand, ending) else {
+        return Err(Why::Form);
+    };
+    match unfit_acts(
+        graph.operation(target.op).kind,
+        target.op,
+        span.first,
+        &acts,
+    ) {
+        Some(why) => Err(why),
+        None => Ok(Meant {
+            op: target.op,
+            span,
+            together: is_together(ending),
+            acts,
+        }),
     }
 }
 

@@ -1,15 +1,15 @@
 //! The script of a text.
 
-ghost use Rattle.std.specs.Prelude.{◌≤◌, [], cond, length};
+ghost use Rattle.std.specs.Prelude.{◌≤◌, length};
 ghost use Rattle.std.specs.Str.Lines.{lines};
 ghost use Rattle.vcp_base.specs.Limits.{most_source_bytes};
 ghost use Rattle.vcp_outside.specs.Written.{WritesTo};
 ghost use Rattle.vcp_outside.specs.Gathering.{GathersTo};
 ghost use Rattle.vcp_base.specs.Lines.{read_lines};
 ghost use Rattle.vcp_base.specs.Words.{words as words_of};
-ghost use Rattle.fault_sites.specs.SiteText.{site_lines, site_text};
+ghost use Rattle.fault_sites.specs.SiteText.{site_lines};
 ghost use Rattle.fault_names.specs.Lines.{meant_of};
-ghost use Rattle.fault_names.specs.Script.{sites_over, other_sites, sites_meant, meant_text, entry_text, entry_texts, entries, entry_of};
+ghost use Rattle.fault_names.specs.Script.{sites_over, sites_meant, meant_text, entry_texts, entries, entry_of};
 ghost use Rattle.fault_names.specs.Entries.{text_of_script};
 
 use crate::meant::{Meant, meaning};
