@@ -52,7 +52,9 @@ impl Endings {
         ensures ok { OnOk result (self.new ≡ self.old ++ ending ∷ []) }
         ensures err { OnErr result (self.new ≡ self.old) }
     {
-        self.endings.push(ending)?;
+        if self.endings.push(ending).is_err() {
+            return Err(Memory);
+        }
         Ok(())
     }
 
@@ -107,7 +109,9 @@ impl EndingsOfParts {
         ensures ok { OnOk result (self.new ≡ self.old ++ endings ∷ []) }
         ensures err { OnErr result (self.new ≡ self.old) }
     {
-        self.endings.push(endings)?;
+        if self.endings.push(endings).is_err() {
+            return Err(Memory);
+        }
         Ok(())
     }
 

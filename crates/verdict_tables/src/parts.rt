@@ -67,7 +67,9 @@ impl Parts {
         ensures ok { OnOk result (self.new ≡ self.old ++ part ∷ []) }
         ensures err { OnErr result (self.new ≡ self.old) }
     {
-        self.parts.push(part)?;
+        if self.parts.push(part).is_err() {
+            return Err(Memory);
+        }
         Ok(())
     }
 

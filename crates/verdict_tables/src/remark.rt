@@ -2,7 +2,7 @@
 
 ghost use Rattle.std.specs.Prelude.{◌≡◌, option_map};
 ghost use Rattle.vcp_base.specs.Words.{words as words_of};
-ghost use Rattle.verdict_tables.specs.Remark.{digest_in, digest_of, is_for as is_for_of};
+ghost use Rattle.verdict_tables.specs.Remark.{digest_in, is_for as is_for_of};
 
 use fault_sites::next_is;
 use vcp_base::{WordsLeft, first_line};

@@ -37,7 +37,9 @@ impl Verdicts {
         ensures ok { OnOk result (self.new ≡ self.old ++ verdict ∷ []) }
         ensures err { OnErr result (self.new ≡ self.old) }
     {
-        self.verdicts.push(verdict)?;
+        if self.verdicts.push(verdict).is_err() {
+            return Err(Memory);
+        }
         Ok(())
     }
 

@@ -1,9 +1,9 @@
 //! Which verdict the words of a line may mean.
 
-ghost use Rattle.std.specs.Prelude.{◌≡◌, ◌<◌, IfSome, length, option_and_then, option_map};
+ghost use Rattle.std.specs.Prelude.{◌≡◌, ◌<◌, IfSome, length, option_map};
 ghost use Rattle.fault_script.specs.Forms.{number_below};
 ghost use Rattle.fault_injector.specs.Names.{Names};
-ghost use Rattle.verdict_tables.specs.Outcome.{value_of, numbers, numbers_of, named_then, output_named, shown_of, as_wrong, as_refused, stop_of};
+ghost use Rattle.verdict_tables.specs.Outcome.{numbers_of, named_then, output_named, shown_of, as_wrong, as_refused, stop_of};
 ghost use Rattle.verdict_tables.specs.Outcome.{stopped_by, stopped_of, ran_on_of, meant as meant_of};
 
 use fault_injector::Verdict;
@@ -32,19 +32,6 @@ pub(crate) struct Shown {
     pub numbers: Numbers,
 }
 
-/// The numbers that two words write.
-fn two_values(a: &[u8], b: &[u8]) -> Option<Numbers>
-    ensures { result ≡ option_and_then (λ first. option_map (numbers first) (value_of b.now)) (value_of a.now) }
-{
-    match number_in(Ty::Lint, a) {
-        Some(first) => match number_in(Ty::Lint, b) {
-            Some(second) => Some(Numbers { first, second }),
-            None => None,
-        },
-        None => None,
-    }
-}
-
 /// Two numbers, each behind another word.
 fn two_numbers(words: &mut WordsLeft<'_>) -> Option<Numbers>
     ensures { result ≡ numbers_of words.old }
@@ -58,8 +45,14 @@ fn two_numbers(words: &mut WordsLeft<'_>) -> Option<Numbers>
     let Some(_) = words.next() else {
         return None;
     };
-    match words.next() {
-        Some(b) => two_values(a, b),
+    let Some(b) = words.next() else {
+        return None;
+    };
+    match number_in(Ty::Lint, a) {
+        Some(first) => match number_in(Ty::Lint, b) {
+            Some(second) => Some(Numbers { first, second }),
+            None => None,
+        },
         None => None,
     }
 }

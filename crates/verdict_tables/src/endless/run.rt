@@ -1,11 +1,10 @@
 //! A whole run under a group of faults.
 
-ghost use Rattle.std.specs.Prelude.{◌≡◌, ◌≤◌, ◌<◌, ◌==◌, ◌&&◌, ◌||◌, ◌∷◌, ◌++◌, nat_lt, [], All, IfOk, length, vec_capacity};
+ghost use Rattle.std.specs.Prelude.{◌≡◌, ◌≤◌, ◌<◌, ◌==◌, ◌&&◌, [], All, IfOk, length, vec_capacity};
 ghost use Rattle.std.specs.List.{list_any};
-ghost use Rattle.vcp_base.specs.Limits.{most_cycles, most_operations};
-ghost use Rattle.op_graph.specs.Rules.{IsGraph};
+ghost use Rattle.vcp_base.specs.Limits.{most_cycles};
 ghost use Rattle.signature_table.specs.Signatures.{IsTableOf};
-ghost use Rattle.coded_machine.specs.CycleEnds.{initial_words, stored_words};
+ghost use Rattle.coded_machine.specs.CycleEnds.{stored_words};
 ghost use Rattle.fault_script.specs.Changes.{acts_of};
 ghost use Rattle.verdict_tables.specs.AnswersOver.{run_answers, held_at_end};
 ghost use Rattle.verdict_tables.specs.Endings.{comes_to as comes_to_of, is_reached};
