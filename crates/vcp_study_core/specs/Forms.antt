@@ -23,7 +23,6 @@ use Rattle.vcp_study_core.specs.declared.command.ImageStudy.{ImageStudy}
 use Rattle.vcp_study_core.specs.declared.command.ImageStudy.TheVariants as image
 use Rattle.vcp_study_core.specs.declared.part_words.Named.{Named}
 use Rattle.vcp_study_core.specs.declared.part_words.PartWords.{PartWords}
-use Rattle.vcp_study_core.specs.declared.words.RangesWords.{RangesWords}
 
 -- the names of the files of a part of a campaign: its script, and what was printed on it
 pub record PartNames : Type 0 where
@@ -245,9 +244,6 @@ alone (by_itself.Dot horizon) = dot horizon
 alone (by_itself.Cover horizon classes) = cover horizon classes
 alone (by_itself.Sites cycles classes which) = sites cycles classes which
 alone (by_itself.RestSites cycles which) = rest_sites cycles which
-
-abbrev pub as_ranges : RangesWords → Study
-as_ranges r = ranges r.all (option_map (λ f. f.now) r.inputs)
 
 abbrev pub study : ImageStudy → Study
 study (image.Alone s) = alone s

@@ -4,7 +4,6 @@ ghost use Rattle.std.specs.Prelude.{ℕ, List, ◌≡◌, ◌≤◌, Some, IfOk,
 ghost use Rattle.std.specs.Option.{option_map};
 ghost use Rattle.std.specs.Io.KnownBytes.{IsAtEnd};
 ghost use Rattle.vcp_base.specs.Limits.{most_names};
-ghost use Rattle.range_audit.specs.Audit.{IsAuditWithin};
 ghost use Rattle.vcp_inputs.specs.Files.{Untaken};
 ghost use Rattle.vcp_study_core.specs.CarriedOut.{Fetches, Studies, WritesSo, told_line, told_status};
 ghost use Rattle.vcp_study_core.specs.Forms.{ranges};
@@ -21,7 +20,7 @@ use op_graph::Graph;
 use range_audit::{
     all_rows_are_in_no_ranges, count_named, ranges_within, write_ranges as write_ranges_text,
 };
-use range_walk::{Range, Ranges, ranges_of_table};
+use range_walk::{Range, ranges_of_table};
 use std::alloc::Global;
 use vcp_base::{Columns, MOST_SOURCE_BYTES, Memory, Text};
 use vcp_inputs::{Image, NoInput, Refusal, graph_columns};

@@ -153,52 +153,31 @@ impl Growing {
         }
     }
 
-    /// A variable or a literal.
-    fn single(&mut self, slots: &[Slot], value: &TExpr) {
+    /// What is assigned: a variable or a literal, which may be widened or behind a NOT, or an operator between two such operands.
+    fn value(&mut self, slots: &[Slot], value: &TExpr) {
         match value {
             TExpr::Lit { ty, value, .. } => self.literal(*ty, *value, has_plain_form(*ty, *value)),
             TExpr::Get { slot, .. } => self.variable(slots, *slot),
-            _ => {}
-        }
-    }
-
-    /// One of them, behind a NOT where there is one.
-    fn turned(&mut self, slots: &[Slot], value: &TExpr) {
-        match value {
+            TExpr::Widen { arg, .. } => self.value(slots, arg),
             TExpr::Unary {
                 op: UnOp::Not,
                 arg,
                 ..
             } => {
                 self.put(b"NOT ");
-                self.single(slots, arg);
+                self.value(slots, arg);
             }
-            _ => self.single(slots, value),
-        }
-    }
-
-    /// An operand, which may be widened.
-    fn operand(&mut self, slots: &[Slot], value: &TExpr) {
-        match value {
-            TExpr::Widen { arg, .. } => self.turned(slots, arg),
-            _ => self.turned(slots, value),
-        }
-    }
-
-    /// What is assigned: an operand, or an operator between two.
-    fn value(&mut self, slots: &[Slot], value: &TExpr) {
-        match value {
             TExpr::Binary {
                 op,
                 left,
                 right,
                 ..
             } => {
-                self.operand(slots, left);
+                self.value(slots, left);
                 self.put(operator_text(*op));
-                self.operand(slots, right);
+                self.value(slots, right);
             }
-            _ => self.operand(slots, value),
+            _ => {}
         }
     }
 

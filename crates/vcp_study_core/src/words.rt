@@ -1,11 +1,11 @@
 //! From words to a command.
 
-ghost use Rattle.std.specs.Prelude.{ℕ, List, ◌≡◌, ◌≤◌, IfSome, Some, None, cond, drop, length};
+ghost use Rattle.std.specs.Prelude.{ℕ, List, ◌≡◌, ◌≤◌, IfSome, Some, None, cond, drop};
 ghost use Rattle.std.specs.Option.{option_map};
 ghost use Rattle.vcp_base.specs.Limits.{most_cycles, most_horizon};
 ghost use Rattle.vcp_study_core.specs.Forms.{list_image, list_text};
 ghost use Rattle.vcp_study_core.specs.Forms.{form, form_of, named_form, waves, waves_form, last_name as last_name_of};
-ghost use Rattle.vcp_study_core.specs.Forms.{study, study_of, fault_study_of, graph, dot, last_horizon as last_horizon_of, as_ranges, ranges_form};
+ghost use Rattle.vcp_study_core.specs.Forms.{study, study_of, fault_study_of, graph, dot, last_horizon as last_horizon_of, ranges_form};
 ghost use Rattle.vcp_study_core.specs.Forms.{all_form, inputs_form, cover_form, IsSound, IsSoundStudy};
 ghost use Rattle.vcp_study_core.specs.Forms.{faults_form, sites_form, behind_form, class_form, cycles_in as cycles_in_of};
 ghost use Rattle.vcp_study_core.specs.Forms.{rest_form, run_sites, next_by, next_of, behind_of, sum_form, script_form, chosen_of};
@@ -15,7 +15,7 @@ ghost use Rattle.vcp_inputs.specs.Forms.{rows_of, AreFew, code_of, is_end};
 
 use crate::command::{AloneStudy, ImageStudy, StudyCommand};
 use crate::part_words::{Named, PartWords};
-use fault_cover::{CoverClasses, classes_named as cover_classes_named};
+use fault_cover::classes_named as cover_classes_named;
 use fault_sites::{Chosen, Part, RunClass, classes_named, run_class_named};
 use run_picture::{Period, period_named};
 use vcp_base::{MOST_CYCLES, MOST_HORIZON, Text, Words, numeral, same_bytes};
@@ -213,24 +213,16 @@ fn dot_words<'a>(words: &mut CommandWords<'_>) -> Option<ImageStudy<'a>>
     }
 }
 
-/// What the words of `ranges` say.
-#[derive(Clone, Copy)]
-pub(crate) struct RangesWords<'a> {
-    /// Whether the range of each operation is reported too.
-    pub all: bool,
-    /// FILE, where it is there.
-    pub inputs: Option<&'a Text>,
-}
-
 /// Of `ranges`, behind `--all`, where that is said: `--inputs` and FILE.
-fn inputs_words<'a>(all: bool, word: &Text, words: &mut CommandWords<'a>) -> Option<RangesWords<'a>>
-    ensures { option_map as_ranges result ≡ inputs_form all word.now words.old }
+fn inputs_words<'a>(all: bool, word: &Text, words: &mut CommandWords<'a>) -> Option<ImageStudy<'a>>
+    ensures form { option_map study result ≡ inputs_form all word.now words.old }
+    ensures sound { IfSome result (λ s. IsSoundStudy (study s)) }
 {
     if !same_bytes(word.bytes(), b"--inputs") {
         return None;
     }
     match last_name(words) {
-        Some(file) => Some(RangesWords {
+        Some(file) => Some(ImageStudy::Ranges {
             all,
             inputs: Some(file),
         }),
@@ -238,31 +230,15 @@ fn inputs_words<'a>(all: bool, word: &Text, words: &mut CommandWords<'a>) -> Opt
     }
 }
 
-/// Behind `--all`.
-fn all_words<'a>(words: &mut CommandWords<'a>) -> Option<RangesWords<'a>>
-    ensures { option_map as_ranges result ≡ all_form words.old }
+/// Of `ranges`, behind `--all`.
+fn all_words<'a>(words: &mut CommandWords<'a>) -> Option<ImageStudy<'a>>
+    ensures form { option_map study result ≡ all_form words.old }
+    ensures sound { IfSome result (λ s. IsSoundStudy (study s)) }
 {
     match words.next() {
         Some(word) => inputs_words(true, word, words),
-        None => Some(RangesWords {
+        None => Some(ImageStudy::Ranges {
             all: true,
-            inputs: None,
-        }),
-    }
-}
-
-/// All words of `ranges`.
-fn ranges_said<'a>(words: &mut CommandWords<'a>) -> Option<RangesWords<'a>>
-    ensures { option_map as_ranges result ≡ ranges_form words.old }
-{
-    match words.next() {
-        Some(word) => if same_bytes(word.bytes(), b"--all") {
-            all_words(words)
-        } else {
-            inputs_words(false, word, words)
-        },
-        None => Some(RangesWords {
-            all: false,
             inputs: None,
         }),
     }
@@ -273,12 +249,16 @@ fn ranges_words<'a>(words: &mut CommandWords<'a>) -> Option<ImageStudy<'a>>
     ensures form { option_map study result ≡ ranges_form words.old }
     ensures sound { IfSome result (λ s. IsSoundStudy (study s)) }
 {
-    match ranges_said(words) {
-        Some(said) => Some(ImageStudy::Ranges {
-            all: said.all,
-            inputs: said.inputs,
+    match words.next() {
+        Some(word) => if same_bytes(word.bytes(), b"--all") {
+            all_words(words)
+        } else {
+            inputs_words(false, word, words)
+        },
+        None => Some(ImageStudy::Ranges {
+            all: false,
+            inputs: None,
         }),
-        None => None,
     }
 }
 

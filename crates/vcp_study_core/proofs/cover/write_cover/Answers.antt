@@ -10,3 +10,6 @@ returns-in-Ok g c =
 pub returns-in-Err : goal.returns-in-Err
 returns-in-Err g c =
     rw c.bytes.ensures (unweighed c.args.horizon c.args.name.now c.args.image.now _ (g.O.Sink.seen c.args.out.now) c.in-Err.input c.in-Err.ensures.fault)
+
+pub write_survey-requires : goal.write_survey-requires
+write_survey-requires g c = record { table = c.requires.table; survey = c.in-Ok.ensures.survey; mapped = c.in-Ok.ensures.mapped }

@@ -6,3 +6,6 @@ returns-in-Ok g c end = then_writes (c.in-Ok.ensures.fetches end) (λ h b n. c.w
 
 pub returns-in-Err : goal.returns-in-Err
 returns-in-Err g c end = lost (c.in-Err.ensures.fetches end)
+
+pub write_run_sites-requires : goal.write_run_sites-requires
+write_run_sites-requires g c = record { table = c.requires.table; few = c.in-Ok.ensures.few; width = c.in-Ok.ensures.width }

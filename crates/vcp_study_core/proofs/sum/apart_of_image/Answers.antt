@@ -12,3 +12,13 @@ returns-in-Ok g c end m =
 
 pub returns : goal.returns
 returns g c end m = lost (c.in-Err.ensures.fetches end)
+
+pub write_tables_apart-requires : goal.write_tables_apart-requires
+write_tables_apart-requires g c = record {
+  table = c.requires.table;
+  width = c.in-Ok.ensures.width;
+  few_rows = c.in-Ok.ensures.few;
+  whole = c.in-Ok-load_parts.ensures.whole;
+  fits = c.in-Ok-load_parts.ensures.fits;
+  few = c.in-Ok-load_parts.ensures.few;
+}

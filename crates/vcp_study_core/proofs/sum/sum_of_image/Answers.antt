@@ -9,3 +9,6 @@ returns-in-Ok g c end m = rw c.in-None.is (then_writes (c.in-Ok.ensures.fetches 
 
 pub returns-in-Err : goal.returns-in-Err
 returns-in-Err g c end m = rw c.in-None.is (lost (c.in-Err.ensures.fetches end))
+
+pub write_tables-requires : goal.write_tables-requires
+write_tables-requires g c = record { whole = c.in-Ok.ensures.whole; fits = c.in-Ok.ensures.fits; few = c.in-Ok.ensures.few }
