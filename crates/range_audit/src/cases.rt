@@ -8,7 +8,6 @@ ghost use Rattle.range_walk.specs.Walking.{Narrows};
 
 use crate::boxes::{Boxes, Cycle, cell_count, has_none, is_in_one, stored_cells};
 use crate::cells::store_at;
-use crate::families::VALUES;
 use crate::questions::{box_of, open_condition, wanted_at};
 use op_graph::Graph;
 use range_walk::{Range, both_hold, count_of, earlier_range, narrow, put};
@@ -57,16 +56,6 @@ pub(crate) struct Halves {
 impl Drop for Halves {
     fn drop(self) {
         let Halves { low: _, high: _ } = self;
-    }
-}
-
-impl Halves {
-    /// Where it is more.
-    fn into_high(self) -> Vec<Range>
-        ensures { result.items ≡ self.high.items }
-    {
-        let Halves { low: _, high } = self;
-        high
     }
 }
 
@@ -236,56 +225,36 @@ fn ends_closely(
     ends(cycle, ranges, boxes, missed)
 }
 
-/// Leaves of ranges the case in which the value of operation `n` is more than the least. Whether each whole cycle in the other case ends in one of the
-/// boxes.
-fn ends_at_least(
-    cycle: &Cycle<'_>,
-    ranges: &mut Vec<Range>,
-    boxes: &Boxes,
-    n: u32,
-    left: &mut u64,
-    missed: &mut Boxes,
-) -> Result<bool, Memory>
-    requires there { n < length cycle.now.graph.now.operations }
-    requires many { length ranges.old.items ≡ length cycle.now.graph.now.operations }
-    ensures many { IfOk result (λ _. length ranges.new.items ≡ length cycle.now.graph.now.operations) }
-    ensures ends { IfOk result (λ is. is ≡ true → EndsIn cycle.now.graph.now cycle.now.cells.now ranges.new.items boxes.now.list.items
-        → EndsIn cycle.now.graph.now cycle.now.cells.now ranges.old.items boxes.now.list.items) }
-{
-    let least = earlier_range(ranges, n);
-    let mut two = halved(cycle, ranges, n, least.low)?;
-    let is = ends_closely(cycle, &mut two.low, boxes, n, left, missed)?;
-    *ranges = two.into_high();
-    Ok(is)
-}
-
-/// Whether each whole cycle with values in these ranges ends in one of the boxes, by the cases of the value of operation `n`, which stores the
-/// cell whose values the boxes tell apart. Where that isn't seen, the ranges in which it ends are appended to `missed`.
+/// The same by the cases of the value of operation `n`, so many of them.
 pub(crate) fn ends_by_cases(
     cycle: &Cycle<'_>,
-    known: &[Range],
+    ranges: &mut [Range],
     boxes: &Boxes,
     n: u32,
+    depth: u32,
     left: &mut u64,
     missed: &mut Boxes,
 ) -> Result<bool, Memory>
     requires there { n < length cycle.now.graph.now.operations }
-    requires many { length known.now ≡ length cycle.now.graph.now.operations }
-    ensures { IfOk result (λ is. is ≡ true → EndsIn cycle.now.graph.now cycle.now.cells.now known.now boxes.now.list.items) }
+    requires many { length ranges.old ≡ length cycle.now.graph.now.operations }
+    ensures { IfOk result (λ is. is ≡ true → EndsIn cycle.now.graph.now cycle.now.cells.now ranges.old boxes.now.list.items) }
 {
-    let mut ranges = narrowed(cycle, known)?;
-    let mut all = true;
-    let cases = if boxes.len() == 1 { 0 } else { VALUES };
-    'cases: for _ in 0..cases {
-        if has_none(&ranges) {
-            return Ok(all);
-        }
-        if !spend(cycle.graph, left) {
-            return Ok(false);
-        }
-        let here = ends_at_least(cycle, &mut ranges, boxes, n, left, missed)?;
-        all = both_hold(all, here);
+    if depth == 0 {
+        return ends_closely(cycle, ranges, boxes, n, left, missed);
     }
-    let last = ends_closely(cycle, &mut ranges, boxes, n, left, missed)?;
-    Ok(both_hold(all, last))
+    let none = has_none(ranges);
+    if none {
+        return Ok(true);
+    }
+    let enough = spend(cycle.graph, left);
+    if !enough {
+        return Ok(false);
+    }
+    let least = earlier_range(ranges, n);
+    let less = depth - 1;
+    let mut two = halved(cycle, ranges, n, least.low)?;
+    let first = ends_closely(cycle, &mut two.low, boxes, n, left, missed)?;
+    let second = ends_by_cases(cycle, &mut two.high, boxes, n, less, left, missed)?;
+    let both = both_hold(first, second);
+    Ok(both)
 }

@@ -6,7 +6,7 @@ ghost use Rattle.range_audit.specs.Searching.{Box as Boxed, IsSound, InBox, Ends
 
 use crate::asking::Asking;
 use crate::boxes::{Boxes, Cycle, cell_count, has_values, is_in_one};
-use crate::cases::{ends, ends_by_cases};
+use crate::cases::{ends, ends_by_cases, narrowed};
 use crate::cells::{Step, loaded_cells, step_of, store_at, widened};
 use crate::naming::{found_by, found_from};
 use crate::questions::range_or;
@@ -17,7 +17,7 @@ use std::alloc::Global;
 use vcp_base::{Memory, Ty};
 
 /// How many values the cell may have.
-pub(crate) const VALUES: u32 = 16;
+const VALUES: u32 = 16;
 
 /// How many rounds are tried.
 const ROUNDS: u32 = 32;
@@ -89,6 +89,25 @@ const ONE: Values = Values {
     count: 1,
 };
 
+/// Whether each whole cycle with values in these ranges ends in one of the boxes, by the cases of the value of operation `n`, which stores the
+/// cell whose values the boxes tell apart. Where that isn't seen, the ranges in which it ends are appended to `missed`.
+fn ends_by_values(
+    cycle: &Cycle<'_>,
+    known: &[Range],
+    boxes: &Boxes,
+    n: u32,
+    left: &mut u64,
+    missed: &mut Boxes,
+) -> Result<bool, Memory>
+    requires there { n < length cycle.now.graph.now.operations }
+    requires many { length known.now ≡ length cycle.now.graph.now.operations }
+    ensures { IfOk result (λ is. is ≡ true → EndsIn cycle.now.graph.now cycle.now.cells.now known.now boxes.now.list.items) }
+{
+    let mut ranges = narrowed(cycle, known)?;
+    let depth = if boxes.len() == 1 { 0 } else { VALUES };
+    ends_by_cases(cycle, &mut ranges, boxes, n, depth, left, missed)
+}
+
 /// Whether each whole cycle from cells in this box ends in one of the boxes, by the cases of the value of operation `pivot`; of cycles as they
 /// are gone through where there is none. The ranges in which they end are appended to `missed` where that isn't seen.
 fn is_box_kept(
@@ -116,7 +135,7 @@ fn is_box_kept(
     let told = walk(alloc, graph, cycle.cells, inputs)?;
     match pivot {
         None => ends(&cycle, told.known(), boxes, missed),
-        Some(n) => ends_by_cases(&cycle, told.known(), boxes, n, left, missed),
+        Some(n) => ends_by_values(&cycle, told.known(), boxes, n, left, missed),
     }
 }
 
@@ -398,49 +417,50 @@ fn tries_of(alloc: Global, graph: &Graph, known: &[Range]) -> Result<Vec<Values>
     Ok(tries)
 }
 
-/// Adds to what is told of the operations of a graph what is told by boxes, one for each of these values, where such are found.
+/// What is told of the operations of a graph, and what is told by boxes, one for each of these values, where such are found.
 fn closer_by(
     alloc: Global,
     graph: &Graph,
     inputs: &[Range],
-    told: &mut Ranges,
+    ranges: Ranges,
     values: Values,
     budget: &mut Budget,
-) -> Result<(), Memory>
-    requires sound { IsSound graph.now inputs.now told.old }
-    ensures { IfOk result (λ _. IsSound graph.now inputs.now told.new) }
+) -> Result<Ranges, Memory>
+    requires sound { IsSound graph.now inputs.now ranges }
+    ensures { IfOk result (λ a. IsSound graph.now inputs.now a) }
 {
     if values.place >= cell_count(graph) {
-        return Ok(());
+        return Ok(ranges);
     }
-    if !names_any(told.stops()) && budget.asking.answers == 0 {
-        return Ok(());
+    if !names_any(ranges.stops()) && budget.asking.answers == 0 {
+        return Ok(ranges);
     }
     let pivot = store_at(graph, values.place);
     let found = family(alloc, graph, inputs, values, Some(pivot), ROUNDS, budget)?;
-    if let Some(boxes) = found {
-        *told = with_family(alloc, graph, inputs, told, &boxes, budget)?;
+    match found {
+        Some(boxes) => with_family(alloc, graph, inputs, &ranges, &boxes, budget),
+        None => Ok(ranges),
     }
-    Ok(())
 }
 
-/// The same by the values of each cell. Which cells are looked at is told by the ranges that they have before, so that closer ones take no room from a
-/// cell that tells more.
+/// The same by each of these.
 fn closer_by_each(
     alloc: Global,
     graph: &Graph,
     inputs: &[Range],
-    told: &mut Ranges,
+    ranges: Ranges,
+    tries: &[Values],
     budget: &mut Budget,
-) -> Result<(), Memory>
-    requires sound { IsSound graph.now inputs.now told.old }
-    ensures { IfOk result (λ _. IsSound graph.now inputs.now told.new) }
+) -> Result<Ranges, Memory>
+    requires sound { IsSound graph.now inputs.now ranges }
+    ensures { IfOk result (λ a. IsSound graph.now inputs.now a) }
 {
-    let tries = tries_of(alloc, graph, told.known())?;
+    let mut told = ranges;
     'tries: for k in 0..tries.len() {
-        closer_by(alloc, graph, inputs, told, tries[k], budget)?;
+        let next = closer_by(alloc, graph, inputs, told, tries[k], budget)?;
+        told = next;
     }
-    Ok(())
+    Ok(told)
 }
 
 /// What is told of the operations of a graph, whose cells are always in these boxes, by a closer look at those that are named: in these boxes,
@@ -459,9 +479,11 @@ pub(crate) fn closer(
 {
     let searched = graph.len() <= MOST_SEARCHED;
     let mut budget = budget_of(alloc, graph, searched, closely)?;
-    let mut told = with_family(alloc, graph, inputs, ranges, boxes, &mut budget)?;
-    if searched {
-        closer_by_each(alloc, graph, inputs, &mut told, &mut budget)?;
+    let here = with_family(alloc, graph, inputs, ranges, boxes, &mut budget)?;
+    if !searched {
+        return Ok(here);
     }
-    Ok(told)
+    // Which cells are looked at is told by the ranges that they have here, so that closer ones take no room from a cell that tells more.
+    let tries = tries_of(alloc, graph, here.known())?;
+    closer_by_each(alloc, graph, inputs, here, &tries, &mut budget)
 }

@@ -87,24 +87,24 @@ fn nothing_found(alloc: Global, graph: &Graph) -> Result<Ranges, Memory>
     Ok(Ranges::new(known, stops))
 }
 
-/// Adds to what is found already what is found of a cycle from cells in this box, on a row whose inputs are in these ranges. The operations that are
-/// wanted are looked at closer.
+/// What is found already, and what is found of a cycle from cells in this box, on a row whose inputs are in these ranges. The
+/// operations that are wanted are looked at closer.
 fn with_box(
     alloc: Global,
     graph: &Graph,
     inputs: &[Range],
     cells: &[Range],
-    found: &mut Ranges,
+    found: Ranges,
     wanted: &[Stops],
     left: &mut Asking,
-) -> Result<(), Memory>
-    requires known { length found.old.known ≡ length graph.now.operations }
-    requires stops { length found.old.stops ≡ length graph.now.operations }
-    ensures { IfOk result (λ _. IsMore graph.now inputs.now cells.now found.old found.new) }
+) -> Result<Ranges, Memory>
+    requires known { length found.known ≡ length graph.now.operations }
+    requires stops { length found.stops ≡ length graph.now.operations }
+    ensures { IfOk result (λ more. IsMore graph.now inputs.now cells.now found more) }
 {
     let any = has_values(graph, cells);
     if !any {
-        return Ok(());
+        return Ok(found);
     }
     let cycle = Cycle {
         alloc,
@@ -113,8 +113,7 @@ fn with_box(
     };
     let told = walk(alloc, graph, cycle.cells, inputs)?;
     let here = closer_found(&cycle, inputs, &told, wanted, found.stops(), left)?;
-    *found = found_by(alloc, false, found, &here)?;
-    Ok(())
+    found_by(alloc, false, &found, &here)
 }
 
 /// What is found of a cycle from cells in one of these boxes, on a row whose inputs are in these ranges. The operations that are wanted are looked
@@ -131,7 +130,8 @@ pub(crate) fn found_from(
 {
     let mut found = nothing_found(alloc, graph)?;
     'boxes: for k in 0..boxes.len() {
-        with_box(alloc, graph, inputs, boxes.at(k), &mut found, wanted, left)?;
+        let more = with_box(alloc, graph, inputs, boxes.at(k), found, wanted, left)?;
+        found = more;
     }
     Ok(found)
 }

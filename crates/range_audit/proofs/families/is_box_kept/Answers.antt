@@ -11,6 +11,6 @@ returns-in-None c = and_so c.ends.result c.ends.ensures (λ is here e held row v
     here e vs whole (subst (λ ks. Fit ks vs) (sym c.known.ensures) (c.in_ok-told.ensures.fits held row vs inside.1 row_in given)))
 
 pub returns : goal.returns
-returns c = and_so c.ends_by_cases.result c.ends_by_cases.ensures (λ is here e held row vs inside row_in given whole.
+returns c = and_so c.ends_by_values.result c.ends_by_values.ensures (λ is here e held row vs inside row_in given whole.
     here e held row vs inside.1 given whole
     (subst (λ ks. Fit ks vs) (sym c.known-in-Some.ensures) (c.in_ok-told.ensures.fits held row vs inside.1 row_in given)))

@@ -10,21 +10,20 @@ boxes-preserved c =
     let at = c.at.ensures in
     let many = length g.stores in
     let i = c.boxes.invariant in
-    let new = c.with_box.new.found in
-    let more = c.in_ok-with_box.ensures {u = tt} in
+    let new = c.in_ok-more.more in
     let P : ℕ → Type 0 = λ j. (b : Box) → slice_get boxes j ≡ Some b → IsFound g.operations c.args.inputs.now (IsInBox many b.items) new in
     record {
-      known = more.known;
-      stops = more.stops;
+      known = c.in_ok-more.ensures.known;
+      stops = c.in_ok-more.ensures.stops;
       found = below_more P c.boxes.k
           (λ j lt b at_j. record {
-            fits = λ held row vs inside row_in given. more.fits vs ((i.found j lt b at_j).fits held row vs inside row_in given);
+            fits = λ held row vs inside row_in given. c.in_ok-more.ensures.fits vs ((i.found j lt b at_j).fits held row vs inside row_in given);
             names = λ held row vs op why inside row_in given there own no e.
-                more.named why (length vs) ((i.found j lt b at_j).names held row vs op why inside row_in given there own no e);
+                c.in_ok-more.ensures.named why (length vs) ((i.found j lt b at_j).names held row vs op why inside row_in given there own no e);
           })
           (λ b there.
           let same = ap (λ (v : Box). v.items) (same_Some at.0 b (sym at.1 ∙ there)) in
-          subst (λ rs. IsFound g.operations c.args.inputs.now (IsInBox many rs) new) (sym at.2 ∙ same) more.here);
+          subst (λ rs. IsFound g.operations c.args.inputs.now (IsInBox many rs) new) (sym at.2 ∙ same) c.in_ok-more.ensures.here);
     }
 
 pub returns : goal.returns

@@ -1,4 +1,5 @@
 use Rattle.std.proofs.Common.{inl, inr, length, sym, ◌∙◌}
+use Rattle.range_audit.proofs.Steps.{and_so}
 use Rattle.range_audit.proofs.naming.with_box.Goals as goal
 
 pub found_by-requires : goal.found_by-requires
@@ -21,8 +22,7 @@ returns-then-not-any c = record {
 }
 
 pub returns : goal.returns
-returns c =
-    let more = c.in_ok-found.ensures {u = tt} in
+returns c = and_so c.found_by.result c.found_by.ensures (λ found more.
     let here = c.in_ok-here.ensures.found in
     record {
       known = more.known ∙ c.requires.known;
@@ -34,4 +34,4 @@ returns c =
         names = λ held row vs op why inside row_in given there own no e.
             more.named why (length vs) (inr (here.names held row vs op why inside.1 row_in given there own no e));
       };
-    }
+    })
