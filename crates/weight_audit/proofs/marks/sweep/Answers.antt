@@ -20,16 +20,13 @@ operations-preserved c =
       sound = λ out borders a. sound_more g out borders q c.operations.marks c.mark_from.new.marks e.sound (i.sound out borders a);
     }
 
-pub returns-clause-closed : goal.returns-clause-closed
-returns-clause-closed c = λ q k j reads marked.
-    let low : 0 ≤ q = omega arith in
-    c.operations.invariant.closed 0 (omega (arith, c.operations-test.false, c.operations.auto.done-end, c.len-count.ensures.count)) q k j low reads marked
-
-pub returns-clause-many : goal.returns-clause-many
-returns-clause-many c = c.operations.invariant.many ∙ sym c.requires.count
-
-pub returns-clause-kept : goal.returns-clause-kept
-returns-clause-kept c = c.operations.invariant.kept
-
-pub returns-clause-sound : goal.returns-clause-sound
-returns-clause-sound c = c.operations.invariant.sound
+pub returns : goal.returns
+returns c = record {
+  closed =
+      λ q k j reads marked.
+      let low : 0 ≤ q = omega arith in
+      c.operations.invariant.closed 0 (omega (arith, c.operations-test.false, c.operations.auto.done-end, c.len-count.ensures.count)) q k j low reads marked;
+  many = c.operations.invariant.many ∙ sym c.requires.count;
+  kept = c.operations.invariant.kept;
+  sound = c.operations.invariant.sound;
+}

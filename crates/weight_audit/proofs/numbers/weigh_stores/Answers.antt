@@ -15,17 +15,17 @@ cells-init c =
     subst (λ xs. AreResidues p count (λ k. pos 0) xs) (sym c.requires.zeros) (are_zeros p count (c.words_split_in_one_way.ensures p)) in
     record { many = zeros.many; are = λ weights a. none_crossed p count (cells g) weights c.args.numbers.now zeros }
 
-pub cross-requires-clause-store : goal.cross-requires-clause-store
-cross-requires-clause-store c =
-    let inside = store_inside c.args.graph.now c.cells.i c.cell.result c.requires.graph.part
-    (λ k n part there. c.entries_keep_their_rules.ensures.store c.args.graph.now k n part there) c.cell.ensures in
-    omega (arith, inside, c.cells.invariant.many)
-
-pub cross-requires-clause-load : goal.cross-requires-clause-load
-cross-requires-clause-load c =
-    let inside = load_inside c.args.graph.now c.cells.i c.cell.result c.requires.graph.part
-    (λ k n part there. c.entries_keep_their_rules.ensures.load c.args.graph.now k n part there) c.cell.ensures in
-    omega (arith, inside, c.requires.many)
+pub cross-requires : goal.cross-requires
+cross-requires c = record {
+  store = (
+      let inside = store_inside c.args.graph.now c.cells.i c.cell.result c.requires.graph.part
+      (λ k n part there. c.entries_keep_their_rules.ensures.store c.args.graph.now k n part there) c.cell.ensures in
+      omega (arith, inside, c.cells.invariant.many));
+  load = (
+      let inside = load_inside c.args.graph.now c.cells.i c.cell.result c.requires.graph.part
+      (λ k n part there. c.entries_keep_their_rules.ensures.load c.args.graph.now k n part there) c.cell.ensures in
+      omega (arith, inside, c.requires.many));
+}
 
 pub cells-preserved : goal.cells-preserved
 cells-preserved c =
