@@ -7,8 +7,7 @@ use Rattle.vcp_outside.specs.declared.failed.Failed.{Failed}
 use Rattle.vcp_outside.specs.Written.{Writes}
 use Rattle.vcp_outside.specs.Seen.{SinkSeen}
 use Rattle.vcp_outside.specs.Gathering.{Gathered, Gathers, IsGathered, GathersTo}
-pub use Rattle.vcp_outside.specs.Written.{written_same}
-pub use Rattle.vcp_outside.specs.Gathering.{gathered_same}
+pub use Rattle.vcp_outside.specs.SameText.{written_same, gathered_same}
 
 -- what was pending is written
 pub flushed : (start old new : Option (List ℕ)) (before f g : ℕ) (text pending : List ℕ) (line : Gathered) (r : Result (Unit {0}) Failed)

@@ -1,5 +1,4 @@
 -- A line that is gathered in a buffer on its way to a sink.
-use mathlib.Core.Path.{subst, sym}
 use Rattle.std.specs.Prelude.{◌≡◌, ℕ, List, ◌++◌, length, Option, Result}
 use Rattle.vcp_outside.specs.declared.failed.Failed.{Failed}
 use Rattle.vcp_outside.specs.Seen.{SinkSeen}
@@ -16,12 +15,6 @@ pub record IsGathered (start now : Option (List ℕ)) (before faults : ℕ) (tex
   pub front : List ℕ
   pub joined : text ≡ front ++ line.pending
   pub written : Writes start now before faults front line.so_far
-
--- the same text, written otherwise
-pub gathered_same : {start now : Option (List ℕ)} {before faults : ℕ} {text other : List ℕ} {line : Gathered}
-    → IsGathered start now before faults text line → other ≡ text → IsGathered start now before faults other line
-gathered_same {start = start} {now = now} {before = before} {faults = faults} {line = line} gathered is =
-    subst (λ bytes. IsGathered start now before faults bytes line) (sym is) gathered
 
 -- a call gathers these bytes: whatever text is in the line before it, that text and then the bytes are in it afterwards
 abbrev pub Gathers : Option (List ℕ) → Option (List ℕ) → ℕ → ℕ → Gathered → Gathered → List ℕ → Type 0

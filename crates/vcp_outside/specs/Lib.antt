@@ -9,6 +9,7 @@ pub mod ReadAll
 pub mod Seen
 pub mod Written
 pub mod Gathering
+pub mod SameText
 pub mod Characters
 pub mod Drawing
 pub mod Elements

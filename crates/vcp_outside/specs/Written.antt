@@ -1,5 +1,4 @@
 -- What calls write to a sink.
-use mathlib.Core.Path.{subst, sym}
 use Rattle.std.specs.Prelude.{◌≡◌, ◌<◌, ℕ, List, ◌++◌, length, Option, Result, OnOk, OnErr}
 use Rattle.std.specs.Io.KnownBytes.{Appends}
 use Rattle.vcp_outside.specs.Counts.{HasCause}
@@ -22,8 +21,3 @@ pub record Writes {T E : Type 0} (old new : Option (List ℕ)) (before now : ℕ
 -- the same of a sink as it is seen before and after the call
 abbrev pub WritesTo : {T E : Type 0} → SinkSeen → SinkSeen → List ℕ → Result T E → Type 0
 WritesTo old new bytes result = Writes old.written new.written old.faults new.faults bytes result
-
--- the same bytes, written otherwise
-pub written_same : {T E : Type 0} {old new : Option (List ℕ)} {before now : ℕ} {bytes other : List ℕ} {r : Result T E}
-    → Writes old new before now bytes r → other ≡ bytes → Writes old new before now other r
-written_same {old = old} {new = new} {before = before} {now = now} {r = r} written is = subst (λ text. Writes old new before now text r) (sym is) written

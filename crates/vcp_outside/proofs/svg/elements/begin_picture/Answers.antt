@@ -1,6 +1,6 @@
 use Rattle.std.proofs.Common.{◌≡◌, ℕ, List, [], ◌∷◌, ◌++◌, codes, decimal, append_assoc}
 use Rattle.std.proofs.lemmas.List.{append-nil}
-use Rattle.vcp_outside.specs.Gathering.{gathered_same}
+use Rattle.vcp_outside.specs.SameText.{gathered_same}
 use Rattle.vcp_outside.specs.declared.svg.names.Name.TheVariants as name
 use Rattle.vcp_outside.specs.Elements.{attribute, attribute_text}
 use Rattle.vcp_outside.proofs.svg.elements.begin_picture.Goals as goal
