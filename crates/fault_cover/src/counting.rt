@@ -12,7 +12,8 @@ ghost use Rattle.fault_cover.specs.Telling.{subject as subject_of};
 use crate::class::CoverClass;
 use crate::disturbance::Disturbance;
 use crate::effect::Effect;
-use crate::faults::{Listener, Subject, class_in, then_class_faults};
+use crate::faults::{Listener, Subject, then_class_faults};
+use crate::items::item;
 use crate::tally::{Tally, plus};
 use fault_sites::Nowhere;
 use op_graph::Graph;
@@ -115,18 +116,10 @@ pub(crate) fn count_classes(
 {
     let mut counts = Vec::new(alloc);
     'classes: for i in 0..classes.len() {
-        let class = class_in(classes, i);
+        let class = item(classes, i);
         counts.push(count_class(subject, class))?;
     }
     Ok(counts)
-}
-
-/// What is counted of one class.
-pub(crate) fn count_in(counts: &[ClassCount], i: usize) -> ClassCount
-    requires { i < length counts.now }
-    ensures { slice_get counts.now i ≡ Some result }
-{
-    counts[i]
 }
 
 /// The tally of all classes.
@@ -135,7 +128,7 @@ pub(crate) fn total(counts: &[ClassCount]) -> Tally
 {
     let mut all = Tally::none();
     'classes: for i in 0..counts.len() {
-        let count = count_in(counts, i);
+        let count = item(counts, i);
         all = all.with(&count.counting.tally);
     }
     all
@@ -148,7 +141,7 @@ pub(crate) fn delayed(counts: &[ClassCount], n: usize) -> u64
 {
     let mut all = 0;
     'classes: for i in 0..counts.len() {
-        let count = count_in(counts, i);
+        let count = item(counts, i);
         all = plus(all, count.counting.delays[n]);
     }
     all

@@ -6,7 +6,7 @@ ghost use Rattle.vcp_outside.specs.Gathering.{GathersTo};
 ghost use Rattle.op_graph.specs.Lists.{Lists};
 ghost use Rattle.signature_table.specs.Signatures.{IsTableOf};
 ghost use Rattle.fault_cover.specs.Candidates.{row};
-ghost use Rattle.fault_cover.specs.Classes.{fault_at, of_classes, of_classes_at, singles, singles_of};
+ghost use Rattle.fault_cover.specs.Classes.{fault_at, of_classes_at, singles, singles_of};
 ghost use Rattle.fault_cover.specs.CoverText.{Heard, heard_as};
 ghost use Rattle.fault_cover.specs.Passing.{Passing};
 ghost use Rattle.fault_cover.specs.Sited.{IsSited};
@@ -17,6 +17,7 @@ use crate::candidates::{candidate, columns, rows};
 use crate::class::CoverClass;
 use crate::disturbance::Disturbance;
 use crate::effect::Effect;
+use crate::items::item;
 use crate::survey::Survey;
 use crate::telling::tell;
 use op_graph::{Graph, Op};
@@ -151,34 +152,6 @@ pub(crate) fn then_class_faults<O: Sink, L: Listener>(
     }
 }
 
-/// One of the classes.
-pub(crate) fn class_in(classes: &[CoverClass], i: usize) -> CoverClass
-    requires { i < length classes.now }
-    ensures { slice_get classes.now i ≡ Some result }
-{
-    classes[i]
-}
-
-/// Reports of all faults of these classes, class by class.
-pub(crate) fn then_faults<O: Sink, L: Listener>(
-    line: &mut Line,
-    out: &mut O,
-    listener: &mut L,
-    subject: &Subject<'_>,
-    classes: &[CoverClass],
-)
-    requires table { IsTableOf subject.now.table.now subject.now.graph.now }
-    requires mapped { IsMapped subject.now.graph.now subject.now.survey.now }
-    ensures { Passing subject.now.graph.now subject.now.table.now subject.now.survey.now (of_classes classes.now subject.now.graph.now)
-        (L.text subject.now.graph.now) (O.seen out.old) (O.seen out.new) line.old line.new
-        (L.Keeps subject.now.graph.now listener.old) (L.Keeps subject.now.graph.now listener.new) }
-{
-    'classes: for i in 0..classes.len() {
-        let class = class_in(classes, i);
-        then_class_faults(line, out, listener, subject, class);
-    }
-}
-
 /// Reports of the faults of these classes at operation `k`, class by class.
 pub(crate) fn then_faults_at<O: Sink, L: Listener>(
     line: &mut Line,
@@ -196,7 +169,7 @@ pub(crate) fn then_faults_at<O: Sink, L: Listener>(
         (L.Keeps subject.now.graph.now listener.old) (L.Keeps subject.now.graph.now listener.new) }
 {
     'classes: for i in 0..classes.len() {
-        let class = class_in(classes, i);
+        let class = item(classes, i);
         then_operation_faults(line, out, listener, subject, class, k);
     }
 }

@@ -14,6 +14,7 @@ use crate::class::CoverClass;
 use crate::disturbance::Disturbance;
 use crate::effect::Effect;
 use crate::faults::{Listener, Subject, then_faults_at};
+use crate::items::item;
 use crate::tally::plus;
 use fault_sites::Nowhere;
 use op_graph::Graph;
@@ -111,14 +112,6 @@ fn key_of(width: u32, borders: u32, op: u32) -> u64
     borders as u64 * width as u64 + op as u64
 }
 
-/// One of the numbers.
-fn key_in(keys: &[u64], i: usize) -> u64
-    requires { i < length keys.now }
-    ensures { slice_get keys.now i ≡ Some result }
-{
-    keys[i]
-}
-
 /// 1 where a test holds.
 fn one_if(is: bool) -> u64
     ensures one { result ≡ cond is 1 0 }
@@ -133,7 +126,7 @@ fn count_of(keys: &[u64], key: u64) -> u64
 {
     let mut count = 0;
     'keys: for i in 0..keys.len() {
-        let found = key_in(keys, i);
+        let found = item(keys, i);
         count += one_if(found == key);
     }
     count
@@ -161,7 +154,7 @@ fn least_from(keys: &[u64], from: u64, most: u64) -> Option<u64>
 {
     let mut best = None;
     'keys: for i in 0..keys.len() {
-        let key = key_in(keys, i);
+        let key = item(keys, i);
         best = lesser(best, key, from, most);
     }
     best

@@ -14,6 +14,7 @@ mod disturbance;
 mod effect;
 mod faults;
 mod inverse;
+mod items;
 mod laws;
 mod left;
 mod lines;

@@ -15,6 +15,7 @@ use crate::class::{CoverClass, CoverClasses};
 use crate::disturbance::Disturbance;
 use crate::effect::Effect;
 use crate::faults::Listener;
+use crate::items::item;
 use crate::left::{LeftEffect, LeftLine};
 use crate::tally::Tally;
 use fault_sites::{then_rest, verb};
@@ -285,20 +286,12 @@ fn then_left_line<O: Sink>(line: &mut Line, out: &mut O, graph: &Graph, left: &L
     line.text(out, b"\n");
 }
 
-/// One of the lines.
-fn line_in(lines: &[LeftLine], i: usize) -> LeftLine
-    requires { i < length lines.now }
-    ensures { slice_get lines.now i ≡ Some result }
-{
-    lines[i]
-}
-
 /// Goes on with the lines of the operations whose faults run on or are beyond.
 pub(crate) fn then_left<O: Sink>(line: &mut Line, out: &mut O, graph: &Graph, lines: &[LeftLine])
     ensures { GathersTo (O.seen out.old) (O.seen out.new) line.old line.new (flat_map (line_text graph.now) lines.now) }
 {
     'lines: for i in 0..lines.len() {
-        let left = line_in(lines, i);
+        let left = item(lines, i);
         then_left_line(line, out, graph, &left);
     }
 }

@@ -11,10 +11,11 @@ ghost use Rattle.fault_cover.specs.Beginnings.{ArePlaced, IsPlaced, start_at};
 ghost use Rattle.fault_cover.specs.Sources.{Source, part};
 ghost use Rattle.fault_cover.specs.Surveys.{AreMaps, AreRests, AreWordRests, IsOutOf, IsOutputOf, IsRest, SumsTo, before_of};
 
+use crate::items::item;
 use crate::nearest::{Nearest, is_nearer, nearer};
 use crate::starts::Start;
 use crate::survey::Survey;
-use crate::telling::{first_from, start_in, then_comes};
+use crate::telling::{first_from, then_comes};
 use coded_unit::words_split_in_one_way;
 use op_graph::{Graph, entries_keep_their_rules};
 use signature_table::constants_are_in_range;
@@ -157,7 +158,7 @@ fn then_rest(graph: &Graph, survey: &Survey, starts: &[Start], i: usize, old: Re
     // What isn't reached has no weight.
     differences_are_superposed();
     words_split_in_one_way();
-    let start = start_in(starts, i);
+    let start = item(starts, i);
     let near = first_from(survey.outputs(), &start);
     let able = first_from(survey.stops(), &start);
     let output = nearer(old.output, near);

@@ -8,6 +8,7 @@ ghost use Rattle.weight_audit.specs.Audit.{most_weights, weights_up_to, IsAudit}
 ghost use Rattle.weight_audit.specs.declared.kept.AuditFault.TheVariants as fault;
 ghost use Rattle.fault_cover.specs.Surveys.{AreAble, AreNumbers, AreOutputs, AreOuts, AreStops, IsMapped, IsSurveyOf};
 
+use crate::items::item;
 use crate::nearest::{Nearest, find_nearest};
 use crate::rests::{Rests, word_rests};
 use crate::starts::{Start, Starts, readings};
@@ -154,18 +155,10 @@ fn may_stop(alloc: Global, stops: &[Stops]) -> Result<Vec<bool>, Memory>
 {
     let mut wanted = Vec::with_capacity(alloc, stops.len())?;
     'operations: for i in 0..stops.len() {
-        let why = stops_at(stops, i);
+        let why = item(stops, i);
         wanted.push(why.are_any())?;
     }
     Ok(wanted)
-}
-
-/// Why operation `i` may stop.
-fn stops_at(stops: &[Stops], i: usize) -> Stops
-    requires { i < length stops.now }
-    ensures { slice_get stops.now i ≡ Some result }
-{
-    stops[i]
 }
 
 /// Which output's OUT is reached first from each operation.

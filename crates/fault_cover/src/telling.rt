@@ -22,6 +22,7 @@ ghost use Rattle.fault_cover.specs.Walks.{AreWithin, further as further_of, kept
 use crate::disturbance::Disturbance;
 use crate::effect::Effect;
 use crate::inverse::{product, refuses};
+use crate::items::item;
 use crate::nearest::{Nearest, further, nearer};
 use crate::starts::{Start, start_of};
 use crate::survey::Survey;
@@ -39,14 +40,6 @@ pub(crate) enum Outlook {
     Is(Effect),
     /// Outputs are reached first, across so many borders; the first of them has this OUT.
     Outputs(Nearest),
-}
-
-/// One of the starts.
-pub(crate) fn start_in(starts: &[Start], i: usize) -> Start
-    requires { i < length starts.now }
-    ensures { slice_get starts.now i ≡ Some result }
-{
-    starts[i]
 }
 
 /// What is reached first from a start.
@@ -67,7 +60,7 @@ fn first_of(profile: Profile, found: &[Option<Nearest>], starts: &[Start]) -> Op
 {
     let mut first = None;
     'starts: for i in 0..starts.len() {
-        let start = start_in(starts, i);
+        let start = item(starts, i);
         first = nearer(first, first_from(found, &start));
     }
     first
@@ -178,7 +171,7 @@ fn comes(graph: &Graph, weights: &Weights, output: u32, borders: u32, starts: &[
     words_split_in_one_way();
     let mut sum = 0;
     'starts: for i in 0..starts.len() {
-        let start = start_in(starts, i);
+        let start = item(starts, i);
         sum = then_comes(graph, weights, output, borders, &start, sum);
     }
     sum

@@ -15,8 +15,9 @@ ghost use Rattle.fault_cover.specs.Telling.{subject as subject_of};
 ghost use Rattle.fault_cover.specs.Writing.{Finds, IsFound, IsSmall, WritesCover, body_text, count_row};
 
 use crate::class::{CoverClass, CoverClasses};
-use crate::counting::{ClassCount, DELAYS, count_classes, count_in, delayed, total};
-use crate::faults::{Subject, then_faults};
+use crate::counting::{ClassCount, DELAYS, count_classes, delayed, total};
+use crate::faults::{Subject, then_class_faults};
+use crate::items::item;
 use crate::left::{LeftLine, lines_left};
 use crate::lines::{
     Showing, then_class_row, then_delay_row, then_heading, then_left, then_remark, then_totals,
@@ -54,7 +55,7 @@ fn then_class_rows<O: Sink>(line: &mut Line, out: &mut O, counts: &[ClassCount])
     ensures { All IsSmall counts.now → GathersTo (O.seen out.old) (O.seen out.new) line.old line.new (flat_map count_row counts.now) }
 {
     'classes: for i in 0..counts.len() {
-        let count = count_in(counts, i);
+        let count = item(counts, i);
         then_class_row(line, out, count.class, &count.counting.tally);
     }
 }
@@ -90,7 +91,10 @@ fn then_showing<O: Sink>(
         return;
     }
     let mut showing = Showing {};
-    then_faults(line, out, &mut showing, subject, classes);
+    'classes: for i in 0..classes.len() {
+        let class = item(classes, i);
+        then_class_faults(line, out, &mut showing, subject, class);
+    }
 }
 
 /// The lines of operations whose faults run on or are beyond, where there are any by the tally of all faults.

@@ -8,7 +8,7 @@ use Rattle.fault_cover.proofs.counting.count_classes.Goals as goal
 pub classes-preserved : goal.classes-preserved
 classes-preserved c = λ stops survey.
     counts_next (subject c.args.subject.now.graph.now c.args.subject.now.table.now c.args.subject.now.survey.now.horizon stops) c.args.classes.now c.classes.i
-    c.class_in-class.result _ _ c.count_class.result c.class_in-class.ensures (c.classes.invariant stops survey)
+    c.item-class.result _ _ c.count_class.result c.item-class.ensures (c.classes.invariant stops survey)
     (c.count_class.ensures stops survey) c.in_ok-push.ensures.items
 
 pub returns : goal.returns

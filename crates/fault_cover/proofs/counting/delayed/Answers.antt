@@ -9,7 +9,7 @@ classes-init c = λ covered are few. refl
 
 pub classes-preserved : goal.classes-preserved
 classes-preserved c = λ covered are few.
-    delay_next c.args.counts.now covered c.classes.i c.count_in-count.result c.args.n c.requires are few c.count_in-count.ensures c.classes.all
+    delay_next c.args.counts.now covered c.classes.i c.item-count.result c.args.n c.requires are few c.item-count.ensures c.classes.all
     c.plus-all.result
     (c.classes.invariant covered are few) c.plus-all.ensures
 

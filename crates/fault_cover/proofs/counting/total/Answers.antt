@@ -9,7 +9,7 @@ classes-init c = λ covered are few. c.none-all.ensures
 
 pub classes-preserved : goal.classes-preserved
 classes-preserved c = λ covered are few.
-    total_next c.args.counts.now covered c.classes.i c.count_in-count.result are few c.count_in-count.ensures c.classes.all c.with-all.result
+    total_next c.args.counts.now covered c.classes.i c.item-count.result are few c.item-count.ensures c.classes.all c.with-all.result
     (c.classes.invariant covered are few) c.with-all.ensures
 
 pub returns : goal.returns

@@ -8,13 +8,13 @@ classes-init g c = λ stops survey. passes_none
 
 pub classes-preserved : goal.classes-preserved
 classes-preserved g c = λ stops survey.
-    let one = c.class_in-class.result in
+    let one = c.item-class.result in
     let i = c.classes.i in
     let past = flat_map (λ d. singles_of d c.args.subject.now.graph.now c.args.k) (take i c.args.classes.now) in
     passes_same (past ++ singles_of one c.args.subject.now.graph.now c.args.k) (flat_map (λ d. singles_of d c.args.subject.now.graph.now c.args.k) (take (i
     + 1) c.args.classes.now))
     (passes_both past (singles_of one c.args.subject.now.graph.now c.args.k) (c.classes.invariant stops survey) (c.then_operation_faults.ensures stops survey))
-    (taken_more (λ d. singles_of d c.args.subject.now.graph.now c.args.k) c.args.classes.now i one c.class_in-class.ensures)
+    (taken_more (λ d. singles_of d c.args.subject.now.graph.now c.args.k) c.args.classes.now i one c.item-class.ensures)
 
 pub returns : goal.returns
 returns g c = λ stops survey.

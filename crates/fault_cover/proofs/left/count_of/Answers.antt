@@ -9,8 +9,8 @@ keys-preserved c =
     let keys = c.args.keys.now in
     let so_far = c.keys.invariant.count in
     let few = c.keys.invariant.few in
-    let next = key_next (take c.keys.i keys) c.key_in-found.result c.args.key in
-    let taken = ap (λ ks. count_key ks c.args.key) (taken_one keys c.keys.i c.key_in-found.result c.key_in-found.ensures) in
+    let next = key_next (take c.keys.i keys) c.item-found.result c.args.key in
+    let taken = ap (λ ks. count_key ks c.args.key) (taken_one keys c.keys.i c.item-found.result c.item-found.ensures) in
     record {
       count = omega (arith, so_far, next, taken, c.one_if-count.ensures.one);
       few = omega (arith, few, c.one_if-count.ensures.few);

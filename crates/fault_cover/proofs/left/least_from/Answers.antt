@@ -6,7 +6,7 @@ use Rattle.fault_cover.proofs.left.least_from.Goals as goal
 pub keys-preserved : goal.keys-preserved
 keys-preserved c =
     let keys = c.args.keys.now in
-    subst (λ ks. IsLeast ks c.args.from c.args.most c.lesser-best.result) (taken_one keys c.keys.i c.key_in-key.result c.key_in-key.ensures)
+    subst (λ ks. IsLeast ks c.args.from c.args.most c.lesser-best.result) (taken_one keys c.keys.i c.item-key.result c.item-key.ensures)
     (c.lesser-best.ensures (take c.keys.i keys) c.keys.invariant)
 
 pub returns : goal.returns

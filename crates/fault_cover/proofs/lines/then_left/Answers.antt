@@ -10,7 +10,7 @@ lines-init g c = unmoved
 pub lines-preserved : goal.lines-preserved
 lines-preserved g c =
     same (and_then c.lines.invariant c.then_left_line.ensures)
-    (sym (taken_more (line_text c.args.graph.now) c.args.lines.now c.lines.i c.line_in-left.result c.line_in-left.ensures))
+    (sym (taken_more (line_text c.args.graph.now) c.args.lines.now c.lines.i c.item-left.result c.item-left.ensures))
 
 pub returns : goal.returns
 returns g c =

@@ -6,7 +6,7 @@ pub operations-preserved : goal.operations-preserved
 operations-preserved c =
     let v = c.operations.invariant in
     let more =
-    one_able c.args.stops.now c.operations.wanted.items c.push.new.self.items c.operations.i c.stops_at-why.result c.are_any.result c.stops_at-why.ensures
+    one_able c.args.stops.now c.operations.wanted.items c.push.new.self.items c.operations.i c.item-why.result c.are_any.result c.item-why.ensures
     c.are_any.ensures v.many v.each
     c.in_ok-push.ensures.items in
     record { many = more.0; each = more.1 }

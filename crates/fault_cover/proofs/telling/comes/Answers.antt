@@ -19,7 +19,7 @@ starts-preserved c =
       below = c.then_comes-sum.ensures.below;
       value = λ from o is there.
           one_more g (c.words_split_in_one_way.ensures g.profile) o.op c.args.borders c.starts.sum c.then_comes-sum.result c.starts.i from c.args.starts.now
-          c.start_in-start.result is c.start_in-start.ensures (λ s start_is. c.then_comes-sum.ensures.value s o start_is there)
+          c.item-start.result is c.item-start.ensures (λ s start_is. c.then_comes-sum.ensures.value s o start_is there)
           (c.starts.invariant.value from o is there);
     }
 

@@ -19,7 +19,7 @@ pub starts-preserved : goal.starts-preserved
 starts-preserved c =
     let found = c.args.found.now in
     let starts = c.args.starts.now in
-    let start = c.start_in-start.result in
+    let start = c.item-start.result in
     let i = c.starts.i in
     let v = c.starts.invariant in
     let old = c.starts.first in
@@ -28,12 +28,12 @@ starts-preserved c =
     record {
       reached = λ n e. ⊎_elim
           (λ (h : nearer old x ≡ old). v.reached n (sym h ∙ sym is ∙ e))
-          (λ (h : nearer old x ≡ x). (i, start, c.start_in-start.ensures, sym h ∙ sym is ∙ e))
+          (λ (h : nearer old x ≡ x). (i, start, c.item-start.ensures, sym h ∙ sym is ∙ e))
           (nearer_either old x);
       least = λ j s lt there. subst (λ y. NotFurther y (further (kept found s.op) s.borders)) (sym is) (⊎_elim
           (λ (h : ((j == i) ≡ true) × (j ≡ i)).
           subst (λ (y : Start). NotFurther (nearer old x) (further (kept found y.op) y.borders))
-          (one_start (sym c.start_in-start.ensures ∙ subst (λ m. slice_get starts m ≡ Some s) h.1 there)) (nearer_second old x))
+          (one_start (sym c.item-start.ensures ∙ subst (λ m. slice_get starts m ≡ Some s) h.1 there)) (nearer_second old x))
           (λ (h : ((j == i) ≡ false) × (j ≢ i)).
           no_further_through (nearer old x) old (further (kept found s.op) s.borders) (nearer_first old x)
           (v.least j s (let ne = h.1 in omega (arith, lt, ne)) there))

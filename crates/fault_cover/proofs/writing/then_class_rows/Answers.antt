@@ -10,9 +10,9 @@ classes-init g c = λ small. unmoved
 
 pub classes-preserved : goal.classes-preserved
 classes-preserved g c = λ small.
-    let n = c.count_in-count.result in
-    same (and_then (c.classes.invariant small) (c.then_class_row.ensures (small_at c.args.counts.now c.classes.i n c.count_in-count.ensures small)))
-    (sym (taken_more count_row c.args.counts.now c.classes.i n c.count_in-count.ensures))
+    let n = c.item-count.result in
+    same (and_then (c.classes.invariant small) (c.then_class_row.ensures (small_at c.args.counts.now c.classes.i n c.item-count.ensures small)))
+    (sym (taken_more count_row c.args.counts.now c.classes.i n c.item-count.ensures))
 
 pub returns : goal.returns
 returns g c = λ small.

@@ -1,10 +1,10 @@
 use Rattle.std.proofs.Common.{flat_map, take}
 use Rattle.fault_cover.specs.Classes.{singles}
+use Rattle.fault_cover.specs.CoverText.{shows_text}
 use Rattle.fault_cover.specs.Passing.{Passing}
-use Rattle.fault_cover.proofs.faults.then_faults.Given as goal
+use Rattle.fault_cover.proofs.writing.then_showing.Given as goal
 
 abbrev pub invariant-classes : goal.invariant-classes
 invariant-classes g l =
     Passing l.subject.graph.now l.subject.table.now l.subject.survey.now (flat_map (λ c. singles c l.subject.graph.now) (take l.i l.classes))
-    (g.L.Listener.text l.subject.graph.now) (g.O.Sink.seen l.fn.out) (g.O.Sink.seen l.out)
-    l.fn.line l.line (g.L.Listener.Keeps l.subject.graph.now l.fn.listener) (g.L.Listener.Keeps l.subject.graph.now l.listener)
+    (λ h. shows_text l.subject.graph.now h.fault h.told) (g.O.Sink.seen l.fn.out) (g.O.Sink.seen l.out) l.fn.line l.line (λ _. Unit {0}) (λ _. Unit {0})
