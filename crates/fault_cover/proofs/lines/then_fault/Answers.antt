@@ -1,5 +1,5 @@
 use Rattle.fault_cover.proofs.Going.{and_then, same}
-use Rattle.std.proofs.Common.{◌++◌, append_assoc, ap, codes, decimal, sym}
+use Rattle.std.proofs.Common.{◌++◌, append_assoc, ap, codes, decimal}
 use Rattle.fault_cover.specs.CoverText.{back, front, place_text}
 use Rattle.fault_cover.proofs.lines.then_fault.Goals as goal
 
