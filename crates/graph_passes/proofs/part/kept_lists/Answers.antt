@@ -1,7 +1,48 @@
 use Rattle.std.proofs.Common.{[], map, ap, ◌∙◌}
+use Rattle.std.proofs.lemmas.Result.{IfOk-from_err}
 use Rattle.graph_passes.specs.Part.{chosen, moved, moved_load, moved_output}
 use Rattle.graph_passes.specs.Tables.{marked, number_at, by_tables}
 use Rattle.graph_passes.proofs.part.kept_lists.Goals as goal
+
+pub returns-in_err-outputs : goal.returns-in_err-outputs
+returns-in_err-outputs c =
+    let e = c.from_residual.ensures.0 in
+    record {
+      outputs = IfOk-from_err c.from_residual.result _ e;
+      loads = IfOk-from_err c.from_residual.result _ e;
+      stores = IfOk-from_err c.from_residual.result _ e;
+      operations = IfOk-from_err c.from_residual.result _ e;
+    }
+
+pub returns-in_err-loads : goal.returns-in_err-loads
+returns-in_err-loads c =
+    let e = c.from_residual-in_err-loads.ensures.0 in
+    record {
+      outputs = IfOk-from_err c.from_residual-in_err-loads.result _ e;
+      loads = IfOk-from_err c.from_residual-in_err-loads.result _ e;
+      stores = IfOk-from_err c.from_residual-in_err-loads.result _ e;
+      operations = IfOk-from_err c.from_residual-in_err-loads.result _ e;
+    }
+
+pub returns-in_err-stores : goal.returns-in_err-stores
+returns-in_err-stores c =
+    let e = c.from_residual-in_err-stores.ensures.0 in
+    record {
+      outputs = IfOk-from_err c.from_residual-in_err-stores.result _ e;
+      loads = IfOk-from_err c.from_residual-in_err-stores.result _ e;
+      stores = IfOk-from_err c.from_residual-in_err-stores.result _ e;
+      operations = IfOk-from_err c.from_residual-in_err-stores.result _ e;
+    }
+
+pub returns-in_err-operations : goal.returns-in_err-operations
+returns-in_err-operations c =
+    let e = c.from_residual-in_err-operations.ensures.0 in
+    record {
+      outputs = IfOk-from_err c.from_residual-in_err-operations.result _ e;
+      loads = IfOk-from_err c.from_residual-in_err-operations.result _ e;
+      stores = IfOk-from_err c.from_residual-in_err-operations.result _ e;
+      operations = IfOk-from_err c.from_residual-in_err-operations.result _ e;
+    }
 
 pub returns-clause-outputs : goal.returns-clause-outputs
 returns-clause-outputs c =
