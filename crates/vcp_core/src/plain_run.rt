@@ -36,20 +36,10 @@ fn slot_names(alloc: Global, slots: &[Slot]) -> Result<Words, Memory>
 }
 
 /// A row of zeros, one for each column.
-fn zeros(alloc: Global, columns: &Columns) -> Result<Row, Memory>
+fn zeros_of(alloc: Global, columns: &Columns) -> Result<Row, Memory>
     ensures { IfOk result (λ row. length row ≡ length columns.now) }
 {
     Ok(Row::from_vec(vec![in alloc; 0; columns.len()]?))
-}
-
-/// A row of zeros, one for each input of a program.
-fn input_zeros(alloc: Global, program: &Typed) -> Result<Row, Memory>
-    ensures { IfOk result (λ row. length row ≡ length (input_types program.now.slots)) }
-{
-    match program.columns(alloc) {
-        Ok(columns) => zeros(alloc, &columns),
-        Err(Memory) => Err(Memory),
-    }
 }
 
 /// Does a cycle on a row of inputs, and prints its line: the row of outputs, or the stop. It answers
@@ -174,11 +164,11 @@ fn print_named<O: Sink>(
     ensures write { result ≡ Err fault.Write → Rose (O.seen out.old).faults (O.seen out.new).faults }
     ensures stayed { result ≢ Err fault.Write → (O.seen out.new).faults ≡ (O.seen out.old).faults }
 {
-    let mut inputs = match input_zeros(alloc, program) {
+    let mut inputs = match Row::zeros(alloc, rows.width()) {
         Ok(row) => row,
         Err(Memory) => return Err(RunFault::Memory),
     };
-    let mut outputs = match zeros(alloc, columns) {
+    let mut outputs = match zeros_of(alloc, columns) {
         Ok(row) => row,
         Err(Memory) => return Err(RunFault::Memory),
     };

@@ -7,6 +7,7 @@ use Rattle.vcp_core.specs.PlainRun.{Prints}
 use Rattle.vcp_core.proofs.PlainNames.{outputs-count}
 use Rattle.vcp_core.proofs.PlainTurns.{nothing-printed}
 use Rattle.vcp_core.proofs.JobFacts.{memory_unwritten}
+use Rattle.std.proofs.lemmas.List.{length-replicate}
 use Rattle.vcp_core.proofs.plain_run.print_named.Goals as goal
 
 pub print_begun-requires : goal.print_begun-requires
@@ -20,8 +21,9 @@ print_begun-requires g c =
       types = c.requires.types ∙ ap (λ (e : Evaluator). input_types e.program.slots) (sym new);
       typed = c.requires.typed;
       few = c.requires.few;
-      inputs = c.in-Ok.ensures ∙ ap (λ (e : Evaluator). length (input_types e.program.slots)) (sym new);
-      outputs = c.in-Ok-zeros.ensures ∙ ap length c.requires.columns ∙ outputs-count c.args.program.now.slots
+      inputs = ap length c.in-Ok.ensures ∙ length-replicate _ _ ∙ c.width.ensures ∙ ap length c.requires.types
+          ∙ ap (λ (e : Evaluator). length (input_types e.program.slots)) (sym new);
+      outputs = c.in-Ok-zeros_of.ensures ∙ ap length c.requires.columns ∙ outputs-count c.args.program.now.slots
           ∙ ap (λ (e : Evaluator). length (output_types e.program.slots)) (sym new);
     }
 
@@ -38,8 +40,8 @@ returns-in-Ok-new g c = record {
 pub returns-in-Err : goal.returns-in-Err
 returns-in-Err g c = record { prints = nothing-printed c.args.program.now c.args.rows.now _; write = λ e. absurd (memory_unwritten e); stayed = λ other. refl }
 
-pub returns-in-Err-zeros : goal.returns-in-Err-zeros
-returns-in-Err-zeros g c = record { prints = nothing-printed c.args.program.now c.args.rows.now _; write = λ e. absurd (memory_unwritten e); stayed = λ other. refl }
+pub returns-in-Err-zeros_of : goal.returns-in-Err-zeros_of
+returns-in-Err-zeros_of g c = record { prints = nothing-printed c.args.program.now c.args.rows.now _; write = λ e. absurd (memory_unwritten e); stayed = λ other. refl }
 
 pub returns : goal.returns
 returns g c = record { prints = nothing-printed c.args.program.now c.args.rows.now _; write = λ e. absurd (memory_unwritten e); stayed = λ other. refl }

@@ -25,31 +25,32 @@ returns-clause-ran g c s code name p words carries shows = inl (still _)
 
 -- ---- the machine's run
 
-pub new-requires : goal.new-requires
-new-requires g c = c.requires.table
+pub run_machine-requires-clause-fresh : goal.run_machine-requires-clause-fresh
+run_machine-requires-clause-fresh g c =
+    c.in-Ok-new.ensures.fresh ∙ ap (λ (m : State). fresh m.graph m.table) (sym c.in-Ok-new.ensures.fresh)
 
-pub run_machine-requires : goal.run_machine-requires
-run_machine-requires g c =
-    let is = c.in-Ok-new.ensures.fresh in
-    record {
-      sound = c.requires.sound;
-      fresh = is ∙ ap (λ (m : State). fresh m.graph m.table) (sym is);
-      rules = subst (λ (m : State). IsGraph m.graph) (sym is) c.len-rules.ensures.rules;
-      ranges = subst (λ (m : State). IsTable m.table) (sym is) c.step-ranges.ensures.ranges;
-      table = subst (λ (m : State). IsTableOf m.table m.graph) (sym is) c.requires.table;
-      outputs = c.in-Ok.ensures ∙ ap (λ (m : State). map (output_column m.graph.names) m.graph.outputs) (sym is);
-      width = c.requires.width ∙ ap (λ (m : State). length m.graph.inputs) (sym is);
-      few = c.requires.few;
-      behind = c.requires.behind;
-    }
+pub run_machine-requires-clause-rules : goal.run_machine-requires-clause-rules
+run_machine-requires-clause-rules g c =
+    subst (λ (m : State). IsGraph m.graph) (sym c.in-Ok-new.ensures.fresh) c.len-rules.ensures.rules
 
-pub returns-in-Ok-new : goal.returns-in-Ok-new
-returns-in-Ok-new g c =
+pub run_machine-requires-clause-ranges : goal.run_machine-requires-clause-ranges
+run_machine-requires-clause-ranges g c =
+    subst (λ (m : State). IsTable m.table) (sym c.in-Ok-new.ensures.fresh) c.step-ranges.ensures.ranges
+
+pub run_machine-requires-clause-table : goal.run_machine-requires-clause-table
+run_machine-requires-clause-table g c =
+    subst (λ (m : State). IsTableOf m.table m.graph) (sym c.in-Ok-new.ensures.fresh) c.requires.table
+
+pub run_machine-requires-clause-outputs : goal.run_machine-requires-clause-outputs
+run_machine-requires-clause-outputs g c =
+    c.in-Ok.ensures ∙ ap (λ (m : State). map (output_column m.graph.names) m.graph.outputs) (sym c.in-Ok-new.ensures.fresh)
+
+pub run_machine-requires-clause-width : goal.run_machine-requires-clause-width
+run_machine-requires-clause-width g c =
+    c.requires.width ∙ ap (λ (m : State). length m.graph.inputs) (sym c.in-Ok-new.ensures.fresh)
+
+pub returns-in-Ok-new-clause-ran : goal.returns-in-Ok-new-clause-ran
+returns-in-Ok-new-clause-ran g c s code name p words carries shows =
     let is = sym c.in-Ok-new.ensures.fresh in
-    record {
-      ran = λ s code name p words carries shows.
-          c.run_machine.ensures.ran s code name p words
-          (subst (λ (m : State). CarriesOut m.graph m.table c.args.rows.now s code) is carries)
-          (shows_on (ap (λ (m : State). m.graph) is) shows);
-      causes = c.run_machine.ensures.causes;
-    }
+    c.run_machine.ensures.ran s code name p words (subst (λ (m : State). CarriesOut m.graph m.table c.args.rows.now s code) is carries)
+    (shows_on (ap (λ (m : State). m.graph) is) shows)
