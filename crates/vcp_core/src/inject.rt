@@ -2,7 +2,7 @@
 
 ghost use Rattle.std.specs.Prelude.{◌≡◌, ◌≤◌, All, IfErr, IfOk, length};
 ghost use Rattle.vcp_base.specs.Limits.{most_cycles, most_names};
-ghost use Rattle.vcp_inputs.specs.Forms.{inject, rows_of, Rows};
+ghost use Rattle.vcp_inputs.specs.Forms.{inject, rows_of};
 ghost use Rattle.vcp_inputs.specs.Refusals.{IsCaused};
 ghost use Rattle.input_rows.specs.Opening.{HasFewCycles};
 ghost use Rattle.vcp_inputs.specs.RowsOutcome.{source_outcome};
@@ -52,7 +52,7 @@ fn all_rows(
     Ok(list)
 }
 
-/// Reads all rows of an image, once its file and ROWS were read, and goes on with the script.
+/// Reads all rows of an image, once its file and ROWS were read, and then the script F, and judges each of its groups.
 pub fn inject_image<'a, F: Files, U: Unit, O: Sink>(
     alloc: Global,
     loaded: &ImageRows,
@@ -66,39 +66,22 @@ pub fn inject_image<'a, F: Files, U: Unit, O: Sink>(
     ensures { PerformsOn (λ m. inject m (rows_of rows.entry) script.now) (rows_of rows.entry) loaded.now (F.seen files.old) (F.seen files.new)
         (moment (U.seen unit.old) (O.seen out.old)) (moment (U.seen unit.new) (O.seen out.new)) (told_line result) (told_status result) }
 {
-    match all_rows(alloc, &loaded.rows, &loaded.columns, &loaded.image.graph) {
-        Ok(list) => judge_script(alloc, loaded, &list, script, files, unit, out),
-        Err(input) => Err(Fault::Input {
-            name: rows_name(rows),
-            input,
-        }),
-    }
-}
-
-/// Reads the script F for an image, all of whose rows these are, and judges each of its groups.
-fn judge_script<'a, F: Files, U: Unit, O: Sink>(
-    alloc: Global,
-    loaded: &ImageRows,
-    list: &RowList,
-    script: &'a Text,
-    files: &mut F,
-    unit: &mut U,
-    out: &mut O,
-) -> Result<Ending, Fault<'a>>
-    requires fit { AreImageRows loaded.now }
-    requires all { AllRows (source_outcome loaded.now.rows loaded.now.columns) loaded.now.image.graph list.now }
-    requires width { All (λ row. length row ≡ length loaded.now.columns) list.now }
-    requires few { length list.now ≤ most_cycles }
-    ensures { (rows : Rows) → PerformsOn (λ m. inject m rows script.now) rows loaded.now (F.seen files.old) (F.seen files.new)
-        (moment (U.seen unit.old) (O.seen out.old)) (moment (U.seen unit.new) (O.seen out.new)) (told_line result) (told_status result) }
-{
+    let list = match all_rows(alloc, &loaded.rows, &loaded.columns, &loaded.image.graph) {
+        Ok(list) => list,
+        Err(input) => {
+            return Err(Fault::Input {
+                name: rows_name(rows),
+                input,
+            });
+        }
+    };
     match load_script(alloc, files, script, &loaded.image.graph) {
         Ok(groups) => campaign_ended(run_campaign(
             alloc,
             out,
             &loaded.image.graph,
             &loaded.image.table,
-            list,
+            &list,
             &groups,
             unit,
         )),

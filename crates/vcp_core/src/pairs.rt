@@ -8,9 +8,7 @@ ghost use Rattle.fault_script.specs.Groups.{GroupFits};
 ghost use Rattle.fault_script.specs.ScriptOf.{most_faults};
 ghost use Rattle.fault_campaign.specs.PairCampaigns.{PairsTold};
 ghost use Rattle.fault_campaign.specs.declared.fault.CampaignFault.TheVariants as fault;
-ghost use Rattle.vcp_inputs.specs.Forms.{pairs, rows_of, Rows};
-ghost use Rattle.vcp_inputs.specs.RowsOutcome.{source_outcome};
-ghost use Rattle.vcp_inputs.specs.RowsRead.{AllRead};
+ghost use Rattle.vcp_inputs.specs.Forms.{pairs, rows_of};
 ghost use Rattle.coded_machine.specs.Moments.{moment};
 ghost use Rattle.vcp_core.specs.ImagesRead.{AreImageRows, PerformsOn};
 ghost use Rattle.vcp_core.specs.Reach.{told_line, told_status};
@@ -29,7 +27,8 @@ use vcp_base::{Memory, Text};
 use vcp_inputs::{Image, RowsWord, load_script, whole_rows};
 use vcp_outside::{Files, Sink};
 
-/// Reads all rows of an image, once its file and ROWS were read, and goes on with the script.
+/// Reads all rows of an image, once its file and ROWS were read, and then the script F, and runs each of its groups on two channels, of
+/// which the second has this other seed.
 pub fn pairs_image<'a, F: Files, U: Unit, O: Sink>(
     alloc: Global,
     loaded: &ImageRows,
@@ -46,41 +45,20 @@ pub fn pairs_image<'a, F: Files, U: Unit, O: Sink>(
     ensures { PerformsOn (λ m. pairs m (rows_of rows.entry) seed script.now) (rows_of rows.entry) loaded.now (F.seen files.old) (F.seen files.new)
         (moment (U.seen unit.old) (O.seen out.old)) (moment (U.seen unit.new) (O.seen out.new)) (told_line result) (told_status result) }
 {
-    match whole_rows(alloc, &loaded.rows, &loaded.columns) {
-        Ok(list) => pair_script(alloc, loaded, &list, seed, script, files, unit, out),
-        Err(input) => Err(Fault::Input {
-            name: rows_name(rows),
-            input,
-        }),
-    }
-}
-
-/// Reads the script F for an image, all of whose rows these are, and runs each of its groups on two
-/// channels, of which the second has this other seed.
-fn pair_script<'a, F: Files, U: Unit, O: Sink>(
-    alloc: Global,
-    loaded: &ImageRows,
-    list: &RowList,
-    seed: u32,
-    script: &'a Text,
-    files: &mut F,
-    unit: &mut U,
-    out: &mut O,
-) -> Result<Ending, Fault<'a>>
-    requires fit { AreImageRows loaded.now }
-    requires seed { seed < seeds }
-    requires apart { seed ≢ loaded.now.image.table.seed }
-    requires all { AllRead (source_outcome loaded.now.rows loaded.now.columns) list.now }
-    requires width { All (λ row. length row ≡ length loaded.now.columns) list.now }
-    requires few { length list.now ≤ most_cycles }
-    ensures { (rows : Rows) → PerformsOn (λ m. pairs m rows seed script.now) rows loaded.now (F.seen files.old) (F.seen files.new)
-        (moment (U.seen unit.old) (O.seen out.old)) (moment (U.seen unit.new) (O.seen out.new)) (told_line result) (told_status result) }
-{
+    let list = match whole_rows(alloc, &loaded.rows, &loaded.columns) {
+        Ok(list) => list,
+        Err(input) => {
+            return Err(Fault::Input {
+                name: rows_name(rows),
+                input,
+            });
+        }
+    };
     match load_script(alloc, files, script, &loaded.image.graph) {
         Ok(groups) => campaign_ended(pair_groups(
             alloc,
             &loaded.image,
-            list,
+            &list,
             seed,
             &groups,
             unit,
