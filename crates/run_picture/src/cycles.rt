@@ -1,12 +1,12 @@
 //! The style, the cycles, the names, the base lines and the end of a picture.
 
-ghost use Rattle.std.specs.Prelude.{◌≡◌, ◌<◌, ◌≤◌, ◌∷◌, length, flat_map};
+ghost use Rattle.std.specs.Prelude.{◌≡◌, ◌<◌, length, flat_map};
 ghost use Rattle.vcp_outside.specs.Gathering.{GathersTo};
 ghost use Rattle.vcp_outside.specs.Elements.{element_text};
 ghost use Rattle.vcp_base.specs.Limits.{most_cycles};
-ghost use Rattle.run_picture.specs.Elements.{style, begin_element, cycle_element, time_element, time_elements, mark_elements, page_elements};
-ghost use Rattle.run_picture.specs.Elements.{cycle_elements, cycles_elements, name_element, names_elements, base_element, base_elements, bases_elements};
-ghost use Rattle.run_picture.specs.Elements.{class_of as class_of_mark, mark_element, ending_element, ending_elements};
+ghost use Rattle.run_picture.specs.Elements.{style, time_elements, mark_elements};
+ghost use Rattle.run_picture.specs.Elements.{cycle_elements, cycles_elements, name_element, names_elements, base_elements, bases_elements};
+ghost use Rattle.run_picture.specs.Elements.{class_of as class_of_mark, ending_elements};
 
 use crate::ending::Mark;
 use crate::layout::{Layout, start, top};

@@ -6,7 +6,7 @@ ghost use Rattle.vcp_outside.specs.Elements.{element_text};
 ghost use Rattle.vcp_base.specs.Limits.{most_cycles};
 ghost use Rattle.run_picture.specs.Drawn.{lane, lanes};
 ghost use Rattle.run_picture.specs.Elements.{top_of, level_of, rises as rises_of, holds as holds_of, level_element, number_element, ramp_element};
-ghost use Rattle.run_picture.specs.Elements.{value_element, edge_element, edge_elements, first_element, last_element, label_elements, stretch_elements};
+ghost use Rattle.run_picture.specs.Elements.{value_element, edge_elements, last_element, label_elements, stretch_elements};
 
 use crate::layout::{Layout, start, top};
 use crate::run::Run;

@@ -1,6 +1,6 @@
 //! Lines and texts.
 
-ghost use Rattle.std.specs.Prelude.{◌≡◌, ◌<◌, ◌≤◌, map};
+ghost use Rattle.std.specs.Prelude.{◌<◌, ◌≤◌, map};
 ghost use Rattle.vcp_outside.specs.Gathering.{GathersTo};
 ghost use Rattle.vcp_outside.specs.Characters.{piece_bytes};
 ghost use Rattle.vcp_outside.specs.Elements.{element_text};

@@ -1,6 +1,6 @@
 //! How long a cycle takes, and when cycles begin.
 
-ghost use Rattle.std.specs.Prelude.{◌≡◌, ◌<◌, ◌≤◌, ◌/◌, ◌^◌, IfSome, ℕ, length, decimal, option_map};
+ghost use Rattle.std.specs.Prelude.{◌≡◌, ◌<◌, ◌≤◌, ◌/◌, ℕ, length, decimal, option_map};
 ghost use Rattle.std.specs.List.{concat};
 ghost use Rattle.vcp_base.specs.Limits.{most_cycles};
 ghost use Rattle.run_picture.specs.Times.{scale_of, drawn_in as drawn_in_of, thousandths_at, time_pieces, front_before as front_before_of};

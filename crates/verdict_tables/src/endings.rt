@@ -52,9 +52,7 @@ impl Endings {
         ensures ok { OnOk result (self.new ≡ self.old ++ ending ∷ []) }
         ensures err { OnErr result (self.new ≡ self.old) }
     {
-        if self.endings.push(ending).is_err() {
-            return Err(Memory);
-        }
+        self.endings.push(ending)?;
         Ok(())
     }
 
@@ -109,9 +107,7 @@ impl EndingsOfParts {
         ensures ok { OnOk result (self.new ≡ self.old ++ endings ∷ []) }
         ensures err { OnErr result (self.new ≡ self.old) }
     {
-        if self.endings.push(endings).is_err() {
-            return Err(Memory);
-        }
+        self.endings.push(endings)?;
         Ok(())
     }
 

@@ -67,9 +67,7 @@ impl Parts {
         ensures ok { OnOk result (self.new ≡ self.old ++ part ∷ []) }
         ensures err { OnErr result (self.new ≡ self.old) }
     {
-        if self.parts.push(part).is_err() {
-            return Err(Memory);
-        }
+        self.parts.push(part)?;
         Ok(())
     }
 

@@ -37,9 +37,7 @@ impl Verdicts {
         ensures ok { OnOk result (self.new ≡ self.old ++ verdict ∷ []) }
         ensures err { OnErr result (self.new ≡ self.old) }
     {
-        if self.verdicts.push(verdict).is_err() {
-            return Err(Memory);
-        }
+        self.verdicts.push(verdict)?;
         Ok(())
     }
 
