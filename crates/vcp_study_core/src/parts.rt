@@ -9,13 +9,12 @@ ghost use Rattle.fault_script.specs.ScriptOf.{most_faults};
 ghost use Rattle.fault_injector.specs.Names.{Names};
 ghost use Rattle.verdict_tables.specs.Reading.{verdicts_in as verdicts_in_text};
 ghost use Rattle.verdict_tables.specs.Parts.{most_parts, IsWhole, PartFits};
-ghost use Rattle.vcp_study_core.specs.CarriedOut.{Fetches, Studies, WritesSo, told_line, told_status};
+ghost use Rattle.vcp_study_core.specs.CarriedOut.{Fetches, Studies, told_line, told_status};
 ghost use Rattle.vcp_study_core.specs.Forms.{as_names, faults, names_of};
 ghost use Rattle.vcp_study_core.specs.FromFiles.{as_found};
 ghost use Rattle.vcp_study_core.specs.Parts.{PartFrom, PartsFrom, ScriptFrom, ScriptIn, VerdictsFrom};
 ghost use Rattle.vcp_study_core.specs.TextFaults.{IsUntold};
 ghost use Rattle.vcp_study_core.specs.Tasks.{StudyOf};
-ghost use Rattle.vcp_study_core.specs.Texts.{ShowsPart};
 
 use crate::fault::{Fault, StudyRefusal, told};
 use crate::loading::bytes_under;
@@ -177,27 +176,6 @@ pub(crate) fn load_parts<'a, F: Files>(
     Ok(parts)
 }
 
-/// Writes the picture of a graph by the verdicts of a part; whether a fault is unseen.
-fn write_part<'a, O: Sink>(
-    alloc: Global,
-    graph: &Graph,
-    part: &Part,
-    out: &mut O,
-) -> Result<bool, Fault<'a>>
-    requires whole { IsWhole part.now }
-    requires fits { PartFits graph.now part.now }
-    ensures { WritesSo (ShowsPart graph.now part.now) (O.seen out.old) (O.seen out.new) (told_line result) (told_status result) }
-{
-    let unseen = shows_unseen(&totals_of_all(&part.verdicts));
-    match layout_of(alloc, graph) {
-        Ok(layout) => told(
-            write_faults(out, graph, &part.script, &part.verdicts, &layout),
-            unseen,
-        ),
-        Err(Memory) => Err(Fault::Memory),
-    }
-}
-
 /// Reads a script and its verdicts for an image, and writes the picture of its graph by them; whether a fault is unseen.
 pub(crate) fn faults_of_image<'a, F: Files, O: Sink>(
     alloc: Global,
@@ -211,7 +189,16 @@ pub(crate) fn faults_of_image<'a, F: Files, O: Sink>(
         (F.seen files.old) (F.seen files.new) (O.seen out.old) (O.seen out.new) (told_line result) (told_status result) }
 {
     match load_part(alloc, image, names, files) {
-        Ok(part) => write_part(alloc, &image.graph, &part, out),
+        Ok(part) => {
+            let unseen = shows_unseen(&totals_of_all(&part.verdicts));
+            match layout_of(alloc, &image.graph) {
+                Ok(layout) => told(
+                    write_faults(out, &image.graph, &part.script, &part.verdicts, &layout),
+                    unseen,
+                ),
+                Err(Memory) => Err(Fault::Memory),
+            }
+        }
         Err(why) => Err(why),
     }
 }

@@ -7,7 +7,6 @@ ghost use Rattle.vcp_base.specs.Limits.{most_cycles};
 ghost use Rattle.signature_table.specs.Signatures.{table_of};
 ghost use Rattle.verdict_tables.specs.Parts.{most_parts, IsWhole, PartFits};
 ghost use Rattle.verdict_tables.specs.SameEndings.{endings_over, sum_apart_text};
-ghost use Rattle.verdict_tables.specs.SumText.{sum_text};
 ghost use Rattle.vcp_inputs.specs.Forms.{rows_of, AreFew};
 ghost use Rattle.vcp_study_core.specs.CarriedOut.{Studies, WritesSo, told_line, told_status};
 ghost use Rattle.vcp_study_core.specs.Forms.{names_of, sum_apart, sum_with};
@@ -27,18 +26,6 @@ use vcp_outside::{Files, Sink};
 use verdict_tables::{
     Parts, endings_of_parts, shows_unseen, totals_of_parts, write_sum, write_sum_apart,
 };
-
-/// Writes the tables of the verdicts of parts; whether a fault is unseen.
-fn write_tables<'a, O: Sink>(graph: &Graph, parts: &Parts, out: &mut O) -> Result<bool, Fault<'a>>
-    requires whole { All IsWhole parts.now }
-    requires fits { All (PartFits graph.now) parts.now }
-    requires few { length parts.now ≤ most_parts }
-    ensures { WritesSo (λ x. x ≡ sums_up parts.now (sum_text graph.now parts.now)) (O.seen out.old) (O.seen out.new)
-        (told_line result) (told_status result) }
-{
-    let unseen = shows_unseen(&totals_of_parts(parts));
-    told(write_sum(out, graph, parts), unseen)
-}
 
 /// Writes the tables of the verdicts of parts, in which those that are `same` are distinguished by runs over rows; whether a fault is unseen.
 fn write_tables_apart<'a, O: Sink>(
@@ -109,7 +96,10 @@ pub(crate) fn sum_of_image<'a, F: Files, O: Sink>(
     match rows {
         Some(rows) => apart_of_image(alloc, image, rows, names, files, out),
         None => match load_parts(alloc, image, names, files) {
-            Ok(parts) => write_tables(&image.graph, &parts, out),
+            Ok(parts) => {
+                let unseen = shows_unseen(&totals_of_parts(&parts));
+                told(write_sum(out, &image.graph, &parts), unseen)
+            }
             Err(why) => Err(why),
         },
     }

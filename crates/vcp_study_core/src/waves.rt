@@ -1,34 +1,16 @@
 //! The command `waves`, up to the line of its fault.
 
-ghost use Rattle.std.specs.Prelude.{◌≡◌, IfOk, IfErr, Ok};
-ghost use Rattle.run_picture.specs.RunOf.{run_of};
 ghost use Rattle.vcp_study_core.specs.CarriedOut.{Studies, WritesSo, told_line, told_status};
 ghost use Rattle.vcp_study_core.specs.Forms.{waves};
 ghost use Rattle.vcp_study_core.specs.Tasks.{TaskOf};
-ghost use Rattle.vcp_study_core.specs.TextFaults.{IsNoRun};
 ghost use Rattle.vcp_study_core.specs.Texts.{Waves};
 
 use crate::fault::{Fault, StudyRefusal, told};
 use crate::loading::bytes_under;
-use run_picture::{Period, Run, RunTextFault, read_run, write_waves};
+use run_picture::{Period, RunTextFault, read_run, write_waves};
 use std::alloc::Global;
 use vcp_base::{MOST_ROWS_BYTES, Text};
 use vcp_outside::{Files, Sink};
-
-/// The run that the text of the file under a name tells.
-fn run_in<'a>(alloc: Global, name: &'a Text, text: &[u8]) -> Result<Run, Fault<'a>>
-    ensures run { IfOk result (λ run. run_of text.now ≡ Ok run) }
-    ensures fault { IfErr result (IsNoRun name.now text.now) }
-{
-    match read_run(alloc, text) {
-        Ok(recorded) => Ok(recorded),
-        Err(RunTextFault::Memory) => Err(Fault::Memory),
-        Err(why) => Err(Fault::Refused {
-            name: name.bytes(),
-            why: StudyRefusal::Run(why),
-        }),
-    }
-}
 
 /// Writes the timing diagram of the run that the text of the file under a name tells. It looks for nothing: `false`.
 fn draw_run<'a, O: Sink>(
@@ -40,9 +22,13 @@ fn draw_run<'a, O: Sink>(
 ) -> Result<bool, Fault<'a>>
     ensures { WritesSo (Waves period name.now text.now) (O.seen out.old) (O.seen out.new) (told_line result) (told_status result) }
 {
-    match run_in(alloc, name, text) {
+    match read_run(alloc, text) {
         Ok(recorded) => told(write_waves(out, &recorded, period), false),
-        Err(why) => Err(why),
+        Err(RunTextFault::Memory) => Err(Fault::Memory),
+        Err(why) => Err(Fault::Refused {
+            name: name.bytes(),
+            why: StudyRefusal::Run(why),
+        }),
     }
 }
 
