@@ -15,16 +15,6 @@ CRATES = pathlib.Path(__file__).resolve().parent.parent / "crates"
 EXPECTED = {
     # the law of operands, which some twenty lemmas of expressions carry
     ("flat_expr", "op_graph::OperandLaw"),
-    # a line's text, written otherwise
-    ("fault_campaign", "vcp_outside::Gathering"),
-    ("fault_injector", "vcp_outside::Gathering"),
-    ("fault_names", "vcp_outside::Gathering"),
-    ("fault_sites", "vcp_outside::Gathering"),
-    ("pair_channel", "vcp_outside::Gathering"),
-    ("run_report", "vcp_outside::Gathering"),
-    ("telegram", "vcp_outside::Gathering"),
-    ("verdict_tables", "vcp_outside::Gathering"),
-    ("weight_audit", "vcp_outside::Gathering"),
     # the part of a word behind a byte
     ("fault_names", "vcp_base::Firsts"),
     # graphs, scripts and verdicts of worked rows

@@ -1,7 +1,7 @@
 use Rattle.std.proofs.Common.{◌≡◌, ℕ, List, ◌++◌, codes, decimal, append_assoc, rules, w64}
 use mir.Val.{SFits}
 use Rattle.std.proofs.Math.Facts.{to_z-of_z}
-use Rattle.vcp_outside.proofs.Gathering.{gathered_same}
+use Rattle.vcp_outside.specs.SameText.{gathered_same}
 use Rattle.fault_injector.proofs.lines.then_wrong.Goals as goal
 
 pieces : (text cycle name got want : List ℕ)

@@ -1,5 +1,5 @@
 use Rattle.std.proofs.Common.{◌≡◌, ℕ, List, ◌++◌, codes, append_assoc}
-use Rattle.vcp_outside.proofs.Gathering.{written_same}
+use Rattle.vcp_outside.specs.SameText.{written_same}
 use Rattle.fault_names.proofs.writing.write_script.Goals as goal
 
 pieces : (digest lines : List ℕ) → codes "# sites named of " ++ (digest ++ (codes "\n" ++ (lines ++ codes "# end\n")))

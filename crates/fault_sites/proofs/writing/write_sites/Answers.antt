@@ -1,4 +1,4 @@
-use Rattle.vcp_outside.proofs.Gathering.{written_same}
+use Rattle.vcp_outside.specs.SameText.{written_same}
 use Rattle.fault_sites.specs.SiteText.{classes_name}
 use Rattle.fault_sites.specs.Part.{kept}
 use Rattle.fault_sites.specs.Sites.{sites}

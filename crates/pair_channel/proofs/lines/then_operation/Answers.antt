@@ -1,5 +1,5 @@
 use Rattle.std.proofs.Common.{append_assoc}
-use Rattle.vcp_outside.proofs.Gathering.{gathered_same}
+use Rattle.vcp_outside.specs.SameText.{gathered_same}
 use Rattle.pair_channel.proofs.lines.then_operation.Goals as goal
 
 pub returns : goal.returns

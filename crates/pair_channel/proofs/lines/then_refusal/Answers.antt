@@ -1,5 +1,5 @@
 use Rattle.std.proofs.Common.{◌≡◌, ℕ, List, ◌++◌, codes, decimal, append_assoc}
-use Rattle.vcp_outside.proofs.Gathering.{gathered_same}
+use Rattle.vcp_outside.specs.SameText.{gathered_same}
 use Rattle.pair_channel.proofs.lines.then_refusal.Goals as goal
 
 pieces : (text name found expected : List ℕ)

@@ -3,7 +3,7 @@ use mir.Val.{SFits}
 use Rattle.std.proofs.Math.Facts.{to_z-of_z}
 use Rattle.op_graph.specs.declared.op.Op.{Op}
 use Rattle.run_report.specs.OperationLines.{operation_front, operands_text, own_text, code_text, source_text}
-use Rattle.vcp_outside.proofs.Gathering.{written_same}
+use Rattle.vcp_outside.specs.SameText.{written_same}
 use Rattle.run_report.proofs.operations.list_line.Goals as goal
 
 pieces : (front read own code source : List ℕ)

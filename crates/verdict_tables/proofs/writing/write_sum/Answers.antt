@@ -2,7 +2,7 @@ use Rattle.std.proofs.Common.{◌≡◌, ℕ, List, ◌++◌, length, codes, app
 use Rattle.fault_injector.specs.FaultLines.{totals_front, totals_of}
 use Rattle.verdict_tables.specs.Parts.{all_verdicts}
 use Rattle.verdict_tables.specs.SumText.{tables_text, unseen_parts}
-use Rattle.vcp_outside.proofs.Gathering.{written_same}
+use Rattle.vcp_outside.specs.SameText.{written_same}
 use Rattle.verdict_tables.proofs.writing.write_sum.Goals as goal
 
 pieces : (tables unseen totals : List ℕ) → tables ++ (unseen ++ (totals ++ codes "\n")) ≡ tables ++ unseen ++ totals ++ codes "\n"

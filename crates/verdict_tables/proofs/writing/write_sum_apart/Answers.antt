@@ -3,7 +3,7 @@ use Rattle.fault_injector.specs.FaultLines.{totals_front, totals_of}
 use Rattle.verdict_tables.specs.Parts.{all_verdicts}
 use Rattle.verdict_tables.specs.SumText.{tables_text, unseen_parts}
 use Rattle.verdict_tables.specs.SameEndings.{all_endings, endings_text, standing_parts}
-use Rattle.vcp_outside.proofs.Gathering.{written_same}
+use Rattle.vcp_outside.specs.SameText.{written_same}
 use Rattle.verdict_tables.proofs.PartByPart.{as_many, few_of_each}
 use Rattle.verdict_tables.proofs.writing.write_sum_apart.Goals as goal
 

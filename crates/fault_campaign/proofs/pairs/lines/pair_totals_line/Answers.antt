@@ -1,5 +1,5 @@
 use Rattle.std.proofs.Common.{◌≡◌, ℕ, List, ◌++◌, codes, decimal, append_assoc}
-use Rattle.vcp_outside.proofs.Gathering.{written_same}
+use Rattle.vcp_outside.specs.SameText.{written_same}
 use Rattle.fault_campaign.proofs.pairs.lines.pair_totals_line.Goals as goal
 
 -- three words, each with its number, and the line's end

@@ -1,5 +1,5 @@
 use Rattle.std.proofs.Common.{sym, ◌∙◌}
-use Rattle.vcp_outside.proofs.Gathering.{written_same}
+use Rattle.vcp_outside.specs.SameText.{written_same}
 use Rattle.fault_sites.specs.Part.{kept}
 use Rattle.fault_sites.specs.RunSites.{run_class_name, run_sites, run_text}
 use Rattle.fault_sites.proofs.Ended.{ended_text}

@@ -1,5 +1,5 @@
 use Rattle.std.proofs.Common.{◌≡◌, ℕ, List, ◌++◌, codes, decimal, append_assoc}
-use Rattle.vcp_outside.proofs.Gathering.{written_same}
+use Rattle.vcp_outside.specs.SameText.{written_same}
 use Rattle.telegram.proofs.runs.lines.receipt_line.Goals as goal
 
 pieces : (line shows : List ℕ) → line ++ (codes " " ++ (shows ++ codes "\n")) ≡ line ++ codes " " ++ shows ++ codes "\n"

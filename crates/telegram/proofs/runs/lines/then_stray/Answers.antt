@@ -1,5 +1,5 @@
 use Rattle.std.proofs.Common.{◌≡◌, ℕ, List, ◌++◌, codes, decimal, append_assoc}
-use Rattle.vcp_outside.proofs.Gathering.{gathered_same}
+use Rattle.vcp_outside.specs.SameText.{gathered_same}
 use Rattle.telegram.proofs.runs.lines.then_stray.Goals as goal
 
 pieces : (text found expected : List ℕ)
