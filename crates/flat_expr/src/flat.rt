@@ -1,6 +1,6 @@
 //! The state of a flattening.
 
-ghost use Rattle.std.specs.Prelude.{◌≡◌, ◌<◌, ◌≤◌, ◌↔◌, ◌+◌, true, length, slice_get, set, Some, None, Ok, Err, IfOk, IfErr, OnOk, OnErr, [], All};
+ghost use Rattle.std.specs.Prelude.{◌≡◌, ◌<◌, ◌≤◌, ◌↔◌, ◌+◌, true, length, get_or, slice_get, set, Some, None, Ok, Err, IfOk, IfErr, OnOk, OnErr, [], All};
 ghost use Rattle.std.specs.Prelude.{cond};
 ghost use Rattle.op_graph.specs.Rules.{OpFits, Admitted, TurnNodeFits, operand_fits, types_fit, is_number};
 ghost use Rattle.op_graph.specs.Building.{nowhere, with_input};
@@ -179,6 +179,15 @@ impl<'a> Flat<'a> {
             nought: None,
             unit: None,
         })
+    }
+
+    /// The operation that holds the slot's value; none where the slot was neither read nor set.
+    pub fn value(&self, slot: u32) -> Option<u32>
+        requires { slot < length self.now.slots }
+        ensures value { result ≡ get_or self.now.known slot None }
+        ensures state { IsState self.now }
+    {
+        self.known[slot as usize]
     }
 
     /// The present turn node, or 0.
