@@ -1,18 +1,18 @@
 //! The commands that run an image on ROWS, `exec`, `trace`, `inject`, `pair` and `pairs`, up to the line of their fault.
 
-ghost use Rattle.std.specs.Prelude.{◌≡◌, ◌≢◌, ℕ, List, IfSome};
+ghost use Rattle.std.specs.Prelude.{◌≡◌};
 ghost use Rattle.coded_machine.specs.Moments.{moment};
 ghost use Rattle.vcp_inputs.specs.Forms.{image_run, rows_of, IsSound};
 ghost use Rattle.vcp_inputs.specs.Abouts.{about};
 ghost use Rattle.vcp_inputs.specs.Performing.{Performs};
-ghost use Rattle.vcp_core.specs.ImagesRead.{second_of as second_of_run, AreImageRows, PerformsOn};
+ghost use Rattle.vcp_core.specs.ImagesRead.{second_of as second_of_run};
 ghost use Rattle.vcp_core.specs.Tasks.{TaskOf};
 ghost use Rattle.vcp_core.specs.Reach.{told_line, told_status};
 
 use crate::ending::Ending;
 use crate::exec::run_image;
 use crate::fault::Fault;
-use crate::image_rows::{ImageRows, load_image_rows};
+use crate::image_rows::load_image_rows;
 use crate::inject::inject_image;
 use crate::pair::pair_image;
 use crate::pairs::pairs_image;
@@ -44,40 +44,22 @@ pub fn image_run_command<'a, F: Files, U: Unit, O: Sink>(
     unit: &mut U,
     out: &mut O,
 ) -> Result<Ending, Fault<'a>>
-    requires sound { (m : List ℕ) → IsSound (image_run m (rows_of rows) run) }
+    requires sound { IsSound (image_run image.now (rows_of rows) run) }
     ensures { Performs (about (image_run image.now (rows_of rows.entry) run.entry)) (TaskOf (image_run image.now (rows_of rows.entry) run.entry))
         (F.seen files.old) (F.seen files.new) (moment (U.seen unit.old) (O.seen out.old)) (moment (U.seen unit.new) (O.seen out.new))
         (told_line result) (told_status result) }
 {
-    match load_image_rows(alloc, files, image, rows, second_of(run)) {
-        Ok(loaded) => run_on_rows(alloc, &loaded, rows, run, files, unit, out),
-        Err(fault) => Err(fault),
-    }
-}
-
-/// Runs an image on its rows, once both were read.
-fn run_on_rows<'a, F: Files, U: Unit, O: Sink>(
-    alloc: Global,
-    loaded: &ImageRows,
-    rows: RowsWord<'a>,
-    run: ImageRun<'a>,
-    files: &mut F,
-    unit: &mut U,
-    out: &mut O,
-) -> Result<Ending, Fault<'a>>
-    requires fit { AreImageRows loaded.now }
-    requires sound { (m : List ℕ) → IsSound (image_run m (rows_of rows) run) }
-    requires apart { IfSome (second_of_run run) (λ seed. seed ≢ loaded.now.image.table.seed) }
-    ensures { PerformsOn (λ m. image_run m (rows_of rows.entry) run.entry) (rows_of rows.entry) loaded.now (F.seen files.old) (F.seen files.new)
-        (moment (U.seen unit.old) (O.seen out.old)) (moment (U.seen unit.new) (O.seen out.new)) (told_line result) (told_status result) }
-{
+    let loaded = match load_image_rows(alloc, files, image, rows, second_of(run)) {
+        Ok(loaded) => loaded,
+        Err(fault) => return Err(fault),
+    };
     match run {
-        ImageRun::Exec => run_image(alloc, loaded, rows, unit, out),
-        ImageRun::Trace { cycle } => trace_image(alloc, loaded, rows, cycle, unit, out),
-        ImageRun::Inject { script } => inject_image(alloc, loaded, rows, script, files, unit, out),
-        ImageRun::Pair { seed } => pair_image(alloc, loaded, rows, seed, unit, out),
+        ImageRun::Exec => run_image(alloc, &loaded, rows, unit, out),
+        ImageRun::Trace { cycle } => trace_image(alloc, &loaded, rows, cycle, unit, out),
+        ImageRun::Inject { script } => inject_image(alloc, &loaded, rows, script, files, unit, out),
+        ImageRun::Pair { seed } => pair_image(alloc, &loaded, rows, seed, unit, out),
         ImageRun::Pairs { seed, script } => {
-            pairs_image(alloc, loaded, rows, seed, script, files, unit, out)
+            pairs_image(alloc, &loaded, rows, seed, script, files, unit, out)
         }
     }
 }

@@ -5,27 +5,28 @@ use Rattle.vcp_inputs.specs.Forms.{as_code}
 use Rattle.vcp_core.proofs.JobFacts.{carried-as, width-is, memory-causes}
 use Rattle.vcp_core.proofs.printed.run_program.Goals as goal
 
-pub new-requires : goal.new-requires
-new-requires g c = record { seed = c.requires.code.seed; step_from = c.requires.code.step_from; step_to = c.requires.code.step_to }
+pub new-requires-clause-seed : goal.new-requires-clause-seed
+new-requires-clause-seed g c = c.requires.code.seed
 
-pub run_printed-requires : goal.run_printed-requires
-run_printed-requires g c = record {
-  sound = c.requires.sound;
-  table = subst (λ (t : Numbers). IsTableOf t c.in-Ok.graph) (sym c.in-Ok-new.ensures.numbers) (refl, refl);
-  width = width-is c.in-Ok.graph c.args.program.now c.args.rows.now.types c.in-Ok.ensures.means c.requires.types;
-  few = c.requires.few;
-  behind = c.requires.behind;
-}
+pub new-requires-clause-step_from : goal.new-requires-clause-step_from
+new-requires-clause-step_from g c = c.requires.code.step_from
 
-pub returns-in-Ok-new : goal.returns-in-Ok-new
-returns-in-Ok-new g c = record {
-  ran = λ s name p words stands shows.
-      c.run_printed.ensures.ran s (as_code c.args.code) name p words
-      (carried-as c.args.program.now (as_code c.args.code) c.args.rows.now c.in-Ok.graph c.in-Ok-new.table s stands c.in-Ok.ensures
-      c.in-Ok-new.ensures.numbers c.requires.types c.requires.typed)
-      (shows c.in-Ok.graph);
-  causes = c.run_printed.ensures.causes;
-}
+pub new-requires-clause-step_to : goal.new-requires-clause-step_to
+new-requires-clause-step_to g c = c.requires.code.step_to
+
+pub run_printed-requires-clause-table : goal.run_printed-requires-clause-table
+run_printed-requires-clause-table g c = subst (λ (t : Numbers). IsTableOf t c.in-Ok.graph) (sym c.in-Ok-new.ensures.numbers) (refl, refl)
+
+pub run_printed-requires-clause-width : goal.run_printed-requires-clause-width
+run_printed-requires-clause-width g c =
+    width-is c.in-Ok.graph c.args.program.now c.args.rows.now.types c.in-Ok.ensures.means c.requires.types
+
+pub returns-in-Ok-new-clause-ran : goal.returns-in-Ok-new-clause-ran
+returns-in-Ok-new-clause-ran g c s name p words stands shows =
+    c.run_printed.ensures.ran s (as_code c.args.code) name p words
+    (carried-as c.args.program.now (as_code c.args.code) c.args.rows.now c.in-Ok.graph c.in-Ok-new.table s stands c.in-Ok.ensures
+    c.in-Ok-new.ensures.numbers c.requires.types c.requires.typed)
+    (shows c.in-Ok.graph)
 
 -- ---- there is no memory
 
