@@ -1,6 +1,6 @@
 //! How many faults of each operation run on, or are beyond the horizon.
 
-ghost use Rattle.std.specs.Prelude.{◌≡◌, ◌+◌, ◌*◌, ◌/◌, ◌%◌, ◌<◌, ◌≤◌, ◌++◌, ◌∷◌, [], false, ℕ, List, Some, IfOk, OnOk, cond, length, slice_get};
+ghost use Rattle.std.specs.Prelude.{◌≡◌, ◌+◌, ◌*◌, ◌/◌, ◌%◌, ◌<◌, ◌≤◌, ◌++◌, ◌∷◌, [], false, ℕ, List, Some, IfOk, OnOk, cond, length};
 ghost use Rattle.range_walk.specs.declared.range.Stops.{Stops};
 ghost use Rattle.op_graph.specs.Lists.{Lists};
 ghost use Rattle.signature_table.specs.Signatures.{IsTableOf};

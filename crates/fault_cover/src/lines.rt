@@ -1,6 +1,6 @@
 //! The lines of a cover.
 
-ghost use Rattle.std.specs.Prelude.{◌≡◌, ◌<◌, ◌≤◌, ◌^◌, ◌++◌, Some, codes, decimal, flat_map, length, replicate, slice_get};
+ghost use Rattle.std.specs.Prelude.{◌≡◌, ◌<◌, ◌≤◌, ◌^◌, ◌++◌, Some, codes, decimal, flat_map, length, replicate};
 ghost use Rattle.vcp_outside.specs.Gathering.{GathersTo};
 ghost use Rattle.verdict_tables.specs.SumText.{delay_text};
 ghost use Rattle.fault_cover.specs.Classes.{fault_at};

@@ -186,44 +186,6 @@ fn then_found<O: Sink>(
     then_totals(line, out, all);
 }
 
-/// Writes the cover that is found of these classes, which are `list`.
-fn write_found<O: Sink>(
-    out: &mut O,
-    subject: &Subject<'_>,
-    classes: CoverClasses,
-    list: &[CoverClass],
-    digest: &[u8],
-    found: &Found,
-) -> Result<bool, Uncovered>
-    requires table { IsTableOf subject.now.table.now subject.now.graph.now }
-    requires mapped { IsMapped subject.now.graph.now subject.now.survey.now }
-    requires list { list.now ≡ classes_of classes }
-    ensures { (stops : List Stops)
-        → IsSurvey (subject_of subject.now.graph.now subject.now.table.now subject.now.survey.now.horizon stops) subject.now.survey.now
-        → IsFound (subject_of subject.now.graph.now subject.now.table.now subject.now.survey.now.horizon stops) list.now found.now.counts.items
-        found.now.all found.now.lines.items
-        → WritesCover (subject_of subject.now.graph.now subject.now.table.now subject.now.survey.now.horizon stops) classes digest.now (O.seen out.old)
-        (O.seen out.new) result }
-{
-    let left = found.all.leaves_any();
-    let mut line = Line::new();
-    let survey = subject.survey;
-    then_remark(&mut line, out, classes, survey.horizon(), digest);
-    then_found(
-        &mut line,
-        out,
-        subject,
-        list,
-        &found.counts,
-        &found.all,
-        &found.lines,
-    );
-    match line.end(out) {
-        Ok(()) => Ok(left),
-        Err(Failed) => Err(Uncovered::Failed),
-    }
-}
-
 /// Writes the cover of these classes, which are `list`.
 fn write_classes<O: Sink>(
     alloc: Global,
@@ -243,7 +205,25 @@ fn write_classes<O: Sink>(
         (O.seen out.new) result }
 {
     match find(alloc, subject, list) {
-        Ok(found) => write_found(out, subject, classes, list, digest, &found),
+        Ok(found) => {
+            let left = found.all.leaves_any();
+            let mut line = Line::new();
+            let survey = subject.survey;
+            then_remark(&mut line, out, classes, survey.horizon(), digest);
+            then_found(
+                &mut line,
+                out,
+                subject,
+                list,
+                &found.counts,
+                &found.all,
+                &found.lines,
+            );
+            match line.end(out) {
+                Ok(()) => Ok(left),
+                Err(Failed) => Err(Uncovered::Failed),
+            }
+        }
         Err(_) => Err(Uncovered::Memory),
     }
 }
