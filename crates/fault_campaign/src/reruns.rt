@@ -12,6 +12,7 @@ mod passing;
 mod reading;
 mod reference;
 mod rerun;
+mod room;
 mod standing;
 
 pub use laws::{

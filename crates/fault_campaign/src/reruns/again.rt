@@ -1,6 +1,6 @@
 //! The rerun of one cycle.
 
-ghost use Rattle.std.specs.Prelude.{◌≡◌, ◌<◌, ◌≤◌, ◌==◌, ◌&&◌, ◌++◌, ◌∷◌, [], false, true, Some, length, slice_get, vec_capacity};
+ghost use Rattle.std.specs.Prelude.{◌≡◌, ◌<◌, ◌≤◌, ◌∷◌, [], false, true, Some, length, slice_get, vec_capacity};
 ghost use Rattle.vcp_base.specs.Limits.{most_cycles, most_operations};
 ghost use Rattle.coded_unit.specs.Asked.{Asked};
 ghost use Rattle.op_graph.specs.declared.op.Op.{Op as Operation};
@@ -13,6 +13,7 @@ ghost use Rattle.fault_campaign.specs.Standing.{IsStanding};
 ghost use Rattle.fault_campaign.specs.Touched.{mark as mark_of};
 
 use crate::reruns::reference::CycleAnswers;
+use crate::reruns::room::append;
 use crate::reruns::standing::{Standing, act_at};
 use coded_machine::{Setting, call_after, cycles_by_hand_are_whole, is_word};
 use coded_unit::{Answer, Call, Unit, Word};
@@ -151,17 +152,6 @@ fn answer_again<U: Unit>(b: &Begun<'_>, unit: &mut U, own: &[Answer]) -> Option<
     Some(perform_under(unit, &act, &word, &call))
 }
 
-/// Appends an answer where there is room.
-pub(crate) fn append(own: &mut Vec<Answer>, answer: &Answer)
-    requires { length own.old.items < vec_capacity own.old }
-    ensures items { own.new.items ≡ own.old.items ++ answer.now ∷ [] }
-    ensures capacity { vec_capacity own.old ≤ vec_capacity own.new }
-{
-    if own.push(*answer).is_err() {
-        unreachable!()
-    }
-}
-
 /// Appends the words of the run without the faults at the operations that come next, up to one that is touched or that has no word there.
 fn copy_untouched(b: &Begun<'_>, own: &mut Vec<Answer>)
     requires few { length own.old.items ≤ length b.now.graph.now.operations }
@@ -178,7 +168,7 @@ fn copy_untouched(b: &Begun<'_>, own: &mut Vec<Answer>)
         if mark(b.touched, k as u64) {
             return;
         }
-        append(own, &Answer::Word(b.other.words[k]));
+        append(own, Answer::Word(b.other.words[k]));
     }
 }
 
@@ -204,7 +194,7 @@ pub(crate) fn rerun_cycle<U: Unit>(b: &Begun<'_>, unit: &mut U, own: &mut Vec<An
         let Some(answer) = answer_again(b, unit, own) else {
             return false;
         };
-        append(own, &answer);
+        append(own, answer);
         if !is_word(&answer) {
             return true;
         }

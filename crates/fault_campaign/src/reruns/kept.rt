@@ -1,11 +1,12 @@
 //! The answers of a run without faults, as they are kept.
 
-ghost use Rattle.std.specs.Prelude.{◌≡◌, ◌<◌, ◌≤◌, ◌+◌, ◌*◌, [], ◌++◌, ◌∷◌, true, false, None, All, length, vec_capacity};
+ghost use Rattle.std.specs.Prelude.{◌≡◌, ◌<◌, ◌≤◌, ◌+◌, ◌*◌, [], ◌++◌, true, false, None, All, length, vec_capacity};
 ghost use Rattle.vcp_base.specs.Limits.{most_cycles};
 ghost use Rattle.coded_machine.specs.State.{fresh};
 ghost use Rattle.fault_campaign.specs.Kept.{front_words, stop_kind as stop_kind_of};
 ghost use Rattle.fault_campaign.specs.References.{kept_cycles, RanOver};
 
+use crate::reruns::room::append;
 use coded_machine::{CycleEnd, Machine, runs_follow_their_answers};
 use coded_unit::{Unit, Word};
 use input_rows::RowList;
@@ -82,17 +83,6 @@ fn keep_words(machine: &Machine<'_>, words: &mut Vec<Word>) -> bool
         }
     }
     true
-}
-
-/// Appends a word where there is room.
-pub(crate) fn append(words: &mut Vec<Word>, word: Word)
-    requires { length words.old.items < vec_capacity words.old }
-    ensures items { words.new.items ≡ words.old.items ++ word ∷ [] }
-    ensures capacity { vec_capacity words.old ≤ vec_capacity words.new }
-{
-    if words.push(word).is_err() {
-        unreachable!()
-    }
 }
 
 /// What is kept of a run that ended after so many whole cycles with this end of the next one, in which all operations answered a word, or not.

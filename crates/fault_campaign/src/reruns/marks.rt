@@ -1,6 +1,6 @@
 //! Which operations and cells a group of faults touches.
 
-ghost use Rattle.std.specs.Prelude.{◌≡◌, ℕ, false, None, ◌<◌, ◌≤◌, ◌++◌, ◌∷◌, [], length, vec_capacity};
+ghost use Rattle.std.specs.Prelude.{◌≡◌, ℕ, false, None, ◌<◌, ◌≤◌, length, vec_capacity};
 ghost use Rattle.fault_script.specs.Changes.{acts_of};
 ghost use Rattle.fault_campaign.specs.Begun.{answers_in};
 ghost use Rattle.fault_campaign.specs.Standing.{IsStanding};
@@ -10,6 +10,7 @@ ghost use Rattle.fault_campaign.specs.Touched.{past_touched_stop as past_touched
 use crate::reruns::again::mark;
 use crate::reruns::passing::none_marked;
 use crate::reruns::reference::CycleAnswers;
+use crate::reruns::room::append;
 use crate::reruns::standing::{Standing, act_at, first_place};
 use fault_injector::named;
 use op_graph::{Graph, Op};
@@ -67,17 +68,6 @@ fn touched(
         || operand_touched(cells, given, op, 1)
         || operand_touched(cells, given, op, 2)
         || past_touched_stop(other, given, k)
-}
-
-/// Appends a mark where there is room.
-fn append(marks: &mut Vec<bool>, marked: bool)
-    requires { length marks.old.items < vec_capacity marks.old }
-    ensures items { marks.new.items ≡ marks.old.items ++ marked ∷ [] }
-    ensures capacity { vec_capacity marks.old ≤ vec_capacity marks.new }
-{
-    if marks.push(marked).is_err() {
-        unreachable!()
-    }
 }
 
 /// How many operations at the front are surely not touched in a cycle that begins with these marks of cells: those before the first one that has a

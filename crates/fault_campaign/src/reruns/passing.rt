@@ -9,12 +9,12 @@ ghost use Rattle.fault_campaign.specs.Reruns.{refusal_in};
 ghost use Rattle.fault_campaign.specs.PassedOver.{Advanced, LastStands, held_at, last_answers};
 ghost use Rattle.fault_campaign.specs.Touched.{held_marks, mark as mark_of};
 
-use crate::reruns::again::{answer_for, append};
-use crate::reruns::kept;
+use crate::reruns::again::answer_for;
 use crate::reruns::marks::mark_cells;
 use crate::reruns::reading::other_word;
 use crate::reruns::reference::{CycleAnswers, Reference};
 use crate::reruns::rerun::Work;
+use crate::reruns::room::append;
 use coded_machine::{CycleEnd, store_words};
 use coded_unit::{Answer, Word};
 use fault_script::{Fault, Group};
@@ -109,10 +109,10 @@ fn copy_answers(from: &CycleAnswers<'_>, to: &mut Vec<Answer>)
 {
     to.clear();
     'words: for i in 0..from.words.len() {
-        append(to, &Answer::Word(from.words[i]));
+        append(to, Answer::Word(from.words[i]));
     }
     if let Some(kind) = from.stop {
-        append(to, &answer_for(kind));
+        append(to, answer_for(kind));
     }
 }
 
@@ -137,7 +137,7 @@ fn store_answers(graph: &Graph, from: &CycleAnswers<'_>, held: &mut Vec<Word>)
     held.clear();
     let stores = graph.stores();
     'cells: for i in 0..stores.len() {
-        kept::append(held, other_word(from, stores[i]));
+        append(held, other_word(from, stores[i]));
     }
 }
 

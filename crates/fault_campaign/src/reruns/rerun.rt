@@ -22,7 +22,6 @@ ghost use Rattle.fault_campaign.specs.Standing.{IsStanding};
 ghost use Rattle.fault_campaign.specs.Touched.{cycle_marks, held_marks};
 
 use crate::reruns::again::{Begun, rerun_cycle};
-use crate::reruns::kept::append;
 use crate::reruns::laws::{
     groups_are_rerun_one_after_another, reruns_ask_at_touched_operations,
     reruns_of_right_answers_are_right_runs, touched_operations_are_told_by_what_they_read,
@@ -32,6 +31,7 @@ use crate::reruns::marks::{mark_cells, mark_operations};
 use crate::reruns::passing::{advance, ends_same, next_touched};
 use crate::reruns::reading::read;
 use crate::reruns::reference::{CycleAnswers, Reference};
+use crate::reruns::room::append;
 use crate::reruns::standing::{Standing, gather};
 use coded_machine::{cycles_by_hand_are_whole, end_of_answers, first_words, store_words};
 use coded_unit::{Answer, Unit, Word};
