@@ -15,10 +15,15 @@ use Rattle.telegram.proofs.runs.run.run_wire.Goals.{in-Cycle+in_default, in-Deli
 
 -- ---- before the first event
 
-pub returns-in_err-words-clause-runs : goal.returns-in_err-words-clause-runs
-returns-in_err-words-clause-runs g c =
+pub returns-in_err-words : goal.returns-in_err-words
+returns-in_err-words g c =
     let p = err_from_is_err_and c.from_residual.result c.from_residual.ensures.1 in
-    rw (p.1, p.2) (no_memory c.args.script.now.wire c.args.script.now.events (g.U.Unit.seen c.args.unit.now) (g.O.Sink.seen c.args.out.now))
+    record {
+      runs =
+          rw (p.1, p.2) (no_memory c.args.script.now.wire c.args.script.now.events (g.U.Unit.seen c.args.unit.now) (g.O.Sink.seen c.args.out.now));
+      later = le_refl _;
+      stayed = λ other. refl;
+    }
 
 pub events-init : goal.events-init
 events-init g c =
@@ -77,27 +82,37 @@ tick-requires g c =
     let same = ap (λ (s : State). s.begun) c.events.invariant.so_far.hears_is in
     omega (arith, below, same, c.requires.events.few)
 
-pub returns-in_err-unsent_line-in-Cycle-clause-runs : goal.returns-in_err-unsent_line-in-Cycle-clause-runs
-returns-in_err-unsent_line-in-Cycle-clause-runs g c =
+pub returns-in_err-unsent_line-in-Cycle : goal.returns-in_err-unsent_line-in-Cycle
+returns-in_err-unsent_line-in-Cycle g c =
     let w = c.args.script.now.wire in
     let es = c.args.script.now.events in
     let p = err_from_is_err_and c.from_residual-in_err-unsent_line-in-Cycle.result c.from_residual-in_err-unsent_line-in-Cycle.ensures.1 in
-    rw (p.1, p.2)
-    (unsent_failed w es (g.U.Unit.seen c.args.unit.now) (g.U.Unit.seen c.events.unit) (g.O.Sink.seen c.args.out.now) (g.O.Sink.seen c.events.out)
-    c.events.i c.events.begun c.events.delivered c.events.receiver c.events.words.items c.events.invariant.so_far c.events.invariant.faults
-    (c.receipts_follow_the_equation.ensures.run w es c.requires.wire c.requires.events) c.in-Cycle.values c.send_all.new.words.items
-    (g.U.Unit.seen c.send_all.new.unit) c.in-Some.id (c.at.ensures ∙ ap Some c.in-Cycle.is) c.in-Some.ensures.sends (g.O.Sink.seen c.unsent_line.new.out)
-    c.in_err-unsent_line-in-Cycle.ensures.part c.in_err-unsent_line-in-Cycle.ensures.cause.failed)
+    record {
+      runs =
+          rw (p.1, p.2)
+          (unsent_failed w es (g.U.Unit.seen c.args.unit.now) (g.U.Unit.seen c.events.unit) (g.O.Sink.seen c.args.out.now) (g.O.Sink.seen c.events.out)
+          c.events.i c.events.begun c.events.delivered c.events.receiver c.events.words.items c.events.invariant.so_far c.events.invariant.faults
+          (c.receipts_follow_the_equation.ensures.run w es c.requires.wire c.requires.events) c.in-Cycle.values c.send_all.new.words.items
+          (g.U.Unit.seen c.send_all.new.unit) c.in-Some.id (c.at.ensures ∙ ap Some c.in-Cycle.is) c.in-Some.ensures.sends (g.O.Sink.seen c.unsent_line.new.out)
+          c.in_err-unsent_line-in-Cycle.ensures.part c.in_err-unsent_line-in-Cycle.ensures.cause.failed);
+      later = le_trans c.events.invariant.faults c.in_err-unsent_line-in-Cycle.ensures.cause.later;
+      stayed = λ other. absurd (other (p.1 ∙ ap Err p.2));
+    }
 
-pub returns-in-Some-clause-runs : goal.returns-in-Some-clause-runs
-returns-in-Some-clause-runs g c =
+pub returns-in-Some : goal.returns-in-Some
+returns-in-Some g c =
     let w = c.args.script.now.wire in
     let es = c.args.script.now.events in
-    unsent w es (g.U.Unit.seen c.args.unit.now) (g.U.Unit.seen c.events.unit) (g.O.Sink.seen c.args.out.now) (g.O.Sink.seen c.events.out)
-    c.events.i c.events.begun c.events.delivered c.events.receiver c.events.words.items c.events.invariant.so_far c.events.invariant.faults
-    (c.receipts_follow_the_equation.ensures.run w es c.requires.wire c.requires.events) c.in-Cycle.values c.send_all.new.words.items
-    (g.U.Unit.seen c.send_all.new.unit) c.in-Some.id (c.at.ensures ∙ ap Some c.in-Cycle.is) c.in-Some.ensures.sends (g.O.Sink.seen c.unsent_line.new.out)
-    c.in_ok-unsent_line-in-Cycle.ensures.whole
+    record {
+      runs =
+          unsent w es (g.U.Unit.seen c.args.unit.now) (g.U.Unit.seen c.events.unit) (g.O.Sink.seen c.args.out.now) (g.O.Sink.seen c.events.out)
+          c.events.i c.events.begun c.events.delivered c.events.receiver c.events.words.items c.events.invariant.so_far c.events.invariant.faults
+          (c.receipts_follow_the_equation.ensures.run w es c.requires.wire c.requires.events) c.in-Cycle.values c.send_all.new.words.items
+          (g.U.Unit.seen c.send_all.new.unit) c.in-Some.id (c.at.ensures ∙ ap Some c.in-Cycle.is) c.in-Some.ensures.sends (g.O.Sink.seen c.unsent_line.new.out)
+          c.in_ok-unsent_line-in-Cycle.ensures.whole;
+      later = le_trans c.events.invariant.faults c.in_ok-unsent_line-in-Cycle.ensures.cause.later;
+      stayed = λ other. c.in_ok-unsent_line-in-Cycle.ensures.cause.stayed ∙ c.events.invariant.stayed;
+    }
 
 -- ---- a telegram is handed
 
@@ -153,8 +168,8 @@ take-receipt-requires g c =
     few_cycles w es before now old new c.events.i c.events.begun c.events.delivered c.events.receiver c.events.words.items c.events.invariant.so_far in
     le_trans (le_trans sent few) c.requires.events.few
 
-pub returns-in_err-receipt_line-in-Deliver-clause-runs : goal.returns-in_err-receipt_line-in-Deliver-clause-runs
-returns-in_err-receipt_line-in-Deliver-clause-runs g c =
+pub returns-in_err-receipt_line-in-Deliver : goal.returns-in_err-receipt_line-in-Deliver
+returns-in_err-receipt_line-in-Deliver g c =
     let w = c.args.script.now.wire in
     let es = c.args.script.now.events in
     let s = c.events.receiver in
@@ -165,12 +180,17 @@ returns-in_err-receipt_line-in-Deliver-clause-runs g c =
     let added = ap (λ (z : ℤ). nearest_word (c.word_at.result +ℤ z)) (same_addend c.in-Deliver.alter sent.1) in
     let x_is = c.take-receipt.ensures.receipt ∙ ap (λ (z : ℤ). receipt_of s (record { number = n; word = z })) (c.shift-word.ensures ∙ added) in
     let p = err_from_is_err_and c.from_residual-in_err-receipt_line-in-Deliver.result c.from_residual-in_err-receipt_line-in-Deliver.ensures.1 in
-    rw (p.1, p.2)
-    (line_failed w es (g.U.Unit.seen c.args.unit.now) (g.U.Unit.seen c.events.unit) (g.O.Sink.seen c.args.out.now) (g.O.Sink.seen c.events.out)
-    c.events.i c.events.begun c.events.delivered s c.events.words.items c.events.invariant.so_far c.events.invariant.faults
-    (c.receipts_follow_the_equation.ensures.run w es c.requires.wire c.requires.events) c.in-Deliver.line c.in-Deliver.id n c.in-Deliver.alter
-    c.word_at.result c.take-receipt.result there sent.0 kept_there x_is (g.O.Sink.seen c.receipt_line.new.out)
-    c.in_err-receipt_line-in-Deliver.ensures.part c.in_err-receipt_line-in-Deliver.ensures.cause.failed)
+    record {
+      runs =
+          rw (p.1, p.2)
+          (line_failed w es (g.U.Unit.seen c.args.unit.now) (g.U.Unit.seen c.events.unit) (g.O.Sink.seen c.args.out.now) (g.O.Sink.seen c.events.out)
+          c.events.i c.events.begun c.events.delivered s c.events.words.items c.events.invariant.so_far c.events.invariant.faults
+          (c.receipts_follow_the_equation.ensures.run w es c.requires.wire c.requires.events) c.in-Deliver.line c.in-Deliver.id n c.in-Deliver.alter
+          c.word_at.result c.take-receipt.result there sent.0 kept_there x_is (g.O.Sink.seen c.receipt_line.new.out)
+          c.in_err-receipt_line-in-Deliver.ensures.part c.in_err-receipt_line-in-Deliver.ensures.cause.failed);
+      later = le_trans c.events.invariant.faults c.in_err-receipt_line-in-Deliver.ensures.cause.later;
+      stayed = λ other. absurd (other (p.1 ∙ ap Err p.2));
+    }
 
 pub overflow_add-delivered : goal.overflow_add-delivered
 overflow_add-delivered g c =
@@ -225,75 +245,37 @@ events-preserved g c =
 
 -- ---- behind the last event
 
-pub returns-in_err-end_line-clause-runs : goal.returns-in_err-end_line-clause-runs
-returns-in_err-end_line-clause-runs g c =
+pub returns-in_err-end_line : goal.returns-in_err-end_line
+returns-in_err-end_line g c =
     let w = c.args.script.now.wire in
     let es = c.args.script.now.events in
     let p = err_from_is_err_and c.from_residual-in_err-end_line.result c.from_residual-in_err-end_line.ensures.1 in
     let past : length es ≤ c.events.i = subst (λ n. n ≤ c.events.i) c.len-i-end.ensures c.events-test.false in
-    rw (p.1, p.2)
-    (end_failed w es (g.U.Unit.seen c.args.unit.now) (g.U.Unit.seen c.events.unit) (g.O.Sink.seen c.args.out.now) (g.O.Sink.seen c.events.out)
-    c.events.i c.events.begun c.events.delivered c.events.receiver c.events.words.items c.events.invariant.so_far c.events.invariant.faults
-    (c.receipts_follow_the_equation.ensures.run w es c.requires.wire c.requires.events) (drop_all c.events.i es past) (g.O.Sink.seen c.end_line.new.out)
-    c.in_err-end_line.ensures.part c.in_err-end_line.ensures.cause.failed)
+    record {
+      runs =
+          rw (p.1, p.2)
+          (end_failed w es (g.U.Unit.seen c.args.unit.now) (g.U.Unit.seen c.events.unit) (g.O.Sink.seen c.args.out.now) (g.O.Sink.seen c.events.out)
+          c.events.i c.events.begun c.events.delivered c.events.receiver c.events.words.items c.events.invariant.so_far c.events.invariant.faults
+          (c.receipts_follow_the_equation.ensures.run w es c.requires.wire c.requires.events) (drop_all c.events.i es past) (g.O.Sink.seen c.end_line.new.out)
+          c.in_err-end_line.ensures.part c.in_err-end_line.ensures.cause.failed);
+      later = le_trans c.events.invariant.faults c.in_err-end_line.ensures.cause.later;
+      stayed = λ other. absurd (other (p.1 ∙ ap Err p.2));
+    }
 
-pub returns-clause-runs : goal.returns-clause-runs
-returns-clause-runs g c =
+pub returns : goal.returns
+returns g c =
     let w = c.args.script.now.wire in
     let es = c.args.script.now.events in
     let past : length es ≤ c.events.i = subst (λ n. n ≤ c.events.i) c.len-i-end.ensures c.events-test.false in
-    complete w es (g.U.Unit.seen c.args.unit.now) (g.U.Unit.seen c.events.unit) (g.O.Sink.seen c.args.out.now) (g.O.Sink.seen c.events.out)
-    c.events.i c.events.begun c.events.delivered c.events.receiver c.events.words.items c.events.invariant.so_far c.events.invariant.faults
-    (c.receipts_follow_the_equation.ensures.run w es c.requires.wire c.requires.events) (drop_all c.events.i es past) (g.O.Sink.seen c.end_line.new.out)
-    c.in_ok-end_line.ensures.whole
-
--- ---- the sink's count of faults
-
-pub returns-in_err-words-clause-stayed : goal.returns-in_err-words-clause-stayed
-returns-in_err-words-clause-stayed g c = λ other. refl
-
-pub returns-in_err-unsent_line-in-Cycle-clause-stayed : goal.returns-in_err-unsent_line-in-Cycle-clause-stayed
-returns-in_err-unsent_line-in-Cycle-clause-stayed g c = λ other.
-    let p = err_from_is_err_and c.from_residual-in_err-unsent_line-in-Cycle.result c.from_residual-in_err-unsent_line-in-Cycle.ensures.1 in
-    absurd (other (p.1 ∙ ap Err p.2))
-
-pub returns-in-Some-clause-stayed : goal.returns-in-Some-clause-stayed
-returns-in-Some-clause-stayed g c = λ other. c.in_ok-unsent_line-in-Cycle.ensures.cause.stayed ∙ c.events.invariant.stayed
-
-pub returns-in_err-receipt_line-in-Deliver-clause-stayed : goal.returns-in_err-receipt_line-in-Deliver-clause-stayed
-returns-in_err-receipt_line-in-Deliver-clause-stayed g c = λ other.
-    let p = err_from_is_err_and c.from_residual-in_err-receipt_line-in-Deliver.result c.from_residual-in_err-receipt_line-in-Deliver.ensures.1 in
-    absurd (other (p.1 ∙ ap Err p.2))
-
-pub returns-in_err-end_line-clause-stayed : goal.returns-in_err-end_line-clause-stayed
-returns-in_err-end_line-clause-stayed g c = λ other.
-    let p = err_from_is_err_and c.from_residual-in_err-end_line.result c.from_residual-in_err-end_line.ensures.1 in
-    absurd (other (p.1 ∙ ap Err p.2))
-
-pub returns-clause-stayed : goal.returns-clause-stayed
-returns-clause-stayed g c = λ other. c.in_ok-end_line.ensures.cause.stayed ∙ c.events.invariant.stayed
-
--- ---- that count never falls
-
-pub returns-in_err-words-clause-later : goal.returns-in_err-words-clause-later
-returns-in_err-words-clause-later g c = le_refl _
-
-pub returns-in_err-unsent_line-in-Cycle-clause-later : goal.returns-in_err-unsent_line-in-Cycle-clause-later
-returns-in_err-unsent_line-in-Cycle-clause-later g c =
-    le_trans c.events.invariant.faults c.in_err-unsent_line-in-Cycle.ensures.cause.later
-
-pub returns-in-Some-clause-later : goal.returns-in-Some-clause-later
-returns-in-Some-clause-later g c = le_trans c.events.invariant.faults c.in_ok-unsent_line-in-Cycle.ensures.cause.later
-
-pub returns-in_err-receipt_line-in-Deliver-clause-later : goal.returns-in_err-receipt_line-in-Deliver-clause-later
-returns-in_err-receipt_line-in-Deliver-clause-later g c =
-    le_trans c.events.invariant.faults c.in_err-receipt_line-in-Deliver.ensures.cause.later
-
-pub returns-in_err-end_line-clause-later : goal.returns-in_err-end_line-clause-later
-returns-in_err-end_line-clause-later g c = le_trans c.events.invariant.faults c.in_err-end_line.ensures.cause.later
-
-pub returns-clause-later : goal.returns-clause-later
-returns-clause-later g c = le_trans c.events.invariant.faults c.in_ok-end_line.ensures.cause.later
+    record {
+      runs =
+          complete w es (g.U.Unit.seen c.args.unit.now) (g.U.Unit.seen c.events.unit) (g.O.Sink.seen c.args.out.now) (g.O.Sink.seen c.events.out)
+          c.events.i c.events.begun c.events.delivered c.events.receiver c.events.words.items c.events.invariant.so_far c.events.invariant.faults
+          (c.receipts_follow_the_equation.ensures.run w es c.requires.wire c.requires.events) (drop_all c.events.i es past) (g.O.Sink.seen c.end_line.new.out)
+          c.in_ok-end_line.ensures.whole;
+      later = le_trans c.events.invariant.faults c.in_ok-end_line.ensures.cause.later;
+      stayed = λ other. c.in_ok-end_line.ensures.cause.stayed ∙ c.events.invariant.stayed;
+    }
 
 pub new-receiver-requires : goal.new-receiver-requires
 new-receiver-requires g c = search rules
