@@ -1,16 +1,10 @@
 //! The commands that print something of an image, `list`, `widen` and `audit`, up to the line of their fault.
 
-ghost use Rattle.std.specs.Prelude.{◌≡◌};
-ghost use Rattle.vcp_base.specs.Limits.{most_image_bytes};
-ghost use Rattle.vcp_outside.specs.Seen.{FilesSeen};
-ghost use Rattle.signature_table.specs.Signatures.{table_of};
 ghost use Rattle.coded_unit.specs.Seen.{UnitSeen};
 ghost use Rattle.coded_machine.specs.Moments.{moment};
 ghost use Rattle.vcp_inputs.specs.Forms.{image_text, IsSound};
-ghost use Rattle.vcp_inputs.specs.Images.{ImageOf, NotImage};
 ghost use Rattle.vcp_inputs.specs.Abouts.{about};
 ghost use Rattle.vcp_inputs.specs.Performing.{Performs};
-ghost use Rattle.vcp_core.specs.Loading.{FirstRead};
 ghost use Rattle.vcp_core.specs.Tasks.{TaskOf};
 ghost use Rattle.vcp_core.specs.Reach.{told_line, told_status};
 
@@ -21,7 +15,7 @@ use crate::listing::list_operations;
 use crate::widen::wide_image;
 use std::alloc::Global;
 use vcp_base::{Memory, Text};
-use vcp_inputs::{Image, ImageText, load_image};
+use vcp_inputs::{ImageText, load_image};
 use vcp_outside::{Files, Sink, write_all};
 
 /// Does what a command says that prints something of the image M, and writes to `out` alone: M is read whole and checked, and then the text
@@ -38,35 +32,21 @@ pub fn image_command<'a, F: Files, O: Sink>(
         (F.seen files.old) (F.seen files.new) (moment unit (O.seen out.old)) (moment unit (O.seen out.new))
         (told_line result) (told_status result) }
 {
-    match load_image(alloc, files, image) {
-        Ok(loaded) => print_image(alloc, image, loaded, text, out),
-        Err(input) => Err(Fault::Input {
-            name: image.bytes(),
-            input,
-        }),
-    }
-}
-
-/// Prints that of an image, once its file, which has this name, was read.
-fn print_image<'a, O: Sink>(
-    alloc: Global,
-    name: &'a Text,
-    image: Image,
-    text: ImageText,
-    out: &mut O,
-) -> Result<Ending, Fault<'a>>
-    requires table { image.table ≡ table_of image.table.seed image.table.step image.graph }
-    requires sound { IsSound (image_text name.now text) }
-    ensures { (unit : UnitSeen) (files later : FilesSeen) → FirstRead ImageOf NotImage most_image_bytes name.now files later image →
-        Performs (about (image_text name.now text)) (TaskOf (image_text name.now text)) files later
-        (moment unit (O.seen out.old)) (moment unit (O.seen out.new)) (told_line result) (told_status result) }
-{
+    let loaded = match load_image(alloc, files, image) {
+        Ok(loaded) => loaded,
+        Err(input) => {
+            return Err(Fault::Input {
+                name: image.bytes(),
+                input,
+            });
+        }
+    };
     match text {
-        ImageText::List => text_ended(list_operations(out, &image.graph, &image.table)),
-        ImageText::Widen => match wide_image(alloc, image) {
+        ImageText::List => text_ended(list_operations(out, &loaded.graph, &loaded.table)),
+        ImageText::Widen => match wide_image(alloc, loaded) {
             Ok(wide) => text_ended(write_all(out, wide.bytes())),
             Err(Memory) => Err(Fault::Memory),
         },
-        ImageText::Audit { horizon } => audit_image(alloc, name, &image, horizon, out),
+        ImageText::Audit { horizon } => audit_image(alloc, image, &loaded, horizon, out),
     }
 }

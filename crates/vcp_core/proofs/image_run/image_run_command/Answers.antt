@@ -9,17 +9,20 @@ pub load_image_rows-requires : goal.load_image_rows-requires
 load_image_rows-requires g c = record { few = run_few c.args.image.now (rows_of c.args.rows) c.args.run c.requires.sound }
 
 pub trace_image-requires-clause-cycle : goal.trace_image-requires-clause-cycle
-trace_image-requires-clause-cycle g c = (subst (λ (r : ImageRun). IsSound (image_run c.args.image.now (rows_of c.args.rows) r)) c.in-Trace.is c.requires.sound).1
+trace_image-requires-clause-cycle g c =
+    (subst (λ (r : ImageRun). IsSound (image_run c.args.image.now (rows_of c.args.rows) r)) c.in-Trace.is c.requires.sound).1
 
 pub pair_image-requires-clause-seed : goal.pair_image-requires-clause-seed
-pair_image-requires-clause-seed g c = (subst (λ (r : ImageRun). IsSound (image_run c.args.image.now (rows_of c.args.rows) r)) c.in-Pair.is c.requires.sound).1
+pair_image-requires-clause-seed g c =
+    (subst (λ (r : ImageRun). IsSound (image_run c.args.image.now (rows_of c.args.rows) r)) c.in-Pair.is c.requires.sound).1
 
 pub pair_image-requires-clause-apart : goal.pair_image-requires-clause-apart
 pair_image-requires-clause-apart g c =
     subst (λ (o : Option ℕ). IfSome o (λ seed. seed ≢ c.in-Ok.loaded.image.table.seed)) (c.second_of.ensures ∙ ap second_of c.in-Pair.is) c.in-Ok.ensures.apart
 
 pub pairs_image-requires-clause-seed : goal.pairs_image-requires-clause-seed
-pairs_image-requires-clause-seed g c = (subst (λ (r : ImageRun). IsSound (image_run c.args.image.now (rows_of c.args.rows) r)) c.in-Pairs.is c.requires.sound).1
+pairs_image-requires-clause-seed g c =
+    (subst (λ (r : ImageRun). IsSound (image_run c.args.image.now (rows_of c.args.rows) r)) c.in-Pairs.is c.requires.sound).1
 
 pub pairs_image-requires-clause-apart : goal.pairs_image-requires-clause-apart
 pairs_image-requires-clause-apart g c =
