@@ -50,17 +50,6 @@ fn stops_by_cases(
     Ok(either)
 }
 
-/// Why operation `i` may stop, where the operations before it have values in these ranges.
-fn stops_after(cycle: &Cycle<'_>, known: &[Range], i: u32, left: &mut u64) -> Result<Stops, Memory>
-    requires there { i < length cycle.now.graph.now.operations }
-    requires many { length known.now ≡ length cycle.now.graph.now.operations }
-    ensures { IfOk result (λ s. StopsIn cycle.now.graph.now.operations cycle.now.cells.now known.now i s) }
-{
-    let first = first_ranges(known, i);
-    let ranges = narrowed(cycle, first)?;
-    stops_by_cases(cycle, &ranges, i, CONDITIONS, left)
-}
-
 /// Whether operation `i` is looked at closer: it may stop, is wanted and isn't done with.
 fn is_asked(stops: &[Stops], wanted: &[Stops], done: &[Stops], i: usize) -> bool {
     is_any_at(stops, i) && is_any_at(wanted, i) && !is_any_at(done, i)
@@ -93,7 +82,9 @@ fn stops_of(
     if asked {
         let enough = spend(cycle.graph, left);
         if enough {
-            return stops_after(cycle, told.known(), i, left);
+            let first = first_ranges(told.known(), i);
+            let ranges = narrowed(cycle, first)?;
+            return stops_by_cases(cycle, &ranges, i, CONDITIONS, left);
         }
     }
     let plain = told.stops_at(i as usize);

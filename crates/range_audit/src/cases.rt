@@ -144,25 +144,7 @@ pub(crate) fn range_by_cases(
     Ok(both)
 }
 
-/// Makes the range of operation `j` narrower by cases of conditions, until it is inside the wanted one.
-fn narrow_by_cases(
-    cycle: &Cycle<'_>,
-    ranges: &mut [Range],
-    j: u32,
-    wanted: Range,
-    left: &mut u64,
-) -> Result<(), Memory>
-    requires there { j < length ranges.old }
-    requires many { length ranges.old ≤ length cycle.now.graph.now.operations }
-    ensures many { length ranges.new ≡ length ranges.old }
-    ensures fits { Narrows cycle.now.graph.now.operations cycle.now.cells.now ranges.old ranges.new }
-{
-    let r = range_by_cases(cycle, ranges, j, wanted, CONDITIONS, left)?;
-    put(ranges, j, r);
-    Ok(())
-}
-
-/// Does so for each number that is stored, until it is inside its range of a box.
+/// Makes the range of each number that is stored narrower by cases of conditions, until it is inside its range of a box.
 fn narrow_stores(
     cycle: &Cycle<'_>,
     ranges: &mut [Range],
@@ -177,7 +159,8 @@ fn narrow_stores(
     'cells: for k in 0..count {
         let store = store_at(cycle.graph, k);
         let wanted = wanted_at(cycle.graph, cells, k);
-        narrow_by_cases(cycle, ranges, store, wanted, left)?;
+        let r = range_by_cases(cycle, ranges, store, wanted, CONDITIONS, left)?;
+        put(ranges, store, r);
     }
     Ok(())
 }

@@ -1,13 +1,16 @@
-use Rattle.std.proofs.Common.{◌≡◌, true, slice_get, Some, sym, subst}
+use Rattle.std.proofs.Common.{◌≡◌, ◌∙◌, ap, arith, length, length-take-le, true, slice_get, Some, sym, subst}
 use Rattle.range_walk.specs.Known.{is_named}
 use Rattle.range_walk.specs.Intervals.{Fit}
 use Rattle.range_audit.proofs.Steps.{and_so}
 use Rattle.range_audit.proofs.asking.stops_of.Goals as goal
 
 pub returns-then-enough : goal.returns-then-enough
-returns-then-enough c = and_so c.stops_after.result c.stops_after.ensures (λ s is held row vs op why hold row_in given whole there own no e.
+returns-then-enough c = and_so c.stops_by_cases.result c.stops_by_cases.ensures (λ s is held row vs op why hold row_in given whole there own no e.
+    let many = ap length c.known.ensures ∙ c.requires.walk.known_many in
     let fit = subst (λ ks. Fit ks vs) (sym c.known.ensures) (c.requires.walk.fits held row vs hold row_in given) in
-    is held row vs op why hold given whole fit there own no e)
+    let count = ap length c.first_ranges-first.ensures.first ∙ length-take-le c.args.i c.known.result.now (omega (arith, c.requires.there, many)) in
+    let narrow = c.in_ok-ranges.ensures.fits held row vs hold given (whole ∙ sym count) (c.first_ranges-first.ensures.fits vs fit) in
+    is held row vs op why hold given whole (subst (λ rs. Fit rs vs) (sym c.deref.ensures.value) narrow) there own no e)
 
 pub returns : goal.returns
 returns c = λ held row vs op why hold row_in given whole there own no e.
