@@ -5,7 +5,7 @@ ghost use Rattle.std.specs.Str.Lines.{lines};
 ghost use Rattle.fault_script.specs.Groups.{GroupFits};
 ghost use Rattle.fault_script.specs.ScriptOf.{most_faults};
 ghost use Rattle.fault_injector.specs.Names.{Names};
-ghost use Rattle.fault_injector.specs.FaultLines.{verdict_text, totals_text, campaign_text};
+ghost use Rattle.fault_injector.specs.FaultLines.{totals_text, campaign_text};
 ghost use Rattle.verdict_tables.specs.Outcome.{meant as meant_of};
 ghost use Rattle.verdict_tables.specs.Reading.{is_line, ended, confirmed, verdict_or, verdict_on as verdict_on_of, next_of, behind_totals, totals_then};
 ghost use Rattle.verdict_tables.specs.Reading.{verdicts_in};
@@ -30,24 +30,6 @@ fn is_text(line: &[u8], text: &[u8]) -> bool
     match text.strip_suffix(b"\n") {
         Some(front) => line == front,
         None => false,
-    }
-}
-
-/// Whether a line is what is printed of this verdict for the group of line `at` of the script.
-fn tells_verdict(
-    alloc: Global,
-    graph: &Graph,
-    at: u32,
-    line: &[u8],
-    verdict: Verdict,
-) -> Result<bool, Memory>
-    requires { Names (length graph.now.outputs) (length graph.now.operations) verdict }
-    ensures { IfOk result (λ is. is ≡ is_line line.now (verdict_text graph.now at verdict)) }
-{
-    let mut told = TextSink::new(alloc);
-    match verdict_line(&mut told, graph, at, &verdict) {
-        Ok(()) => Ok(is_text(line, told.bytes())),
-        Err(Failed) => Err(Memory),
     }
 }
 
@@ -84,11 +66,17 @@ fn verdict_by(
     ensures names { IfOk result (Names (length graph.now.outputs) (length graph.now.operations)) }
 {
     match meant(graph, words) {
-        Some(verdict) => match tells_verdict(alloc, graph, at, line, verdict) {
-            Ok(true) => Ok(verdict),
-            Ok(false) => Err(VerdictsFault::Verdict { line: number }),
-            Err(Memory) => Err(VerdictsFault::Memory),
-        },
+        Some(verdict) => {
+            let mut told = TextSink::new(alloc);
+            match verdict_line(&mut told, graph, at, &verdict) {
+                Ok(()) => if is_text(line, told.bytes()) {
+                    Ok(verdict)
+                } else {
+                    Err(VerdictsFault::Verdict { line: number })
+                },
+                Err(Failed) => Err(VerdictsFault::Memory),
+            }
+        }
         None => Err(VerdictsFault::Verdict { line: number }),
     }
 }

@@ -1,39 +1,18 @@
 //! The groups whose difference is still in a cell at the end.
 
-ghost use Rattle.std.specs.Prelude.{◌≡◌, ◌<◌, Some, length, All};
+ghost use Rattle.std.specs.Prelude.{◌≡◌, length, All};
 ghost use Rattle.vcp_outside.specs.Gathering.{GathersTo};
 ghost use Rattle.verdict_tables.specs.Parts.{PartFits};
-ghost use Rattle.verdict_tables.specs.SameEndings.{standing_text, standing_below, standing_parts, AreOf};
+ghost use Rattle.verdict_tables.specs.SameEndings.{standing_below, standing_parts, AreOf};
 
-use crate::SameEnding;
 use crate::ended::is_ended;
 use crate::endings::{Endings, EndingsOfParts};
 use crate::parts::{Part, Parts, mark_of, then_group};
 use crate::unseen::then_faults;
-use fault_script::Group;
 use op_graph::Graph;
 use vcp_outside::{Line, Sink};
 
-/// Goes on with the line of a group and its faults, where it is one of these.
-fn then_standing<O: Sink>(
-    line: &mut Line,
-    out: &mut O,
-    graph: &Graph,
-    mark: Option<u64>,
-    group: &Group,
-    ending: Option<SameEnding>,
-)
-    requires { 0 < length group.now }
-    ensures { GathersTo (O.seen out.old) (O.seen out.new) line.old line.new (standing_text graph.now mark (Some group.now) (Some ending)) }
-{
-    if is_ended(2, ending) {
-        then_group(line, out, mark, group);
-        line.text(out, b" stands in a cell\n");
-        then_faults(line, out, graph, group);
-    }
-}
-
-/// Goes on with these groups of a part.
+/// Goes on with these groups of a part, each with its faults.
 fn then_standing_in<O: Sink>(
     line: &mut Line,
     out: &mut O,
@@ -48,7 +27,13 @@ fn then_standing_in<O: Sink>(
         (standing_below graph.now mark part.now.script endings.now (length endings.now)) }
 {
     'groups: for i in 0..endings.len() {
-        then_standing(line, out, graph, mark, part.script.at(i), endings.at(i));
+        let group = part.script.at(i);
+        if !is_ended(2, endings.at(i)) {
+            continue;
+        }
+        then_group(line, out, mark, group);
+        line.text(out, b" stands in a cell\n");
+        then_faults(line, out, graph, group);
     }
 }
 

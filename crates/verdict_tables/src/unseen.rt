@@ -1,41 +1,34 @@
 //! The faults that are not seen.
 
-ghost use Rattle.std.specs.Prelude.{◌≡◌, ◌<◌, Some, flat_map, length, All};
+ghost use Rattle.std.specs.Prelude.{◌≡◌, flat_map, length, All};
 ghost use Rattle.vcp_outside.specs.Gathering.{GathersTo};
-ghost use Rattle.fault_injector.specs.Names.{Names};
 ghost use Rattle.verdict_tables.specs.Parts.{IsWhole, PartFits};
-ghost use Rattle.verdict_tables.specs.SumText.{fault_text, is_unseen as is_unseen_of, unseen_text, unseen_below, unseen_parts};
+ghost use Rattle.verdict_tables.specs.SumText.{fault_text, is_unseen as is_unseen_of, unseen_below, unseen_parts};
 
 use crate::names::then_operation;
 use crate::parts::{Part, Parts, mark_of, then_group};
 use fault_injector::{Verdict, then_verdict};
-use fault_script::{Fault, Group};
+use fault_script::Group;
 use fault_sites::{Site, then_site};
 use op_graph::Graph;
 use vcp_outside::{Line, Sink};
-
-/// Goes on with a fault of a group.
-fn then_fault<O: Sink>(line: &mut Line, out: &mut O, graph: &Graph, fault: Fault)
-    ensures { GathersTo (O.seen out.old) (O.seen out.new) line.old line.new (fault_text graph.now fault) }
-{
-    line.text(out, b"  ");
-    let site = Site {
-        cycle: fault.cycle,
-        op: fault.op,
-        act: fault.act,
-    };
-    then_site(line, out, &site);
-    line.text(out, b": ");
-    then_operation(line, out, graph, fault.op);
-    line.text(out, b"\n");
-}
 
 /// Goes on with the faults of a group.
 pub(crate) fn then_faults<O: Sink>(line: &mut Line, out: &mut O, graph: &Graph, group: &Group)
     ensures { GathersTo (O.seen out.old) (O.seen out.new) line.old line.new (flat_map (fault_text graph.now) group.now) }
 {
     'faults: for i in 0..group.len() {
-        then_fault(line, out, graph, group.at(i));
+        let fault = group.at(i);
+        let site = Site {
+            cycle: fault.cycle,
+            op: fault.op,
+            act: fault.act,
+        };
+        line.text(out, b"  ");
+        then_site(line, out, &site);
+        line.text(out, b": ");
+        then_operation(line, out, graph, fault.op);
+        line.text(out, b"\n");
     }
 }
 
@@ -66,28 +59,6 @@ fn is_unseen(verdict: Verdict) -> bool
     }
 }
 
-/// Goes on with a verdict and its group, where the verdict isn't seen.
-fn then_unseen<O: Sink>(
-    line: &mut Line,
-    out: &mut O,
-    graph: &Graph,
-    mark: Option<u64>,
-    group: &Group,
-    verdict: Verdict,
-)
-    requires some { 0 < length group.now }
-    requires names { Names (length graph.now.outputs) (length graph.now.operations) verdict }
-    ensures { GathersTo (O.seen out.old) (O.seen out.new) line.old line.new (unseen_text graph.now mark (Some group.now) (Some verdict)) }
-{
-    if is_unseen(verdict) {
-        then_group(line, out, mark, group);
-        line.text(out, b" ");
-        then_verdict(line, out, graph, &verdict);
-        line.text(out, b"\n");
-        then_faults(line, out, graph, group);
-    }
-}
-
 /// Goes on with the verdicts of a part that aren't seen, and their groups.
 fn then_unseen_in<O: Sink>(
     line: &mut Line,
@@ -102,14 +73,16 @@ fn then_unseen_in<O: Sink>(
         (unseen_below graph.now mark part.now.script part.now.verdicts (length part.now.verdicts)) }
 {
     'groups: for i in 0..part.verdicts.len() {
-        then_unseen(
-            line,
-            out,
-            graph,
-            mark,
-            part.script.at(i),
-            part.verdicts.at(i),
-        );
+        let group = part.script.at(i);
+        let verdict = part.verdicts.at(i);
+        if !is_unseen(verdict) {
+            continue;
+        }
+        then_group(line, out, mark, group);
+        line.text(out, b" ");
+        then_verdict(line, out, graph, &verdict);
+        line.text(out, b"\n");
+        then_faults(line, out, graph, group);
     }
 }
 

@@ -1,19 +1,31 @@
-use Rattle.std.proofs.Common.{◌≡◌, length, add-one, arith}
-use Rattle.fault_script.specs.Groups.{GroupFits}
-use Rattle.verdict_tables.proofs.Going.{and_then, unmoved}
+use Rattle.std.proofs.Common.{◌≡◌, ◌++◌, length, codes, decimal, flat_map, append_assoc, sym, ◌∙◌, add-one, arith}
+use Rattle.fault_script.specs.Groups.{GroupFits, line_of}
+use Rattle.verdict_tables.specs.Parts.{mark_text}
+use Rattle.verdict_tables.specs.SumText.{fault_text}
+use Rattle.verdict_tables.proofs.Going.{and_then, chosen, not_chosen, same, unmoved}
 use Rattle.verdict_tables.proofs.Picking.{at_place}
 use Rattle.verdict_tables.proofs.standing.then_standing_in.Goals as goal
 
 pub groups-init : goal.groups-init
 groups-init g c = unmoved
 
-pub then_standing-requires : goal.then_standing-requires
-then_standing-requires g c =
-    (at_place (GroupFits c.args.graph.now) c.args.part.now.script c.groups.i c.at.result.now c.at.ensures c.requires.fits.fits).some
+pub then_group-requires : goal.then_group-requires
+then_group-requires g c =
+    (at_place (GroupFits c.args.graph.now) c.args.part.now.script c.groups.i c.at-group.result.now c.at-group.ensures c.requires.fits.fits).some
 
 pub groups-preserved : goal.groups-preserved
 groups-preserved g c =
-    rw (add-one c.groups.i, c.at.ensures, c.at-in-groups.ensures) (and_then c.groups.invariant c.then_standing.ensures)
+    let group = c.at-group.result.now in
+    let faults = flat_map (fault_text c.args.graph.now) group in
+    let told = same (and_then c.then_group.ensures (and_then c.text.ensures.gathers c.then_faults.ensures))
+    (sym (append_assoc (mark_text c.args.mark) (decimal (line_of group)) (codes " stands in a cell\n" ++ faults))) in
+    rw (add-one c.groups.i, c.at-group.ensures, c.at.ensures)
+    (and_then c.groups.invariant (chosen _ _ _ (sym c.is_ended.ensures ∙ c.if-not-is_ended.false) told))
+
+pub groups-preserved-then-not-is_ended : goal.groups-preserved-then-not-is_ended
+groups-preserved-then-not-is_ended g c =
+    rw (add-one c.groups.i, c.at-group.ensures, c.at.ensures)
+    (and_then c.groups.invariant (not_chosen _ _ (sym c.is_ended.ensures ∙ c.if-not-is_ended.true)))
 
 pub returns : goal.returns
 returns g c =

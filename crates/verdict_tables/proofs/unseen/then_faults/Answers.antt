@@ -9,7 +9,9 @@ faults-init g c = unmoved
 
 pub faults-preserved : goal.faults-preserved
 faults-preserved g c =
-    same (and_then c.faults.invariant c.then_fault.ensures) (one_more (fault_text c.args.graph.now) c.args.group.now c.faults.i c.at.result c.at.ensures)
+    let place = and_then c.text-in-faults.ensures.gathers (and_then c.then_operation.ensures c.text-in-faults-2.ensures.gathers) in
+    let fault = and_then c.text.ensures.gathers (and_then c.then_site.ensures place) in
+    same (and_then c.faults.invariant fault) (one_more (fault_text c.args.graph.now) c.args.group.now c.faults.i c.at-fault.result c.at-fault.ensures)
 
 pub returns : goal.returns
 returns g c =
