@@ -1,10 +1,10 @@
 //! The lines from operands to their readers.
 
-ghost use Rattle.std.specs.Prelude.{◌≡◌, ◌<◌, length, flat_map, slice_get};
+ghost use Rattle.std.specs.Prelude.{◌≡◌, ◌<◌, length, flat_map};
 ghost use Rattle.vcp_outside.specs.Gathering.{GathersTo};
 ghost use Rattle.op_graph.specs.Reads.{named};
 ghost use Rattle.vcp_outside.specs.Elements.{element_text};
-ghost use Rattle.graph_picture.specs.Drawn.{wire_of, wires_of, wires_below};
+ghost use Rattle.graph_picture.specs.Drawn.{wire_of, wires_below};
 ghost use Rattle.graph_picture.specs.Elements.{wire_element, wire_elements};
 
 use crate::layout::{BoxPlace, GraphLayout, left, top};
@@ -68,24 +68,15 @@ fn then_wire<O: Sink>(
     }
 }
 
-/// Draws the lines to the operands of operation `n`.
-fn then_operands<O: Sink>(line: &mut Line, out: &mut O, graph: &Graph, layout: &GraphLayout, n: u32)
-    requires { n < length graph.now.operations }
-    ensures { GathersTo (O.seen out.old) (O.seen out.new) line.old line.new
-        (flat_map element_text (flat_map (wire_elements graph.now) (wires_of layout.now.places n (slice_get graph.now.operations n)))) }
-{
-    let op = graph.operation(n);
-    then_wire(line, out, graph, layout, n, &op, 0, op.a);
-    then_wire(line, out, graph, layout, n, &op, 1, op.b);
-    then_wire(line, out, graph, layout, n, &op, 2, op.c);
-}
-
 /// Draws the lines to the operands of a graph's operations.
 pub(crate) fn then_wires<O: Sink>(line: &mut Line, out: &mut O, graph: &Graph, layout: &GraphLayout)
     ensures { GathersTo (O.seen out.old) (O.seen out.new) line.old line.new
         (flat_map element_text (flat_map (wire_elements graph.now) (wires_below graph.now layout.now.places (length graph.now.operations)))) }
 {
     'operations: for n in 0..graph.len() {
-        then_operands(line, out, graph, layout, n);
+        let op = graph.operation(n);
+        then_wire(line, out, graph, layout, n, &op, 0, op.a);
+        then_wire(line, out, graph, layout, n, &op, 1, op.b);
+        then_wire(line, out, graph, layout, n, &op, 2, op.c);
     }
 }

@@ -1,9 +1,9 @@
 //! The edges from operands to their readers.
 
-ghost use Rattle.std.specs.Prelude.{◌≡◌, ◌<◌, ◌≤◌, ◌+◌, [], length, flat_map, slice_get};
+ghost use Rattle.std.specs.Prelude.{◌≡◌, ◌<◌, ◌≤◌, ◌+◌, [], length, flat_map};
 ghost use Rattle.vcp_outside.specs.Gathering.{GathersTo};
 ghost use Rattle.op_graph.specs.Reads.{named};
-ghost use Rattle.graph_picture.specs.Drawn.{wire_of, wires_of, wires_below};
+ghost use Rattle.graph_picture.specs.Drawn.{wire_of, wires_below};
 ghost use Rattle.graph_picture.specs.DotText.{edge_end, constant_text, wire_text};
 
 use crate::dot::labels::then_constant_label;
@@ -77,28 +77,6 @@ fn then_wire<O: Sink>(
     }
 }
 
-/// Goes on with the lines to the operands of operation `n`.
-fn then_operands<O: Sink>(
-    line: &mut Line,
-    out: &mut O,
-    graph: &Graph,
-    weights: &Weights,
-    distances: u32,
-    n: u32,
-)
-    requires there { n < length graph.now.operations }
-    requires operations { weights.now.operations ≡ length graph.now.operations }
-    requires outputs { length weights.now.outputs ≡ length graph.now.outputs }
-    requires distances { distances ≤ weights.now.horizon + 1 }
-    ensures { GathersTo (O.seen out.old) (O.seen out.new) line.old line.new
-        (flat_map (wire_text graph.now weights.now distances) (wires_of [] n (slice_get graph.now.operations n))) }
-{
-    let op = graph.operation(n);
-    then_wire(line, out, graph, weights, distances, n, &op, 0, op.a);
-    then_wire(line, out, graph, weights, distances, n, &op, 1, op.b);
-    then_wire(line, out, graph, weights, distances, n, &op, 2, op.c);
-}
-
 /// Goes on with the lines to the operands of a graph's operations.
 pub(crate) fn then_edges<O: Sink>(
     line: &mut Line,
@@ -114,6 +92,9 @@ pub(crate) fn then_edges<O: Sink>(
         (flat_map (wire_text graph.now weights.now distances) (wires_below graph.now [] (length graph.now.operations))) }
 {
     'operations: for n in 0..graph.len() {
-        then_operands(line, out, graph, weights, distances, n);
+        let op = graph.operation(n);
+        then_wire(line, out, graph, weights, distances, n, &op, 0, op.a);
+        then_wire(line, out, graph, weights, distances, n, &op, 1, op.b);
+        then_wire(line, out, graph, weights, distances, n, &op, 2, op.c);
     }
 }

@@ -1,13 +1,11 @@
 //! The text of a graph.
 
-ghost use Rattle.std.specs.Prelude.{◌≡◌, ◌≤◌, ◌+◌, [], length};
+ghost use Rattle.std.specs.Prelude.{◌≤◌, ◌+◌};
 ghost use Rattle.vcp_outside.specs.Written.{WritesTo};
 ghost use Rattle.vcp_base.specs.Limits.{most_horizon};
-ghost use Rattle.vcp_outside.specs.Gathering.{GathersTo};
 ghost use Rattle.weight_audit.specs.Audit.{IsAudit};
 ghost use Rattle.graph_picture.specs.Colours.{colours};
-ghost use Rattle.graph_picture.specs.Drawn.{drawing};
-ghost use Rattle.graph_picture.specs.DotText.{drawing_text, dot_text};
+ghost use Rattle.graph_picture.specs.DotText.{dot_text};
 
 use crate::dot::cells::then_cells;
 use crate::dot::edges::then_edges;
@@ -22,25 +20,6 @@ const BEGINNING: &[u8] = b"digraph {\n\
     graph [ label=\"red: blind for the output that it names, so many cycles later; grey: reaches no output\" ];\n\
     node [ fontname=\"monospace\" fontsize=\"9\" style=\"filled\" margin=\"0.06\" width=\"0\" height=\"0\" ];\n\
     edge [ fontname=\"monospace\" fontsize=\"8\" arrowsize=\"0.5\" labeldistance=\"1.4\" ];\n";
-
-/// Goes on with the nodes, the edges and the cells of a graph.
-fn then_graph<O: Sink>(
-    line: &mut Line,
-    out: &mut O,
-    graph: &Graph,
-    weights: &Weights,
-    distances: u32,
-)
-    requires operations { weights.now.operations ≡ length graph.now.operations }
-    requires outputs { length weights.now.outputs ≡ length graph.now.outputs }
-    requires distances { distances ≤ weights.now.horizon + 1 }
-    ensures { GathersTo (O.seen out.old) (O.seen out.new) line.old line.new
-        (drawing_text graph.now weights.now distances (drawing graph.now (colours graph.now weights.now distances) [])) }
-{
-    then_nodes(line, out, graph, weights, distances);
-    then_edges(line, out, graph, weights, distances);
-    then_cells(line, out, graph);
-}
 
 /// Writes a graph, whose weights up to the horizon, of at most 1000 cycle borders, these are, as a text for Graphviz. It takes no memory. After
 /// `Failed` a part of the text is written.
@@ -60,7 +39,9 @@ pub fn write_dot<O: Sink>(
 {
     let mut line = Line::new();
     line.text(out, BEGINNING);
-    then_graph(&mut line, out, graph, weights, horizon + 1);
+    then_nodes(&mut line, out, graph, weights, horizon + 1);
+    then_edges(&mut line, out, graph, weights, horizon + 1);
+    then_cells(&mut line, out, graph);
     line.text(out, b"}");
     line.end(out)
 }

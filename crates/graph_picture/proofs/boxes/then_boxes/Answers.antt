@@ -22,7 +22,7 @@ operations-preserved g c =
     let drawn = rw (c.look-look.ensures, c.place-place.ensures) at c.then_body.ensures in
     let one = ap (λ o. drawn_text (box_elements graph looks) (box_drawn graph n (looks n) (place_at places n) o)) c.operation-op.ensures
     ∙ ap (flat_map element_text) (append-nil (box_elements graph looks box) ∙ ap (λ t. cond t [] (body_elements graph looks box)) is) in
-    both _ _ _ c.operations.invariant (same drawn one) (one_more (box_elements graph looks) (box_at graph looks places) n)
+    both _ _ _ c.operations.invariant (same {s = flat_map element_text (body_elements graph looks box)} drawn one) (one_more (box_elements graph looks) (box_at graph looks places) n)
 
 pub operations-preserved-then-is_constant : goal.operations-preserved-then-is_constant
 operations-preserved-then-is_constant g c =

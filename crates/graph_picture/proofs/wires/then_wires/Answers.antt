@@ -1,7 +1,7 @@
-use Rattle.std.proofs.Common.{◌≡◌, length, arith}
-use Rattle.graph_picture.specs.Drawn.{wires_at}
+use Rattle.std.proofs.Common.{◌≡◌, ◌++◌, ◌∙◌, ap, length, arith}
+use Rattle.graph_picture.specs.Drawn.{wire_of, wires_of, wires_at}
 use Rattle.graph_picture.specs.Elements.{wire_elements}
-use Rattle.graph_picture.proofs.Going.{both, one_more, unmoved}
+use Rattle.graph_picture.proofs.Going.{and_then, both, drawn_more, drawn_text, one_more, same, unmoved}
 use Rattle.graph_picture.proofs.wires.then_wires.Goals as goal
 
 pub operations-init : goal.operations-init
@@ -9,8 +9,18 @@ operations-init g c = unmoved
 
 pub operations-preserved : goal.operations-preserved
 operations-preserved g c =
-    both _ _ _ c.operations.invariant c.then_operands.ensures
-    (one_more (wire_elements c.args.graph.now) (wires_at c.args.graph.now c.args.layout.now.places) c.operations.n)
+    let graph = c.args.graph.now in
+    let places = c.args.layout.now.places in
+    let n = c.operations.n in
+    let op = c.operation-op.result in
+    let first = wire_of places n op 0 in
+    let second = wire_of places n op 1 in
+    let third = wire_of places n op 2 in
+    let all = and_then c.then_wire.ensures (and_then c.then_wire-in-operations.ensures c.then_wire-in-operations-2.ensures) in
+    let drawn = same all (ap (λ o. drawn_text (wire_elements graph) (wires_of places n o)) c.operation-op.ensures
+    ∙ (drawn_more (wire_elements graph) first (second ++ third)
+    ∙ ap (λ t. drawn_text (wire_elements graph) first ++ t) (drawn_more (wire_elements graph) second third))) in
+    both _ _ _ c.operations.invariant drawn (one_more (wire_elements graph) (wires_at graph places) n)
 
 pub returns : goal.returns
 returns g c =

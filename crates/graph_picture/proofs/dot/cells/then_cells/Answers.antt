@@ -7,7 +7,9 @@ pub cells-init : goal.cells-init
 cells-init g c = unmoved
 
 pub cells-preserved : goal.cells-preserved
-cells-preserved g c = rw (add-one c.cells.k) (and_then c.cells.invariant c.then_cell.ensures)
+cells-preserved g c =
+    rw (add-one c.cells.k, c.cell-cell.ensures)
+    (and_then c.cells.invariant (and_then c.numbered.ensures.gathers (and_then c.numbered-in-cells.ensures.gathers c.text.ensures.gathers)))
 
 pub returns : goal.returns
 returns g c =

@@ -1,5 +1,6 @@
-use Rattle.std.proofs.Common.{◌≡◌, [], length, arith}
-use Rattle.graph_picture.specs.Drawn.{wires_at}
+use Rattle.std.proofs.Common.{◌≡◌, ◌++◌, ◌∙◌, [], ap, flat_map, length, refl, arith}
+use Rattle.std.proofs.lemmas.Grind.{flat_map-append}
+use Rattle.graph_picture.specs.Drawn.{wire_of, wires_of, wires_at}
 use Rattle.graph_picture.specs.DotText.{wire_text}
 use Rattle.graph_picture.proofs.Going.{and_then, same, one_text_more, unmoved}
 use Rattle.graph_picture.proofs.dot.edges.then_edges.Goals as goal
@@ -9,11 +10,28 @@ operations-init g c = unmoved
 
 pub operations-preserved : goal.operations-preserved
 operations-preserved g c =
-    same (and_then c.operations.invariant c.then_operands.ensures)
-    (one_text_more (wire_text c.args.graph.now c.args.weights.now c.args.distances) (wires_at c.args.graph.now []) c.operations.n)
+    let n = c.operations.n in
+    let op = c.operation-op.result in
+    let text = wire_text c.args.graph.now c.args.weights.now c.args.distances in
+    let first = wire_of [] n op 0 in
+    let second = wire_of [] n op 1 in
+    let third = wire_of [] n op 2 in
+    let all = and_then c.then_wire.ensures (and_then c.then_wire-in-operations.ensures c.then_wire-in-operations-2.ensures) in
+    let told = same all (ap (λ o. flat_map text (wires_of [] n o)) c.operation-op.ensures
+    ∙ (flat_map-append text first (second ++ third) ∙ ap (λ t. flat_map text first ++ t) (flat_map-append text second third))) in
+    same (and_then c.operations.invariant told) (one_text_more text (wires_at c.args.graph.now []) n)
 
 pub returns : goal.returns
 returns g c =
     let all : c.operations.n ≡ length c.args.graph.now.operations =
     omega (arith, c.operations-test.false, c.operations.auto.n-end, c.len-n-end.ensures.count) in
     rw all at c.operations.invariant
+
+pub then_wire-requires : goal.then_wire-requires
+then_wire-requires g c = record { operations = c.requires.operations; outputs = c.requires.outputs; distances = c.requires.distances; names = refl }
+
+pub then_wire-requires-in-operations : goal.then_wire-requires-in-operations
+then_wire-requires-in-operations g c = record { operations = c.requires.operations; outputs = c.requires.outputs; distances = c.requires.distances; names = refl }
+
+pub then_wire-requires-in-operations-2 : goal.then_wire-requires-in-operations-2
+then_wire-requires-in-operations-2 g c = record { operations = c.requires.operations; outputs = c.requires.outputs; distances = c.requires.distances; names = refl }

@@ -1,5 +1,0 @@
-use Rattle.graph_picture.proofs.Going.{and_then}
-use Rattle.graph_picture.proofs.dot.cells.then_cell.Goals as goal
-
-pub returns : goal.returns
-returns g c = rw c.cell-cell.ensures (and_then c.numbered.ensures.gathers (and_then c.numbered-2.ensures.gathers c.text.ensures.gathers))
