@@ -17,6 +17,10 @@ found_more [] i true = refl
 found_more (k ∷ []) i true = refl
 found_more (k ∷ l ∷ ks) i true = refl
 
+-- nothing was found
+pub none_below : (i k : ℕ) → found.Nothing ≡ found.One k → k < i
+none_below i k e = absurd cc
+
 -- the one that was found is below the next
 pub next_below : (f : Found) (i k : ℕ) (b : Bool) → ((k : ℕ) → f ≡ found.One k → k < i) → found_next f i b ≡ found.One k → k < i + 1
 next_below found.Nothing i k false old e = absurd cc

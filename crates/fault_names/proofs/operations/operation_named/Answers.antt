@@ -2,11 +2,11 @@ use Rattle.std.proofs.Common.{◌≡◌, ◌++◌, Bool, length, add-one, arith,
 use Rattle.op_graph.specs.declared.op.Op.{Op}
 use Rattle.fault_names.specs.declared.operations.Found.{Found}
 use Rattle.fault_names.specs.Operations.{named_below, number_if, found_of, found_next, is_named_there}
-use Rattle.fault_names.proofs.Found.{found_more, next_below, one_below}
+use Rattle.fault_names.proofs.Found.{found_more, next_below, none_below, one_below}
 use Rattle.fault_names.proofs.operations.operation_named.Goals as goal
 
 pub operations-init : goal.operations-init
-operations-init c = record { so_far = refl; there = λ k e. absurd cc }
+operations-init c = record { so_far = refl; there = none_below 0 }
 
 pub operations-preserved : goal.operations-preserved
 operations-preserved c =
