@@ -55,6 +55,10 @@ pub drawn_unless : {a b : Option (List ℕ)} {f g : ℕ} {l m : Gathered} (es : 
     → Gathers a b f g l m (flat_map element_text es) → Gathers a b f g l m (flat_map element_text (cond test [] es))
 drawn_unless es test is gathers = same gathers (ap (λ t. flat_map element_text (cond t [] es)) is)
 
+pub not_drawn : {a : Option (List ℕ)} {f : ℕ} {l : Gathered} (es : List Element) (test : Bool) → test ≡ false
+    → Gathers a a f f l l (flat_map element_text (cond test es []))
+not_drawn es test is = same unmoved (ap (λ t. flat_map element_text (cond t es [])) is)
+
 pub one_drawn : {a b : Option (List ℕ)} {f g : ℕ} {l m : Gathered} (e : Element) → Gathers a b f g l m (element_text e)
     → Gathers a b f g l m (flat_map element_text (e ∷ []))
 one_drawn e gathers = same gathers (one_text e)

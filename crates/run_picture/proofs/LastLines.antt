@@ -1,6 +1,7 @@
 -- LastLines: the last lines that runs print are known, and `end` is no other.
 use Rattle.std.proofs.Common.{◌≡◌, ℕ, List, [], ◌∷◌, ◌++◌, length, take, drop, Bool, true, false, cond, bytes_eq, codes, decimal, flat_map, refl, sym, ap, ◌∙◌, append_assoc, Option, Some, None}
 use Rattle.std.specs.Option.{is_some, option_and_then}
+use Rattle.std.proofs.lemmas.Bool.{false≢true}
 use Rattle.std.proofs.lemmas.List.{append-nil, append_cancel_right, take-append-drop}
 use Rattle.std.proofs.lemmas.Slice.Eq.{bytes_eq-Decides}
 use Rattle.std.proofs.Math.Seq.{take-append_seam}
@@ -90,14 +91,14 @@ behind_front front text rest e = behind_is front text rest (bytes_eq (take (leng
 
 behind_number : (word text : List ℕ) (n : ℕ) (o : Option (List ℕ)) → rest_behind word text ≡ o → is_nothing (option_and_then (rest_behind (decimal n)) o) ≡ true
     → text ≡ word ++ decimal n
-behind_number word text n None e h = absurd cc
+behind_number word text n None e h = absurd (false≢true h)
 behind_number word text n (Some rest) e h =
     behind_front word text rest e ∙ ap (λ (t : List ℕ). word ++ t) (at_end (rest_behind (decimal n) rest) refl h)
   where
     at_end : (p : Option (List ℕ)) → rest_behind (decimal n) rest ≡ p → is_nothing p ≡ true → rest ≡ decimal n
-    at_end None is k = absurd cc
+    at_end None is k = absurd (false≢true k)
     at_end (Some []) is k = behind_front (decimal n) rest [] is ∙ append-nil (decimal n)
-    at_end (Some (b ∷ more)) is k = absurd cc
+    at_end (Some (b ∷ more)) is k = absurd (false≢true k)
 
 only_end : (a b c : Bool) → cond a (Some mark.Ended) (cond b (Some mark.Stopped) (cond c (Some mark.Refused) None)) ≡ Some mark.Ended → a ≡ true
 only_end true b c e = refl

@@ -5,7 +5,7 @@ ghost use Rattle.vcp_outside.specs.Gathering.{GathersTo};
 ghost use Rattle.vcp_outside.specs.Elements.{element_text};
 ghost use Rattle.vcp_base.specs.Limits.{most_cycles};
 ghost use Rattle.run_picture.specs.Elements.{style, time_elements, mark_elements};
-ghost use Rattle.run_picture.specs.Elements.{cycle_elements, cycles_elements, name_element, names_elements, base_elements, bases_elements};
+ghost use Rattle.run_picture.specs.Elements.{cycle_elements, cycles_elements, names_elements, bases_elements};
 ghost use Rattle.run_picture.specs.Elements.{class_of as class_of_mark, ending_elements};
 
 use crate::ending::Mark;
@@ -122,35 +122,6 @@ pub(crate) fn then_cycles<O: Sink>(
     }
 }
 
-// Writes the name of a column in a class, so far from the left and below the column's upper side.
-fn then_name<O: Sink>(
-    line: &mut Line,
-    out: &mut O,
-    run: &Run,
-    class: &[u8],
-    x: u64,
-    y: u64,
-    column: u32,
-)
-    requires column { column < length run.now.names }
-    requires y { y < 100 }
-    ensures { GathersTo (O.seen out.old) (O.seen out.new) line.old line.new
-        (element_text (name_element run.now class.now x y column)) }
-{
-    then_element(
-        line,
-        out,
-        Tag::Text,
-        &[
-            (Name::Column, Piece::Count(column as u64)),
-            (Name::Class, Piece::Bytes(class)),
-            (Name::X, Piece::Count(x)),
-            (Name::Y, Piece::Count(top(column) + y)),
-        ],
-        &[Piece::Bytes(run.name(column).bytes())],
-    );
-}
-
 /// Writes the names of the columns in a class, so far from the left and below the columns' upper sides.
 pub(crate) fn then_names<O: Sink>(
     line: &mut Line,
@@ -165,20 +136,18 @@ pub(crate) fn then_names<O: Sink>(
         (flat_map element_text (names_elements run.now class.now x y (length run.now.names))) }
 {
     'columns: for column in 0..run.columns() {
-        then_name(line, out, run, class, x, y, column);
-    }
-}
-
-// Draws the base line of a column of levels.
-fn then_base<O: Sink>(line: &mut Line, out: &mut O, layout: Layout, run: &Run, column: u32)
-    requires { column < length run.now.names }
-    ensures { GathersTo (O.seen out.old) (O.seen out.new) line.old line.new
-        (flat_map element_text (base_elements layout run.now column)) }
-{
-    if is_level(run, column) {
-        let y = top(column) + 30;
-        let end = start(layout, run.cycles());
-        then_line(line, out, b"base", start(layout, 0), y, end, y);
+        then_element(
+            line,
+            out,
+            Tag::Text,
+            &[
+                (Name::Column, Piece::Count(column as u64)),
+                (Name::Class, Piece::Bytes(class)),
+                (Name::X, Piece::Count(x)),
+                (Name::Y, Piece::Count(top(column) + y)),
+            ],
+            &[Piece::Bytes(run.name(column).bytes())],
+        );
     }
 }
 
@@ -188,7 +157,12 @@ pub(crate) fn then_bases<O: Sink>(line: &mut Line, out: &mut O, layout: Layout, 
         (flat_map element_text (bases_elements layout run.now (length run.now.names))) }
 {
     'columns: for column in 0..run.columns() {
-        then_base(line, out, layout, run, column);
+        if !is_level(run, column) {
+            continue;
+        }
+        let y = top(column) + 30;
+        let end = start(layout, run.cycles());
+        then_line(line, out, b"base", start(layout, 0), y, end, y);
     }
 }
 

@@ -189,19 +189,7 @@ fn then_labels<O: Sink>(line: &mut Line, out: &mut O, layout: Layout, stretch: S
     }
 }
 
-// Draws a stretch, its edge and its values.
-fn then_stretch<O: Sink>(line: &mut Line, out: &mut O, layout: Layout, stretch: Stretch)
-    requires some { stretch.start < stretch.end }
-    requires within { stretch.end ≤ most_cycles }
-    ensures { GathersTo (O.seen out.old) (O.seen out.new) line.old line.new
-        (flat_map element_text (stretch_elements layout stretch)) }
-{
-    then_value(line, out, layout, stretch);
-    then_edge(line, out, layout, stretch);
-    then_labels(line, out, layout, stretch);
-}
-
-// Draws the values of a column.
+// Draws the stretches of a column, each with its values and its edge.
 fn then_lane<O: Sink>(line: &mut Line, out: &mut O, layout: Layout, run: &Run, column: u32)
     requires { column < length run.now.names }
     ensures { GathersTo (O.seen out.old) (O.seen out.new) line.old line.new
@@ -211,7 +199,9 @@ fn then_lane<O: Sink>(line: &mut Line, out: &mut O, layout: Layout, run: &Run, c
     let mut at = 0;
     'stretches: while at < run.cycles() {
         let stretch = stretch_from(run, column, at, is_level);
-        then_stretch(line, out, layout, stretch);
+        then_value(line, out, layout, stretch);
+        then_edge(line, out, layout, stretch);
+        then_labels(line, out, layout, stretch);
         at = stretch.end;
     }
 }

@@ -1,4 +1,5 @@
-use Rattle.std.proofs.Common.{◌≡◌, length, arith}
+use Rattle.std.proofs.Common.{◌≡◌, [], length, arith}
+use Rattle.std.proofs.lemmas.Option.{get_or_from_slice_get}
 use Rattle.run_picture.specs.Elements.{name_element}
 use Rattle.run_picture.proofs.Going.{unmoved, and_then, same, single_more}
 use Rattle.run_picture.proofs.cycles.then_names.Goals as goal
@@ -8,7 +9,8 @@ columns-init g c = unmoved
 
 pub columns-preserved : goal.columns-preserved
 columns-preserved g c =
-    same (and_then c.columns.invariant c.then_name.ensures)
+    let name = get_or_from_slice_get c.args.run.now.names c.columns.column c.name.result.now [] c.name.ensures in
+    same (and_then c.columns.invariant (rw (c.top.ensures, c.bytes.ensures, ← name) at c.then_element.ensures))
     (single_more (name_element c.args.run.now c.args.class.now c.args.x c.args.y) c.columns.column)
 
 pub returns : goal.returns

@@ -1,6 +1,6 @@
 use Rattle.std.proofs.Common.{◌≤◌, [], ◌∷◌, ◌++◌, length, arith}
-use Rattle.run_picture.specs.Elements.{stretch_elements}
-use Rattle.run_picture.proofs.Going.{unmoved, and_then, same, drawn_one_more}
+use Rattle.run_picture.specs.Elements.{stretch_elements, value_element, edge_elements, label_elements}
+use Rattle.run_picture.proofs.Going.{unmoved, and_then, same, drawn_one_more, three_texts}
 use Rattle.run_picture.proofs.Walk.{begun, next_at, all}
 use Rattle.run_picture.proofs.lanes.then_lane.Goals as goal
 
@@ -10,11 +10,14 @@ stretches-init g c = record { drawn = []; before = begun c.args.run.now c.args.c
 pub stretches-preserved : goal.stretches-preserved
 stretches-preserved g c =
     let i = c.stretches.invariant in
+    let l = c.args.layout in
     let stretch = c.stretch_from-stretch.result in
+    let told = same (and_then c.then_value.ensures (and_then c.then_edge.ensures c.then_labels.ensures))
+    (three_texts (value_element l stretch) (edge_elements l stretch) (label_elements l stretch)) in
     record {
       drawn = i.drawn ++ stretch ∷ [];
       before = next_at c.args.run.now c.args.column c.stretches.at stretch i.drawn c.stretch_from-stretch.ensures.stretch (omega arith) i.before;
-      text = same (and_then i.text c.then_stretch.ensures) (drawn_one_more (stretch_elements c.args.layout) i.drawn stretch);
+      text = same (and_then i.text told) (drawn_one_more (stretch_elements l) i.drawn stretch);
     }
 
 pub returns : goal.returns
@@ -22,3 +25,21 @@ returns g c =
     let i = c.stretches.invariant in
     let done : length c.args.run.now.rows ≤ c.stretches.at = omega arith in
     rw (all c.args.run.now c.args.column c.stretches.at i.drawn done i.before) i.text
+
+pub then_value-requires : goal.then_value-requires
+then_value-requires g c = record {
+  some = rw c.stretch_from-stretch.ensures.begins c.stretch_from-stretch.ensures.some;
+  within = c.stretch_from-stretch.ensures.few;
+}
+
+pub then_edge-requires : goal.then_edge-requires
+then_edge-requires g c = record {
+  some = rw c.stretch_from-stretch.ensures.begins c.stretch_from-stretch.ensures.some;
+  within = c.stretch_from-stretch.ensures.few;
+}
+
+pub then_labels-requires : goal.then_labels-requires
+then_labels-requires g c = record {
+  some = rw c.stretch_from-stretch.ensures.begins c.stretch_from-stretch.ensures.some;
+  within = c.stretch_from-stretch.ensures.few;
+}
