@@ -1,14 +1,12 @@
 //! The command `sites`, behind its image.
 
-ghost use Rattle.std.specs.Prelude.{ℕ, List, ◌≡◌, ◌≤◌, All, Err, length};
+ghost use Rattle.std.specs.Prelude.{ℕ, List, ◌≡◌, ◌≤◌, Err};
 ghost use Rattle.std.specs.Io.KnownBytes.{IsAtEnd};
 ghost use Rattle.vcp_base.specs.Limits.{most_cycles};
 ghost use Rattle.vcp_outside.specs.Counts.{Rose};
 ghost use Rattle.vcp_outside.specs.Held.{Held};
 ghost use Rattle.vcp_outside.specs.Seen.{SinkSeen};
 ghost use Rattle.signature_table.specs.Signatures.{table_of};
-ghost use Rattle.fault_sites.specs.RunSites.{run_class_name, run_sites as run_sites_of};
-ghost use Rattle.fault_sites.specs.Laws.{Distinct};
 ghost use Rattle.fault_sites.specs.RestScript.{WritesChosenGroups};
 ghost use Rattle.fault_sites.specs.Rests.{groups};
 ghost use Rattle.fault_sites.specs.Script.{WritesChosen};
@@ -28,7 +26,6 @@ use fault_sites::{
     Chosen, Classes, RunClass, Unwritten, each_run_site_stands_once, each_site_stands_once,
     write_chosen_rests, write_chosen_run_sites, write_chosen_sites,
 };
-use input_rows::RowList;
 use std::alloc::Global;
 use vcp_base::Text;
 use vcp_inputs::{Image, RowsWord};
@@ -102,37 +99,6 @@ pub(crate) fn write_rests<'a, O: Sink>(
     chosen_of(name, written)
 }
 
-/// Writes of the sites of a class in the run over these rows of an image's graph what is chosen; the image has this name.
-fn write_run_sites<'a, O: Sink>(
-    alloc: Global,
-    name: &'a Text,
-    image: &Image,
-    rows: &RowList,
-    class: RunClass,
-    chosen: &Chosen,
-    out: &mut O,
-) -> Result<bool, Fault<'a>>
-    requires table { image.now.table ≡ table_of image.now.table.seed image.now.table.step image.now.graph }
-    requires few { length rows.now ≤ most_cycles }
-    requires width { All (λ r. length r ≡ length image.now.graph.inputs) rows.now }
-    ensures { WritesSo (λ x. Distinct (run_sites_of class image.now.table image.now.graph rows.now)
-        × Chooses name.now image.now (run_class_name class) (run_sites_of class image.now.table image.now.graph rows.now) chosen.now x) (O.seen out.old) (O.seen out.new) (told_line result) (told_status result) }
-{
-    each_run_site_stands_once();
-    let _step = image.table.step();
-    let _operations = image.graph.len();
-    let written = write_chosen_run_sites(
-        alloc,
-        &image.graph,
-        &image.table,
-        class,
-        rows,
-        chosen,
-        out,
-    );
-    chosen_of(name, written)
-}
-
 /// Reads ROWS for an image, which has this name, and writes of the sites of a class in their run what is chosen.
 pub(crate) fn run_sites_of_image<'a, F: Files, O: Sink>(
     alloc: Global,
@@ -150,7 +116,21 @@ pub(crate) fn run_sites_of_image<'a, F: Files, O: Sink>(
         (F.seen files.old) (F.seen files.new) (O.seen out.old) (O.seen out.new) (told_line result) (told_status result) }
 {
     match rows_for(alloc, image, rows, files) {
-        Ok(list) => write_run_sites(alloc, name, image, &list, class, chosen, out),
+        Ok(list) => {
+            each_run_site_stands_once();
+            let _step = image.table.step();
+            let _operations = image.graph.len();
+            let written = write_chosen_run_sites(
+                alloc,
+                &image.graph,
+                &image.table,
+                class,
+                &list,
+                chosen,
+                out,
+            );
+            chosen_of(name, written)
+        }
         Err(why) => Err(why),
     }
 }

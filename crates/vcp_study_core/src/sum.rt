@@ -18,7 +18,6 @@ use crate::loading::rows_for;
 use crate::part_words::PartWords;
 use crate::parts::load_parts;
 use input_rows::RowList;
-use op_graph::Graph;
 use std::alloc::Global;
 use vcp_base::Memory;
 use vcp_inputs::{Image, RowsWord};
