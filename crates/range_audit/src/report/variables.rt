@@ -1,9 +1,9 @@
 //! The lines of outputs and of variables that are kept.
 
-ghost use Rattle.std.specs.Prelude.{◌<◌, [], cond, length, slice_get};
+ghost use Rattle.std.specs.Prelude.{[], cond, length};
 ghost use Rattle.vcp_outside.specs.Gathering.{GathersTo};
 ghost use Rattle.op_graph.specs.Lists.{cells as cells_of};
-ghost use Rattle.range_audit.specs.RangeText.{variable_text, output_text, outputs_text, cell_text, cells_text, variables_text};
+ghost use Rattle.range_audit.specs.RangeText.{variable_text, outputs_text, cells_text, variables_text};
 
 use crate::report::lines::then_there;
 use op_graph::Graph;
@@ -29,35 +29,15 @@ fn then_variable<O: Sink>(
     line.text(out, b"\n");
 }
 
-/// Goes on with the line of output `i`.
-fn then_output<O: Sink>(line: &mut Line, out: &mut O, graph: &Graph, known: &[Range], i: u32)
-    requires { i < length graph.now.outputs }
-    ensures { GathersTo (O.seen out.old) (O.seen out.new) line.old line.new
-        (output_text graph.now known.now i (slice_get graph.now.outputs i)) }
-{
-    let output = graph.output(i);
-    let name = variable_name(graph, Kind::Out, i as u64);
-    then_variable(line, out, known, name, output.ty, output.op);
-}
-
 /// Goes on with the lines of the outputs.
 fn then_outputs<O: Sink>(line: &mut Line, out: &mut O, graph: &Graph, known: &[Range])
     ensures { GathersTo (O.seen out.old) (O.seen out.new) line.old line.new (outputs_text graph.now known.now (length graph.now.outputs)) }
 {
     'lines: for i in 0..graph.outputs() {
-        then_output(line, out, graph, known, i);
+        let output = graph.output(i);
+        let name = variable_name(graph, Kind::Out, i as u64);
+        then_variable(line, out, known, name, output.ty, output.op);
     }
-}
-
-/// Goes on with the line of cell `k`.
-fn then_cell<O: Sink>(line: &mut Line, out: &mut O, graph: &Graph, known: &[Range], k: u32)
-    requires { k < length (cells_of graph.now) }
-    ensures { GathersTo (O.seen out.old) (O.seen out.new) line.old line.new
-        (cell_text graph.now known.now k (slice_get (cells_of graph.now) k)) }
-{
-    let cell = graph.cell(k);
-    let name = variable_name(graph, Kind::Load, k as u64);
-    then_variable(line, out, known, name, cell.ty, cell.load);
 }
 
 /// Goes on with the lines of the cells.
@@ -65,7 +45,9 @@ fn then_cells<O: Sink>(line: &mut Line, out: &mut O, graph: &Graph, known: &[Ran
     ensures { GathersTo (O.seen out.old) (O.seen out.new) line.old line.new (cells_text graph.now known.now (length (cells_of graph.now))) }
 {
     'lines: for k in 0..graph.cells() {
-        then_cell(line, out, graph, known, k);
+        let cell = graph.cell(k);
+        let name = variable_name(graph, Kind::Load, k as u64);
+        then_variable(line, out, known, name, cell.ty, cell.load);
     }
 }
 

@@ -7,7 +7,8 @@ pub lines-init : goal.lines-init
 lines-init g c = unmoved
 
 pub lines-preserved : goal.lines-preserved
-lines-preserved g c = rw (add-one c.lines.k) (and_then c.lines.invariant c.then_cell.ensures)
+lines-preserved g c =
+    rw (add-one c.lines.k, c.cell-cell.ensures) (and_then c.lines.invariant (rw c.variable_name-name.ensures at c.then_variable.ensures))
 
 pub returns : goal.returns
 returns g c =

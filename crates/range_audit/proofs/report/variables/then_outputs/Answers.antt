@@ -6,7 +6,8 @@ pub lines-init : goal.lines-init
 lines-init g c = unmoved
 
 pub lines-preserved : goal.lines-preserved
-lines-preserved g c = rw (add-one c.lines.i) (and_then c.lines.invariant c.then_output.ensures)
+lines-preserved g c =
+    rw (add-one c.lines.i, c.output-output.ensures) (and_then c.lines.invariant (rw c.variable_name-name.ensures at c.then_variable.ensures))
 
 pub returns : goal.returns
 returns g c =
