@@ -18,4 +18,4 @@ pub mod OneAnswer
 pub mod SomeAnswer
 pub mod Built
 pub mod CodeSize
-mod Assigned
+pub mod FullLaws

@@ -8,4 +8,5 @@ pub mod Writings
 pub mod Tables
 pub mod Places
 pub mod Heads
+pub mod Full
 pub mod Outcomes

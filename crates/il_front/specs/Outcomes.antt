@@ -4,11 +4,11 @@ use Rattle.vcp_base.specs.Limits.{most_names, most_size}
 use Rattle.st_types.specs.declared.fault.TypeFault.TheVariants as typing
 use Rattle.vcp_typed.specs.Size.{size}
 use Rattle.vcp_typed.specs.SourceRun.{Program, source_run}
-use Rattle.vcp_typed.specs.TStmtViews.{tstmt_trees}
+use Rattle.vcp_typed.specs.declared.slot.Slot.{Slot}
+use Rattle.vcp_typed.specs.TStmtTree.{TStmtTrees}
 use Rattle.il_front.specs.declared.fault.IlFault.{IlFault}
 use Rattle.il_front.specs.declared.fault.IlFault.TheVariants as fault
 use Rattle.il_front.specs.declared.judging.Taken.{Taken}
-use Rattle.il_front.specs.declared.reading.Parts.{Parts}
 use Rattle.il_front.specs.Accumulator.{Il, acc_run}
 use Rattle.il_front.specs.Judging.{Judged, taken, faulted}
 use Rattle.il_front.specs.TypedForm.{typed_il}
@@ -25,9 +25,9 @@ IsBeyond i f =
     (f ≡ fault.Memory) ⊎ (((f ≡ fault.Types (typing.Names first_place)) × (most_names < length (typed_il i).slots))
     ⊎ ((f ≡ fault.Types typing.Size) × IsFew i × (most_size < size (typed_il i))))
 
--- the parts are those of the list's typed program, which is within the limits
-pub record Builds (i : Il) (p : Parts) : Type 0 where
-  pub is : record { slots = p.slots.items.items; body = tstmt_trees p.body.items.items } ≡ typed_il i
+-- these variables and statements are those of the list's typed program, which is within the limits
+pub record Builds (i : Il) (slots : List Slot) (body : TStmtTrees) : Type 0 where
+  pub is : record { slots = slots; body = body } ≡ typed_il i
   pub few : IsFew i
   pub room : size (typed_il i) ≤ most_size
 

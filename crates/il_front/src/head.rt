@@ -4,6 +4,7 @@ ghost use Rattle.std.specs.Prelude.{◌≡◌, ◌≤◌, ◌^◌, ◌<◌, ◌+
 ghost use Rattle.vcp_base.specs.Limits.{most_source_bytes};
 ghost use Rattle.st_lexer.specs.Reading.{Reads, IsInside};
 ghost use Rattle.st_lexer.specs.Spots.{spot_at};
+ghost use Rattle.st_parser.specs.Answers.{Refuses as RefusesTokens};
 ghost use Rattle.st_tree.specs.Declarable.{names_of};
 ghost use Rattle.st_tree.specs.ProgramViews.{program_tree, block_tree, decl_tree, declared_tree};
 ghost use Rattle.st_tree.specs.ProgramTree.{DeclaredTree};
@@ -15,7 +16,7 @@ ghost use Rattle.il_front.specs.Answers.{most_il_bytes, IsHead, NotIl};
 
 use crate::fault::IlFault;
 use st_lexer::{Key, Tok, Token, Tokens, spot_behind};
-use st_parser::parse;
+use st_parser::{SyntaxFault, parse};
 use st_tree::{Block, Decl, Declared, Program, spelled_names_are_declarable};
 use st_types::typed;
 use std::alloc::Global;
@@ -91,15 +92,15 @@ fn spot_of(text: &[u8], n: usize) -> Spot
     spot_behind(Spot { line: 1, col: 1 }, text.split_at(n).0)
 }
 
-// Appends the first tokens.
-fn push_all(words: &mut Tokens, tokens: &Tokens, count: usize) -> Result<(), Memory>
+// Appends the first tokens, and one more behind them.
+fn push_all(words: &mut Tokens, tokens: &Tokens, count: usize, more: Token) -> Result<(), Memory>
     requires { count ≤ length tokens.now.tokens }
-    ensures { OnOk result (words.new.tokens ≡ words.old.tokens ++ take count tokens.now.tokens) }
+    ensures { OnOk result (words.new.tokens ≡ words.old.tokens ++ take count tokens.now.tokens ++ more ∷ []) }
 {
     for i in 0..count {
         words.push(tokens.at(i))?;
     }
-    Ok(())
+    words.push(more)
 }
 
 // The head in Structured Text: its tokens, and END_PROGRAM a space behind them.
@@ -111,10 +112,8 @@ fn head_tokens(alloc: Global, text: &[u8], tokens: &Tokens) -> Result<Tokens, Me
 {
     let count = head_count(tokens);
     let spot = spot_of(text, end_of(tokens, count));
-    let mut words = Tokens::new(alloc);
-    push_all(&mut words, tokens, count)?;
     let from = text.len() as u32 + 1;
-    words.push(Token {
+    let added = Token {
         tok: Tok::Key(Key::EndProgram),
         from,
         to: from + 11,
@@ -122,12 +121,18 @@ fn head_tokens(alloc: Global, text: &[u8], tokens: &Tokens) -> Result<Tokens, Me
             line: spot.line,
             col: spot.col + 1,
         },
-    })?;
-    words.set_end(Spot {
-        line: spot.line,
-        col: spot.col + 12,
-    });
-    Ok(words)
+    };
+    let mut words = Tokens::new(alloc);
+    match push_all(&mut words, tokens, count, added) {
+        Ok(()) => {
+            words.set_end(Spot {
+                line: spot.line,
+                col: spot.col + 12,
+            });
+            Ok(words)
+        }
+        Err(Memory) => Err(Memory),
+    }
 }
 
 // ---- reserved names
@@ -183,16 +188,20 @@ fn among_blocks(blocks: &[Block]) -> Option<Spot>
 // ---- the head
 
 // The program that the head spells.
-fn head_program(alloc: Global, text: &[u8], tokens: &Tokens) -> Result<Program, IlFault>
+fn head_program(alloc: Global, text: &[u8], tokens: &Tokens) -> Result<Program, SyntaxFault>
     requires short { length text.now ≤ most_il_bytes }
-    requires reads { Reads text.now tokens.now.tokens }
     requires inside { All (IsInside text.now) tokens.now.tokens }
     ensures ok { IfOk result (λ p. IsHead text.now tokens.now.tokens (program_tree p)) }
-    ensures err { IfErr result (NotIl text.now) }
+    ensures err { IfErr result
+        (RefusesTokens (ended_of text.now) (head_tokens_of text.now tokens.now.tokens) (head_end_of text.now tokens.now.tokens)) }
 {
-    let words = head_tokens(alloc, text, tokens)?;
-    let bytes = ended(alloc, text)?;
-    Ok(parse(alloc, &bytes, &words)?)
+    match head_tokens(alloc, text, tokens) {
+        Ok(words) => match ended(alloc, text) {
+            Ok(bytes) => parse(alloc, &bytes, &words),
+            Err(Memory) => Err(SyntaxFault::Memory),
+        },
+        Err(Memory) => Err(SyntaxFault::Memory),
+    }
 }
 
 /// The typed program of the head, which has no reserved name; or why there is none.
@@ -203,11 +212,16 @@ pub fn head(alloc: Global, text: &[u8], tokens: &Tokens) -> Result<Typed, IlFaul
     ensures ok { IfOk result (IsHeadOf text.now tokens.now.tokens) }
     ensures err { IfErr result (NotIl text.now) }
 {
-    let program = head_program(alloc, text, tokens)?;
+    let program = match head_program(alloc, text, tokens) {
+        Ok(program) => program,
+        Err(fault) => return Err(IlFault::from(fault)),
+    };
     spelled_names_are_declarable();
-    let head = typed(alloc, &program)?;
-    match among_blocks(&program.blocks.items) {
-        Some(spot) => Err(IlFault::Reserved { spot }),
-        None => Ok(head),
+    match typed(alloc, &program) {
+        Ok(head) => match among_blocks(&program.blocks.items) {
+            Some(spot) => Err(IlFault::Reserved { spot }),
+            None => Ok(head),
+        },
+        Err(fault) => Err(IlFault::from(fault)),
     }
 }

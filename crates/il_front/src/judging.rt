@@ -116,6 +116,48 @@ fn append(code: &mut Vec<Instruction>, instruction: Instruction) -> Result<(), M
     Ok(())
 }
 
+// Appends the instructions of the lines of the tokens from place `from` on.
+fn append_lines(
+    text: &[u8],
+    names: &Names,
+    tokens: &Tokens,
+    from: usize,
+    code: &mut Vec<Instruction>,
+) -> Result<(), IlFault>
+    requires none { code.old.items ≡ [] }
+    requires inside { All (IsInside text.now) tokens.now.tokens }
+    requires from { from ≤ length tokens.now.tokens }
+    ensures ok { (slots : List SlotOf) → Tells names.now slots
+        → OnOk result (listed_of text.now slots tokens.now.end None (lines_of (drop from tokens.now.tokens)) ≡ Ok code.new.items) }
+    ensures err { (slots : List SlotOf) → Tells names.now slots → IfErr result (λ f. (f ≡ fault_.Memory)
+        ⊎ (listed_of text.now slots tokens.now.end None (lines_of (drop from tokens.now.tokens)) ≡ Err f)) }
+{
+    let mut before = None;
+    let mut at = from;
+    'lines: while at < tokens.len() {
+        let spot = tokens.at(at).spot;
+        let to = line_end(tokens, at);
+        let line = line_words(tokens, at, to);
+        if is_last_word(line) {
+            if to < tokens.len() {
+                return Err(IlFault::Instruction { spot });
+            }
+            return Ok(());
+        }
+        match judged(text, names, before, line, spot) {
+            Ok(taken) => match append(code, taken.instruction) {
+                Ok(()) => {
+                    before = Some(taken.ty);
+                    at = to;
+                }
+                Err(Memory) => return Err(IlFault::Memory),
+            },
+            Err(fault) => return Err(fault),
+        }
+    }
+    Err(IlFault::Instruction { spot: tokens.end() })
+}
+
 /// The instructions of the lines of the tokens from place `from` on, or the fault of the first line that has one. The last line
 /// is END_PROGRAM alone.
 pub fn listed(
@@ -133,24 +175,13 @@ pub fn listed(
     ensures err { IfErr result (λ f. (f ≡ fault_.Memory)
         ⊎ (listed_of text.now slots.now.items.items tokens.now.end None (lines_of (drop from tokens.now.tokens)) ≡ Err f)) }
 {
-    let names = table_of(alloc, slots)?;
+    let names = match table_of(alloc, slots) {
+        Ok(names) => names,
+        Err(Memory) => return Err(IlFault::Memory),
+    };
     let mut code = Vec::new(alloc);
-    let mut before = None;
-    let mut at = from;
-    'lines: while at < tokens.len() {
-        let spot = tokens.at(at).spot;
-        let to = line_end(tokens, at);
-        let line = line_words(tokens, at, to);
-        if is_last_word(line) {
-            if to < tokens.len() {
-                return Err(IlFault::Instruction { spot });
-            }
-            return Ok(code);
-        }
-        let taken = judged(text, &names, before, line, spot)?;
-        append(&mut code, taken.instruction)?;
-        before = Some(taken.ty);
-        at = to;
+    match append_lines(text, &names, tokens, from, &mut code) {
+        Ok(()) => Ok(code),
+        Err(fault) => Err(fault),
     }
-    Err(IlFault::Instruction { spot: tokens.end() })
 }

@@ -207,8 +207,12 @@ fn formed(
     ensures line { (text : List ℕ) → option_map (line_in text) result ≡ line_with spot at operator (option_map (written_in text) operand) }
     ensures inside { (text : List ℕ) → IfSome operand (InsideWriting text) → IfSome result (λ l. InsideWriting text l.operand) }
 {
-    let operator = operator?;
-    let operand = operand?;
+    let Some(operator) = operator else {
+        return None;
+    };
+    let Some(operand) = operand else {
+        return None;
+    };
     if takes(operator, operand) {
         Some(FormedLine {
             operator,

@@ -63,20 +63,23 @@ fn variable(names: &Names, name: &[u8]) -> Option<Meant>
 fn number(ty: Option<Ty>, value: i64) -> Option<Meant>
     ensures { result ≡ option_map (meant_number_of value) (literal_type_of ty value) }
 {
-    Some(Meant {
-        operand: Operand::Number {
-            ty: literal_type(ty, value)?,
-            value,
-        },
-        set: false,
-    })
+    match literal_type(ty, value) {
+        None => None,
+        Some(ty) => Some(Meant {
+            operand: Operand::Number { ty, value },
+            set: false,
+        }),
+    }
 }
 
 // A literal without a type behind `-`; none where it is outside all types.
 fn negative(value: i64) -> Option<Meant>
     ensures { result ≡ option_map (meant_number_of (neg_ℤ value)) (literal_type_of None (neg_ℤ value)) }
 {
-    number(None, value.checked_neg()?)
+    match value.checked_neg() {
+        None => None,
+        Some(value) => number(None, value),
+    }
 }
 
 /// What a written operand means; none where its name is no variable, or its literal isn't in its type.

@@ -1,11 +1,12 @@
 //! Where results are kept.
 
-ghost use Rattle.std.specs.Prelude.{◌≡◌, ◌+◌, ◌≤◌, [], ◌∷◌, ◌++◌, cond, OnOk, length, drop};
+ghost use Rattle.std.specs.Prelude.{◌≡◌, ◌+◌, ◌≤◌, [], ◌∷◌, ◌++◌, cond, IfOk, length, drop};
 ghost use Rattle.vcp_base.specs.Limits.{most_names};
 ghost use Rattle.vcp_base.specs.declared.ty.Ty.TheVariants as ty_;
 ghost use Rattle.il_front.specs.TypedForm.{hidden_name as hidden_name_of, hidden_slot as hidden_slot_of, hidden_slots, all_types, uses as uses_of, used_by};
 ghost use Rattle.il_front.specs.TypedForm.{used_before as used_before_of};
 ghost use Rattle.il_front.specs.Places.{used_in, place_in};
+ghost use Rattle.il_front.specs.Full.{UnlessFull};
 
 use crate::instruction::Instruction;
 use crate::types::next_type;
@@ -96,28 +97,46 @@ fn hidden_name(ty: Ty) -> &'static [u8]
     }
 }
 
-// Appends the variable that keeps a result of the type, where it is used.
-fn add_hidden(alloc: Global, slots: &mut Slots, used: bool, ty: Ty) -> Result<(), Memory>
-    ensures { OnOk result (slots.new.items.items ≡ slots.old.items.items ++ cond used (hidden_slot_of ty ∷ []) []) }
+// The variable that keeps a result of the type.
+fn hidden(alloc: Global, ty: Ty) -> Result<Slot, Memory>
+    ensures { IfOk result (λ s. s ≡ hidden_slot_of ty) }
 {
-    if !used {
-        return Ok(());
+    match Text::copy_of(alloc, hidden_name(ty)) {
+        Ok(name) => Ok(Slot {
+            name,
+            spot: Spot { line: 0, col: 0 },
+            section: Section::Local,
+            ty,
+            init: 0,
+        }),
+        Err(Memory) => Err(Memory),
     }
-    slots.push(Slot {
-        name: Text::copy_of(alloc, hidden_name(ty))?,
-        spot: Spot { line: 0, col: 0 },
-        section: Section::Local,
-        ty,
-        init: 0,
-    })
 }
 
-/// Appends the hidden variables.
-pub fn add_all_hidden(alloc: Global, slots: &mut Slots, places: Places) -> Result<(), Memory>
-    ensures { OnOk result (slots.new.items.items ≡ slots.old.items.items ++ hidden_slots (used_in places) all_types) }
+// Appends the variable that keeps a result of the type, where it is used.
+fn add_hidden(alloc: Global, slots: &mut Slots, used: bool, ty: Ty, full: &mut bool)
+    ensures { UnlessFull full.old full.new
+        (slots.new.items.items ≡ slots.old.items.items ++ cond used (hidden_slot_of ty ∷ []) []) }
 {
-    add_hidden(alloc, slots, places.bools, Ty::Bool)?;
-    add_hidden(alloc, slots, places.ints, Ty::Int)?;
-    add_hidden(alloc, slots, places.dints, Ty::Dint)?;
-    add_hidden(alloc, slots, places.lints, Ty::Lint)
+    if !used {
+        return;
+    }
+    match hidden(alloc, ty) {
+        Ok(slot) => match slots.push(slot) {
+            Ok(()) => {}
+            Err(Memory) => *full = true,
+        },
+        Err(Memory) => *full = true,
+    }
+}
+
+/// Appends the hidden variables. The flag is set where memory runs out, and then some may be missing.
+pub fn add_all_hidden(alloc: Global, slots: &mut Slots, places: Places, full: &mut bool)
+    ensures { UnlessFull full.old full.new
+        (slots.new.items.items ≡ slots.old.items.items ++ hidden_slots (used_in places) all_types) }
+{
+    add_hidden(alloc, slots, places.bools, Ty::Bool, full);
+    add_hidden(alloc, slots, places.ints, Ty::Int, full);
+    add_hidden(alloc, slots, places.dints, Ty::Dint, full);
+    add_hidden(alloc, slots, places.lints, Ty::Lint, full);
 }

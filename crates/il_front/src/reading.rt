@@ -29,22 +29,20 @@ use vcp_typed::{Slots, TStmts, Typed, size_of};
 /// The most bytes of a text of instructions: those of a source without the twelve that are added behind it.
 pub const MOST_IL_BYTES: u64 = 1_048_564;
 
-/// The parts of a typed program.
-#[derive(Drop)]
-pub struct Parts {
-    pub slots: Slots,
-    pub body: TStmts,
-}
-
-// The parts of the typed program of these instructions on these variables, where it is within the limits.
-fn built(alloc: Global, declared: Slots, code: &[Instruction]) -> Result<Parts, IlFault>
-    requires { length declared.items.items ≤ most_names }
-    ensures ok { IfOk result (Builds (record { slots = declared.items.items; code = code.now })) }
-    ensures err { IfErr result (IsBeyond (record { slots = declared.items.items; code = code.now })) }
+// Appends the hidden variables of these instructions to the declared ones, and gives the statements, where the typed program
+// is within the limits.
+fn built(alloc: Global, slots: &mut Slots, code: &[Instruction]) -> Result<TStmts, IlFault>
+    requires { length slots.old.items.items ≤ most_names }
+    ensures ok { IfOk result
+        (λ b. Builds (record { slots = slots.old.items.items; code = code.now }) slots.new.items.items (tstmt_trees b.items.items)) }
+    ensures err { IfErr result (IsBeyond (record { slots = slots.old.items.items; code = code.now })) }
 {
-    let places = places_of(declared.len() as u32, code);
-    let mut slots = declared;
-    add_all_hidden(alloc, &mut slots, places)?;
+    let places = places_of(slots.len() as u32, code);
+    let mut full = false;
+    add_all_hidden(alloc, slots, places, &mut full);
+    if full {
+        return Err(IlFault::Memory);
+    }
     if slots.len() > MOST_NAMES as usize {
         return Err(IlFault::Types(TypeFault::Names {
             spot: Spot { line: 1, col: 1 },
@@ -54,11 +52,14 @@ fn built(alloc: Global, declared: Slots, code: &[Instruction]) -> Result<Parts, 
     if code.len() > MOST_SIZE as usize {
         return Err(IlFault::Types(TypeFault::Size));
     }
-    let body = statements(alloc, places, code)?;
-    if size_of(&slots, &body) > MOST_SIZE {
+    let body = statements(alloc, places, code, &mut full);
+    if full {
+        return Err(IlFault::Memory);
+    }
+    if size_of(slots, &body) > MOST_SIZE {
         return Err(IlFault::Types(TypeFault::Size));
     }
-    Ok(Parts { slots, body })
+    Ok(body)
 }
 
 // The typed program of a text whose head is this one.
@@ -72,9 +73,15 @@ fn behind(alloc: Global, text: &[u8], tokens: &Tokens, head: Typed) -> Result<Ty
     widened_parts_are_checked();
     slots_have_declared_names();
     faultless_programs_are_checked();
-    let code = listed(alloc, text, head.slots(), tokens, head_count(tokens))?;
-    let parts = built(alloc, head.into_slots(), &code)?;
-    Ok(Typed::new(parts.slots, parts.body))
+    let code = match listed(alloc, text, head.slots(), tokens, head_count(tokens)) {
+        Ok(code) => code,
+        Err(fault) => return Err(fault),
+    };
+    let mut slots = head.into_slots();
+    match built(alloc, &mut slots, &code) {
+        Ok(body) => Ok(Typed::new(slots, body)),
+        Err(fault) => Err(fault),
+    }
 }
 
 // The typed program of a text of instructions, or its first fault.
@@ -83,9 +90,14 @@ fn read(alloc: Global, text: &[u8]) -> Result<Typed, IlFault>
     ensures ok { IfOk result (IsTypedIl text.now) }
     ensures err { IfErr result (NotIl text.now) }
 {
-    let tokens = lex(alloc, text)?;
-    let head = head(alloc, text, &tokens)?;
-    behind(alloc, text, &tokens, head)
+    let tokens = match lex(alloc, text) {
+        Ok(tokens) => tokens,
+        Err(fault) => return Err(IlFault::from(fault)),
+    };
+    match head(alloc, text, &tokens) {
+        Ok(head) => behind(alloc, text, &tokens, head),
+        Err(fault) => Err(fault),
+    }
 }
 
 /// The typed program of a text of instructions, or its first fault; or want of memory.

@@ -71,7 +71,10 @@ fn if_bool(must: bool, ty: Ty, then: Option<Ty>) -> Option<Ty>
 fn combined(op: BinOp, a: Ty, b: Ty) -> Option<Ty>
     ensures { result ≡ option_map (result_of op) (common_of op a b) }
 {
-    Some(result(op, common(op, a, b)?))
+    match common(op, a, b) {
+        None => None,
+        Some(wide) => Some(result(op, wide)),
+    }
 }
 
 // The type, where it is within the other.
