@@ -1,6 +1,14 @@
 -- FullLaws: one step after another, of which each may find that memory ran out.
-use Rattle.std.proofs.Common.{Bool}
+use Rattle.std.proofs.Common.{Bool, true}
 use Rattle.il_front.specs.Full.{UnlessFull}
+
+-- a step that takes no memory
+pub not-full : {a : Bool} {P : Type 0} → P → UnlessFull a a P
+not-full p = record { before = λ o. o; is = λ o. p }
+
+-- memory ran out
+pub is-full : {a : Bool} {P : Type 0} → UnlessFull a true P
+is-full = record { before = λ o. absurd cc; is = λ o. absurd cc }
 
 -- what follows from a step
 pub so : {a b : Bool} {P Q : Type 0} → UnlessFull a b P → (P → Q) → UnlessFull a b Q

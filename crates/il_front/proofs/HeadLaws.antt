@@ -103,6 +103,14 @@ reserved-some [] ys s e = absurd cc
 reserved-some (x ∷ xs) ys s e =
     one-spot (is_reserved x.name) x.spot s (first_reserved xs) (first_reserved (xs ++ ys)) (reserved-some xs ys s) e
 
+pub names-step : (ds rest : List DeclaredTree) (d : DeclaredTree) (b : Bool) → ds ≡ d ∷ rest → b ≡ is_reserved d.name → b ≡ false
+    → first_reserved rest ≡ first_reserved ds
+names-step ds rest d b e is off = sym (ap first_reserved e ∙ ap (λ (x : Bool). cond x (Some d.spot) (first_reserved rest)) (sym is ∙ off))
+
+pub names-found : (ds rest : List DeclaredTree) (d : DeclaredTree) (b : Bool) → ds ≡ d ∷ rest → b ≡ is_reserved d.name → b ≡ true
+    → Some d.spot ≡ first_reserved ds
+names-found ds rest d b e is on = sym (ap first_reserved e ∙ ap (λ (x : Bool). cond x (Some d.spot) (first_reserved rest)) (sym is ∙ on))
+
 pub decls-step : (ds rest : List DeclTree) (d : DeclTree) (o : Option Spot) → ds ≡ d ∷ rest → o ≡ first_reserved d.names → o ≡ None
     → first_reserved (decls_names rest) ≡ first_reserved (decls_names ds)
 decls-step ds rest d o e is none =

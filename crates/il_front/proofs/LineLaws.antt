@@ -5,7 +5,7 @@ use Rattle.std.proofs.Common.{refl, sym, ap, subst, ◌∙◌, arith, All}
 use Rattle.std.proofs.lemmas.List.Elements.{All-get_or}
 use Rattle.std.proofs.lemmas.Option.{get_or_from_slice_get, slice_get_within}
 use Rattle.st_tree.specs.Spelling.{bytes_in}
-use Rattle.il_front.specs.Judging.{Operator, operator_of, Written, written_negative, Line, line_with, line_of, is_last_word}
+use Rattle.il_front.specs.Judging.{Operator, operator_of, Written, nothing, written_one, written_negative, Line, line_with, line_of, is_last_word}
 use Rattle.st_lexer.specs.declared.token.Token.{Token}
 use Rattle.il_front.specs.Lines.{and_token, lines_of}
 use Rattle.il_front.specs.Writings.{goes_on}
@@ -147,6 +147,16 @@ pub no-last-word : (l : List Token) → 3 < length l → false ≡ is_last_word 
 no-last-word [] h = absurd (let no : 4 ≤ 0 = h in omega arith)
 no-last-word (t ∷ []) h = absurd (let no : 4 ≤ 1 = h in omega arith)
 no-last-word (t ∷ u ∷ us) h = refl
+
+pub line-one : (text : List ℕ) (l : List Token) (t : Token) (r : Option Line) (o : Option Operator) → l ≡ t ∷ []
+    → o ≡ operator_of (bytes_in text t) t.tok → r ≡ line_with t.spot t.spot o (Some nothing) → r ≡ line_of text l
+line-one text l t r o is f e = e ∙ ap (λ (x : Option Operator). line_with t.spot t.spot x (Some nothing)) f ∙ sym (ap (line_of text) is)
+
+pub line-two : (text : List ℕ) (l : List Token) (t u : Token) (r : Option Line) (o : Option Operator) (w : Option Written) → l ≡ t ∷ u ∷ []
+    → o ≡ operator_of (bytes_in text t) t.tok → w ≡ written_one (bytes_in text u) u.tok → r ≡ line_with t.spot u.spot o w → r ≡ line_of text l
+line-two text l t u r o w is f g e =
+    e ∙ ap (λ (x : Option Operator). line_with t.spot u.spot x w) f
+    ∙ ap (λ (x : Option Written). line_with t.spot u.spot (operator_of (bytes_in text t) t.tok) x) g ∙ sym (ap (line_of text) is)
 
 pub line-three : (text : List ℕ) (l : List Token) (t u v : Token) (r : Option Line) (o : Option Operator) (w : Option Written) → l ≡ t ∷ u ∷ v ∷ []
     → o ≡ operator_of (bytes_in text t) t.tok → w ≡ written_negative u.tok v.tok → r ≡ line_with t.spot u.spot o w → r ≡ line_of text l

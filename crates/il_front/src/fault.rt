@@ -6,7 +6,7 @@ ghost use Rattle.il_front.specs.Refusals.{unlexed, unparsed, untyped};
 use st_lexer::LexFault;
 use st_parser::SyntaxFault;
 use st_types::TypeFault;
-use vcp_base::{Memory, Spot};
+use vcp_base::Spot;
 
 /// The first fault of a text of instructions, or want of memory.
 ///
@@ -35,16 +35,6 @@ pub enum IlFault {
     Reserved { spot: Spot },
     /// Want of memory. It is merged with no other cause.
     Memory,
-}
-
-impl From<Memory> for IlFault {
-    ghost use Rattle.il_front.specs.declared.fault.IlFault.TheVariants.{Memory};
-
-    ghost from_gives = { λ _ e. e ≡ Memory };
-
-    fn from(_: Memory) -> Self {
-        IlFault::Memory
-    }
 }
 
 impl From<LexFault> for IlFault {

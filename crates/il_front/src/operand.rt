@@ -32,13 +32,19 @@ pub fn table_of(alloc: Global, slots: &Slots) -> Result<Names, Memory>
     let mut names = Names::new(alloc);
     for i in 0..slots.len() {
         let slot = slots.at(i);
-        names.declare(Entry {
-            name: Text::copy_of(alloc, slot.name.bytes())?,
-            section: slot.section,
-            ty: slot.ty,
-            value: 0,
-            slot: i as u32,
-        })?;
+        match Text::copy_of(alloc, slot.name.bytes()) {
+            Ok(name) => match names.declare(Entry {
+                name,
+                section: slot.section,
+                ty: slot.ty,
+                value: 0,
+                slot: i as u32,
+            }) {
+                Ok(_) => {}
+                Err(Memory) => return Err(Memory),
+            },
+            Err(Memory) => return Err(Memory),
+        }
     }
     Ok(names)
 }

@@ -4,8 +4,7 @@ ghost use Rattle.std.specs.Prelude.{◌≡◌, ◌<◌, ◌≤◌, IfOk, Some, l
 ghost use Rattle.vcp_base.specs.Limits.{most_names};
 ghost use Rattle.vcp_base.specs.declared.ty.Ty.TheVariants as ty_;
 ghost use Rattle.vcp_typed.specs.TExprViews.{texpr_tree};
-ghost use Rattle.vcp_typed.specs.TStmtViews.{tstmt_tree, tstmt_trees};
-ghost use Rattle.vcp_typed.specs.TStmtViews.{tstmts_and};
+ghost use Rattle.vcp_typed.specs.TStmtViews.{tstmt_tree, tstmt_trees, tstmts_and};
 ghost use Rattle.vcp_typed.specs.TStmtTree.{assign as assign_tree, if_ as if_tree, no_tstmts, and_tstmt, no_tarms, and_tarm, no_tother};
 ghost use Rattle.vcp_typed.specs.TExprTree.{TExprTree, literal as literal_tree};
 ghost use Rattle.vcp_base.specs.Kinds.{truth};

@@ -1,9 +1,10 @@
-use Rattle.std.proofs.Common.{◌≡◌, IfOk, subst}
+use Rattle.std.proofs.Common.{IfOk, subst, ◌≡◌}
 use Rattle.vcp_typed.specs.TExprViews.{texpr_tree}
+use Rattle.il_front.proofs.FullLaws.{not-full, is-full}
 use Rattle.il_front.proofs.statements.made.Goals as goal
 
 pub returns-in-Ok : goal.returns-in-Ok
-returns-in-Ok c = λ d h. record { before = λ o. o; is = λ o. subst (λ x. IfOk x (λ v. texpr_tree v ≡ d)) c.in-Ok.is h }
+returns-in-Ok c = λ d h. not-full (subst (λ x. IfOk x (λ v. texpr_tree v ≡ d)) c.in-Ok.is h)
 
 pub returns-in-Err : goal.returns-in-Err
-returns-in-Err c = λ d h. record { before = λ o. absurd cc; is = λ o. absurd cc }
+returns-in-Err c = λ d h. is-full
