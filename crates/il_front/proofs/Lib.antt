@@ -18,4 +18,3 @@ pub mod OneAnswer
 pub mod SomeAnswer
 pub mod Built
 pub mod CodeSize
-pub mod FullLaws

@@ -8,5 +8,4 @@ pub mod Writings
 pub mod Tables
 pub mod Places
 pub mod Heads
-pub mod Full
 pub mod Outcomes

@@ -6,7 +6,7 @@ ghost use Rattle.vcp_base.specs.declared.ty.Ty.TheVariants as ty_;
 ghost use Rattle.il_front.specs.TypedForm.{hidden_name as hidden_name_of, hidden_slot as hidden_slot_of, hidden_slots, all_types, uses as uses_of, used_by};
 ghost use Rattle.il_front.specs.TypedForm.{used_before as used_before_of};
 ghost use Rattle.il_front.specs.Places.{used_in, place_in};
-ghost use Rattle.il_front.specs.Full.{UnlessFull};
+ghost use Rattle.st_types.specs.Full.{UnlessFull};
 
 use crate::instruction::Instruction;
 use crate::types::next_type;

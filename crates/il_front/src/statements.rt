@@ -10,7 +10,7 @@ ghost use Rattle.vcp_typed.specs.TExprTree.{TExprTree, literal as literal_tree};
 ghost use Rattle.vcp_base.specs.Kinds.{truth};
 ghost use Rattle.vcp_typed.specs.Rules.{common as common_of};
 ghost use Rattle.st_types.specs.ExprTyping.{widened as widened_of};
-ghost use Rattle.il_front.specs.Full.{UnlessFull};
+ghost use Rattle.st_types.specs.Full.{UnlessFull};
 ghost use Rattle.il_front.specs.Places.{place_in};
 ghost use Rattle.il_front.specs.TypedForm.{operand_expr as operand_expr_of, turned as turned_of, kept as kept_of, combining as combining_of};
 ghost use Rattle.il_front.specs.TypedForm.{action_stmt, statements as statements_of};

@@ -13,7 +13,6 @@ pub mod OneAnswer
 pub mod TypingRows
 mod LintRows
 pub mod NoteLaws
-pub mod FullLaws
 pub mod DeclNodes
 pub mod PlaceLaws
 pub mod ExprNodes

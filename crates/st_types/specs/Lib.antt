@@ -1,5 +1,6 @@
 pub mod Faults
 pub mod Notes
+pub mod Full
 pub mod Scope
 pub mod ExprTyping
 pub mod ExprSteps

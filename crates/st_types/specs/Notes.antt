@@ -1,6 +1,6 @@
 -- Notes: the least fault so far.
 -- How the typing works, and no promise: what it promises is in Typing.
-use Rattle.std.specs.Prelude.{◌≡◌, ◌⊎◌, Bool, false, Option, Some, None}
+use Rattle.std.specs.Prelude.{◌≡◌, ◌⊎◌, Option, Some, None}
 use Rattle.st_types.specs.declared.fault.Fault.{Fault}
 use Rattle.st_types.specs.Faults.{AtMost}
 
@@ -15,8 +15,3 @@ pub record Notes (old new : Option Fault) (F : Fault → Type 0) : Type 0 where
   pub from : (f : Fault) → new ≡ Some f → (old ≡ Some f) ⊎ F f
   pub keeps : (f : Fault) → old ≡ Some f → UpTo new f
   pub finds : (f : Fault) → F f → UpTo new f
-
--- Whether memory had run out, before and after a step: where it hasn't after it, it hadn't before, and P is so.
-pub record UnlessFull (old new : Bool) (P : Type 0) : Type 0 where
-  pub before : new ≡ false → old ≡ false
-  pub is : new ≡ false → P

@@ -7,7 +7,8 @@ ghost use Rattle.st_types.specs.declared.fault.Rule.TheVariants as rule_;
 ghost use Rattle.st_types.specs.DeclSteps.{made_by, DeclForm, JudgesInit, Makes, MakesAll, MakesBlocks, MakesDecls, MakesNames};
 ghost use Rattle.st_types.specs.DeclTyping.{nothing_made, is_new, slots_with, after_name, after_decl, value_or_zero as zero_or, Misfit};
 ghost use Rattle.st_types.specs.Faults.{fault};
-ghost use Rattle.st_types.specs.Notes.{Notes, UnlessFull};
+ghost use Rattle.st_types.specs.Notes.{Notes};
+ghost use Rattle.st_types.specs.Full.{UnlessFull};
 
 use crate::constants::Known;
 use crate::environment::Environment;

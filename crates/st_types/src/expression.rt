@@ -10,7 +10,8 @@ ghost use Rattle.vcp_typed.specs.TExprViews.{texpr_tree, texpr_trees};
 ghost use Rattle.st_types.specs.declared.fault.Rule.TheVariants as rule_;
 ghost use Rattle.st_types.specs.Faults.{fault};
 ghost use Rattle.st_types.specs.Scope.{Entry};
-ghost use Rattle.st_types.specs.Notes.{Notes, UnlessFull};
+ghost use Rattle.st_types.specs.Notes.{Notes};
+ghost use Rattle.st_types.specs.Full.{UnlessFull};
 ghost use Rattle.st_types.specs.ExprTyping.{both, sized as sized_of, got as got_of, widened as widened_of, widened_all as widened_all_of};
 ghost use Rattle.st_types.specs.ExprSteps.{Types, TypesAll, Signs, Operates, Applies};
 

@@ -4,7 +4,8 @@ ghost use Rattle.std.specs.Prelude.{map};
 ghost use Rattle.st_tree.specs.ExprViews.{expr_tree, expr_tree_or_none};
 ghost use Rattle.st_tree.specs.ProgramViews.{block_tree, decl_tree};
 ghost use Rattle.st_types.specs.DeclSteps.{BlocksInside, DeclsInside, InitInside};
-ghost use Rattle.st_types.specs.Notes.{Notes, UnlessFull};
+ghost use Rattle.st_types.specs.Notes.{Notes};
+ghost use Rattle.st_types.specs.Full.{UnlessFull};
 
 use crate::environment::Environment;
 use crate::note::Noted;

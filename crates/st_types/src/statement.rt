@@ -11,7 +11,7 @@ ghost use Rattle.vcp_typed.specs.TStmtTree.{tother};
 ghost use Rattle.vcp_typed.specs.TStmtViews.{tstmt_tree, tstmt_trees, tarm_trees, tbranch_trees, tother_tree};
 ghost use Rattle.st_types.specs.declared.fault.Rule.TheVariants as rule_;
 ghost use Rattle.st_types.specs.Faults.{fault};
-ghost use Rattle.st_types.specs.Notes.{UnlessFull};
+ghost use Rattle.st_types.specs.Full.{UnlessFull};
 ghost use Rattle.st_types.specs.ExprTyping.{both};
 ghost use Rattle.st_types.specs.StmtTyping.{entry_type as entry_type_of, Narrows, NoTest, IsBool, assign_of, test_of, selector_of, begins as begins_of};
 ghost use Rattle.st_types.specs.StmtTyping.{turns_of as turns_of_bounds, case_of};

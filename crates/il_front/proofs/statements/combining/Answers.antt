@@ -5,7 +5,7 @@ use Rattle.vcp_typed.specs.TStmtTree.{assign}
 use Rattle.st_types.specs.ExprTyping.{widened}
 use Rattle.il_front.specs.Places.{place_in}
 use Rattle.il_front.specs.TypedForm.{combining}
-use Rattle.il_front.proofs.FullLaws.{so-three}
+use Rattle.st_types.specs.Full.{so-three}
 use Rattle.il_front.proofs.statements.combining.Goals as goal
 
 pub returns-in-Some : goal.returns-in-Some

@@ -1,6 +1,6 @@
 use Rattle.std.proofs.Common.{IfOk, subst, ◌≡◌}
 use Rattle.vcp_typed.specs.TExprViews.{texpr_tree}
-use Rattle.il_front.proofs.FullLaws.{not-full, is-full}
+use Rattle.st_types.specs.Full.{not-full, is-full}
 use Rattle.il_front.proofs.statements.made.Goals as goal
 
 pub returns-in-Ok : goal.returns-in-Ok

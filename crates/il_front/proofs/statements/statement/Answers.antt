@@ -7,7 +7,7 @@ use Rattle.vcp_typed.specs.TStmtViews.{tstmt_tree}
 use Rattle.st_tree.specs.declared.expr.UnOp.TheVariants as un
 use Rattle.il_front.specs.Places.{place_in}
 use Rattle.il_front.specs.TypedForm.{action_stmt, combining, turned}
-use Rattle.il_front.proofs.FullLaws.{so, so-two}
+use Rattle.st_types.specs.Full.{so, so-two}
 use Rattle.il_front.proofs.statements.statement.Goals as goal
 
 pub place-requires : goal.place-requires

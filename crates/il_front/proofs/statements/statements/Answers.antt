@@ -1,7 +1,7 @@
 use Rattle.std.proofs.Common.{arith}
 use Rattle.vcp_typed.specs.TStmtViews.{tstmt_tree, tstmt_trees}
 use Rattle.il_front.specs.Places.{place_in}
-use Rattle.il_front.proofs.FullLaws.{so, so-three}
+use Rattle.st_types.specs.Full.{so, so-three}
 use Rattle.il_front.proofs.PlaceLaws.{statement-more, statement-end}
 use Rattle.il_front.proofs.statements.statements.Goals as goal
 

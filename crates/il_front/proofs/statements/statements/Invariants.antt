@@ -1,7 +1,7 @@
 use Rattle.std.proofs.Common.{◌≡◌, drop}
 use Rattle.vcp_base.specs.declared.ty.Ty.TheVariants as ty
 use Rattle.vcp_typed.specs.TStmtViews.{tstmt_trees}
-use Rattle.il_front.specs.Full.{UnlessFull}
+use Rattle.st_types.specs.Full.{UnlessFull}
 use Rattle.il_front.specs.Places.{place_in}
 use Rattle.il_front.specs.TypedForm.{statements}
 use Rattle.il_front.proofs.PlaceLaws.{joined}

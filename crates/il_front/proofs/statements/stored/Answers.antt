@@ -1,7 +1,7 @@
 use Rattle.std.proofs.Common.{ap, ◌∙◌}
 use Rattle.st_types.specs.ExprTyping.{widened}
 use Rattle.il_front.specs.TypedForm.{turned}
-use Rattle.il_front.proofs.FullLaws.{so-two}
+use Rattle.st_types.specs.Full.{so-two}
 use Rattle.il_front.proofs.statements.stored.Goals as goal
 
 pub returns : goal.returns

@@ -1,7 +1,7 @@
 use Rattle.std.proofs.Common.{sym, ap, ◌∙◌}
 use Rattle.vcp_typed.specs.TExprViews.{texpr_tree}
 use Rattle.il_front.specs.TypedForm.{turned}
-use Rattle.il_front.proofs.FullLaws.{so}
+use Rattle.st_types.specs.Full.{so}
 use Rattle.il_front.proofs.statements.turned.Goals as goal
 
 pub returns-then-negated : goal.returns-then-negated

@@ -1,7 +1,7 @@
 use Rattle.std.proofs.Common.{drop, map}
 use Rattle.st_tree.specs.ProgramViews.{block_tree}
 use Rattle.st_types.specs.declared.note.Noted.{Noted}
-use Rattle.st_types.specs.Notes.{UnlessFull}
+use Rattle.st_types.specs.Full.{UnlessFull}
 use Rattle.st_types.specs.DeclTyping.{Made}
 use Rattle.st_types.specs.DeclSteps.{made_by, MakesBlocks}
 use Rattle.st_types.proofs.declaration.add_blocks.Given as goal

@@ -1,7 +1,7 @@
 use Rattle.std.proofs.Common.{map, subst}
 use Rattle.st_tree.specs.ProgramViews.{declared_tree, decl_tree}
 use Rattle.st_types.specs.DeclSteps.{made_by, MakesNames}
-use Rattle.st_types.proofs.FullLaws.{so}
+use Rattle.st_types.specs.Full.{so}
 use Rattle.st_types.proofs.DeclNodes.{one-init}
 use Rattle.st_types.proofs.declaration.add_declaration.Goals as goal
 

@@ -2,7 +2,7 @@ use Rattle.std.proofs.Common.{◌≡◌, ◌+◌, drop, map, [], ◌∷◌, subs
 use Rattle.std.proofs.lemmas.List.{drop_all}
 use Rattle.st_tree.specs.ProgramViews.{decl_tree}
 use Rattle.st_types.specs.DeclSteps.{made_by, MakesDecls}
-use Rattle.st_types.proofs.FullLaws.{not-full, so-two}
+use Rattle.st_types.specs.Full.{not-full, so-two}
 use Rattle.st_types.proofs.Items.{from-item}
 use Rattle.st_types.proofs.DeclNodes.{no-decls, one-decl}
 use Rattle.st_types.proofs.declaration.add_declarations.Goals as goal

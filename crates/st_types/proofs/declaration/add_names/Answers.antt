@@ -3,7 +3,7 @@ use Rattle.std.proofs.lemmas.List.{drop_all}
 use Rattle.st_tree.specs.ProgramViews.{declared_tree}
 use Rattle.st_types.specs.DeclTyping.{value_or_zero}
 use Rattle.st_types.specs.DeclSteps.{made_by, MakesNames}
-use Rattle.st_types.proofs.FullLaws.{not-full, so-two}
+use Rattle.st_types.specs.Full.{not-full, so-two}
 use Rattle.st_types.proofs.Items.{from-item}
 use Rattle.st_types.proofs.DeclNodes.{no-names, one-name}
 use Rattle.st_types.proofs.declaration.add_names.Goals as goal

@@ -2,7 +2,7 @@ use Rattle.std.proofs.Common.{map, subst}
 use Rattle.st_tree.specs.ProgramViews.{block_tree}
 use Rattle.st_types.specs.DeclTyping.{after_blocks}
 use Rattle.st_types.specs.DeclSteps.{made_by, MakesAll}
-use Rattle.st_types.proofs.FullLaws.{so-two}
+use Rattle.st_types.specs.Full.{so-two}
 use Rattle.st_types.proofs.DeclNodes.{two-walks}
 use Rattle.st_types.proofs.declaration.declared.Goals as goal
 

@@ -1,5 +1,5 @@
 use Rattle.std.proofs.Common.{refl}
-use Rattle.st_types.proofs.FullLaws.{not-full, is-full}
+use Rattle.st_types.specs.Full.{not-full, is-full}
 use Rattle.st_types.proofs.SingleNodes.{no-left, no-right, clashing, operated}
 use Rattle.st_types.proofs.expression.operate.Goals as goal
 

@@ -1,5 +1,5 @@
 use Rattle.std.proofs.Common.{refl}
-use Rattle.st_types.proofs.FullLaws.{not-full}
+use Rattle.st_types.specs.Full.{not-full}
 use Rattle.st_types.proofs.expression.push.Goals as goal
 
 pub returns-in_default : goal.returns-in_default

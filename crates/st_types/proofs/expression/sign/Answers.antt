@@ -1,4 +1,4 @@
-use Rattle.st_types.proofs.FullLaws.{not-full, is-full}
+use Rattle.st_types.specs.Full.{not-full, is-full}
 use Rattle.st_types.proofs.SingleNodes.{no-operand, sign-clashes, signed-is}
 use Rattle.st_types.proofs.expression.sign.Goals as goal
 

@@ -1,5 +1,5 @@
 use Rattle.std.proofs.Common.{refl, rules}
-use Rattle.st_types.proofs.FullLaws.{not-full, is-full}
+use Rattle.st_types.specs.Full.{not-full, is-full}
 use Rattle.st_types.proofs.labels.with_label.Goals as goal
 
 pub returns-in_default : goal.returns-in_default

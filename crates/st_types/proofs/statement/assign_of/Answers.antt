@@ -1,4 +1,4 @@
-use Rattle.st_types.proofs.FullLaws.{not-full, is-full}
+use Rattle.st_types.specs.Full.{not-full, is-full}
 use Rattle.st_types.proofs.SingleNodes.{no-variable, no-value, narrowing, not-free, assigned}
 use Rattle.st_types.proofs.statement.assign_of.Goals as goal
 

@@ -1,5 +1,5 @@
 use Rattle.std.proofs.Common.{refl, ap, Some}
-use Rattle.st_types.proofs.FullLaws.{not-full, is-full}
+use Rattle.st_types.specs.Full.{not-full, is-full}
 use Rattle.st_types.proofs.statement.with_branch.Goals as goal
 
 pub returns-in_default : goal.returns-in_default

@@ -9,7 +9,7 @@ use Rattle.vcp_typed.specs.TStmtViews.{tstmt_tree, tstmt_trees, tother_tree}
 use Rattle.st_types.specs.ExprTyping.{both}
 use Rattle.st_types.specs.StmtTyping.{arm_of, branch_of}
 use Rattle.st_types.specs.StmtSteps.{TypesLabels, TypesStmt, TypesStmts, TypesArms, TypesBranches, TypesOther}
-use Rattle.st_types.proofs.FullLaws.{not-full, is-full, so, so-two, so-three, so-four}
+use Rattle.st_types.specs.Full.{not-full, is-full, so, so-two, so-three, so-four}
 use Rattle.st_types.proofs.Items.{from-item}
 use Rattle.st_types.proofs.Weight.{stmt_weight, stmts_weight, other_weight}
 use Rattle.st_types.proofs.Lighter.{stmt-lighter, arm-lighter, branch-lighter}

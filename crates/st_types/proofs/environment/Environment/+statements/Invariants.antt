@@ -4,7 +4,7 @@ use Rattle.vcp_typed.specs.Items.{tarm_items, tbranch_items}
 use Rattle.vcp_typed.specs.TStmtTree.{TStmtTrees, TArmTrees, TBranchTrees}
 use Rattle.vcp_typed.specs.TStmtViews.{tstmt_trees, tarm_trees, tbranch_trees}
 use Rattle.st_types.specs.declared.note.Noted.{Noted}
-use Rattle.st_types.specs.Notes.{UnlessFull}
+use Rattle.st_types.specs.Full.{UnlessFull}
 use Rattle.st_types.specs.ExprTyping.{both}
 use Rattle.st_types.specs.StmtSteps.{TypesStmts, TypesArms, TypesBranches}
 use Rattle.st_types.proofs.Weight.{stmt_weight, stmts_weight, arms_weight, branches_weight, other_weight}

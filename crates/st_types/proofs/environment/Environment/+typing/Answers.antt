@@ -7,7 +7,7 @@ use Rattle.st_tree.specs.ExprViews.{expr_tree, expr_trees}
 use Rattle.vcp_typed.specs.TExprViews.{texpr_tree}
 use Rattle.st_types.specs.ExprTyping.{called, count, both}
 use Rattle.st_types.specs.ExprSteps.{Types, TypesAll}
-use Rattle.st_types.proofs.FullLaws.{not-full, so, so-two, so-three}
+use Rattle.st_types.specs.Full.{not-full, so, so-two, so-three}
 use Rattle.st_types.proofs.Items.{from-item}
 use Rattle.st_types.proofs.ExprNodes.{cons, binary-types, unary-types, call-types, unknown-call, more-types, none-left}
 use Rattle.st_types.proofs.Wanted.{glue-cons, glue-none, count-trees}

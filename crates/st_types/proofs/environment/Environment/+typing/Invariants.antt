@@ -3,7 +3,7 @@ use Rattle.st_tree.specs.ExprViews.{expr_trees}
 use Rattle.vcp_typed.specs.TExprTree.{TExprTree}
 use Rattle.vcp_typed.specs.TExprViews.{texpr_tree}
 use Rattle.st_types.specs.declared.note.Noted.{Noted}
-use Rattle.st_types.specs.Notes.{UnlessFull}
+use Rattle.st_types.specs.Full.{UnlessFull}
 use Rattle.st_types.specs.ExprTyping.{both}
 use Rattle.st_types.specs.ExprSteps.{TypesAll}
 use Rattle.st_types.proofs.ExprNodes.{glue}

@@ -1,4 +1,4 @@
-use Rattle.st_types.proofs.FullLaws.{so-two}
+use Rattle.st_types.specs.Full.{so-two}
 use Rattle.st_types.proofs.StmtNodes.{assign-types}
 use Rattle.st_types.proofs.environment.Environment.assign.Goals as goal
 

@@ -1,4 +1,4 @@
-use Rattle.st_types.proofs.FullLaws.{so}
+use Rattle.st_types.specs.Full.{so}
 use Rattle.st_types.proofs.StmtNodes.{bounds}
 use Rattle.st_types.proofs.environment.Environment.bound.Goals as goal
 

@@ -1,7 +1,8 @@
 use Rattle.std.proofs.Common.{drop, map}
 use Rattle.st_tree.specs.ProgramViews.{block_tree}
 use Rattle.st_types.specs.declared.note.Noted.{Noted}
-use Rattle.st_types.specs.Notes.{Notes, UnlessFull}
+use Rattle.st_types.specs.Notes.{Notes}
+use Rattle.st_types.specs.Full.{UnlessFull}
 use Rattle.st_types.specs.DeclSteps.{BlocksInside}
 use Rattle.st_types.proofs.environment.Environment.inside_blocks.Given as goal
 

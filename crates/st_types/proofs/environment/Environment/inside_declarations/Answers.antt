@@ -3,7 +3,7 @@ use Rattle.std.proofs.lemmas.List.{drop_all}
 use Rattle.st_tree.specs.ProgramViews.{decl_tree}
 use Rattle.st_types.specs.Notes.{Notes}
 use Rattle.st_types.specs.DeclSteps.{InitInside, DeclsInside}
-use Rattle.st_types.proofs.FullLaws.{not-full, so-two}
+use Rattle.st_types.specs.Full.{not-full, so-two}
 use Rattle.st_types.proofs.Items.{from-item}
 use Rattle.st_types.proofs.NoteLaws.{quiet, pair}
 use Rattle.st_types.proofs.environment.Environment.inside_declarations.Goals as goal

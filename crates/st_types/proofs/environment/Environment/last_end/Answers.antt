@@ -1,7 +1,7 @@
 use Rattle.std.proofs.Common.{Some, None, ap, subst, sym}
 use Rattle.st_tree.specs.ExprViews.{expr_tree_or_none}
 use Rattle.st_types.specs.StmtSteps.{TypesLast}
-use Rattle.st_types.proofs.FullLaws.{not-full, so}
+use Rattle.st_types.specs.Full.{not-full, so}
 use Rattle.st_types.proofs.StmtNodes.{no-last, some-last}
 use Rattle.st_types.proofs.environment.Environment.last_end.Goals as goal
 

@@ -1,7 +1,7 @@
 use Rattle.std.proofs.Common.{pos, Some, ap, subst, sym}
 use Rattle.st_tree.specs.ExprViews.{expr_tree_or_none}
 use Rattle.st_types.specs.StmtSteps.{Steps}
-use Rattle.st_types.proofs.FullLaws.{not-full, so}
+use Rattle.st_types.specs.Full.{not-full, so}
 use Rattle.st_types.proofs.StmtNodes.{steps, one-step, step-some}
 use Rattle.st_types.proofs.environment.Environment.step.Goals as goal
 

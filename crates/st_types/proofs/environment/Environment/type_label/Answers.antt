@@ -1,5 +1,5 @@
 use Rattle.st_tree.specs.StmtViews.{label_tree}
-use Rattle.st_types.proofs.FullLaws.{so-two}
+use Rattle.st_types.specs.Full.{so-two}
 use Rattle.st_types.proofs.StmtNodes.{label-types}
 use Rattle.st_types.proofs.environment.Environment.type_label.Goals as goal
 

@@ -3,7 +3,7 @@ use Rattle.std.proofs.lemmas.List.{drop_all}
 use Rattle.st_tree.specs.StmtViews.{label_trees}
 use Rattle.st_types.specs.ExprTyping.{both}
 use Rattle.st_types.specs.StmtSteps.{TypesLabels}
-use Rattle.st_types.proofs.FullLaws.{not-full, so, so-three}
+use Rattle.st_types.specs.Full.{not-full, so, so-three}
 use Rattle.st_types.proofs.Items.{from-item}
 use Rattle.st_types.proofs.StmtNodes.{label_cons, more-labels, no-labels, labels-on, labels-end}
 use Rattle.st_types.proofs.environment.Environment.type_labels.Goals as goal

@@ -2,7 +2,7 @@ use Rattle.std.proofs.Common.{List, Option, option_map, drop}
 use Rattle.st_tree.specs.StmtViews.{label_trees}
 use Rattle.vcp_typed.specs.declared.stmt.TLabel.{TLabel}
 use Rattle.st_types.specs.declared.note.Noted.{Noted}
-use Rattle.st_types.specs.Notes.{UnlessFull}
+use Rattle.st_types.specs.Full.{UnlessFull}
 use Rattle.st_types.specs.ExprTyping.{both}
 use Rattle.st_types.specs.StmtSteps.{TypesLabels}
 use Rattle.st_types.proofs.StmtNodes.{labels_glue}

@@ -1,6 +1,11 @@
--- FullLaws: one step after another, of which each may find that memory ran out.
-use Rattle.std.proofs.Common.{Bool, true}
-use Rattle.il_front.specs.Full.{UnlessFull}
+-- Full: whether memory ran out, which is kept to the end while one step comes after another.
+-- How the typing works, and no promise: what it promises is in Typing.
+use Rattle.std.specs.Prelude.{◌≡◌, Bool, true, false}
+
+-- Whether memory had run out, before and after a step: where it hasn't after it, it hadn't before, and P is so.
+pub record UnlessFull (old new : Bool) (P : Type 0) : Type 0 where
+  pub before : new ≡ false → old ≡ false
+  pub is : new ≡ false → P
 
 -- a step that takes no memory
 pub not-full : {a : Bool} {P : Type 0} → P → UnlessFull a a P
@@ -22,4 +27,11 @@ pub so-three : {a b c d : Bool} {P Q R S : Type 0} → UnlessFull a b P → Unle
 so-three h k l f = record {
   before = λ o. h.before (k.before (l.before o));
   is = λ o. f (h.is (k.before (l.before o))) (k.is (l.before o)) (l.is o);
+}
+
+pub so-four : {a b c d e : Bool} {P Q R S U : Type 0} → UnlessFull a b P → UnlessFull b c Q → UnlessFull c d R → UnlessFull d e S
+    → (P → Q → R → S → U) → UnlessFull a e U
+so-four h k l m f = record {
+  before = λ o. h.before (k.before (l.before (m.before o)));
+  is = λ o. f (h.is (k.before (l.before (m.before o)))) (k.is (l.before (m.before o))) (l.is (m.before o)) (m.is o);
 }
