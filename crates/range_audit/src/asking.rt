@@ -6,19 +6,20 @@ ghost use Rattle.range_audit.specs.Searching.{IsAllFound, IsAlwaysIn, StopsFrom,
 ghost use Rattle.range_walk.specs.Walking.{IsWalk};
 
 use crate::boxes::{Cycle, has_none};
-use crate::cases::{CONDITIONS, cases_of, narrowed, range_by_cases, spend};
+use crate::cases::{CONDITIONS, cases_of, narrowed, range_by_cases};
+use crate::effort::Effort;
 use crate::naming::joined_stops;
 use op_graph::Graph;
-use range_walk::{Range, Ranges, Stops, both_hold, earlier_range, first_ranges, tell};
+use range_walk::{Range, Ranges, Stops, earlier_range, first_ranges, tell};
 use vcp_base::{Kind, Memory, Ty};
 
 /// How many operations may still be gone through where single ones are asked.
 #[derive(Drop)]
 pub(crate) struct Asking {
     /// Where it is asked why they may stop.
-    pub(crate) stops: u64,
+    pub(crate) stops: Effort,
     /// Where it is asked which values BOOL outputs have.
-    pub(crate) answers: u64,
+    pub(crate) answers: Effort,
 }
 
 /// Why operation `i` may stop, where the operations before it have values in these ranges, by the cases of conditions, so many at once.
@@ -27,27 +28,23 @@ fn stops_by_cases(
     ranges: &[Range],
     i: u32,
     depth: u32,
-    left: &mut u64,
-) -> Result<Stops, Memory>
+    effort: &mut Effort,
+) -> Stops
     requires there { i < length cycle.now.graph.now.operations }
     requires many { length ranges.now ≡ i }
-    ensures { IfOk result (λ s. StopsIn cycle.now.graph.now.operations cycle.now.cells.now ranges.now i s) }
+    ensures { StopsIn cycle.now.graph.now.operations cycle.now.cells.now ranges.now i result }
 {
-    let none = has_none(ranges);
-    if none {
-        return Ok(Stops::none());
+    if has_none(ranges) {
+        return Stops::none();
     }
     let told = tell(cycle.graph, cycle.cells, ranges, i);
     let any = told.stops.are_any();
-    let found = cases_of(cycle, ranges, i, depth, !any, left)?;
-    let Some(two) = found else {
-        return Ok(told.stops);
+    let Some(two) = cases_of(cycle, ranges, i, depth, !any, effort) else {
+        return told.stops;
     };
-    let less = depth - 1;
-    let first = stops_by_cases(cycle, &two.low, i, less, left)?;
-    let second = stops_by_cases(cycle, &two.high, i, less, left)?;
-    let either = joined_stops(false, first, second);
-    Ok(either)
+    let first = stops_by_cases(cycle, &two.low, i, depth - 1, effort);
+    let second = stops_by_cases(cycle, &two.high, i, depth - 1, effort);
+    joined_stops(false, first, second)
 }
 
 /// Whether operation `i` is looked at closer: it may stop, is wanted and isn't done with.
@@ -72,23 +69,21 @@ fn stops_of(
     i: u32,
     wanted: &[Stops],
     done: &[Stops],
-    left: &mut u64,
-) -> Result<Stops, Memory>
+    effort: &mut Effort,
+) -> Stops
     requires there { i < length cycle.now.graph.now.operations }
     requires walk { IsWalk cycle.now.graph.now.operations cycle.now.cells.now inputs.now told.now }
-    ensures { IfOk result (λ s. StopsFrom cycle.now.graph.now.operations inputs.now (Hold cycle.now.cells.now) i s) }
+    ensures { StopsFrom cycle.now.graph.now.operations inputs.now (Hold cycle.now.cells.now) i result }
 {
-    let asked = is_asked(told.stops(), wanted, done, i as usize);
-    if asked {
-        let enough = spend(cycle.graph, left);
-        if enough {
-            let first = first_ranges(told.known(), i);
-            let ranges = narrowed(cycle, first)?;
-            return stops_by_cases(cycle, &ranges, i, CONDITIONS, left);
-        }
-    }
     let plain = told.stops_at(i as usize);
-    Ok(plain)
+    if !is_asked(told.stops(), wanted, done, i as usize) || !effort.spend(cycle.graph) {
+        return plain;
+    }
+    let first = first_ranges(told.known(), i);
+    let Some(ranges) = narrowed(cycle, first, effort) else {
+        return plain;
+    };
+    stops_by_cases(cycle, &ranges, i, CONDITIONS, effort)
 }
 
 /// How many conditions are taken apart at once, where it is asked which values an output has.
@@ -104,22 +99,21 @@ fn is_open_output(graph: &Graph, range: Range, i: u32) -> bool
 
 /// The range of operation `i` in a cycle from cells in these ranges, where the operations are in those: by the cases of conditions where it is
 /// the OUT of a BOOL that may be 0 and 1.
-fn output_range(cycle: &Cycle<'_>, known: &[Range], i: u32, left: &mut u64) -> Result<Range, Memory>
+fn output_range(cycle: &Cycle<'_>, known: &[Range], i: u32, effort: &mut Effort) -> Range
     requires there { i < length cycle.now.graph.now.operations }
     requires many { length known.now ≡ length cycle.now.graph.now.operations }
-    ensures { IfOk result (λ r. IsAlwaysIn cycle.now.graph.now.operations cycle.now.cells.now known.now i r) }
+    ensures { IsAlwaysIn cycle.now.graph.now.operations cycle.now.cells.now known.now i result }
 {
     let _most = cycle.graph.len();
     let before = earlier_range(known, i);
-    let open = is_open_output(cycle.graph, before, i);
-    let some = *left != 0;
-    let asked = both_hold(open, some);
-    if !asked {
-        return Ok(before);
+    if effort.left == 0 || !is_open_output(cycle.graph, before, i) {
+        return before;
     }
     let first = first_ranges(known, i + 1);
-    let ranges = narrowed(cycle, first)?;
-    range_by_cases(cycle, &ranges, i, Range::only(0), CASES, left)
+    let Some(ranges) = narrowed(cycle, first, effort) else {
+        return before;
+    };
+    range_by_cases(cycle, &ranges, i, Range::only(0), CASES, effort)
 }
 
 /// What is found of each operation in a cycle from cells in these ranges, on a row whose inputs are in these, of which `told` tells: why it
@@ -130,7 +124,7 @@ pub(crate) fn closer_found(
     told: &Ranges,
     wanted: &[Stops],
     done: &[Stops],
-    left: &mut Asking,
+    asking: &mut Asking,
 ) -> Result<Ranges, Memory>
     requires walk { IsWalk cycle.now.graph.now.operations cycle.now.cells.now inputs.now told.now }
     ensures { IfOk result (IsAllFound cycle.now.graph.now.operations inputs.now (Hold cycle.now.cells.now)) }
@@ -138,8 +132,8 @@ pub(crate) fn closer_found(
     let count = cycle.graph.len();
     let mut found = Ranges::with_capacity(cycle.alloc, count as usize)?;
     'operations: for i in 0..count {
-        let range = output_range(cycle, told.known(), i, &mut left.answers)?;
-        let why = stops_of(cycle, inputs, told, i, wanted, done, &mut left.stops)?;
+        let range = output_range(cycle, told.known(), i, &mut asking.answers);
+        let why = stops_of(cycle, inputs, told, i, wanted, done, &mut asking.stops);
         found.push(range, why)?;
     }
     Ok(found)

@@ -7,7 +7,7 @@ ghost use Rattle.range_walk.specs.Known.{NamesAble, LieInTypes};
 ghost use Rattle.range_audit.specs.Searching.{IsSound};
 
 use crate::cells::loaded_cells;
-use crate::families::{closer, settled};
+use crate::families::{Budget, closer, settled, typed_box};
 use op_graph::{Graph, entries_keep_their_rules, operands_are_in_their_types};
 use range_walk::{Range, Ranges, walk};
 use std::alloc::Global;
@@ -47,8 +47,13 @@ pub fn ranges_within(
     entries_keep_their_rules();
     let _operations = graph.len();
     let typed = typed_ranges(alloc, graph, inputs)?;
-    let boxes = settled(alloc, graph, inputs)?;
-    let told = closer(alloc, graph, inputs, &typed, &boxes, closely)?;
+    let types = typed_box(alloc, graph)?;
+    let mut budget = Budget::new(alloc, graph, closely);
+    let boxes = settled(alloc, graph, inputs, types, &mut budget);
+    let told = closer(alloc, graph, inputs, typed, &boxes, &mut budget);
+    if budget.is_full() {
+        return Err(Memory);
+    }
     Ok(told)
 }
 

@@ -6,6 +6,7 @@ ghost use Rattle.range_walk.specs.Intervals.{Fit, Hold};
 ghost use Rattle.range_audit.specs.Searching.{IsBoxAt, IsInBox, InBox};
 
 use crate::cells::stored_range;
+use crate::effort::Effort;
 use op_graph::{Graph, entries_keep_their_rules};
 use range_walk::{Range, range_at};
 use std::alloc::Global;
@@ -49,9 +50,9 @@ impl Boxes {
     pub(crate) fn one(alloc: Global, cells: Vec<Range>) -> Result<Boxes, Memory>
         ensures { IfOk result (λ boxes. boxes.list.items ≡ cells ∷ []) }
     {
-        let mut boxes = Boxes::new(alloc);
-        boxes.push(cells)?;
-        Ok(boxes)
+        let mut list = Vec::new(alloc);
+        list.push(cells)?;
+        Ok(Boxes { list })
     }
 
     /// How many there are.
@@ -70,12 +71,11 @@ impl Boxes {
         &list[k]
     }
 
-    /// Appends a box.
-    pub(crate) fn push(&mut self, cells: Vec<Range>) -> Result<(), Memory>
-        ensures { IfOk result (λ _. self.new.list.items ≡ self.old.list.items ++ cells ∷ []) }
-    {
-        self.list.push(cells)?;
-        Ok(())
+    /// Appends a box, unless memory is lacking.
+    pub(crate) fn push(&mut self, cells: Vec<Range>, effort: &mut Effort) {
+        if self.list.push(cells).is_err() {
+            effort.lack();
+        }
     }
 }
 

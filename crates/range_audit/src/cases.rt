@@ -8,8 +8,8 @@ ghost use Rattle.range_walk.specs.Walking.{Narrows};
 
 use crate::boxes::{Boxes, Cycle, cell_count, has_none, is_in_one, stored_cells};
 use crate::cells::store_at;
+use crate::effort::Effort;
 use crate::questions::{box_of, open_condition, wanted_at};
-use op_graph::Graph;
 use range_walk::{Range, both_hold, count_of, earlier_range, narrow, put};
 use std::alloc::Global;
 use vcp_base::Memory;
@@ -23,15 +23,22 @@ fn copied(alloc: Global, ranges: &[Range]) -> Result<Vec<Range>, Memory>
     Ok(copy)
 }
 
-/// These ranges of the operations of a cycle, of all or of the first ones, made narrower by one another.
-pub(crate) fn narrowed(cycle: &Cycle<'_>, ranges: &[Range]) -> Result<Vec<Range>, Memory>
+/// These ranges of the operations of a cycle, of all or of the first ones, made narrower by one another; None where memory is lacking.
+pub(crate) fn narrowed(
+    cycle: &Cycle<'_>,
+    ranges: &[Range],
+    effort: &mut Effort,
+) -> Option<Vec<Range>>
     requires { length ranges.now ≤ length cycle.now.graph.now.operations }
-    ensures many { IfOk result (λ narrow. length narrow.items ≡ length ranges.now) }
-    ensures fits { IfOk result (λ narrow. Narrows cycle.now.graph.now.operations cycle.now.cells.now ranges.now narrow.items) }
+    ensures many { IfSome result (λ narrow. length narrow.items ≡ length ranges.now) }
+    ensures fits { IfSome result (λ narrow. Narrows cycle.now.graph.now.operations cycle.now.cells.now ranges.now narrow.items) }
 {
-    let mut copy = copied(cycle.alloc, ranges)?;
+    let Ok(mut copy) = copied(cycle.alloc, ranges) else {
+        effort.lack();
+        return None;
+    };
     narrow(cycle.graph, cycle.cells, &mut copy);
-    Ok(copy)
+    Some(copy)
 }
 
 /// Makes the ranges of the operations of a cycle, of all or of the first ones, narrower where the value of operation `n` is in `r`.
@@ -59,58 +66,56 @@ impl Drop for Halves {
     }
 }
 
-/// The ranges of the operations of a cycle in the two cases of the value of operation `q`: no more than `m`, and more.
-fn halved(cycle: &Cycle<'_>, ranges: &[Range], q: u32, m: i64) -> Result<Halves, Memory>
+/// The ranges of the operations of a cycle in the two cases of the value of operation `q`: no more than `m`, and more; None where memory is
+/// lacking.
+fn halved(
+    cycle: &Cycle<'_>,
+    ranges: &[Range],
+    q: u32,
+    m: i64,
+    effort: &mut Effort,
+) -> Option<Halves>
     requires there { q < length ranges.now }
     requires many { length ranges.now ≤ length cycle.now.graph.now.operations }
-    ensures { IfOk result (λ h. AreHalves cycle.now.graph.now.operations cycle.now.cells.now ranges.now h.low.items h.high.items) }
+    ensures { IfSome result (λ h. AreHalves cycle.now.graph.now.operations cycle.now.cells.now ranges.now h.low.items h.high.items) }
 {
     let r = earlier_range(ranges, q);
-    let mut low = copied(cycle.alloc, ranges)?;
-    let mut high = copied(cycle.alloc, ranges)?;
-    narrow_to(cycle, &mut low, q, r.up_to(m));
-    narrow_to(cycle, &mut high, q, r.above(m));
-    Ok(Halves { low, high })
+    if let Ok(mut low) = copied(cycle.alloc, ranges)
+        && let Ok(mut high) = copied(cycle.alloc, ranges)
+    {
+        narrow_to(cycle, &mut low, q, r.up_to(m));
+        narrow_to(cycle, &mut high, q, r.above(m));
+        return Some(Halves { low, high });
+    }
+    effort.lack();
+    None
 }
 
 /// How many conditions are taken apart at once.
 pub(crate) const CONDITIONS: u32 = 4;
 
-/// Takes the operations of two cases from those that may still be gone through. Whether there were as many.
-pub(crate) fn spend(graph: &Graph, left: &mut u64) -> bool {
-    let many = (graph.len() as u64).saturating_mul(2);
-    if *left < many {
-        *left = 0;
-        return false;
-    }
-    *left = *left - many;
-    true
-}
-
-/// The two cases of an open condition on which the value of operation `j` depends; None where it is done, where none is open, or where no
-/// more are gone through.
+/// The two cases of an open condition on which the value of operation `j` depends; None where it is done, where none is open, where no more
+/// are gone through, or where memory is lacking.
 pub(crate) fn cases_of(
     cycle: &Cycle<'_>,
     ranges: &[Range],
     j: u32,
     depth: u32,
     done: bool,
-    left: &mut u64,
-) -> Result<Option<Halves>, Memory>
+    effort: &mut Effort,
+) -> Option<Halves>
     requires { length ranges.now ≤ length cycle.now.graph.now.operations }
-    ensures depth { IfOk result (λ found. IfSome found (λ h. 0 < depth)) }
-    ensures halves { IfOk result (λ found. IfSome found (λ h.
-        AreHalves cycle.now.graph.now.operations cycle.now.cells.now ranges.now h.low.items h.high.items)) }
+    ensures depth { IfSome result (λ h. 0 < depth) }
+    ensures halves { IfSome result (λ h. AreHalves cycle.now.graph.now.operations cycle.now.cells.now ranges.now h.low.items h.high.items) }
 {
     if done || depth == 0 {
-        return Ok(None);
+        return None;
     }
     let q = open_condition(cycle.graph, ranges, j);
-    if q >= count_of(cycle.graph, ranges) || !spend(cycle.graph, left) {
-        return Ok(None);
+    if q >= count_of(cycle.graph, ranges) || !effort.spend(cycle.graph) {
+        return None;
     }
-    let two = halved(cycle, ranges, q, 0)?;
-    Ok(Some(two))
+    halved(cycle, ranges, q, 0, effort)
 }
 
 /// The range of operation `j` in cycles with values in these ranges, by the cases of conditions, so many at once, until it is inside
@@ -121,36 +126,27 @@ pub(crate) fn range_by_cases(
     j: u32,
     wanted: Range,
     depth: u32,
-    left: &mut u64,
-) -> Result<Range, Memory>
+    effort: &mut Effort,
+) -> Range
     requires there { j < length ranges.now }
     requires many { length ranges.now ≤ length cycle.now.graph.now.operations }
-    ensures { IfOk result (λ r. IsValueIn cycle.now.graph.now.operations cycle.now.cells.now ranges.now j r) }
+    ensures { IsValueIn cycle.now.graph.now.operations cycle.now.cells.now ranges.now j result }
 {
-    let none = has_none(ranges);
-    if none {
-        return Ok(Range::none());
+    if has_none(ranges) {
+        return Range::none();
     }
     let known = earlier_range(ranges, j);
     let is = known.is_inside(wanted);
-    let found = cases_of(cycle, ranges, j, depth, is, left)?;
-    let Some(two) = found else {
-        return Ok(known);
+    let Some(two) = cases_of(cycle, ranges, j, depth, is, effort) else {
+        return known;
     };
-    let less = depth - 1;
-    let first = range_by_cases(cycle, &two.low, j, wanted, less, left)?;
-    let second = range_by_cases(cycle, &two.high, j, wanted, less, left)?;
-    let both = first.joined(second);
-    Ok(both)
+    let first = range_by_cases(cycle, &two.low, j, wanted, depth - 1, effort);
+    let second = range_by_cases(cycle, &two.high, j, wanted, depth - 1, effort);
+    first.joined(second)
 }
 
 /// Makes the range of each number that is stored narrower by cases of conditions, until it is inside its range of a box.
-fn narrow_stores(
-    cycle: &Cycle<'_>,
-    ranges: &mut [Range],
-    cells: &[Range],
-    left: &mut u64,
-) -> Result<(), Memory>
+fn narrow_stores(cycle: &Cycle<'_>, ranges: &mut [Range], cells: &[Range], effort: &mut Effort)
     requires many { length ranges.old ≡ length cycle.now.graph.now.operations }
     ensures many { length ranges.new ≡ length ranges.old }
     ensures fits { Narrows cycle.now.graph.now.operations cycle.now.cells.now ranges.old ranges.new }
@@ -159,10 +155,9 @@ fn narrow_stores(
     'cells: for k in 0..count {
         let store = store_at(cycle.graph, k);
         let wanted = wanted_at(cycle.graph, cells, k);
-        let r = range_by_cases(cycle, ranges, store, wanted, CONDITIONS, left)?;
+        let r = range_by_cases(cycle, ranges, store, wanted, CONDITIONS, effort);
         put(ranges, store, r);
     }
-    Ok(())
 }
 
 /// Whether each whole cycle with values in these ranges ends in one of the boxes. Where that isn't seen, the ranges in which it ends are
@@ -171,23 +166,25 @@ pub(crate) fn ends(
     cycle: &Cycle<'_>,
     ranges: &[Range],
     boxes: &Boxes,
+    effort: &mut Effort,
     missed: &mut Boxes,
-) -> Result<bool, Memory>
+) -> bool
     requires many { length ranges.now ≡ length cycle.now.graph.now.operations }
-    ensures { IfOk result (λ is. is ≡ true → (vs : List ℤ) → length vs ≡ length cycle.now.graph.now.operations → Fit ranges.now vs
-        → InBox boxes.now.list.items (length cycle.now.graph.now.stores) (stored cycle.now.graph.now vs)) }
+    ensures { result ≡ true → (vs : List ℤ) → length vs ≡ length cycle.now.graph.now.operations → Fit ranges.now vs
+        → InBox boxes.now.list.items (length cycle.now.graph.now.stores) (stored cycle.now.graph.now vs) }
 {
-    let none = has_none(ranges);
-    if none {
-        return Ok(true);
+    if has_none(ranges) {
+        return true;
     }
-    let cells = stored_cells(cycle.alloc, cycle.graph, ranges)?;
-    let is = is_in_one(&cells, boxes);
-    if is {
-        return Ok(true);
+    let Ok(cells) = stored_cells(cycle.alloc, cycle.graph, ranges) else {
+        effort.lack();
+        return false;
+    };
+    if is_in_one(&cells, boxes) {
+        return true;
     }
-    missed.push(cells)?;
-    Ok(false)
+    missed.push(cells, effort);
+    false
 }
 
 /// The same, where the ranges of the numbers that are stored are first made narrower by cases of conditions. Operation `n` stores the cell
@@ -197,15 +194,15 @@ fn ends_closely(
     ranges: &mut [Range],
     boxes: &Boxes,
     n: u32,
-    left: &mut u64,
+    effort: &mut Effort,
     missed: &mut Boxes,
-) -> Result<bool, Memory>
+) -> bool
     requires many { length ranges.old ≡ length cycle.now.graph.now.operations }
-    ensures { IfOk result (λ is. is ≡ true → EndsIn cycle.now.graph.now cycle.now.cells.now ranges.old boxes.now.list.items) }
+    ensures { result ≡ true → EndsIn cycle.now.graph.now cycle.now.cells.now ranges.old boxes.now.list.items }
 {
     let wanted = box_of(cycle.graph, ranges, boxes, n);
-    narrow_stores(cycle, ranges, wanted, left)?;
-    ends(cycle, ranges, boxes, missed)
+    narrow_stores(cycle, ranges, wanted, effort);
+    ends(cycle, ranges, boxes, effort, missed)
 }
 
 /// The same by the cases of the value of operation `n`, so many of them.
@@ -215,29 +212,27 @@ pub(crate) fn ends_by_cases(
     boxes: &Boxes,
     n: u32,
     depth: u32,
-    left: &mut u64,
+    effort: &mut Effort,
     missed: &mut Boxes,
-) -> Result<bool, Memory>
+) -> bool
     requires there { n < length cycle.now.graph.now.operations }
     requires many { length ranges.old ≡ length cycle.now.graph.now.operations }
-    ensures { IfOk result (λ is. is ≡ true → EndsIn cycle.now.graph.now cycle.now.cells.now ranges.old boxes.now.list.items) }
+    ensures { result ≡ true → EndsIn cycle.now.graph.now cycle.now.cells.now ranges.old boxes.now.list.items }
 {
     if depth == 0 {
-        return ends_closely(cycle, ranges, boxes, n, left, missed);
+        return ends_closely(cycle, ranges, boxes, n, effort, missed);
     }
-    let none = has_none(ranges);
-    if none {
-        return Ok(true);
+    if has_none(ranges) {
+        return true;
     }
-    let enough = spend(cycle.graph, left);
-    if !enough {
-        return Ok(false);
+    if !effort.spend(cycle.graph) {
+        return false;
     }
     let least = earlier_range(ranges, n);
-    let less = depth - 1;
-    let mut two = halved(cycle, ranges, n, least.low)?;
-    let first = ends_closely(cycle, &mut two.low, boxes, n, left, missed)?;
-    let second = ends_by_cases(cycle, &mut two.high, boxes, n, less, left, missed)?;
-    let both = both_hold(first, second);
-    Ok(both)
+    let Some(mut two) = halved(cycle, ranges, n, least.low, effort) else {
+        return false;
+    };
+    let first = ends_closely(cycle, &mut two.low, boxes, n, effort, missed);
+    let second = ends_by_cases(cycle, &mut two.high, boxes, n, depth - 1, effort, missed);
+    both_hold(first, second)
 }

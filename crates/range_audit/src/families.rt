@@ -8,6 +8,7 @@ use crate::asking::Asking;
 use crate::boxes::{Boxes, Cycle, cell_count, has_values, is_in_one};
 use crate::cases::{ends, ends_by_cases, narrowed};
 use crate::cells::{Step, loaded_cells, step_of, store_at, widened};
+use crate::effort::Effort;
 use crate::naming::{found_by, found_from};
 use crate::questions::range_or;
 use crate::thresholds::thresholds;
@@ -36,10 +37,10 @@ const ANSWERS: u64 = 4_194_304;
 pub(crate) const MOST_SEARCHED: u32 = 8_192;
 
 /// How much may still be searched, and the numbers at which the range of a cell may come to rest.
-struct Budget {
-    /// How many operations may be gone through in cases of all cells.
-    left: u64,
-    /// How many where single ones are asked.
+pub(crate) struct Budget {
+    /// In cases of all cells.
+    cells: Effort,
+    /// Where single operations are asked.
     asking: Asking,
     /// The numbers that comparisons read, and their neighbours.
     numbers: Vec<i64>,
@@ -48,30 +49,33 @@ struct Budget {
 impl Drop for Budget {
     fn drop(self) {
         let Budget {
-            left: _,
+            cells: _,
             asking: _,
             numbers: _,
         } = self;
     }
 }
 
-/// What may be gone through, where it is searched, and where it is searched for closer ranges too.
-fn budget_of(
-    alloc: Global,
-    graph: &Graph,
-    searched: bool,
-    closely: bool,
-) -> Result<Budget, Memory> {
-    let numbers = thresholds(alloc, graph)?;
-    let asking = Asking {
-        stops: if searched { STEPS } else { 0 },
-        answers: if searched && closely { ANSWERS } else { 0 },
-    };
-    Ok(Budget {
-        left: STEPS,
-        asking,
-        numbers,
-    })
+impl Budget {
+    /// What may be searched of a graph, and whether it is searched for closer ranges too.
+    pub(crate) fn new(alloc: Global, graph: &Graph, closely: bool) -> Budget {
+        let searched = graph.len() <= MOST_SEARCHED;
+        let mut cells = Effort::of(STEPS);
+        let numbers = thresholds(alloc, graph, &mut cells);
+        Budget {
+            cells,
+            asking: Asking {
+                stops: Effort::of(if searched { STEPS } else { 0 }),
+                answers: Effort::of(if searched && closely { ANSWERS } else { 0 }),
+            },
+            numbers,
+        }
+    }
+
+    /// Whether memory was lacking.
+    pub(crate) fn is_full(&self) -> bool {
+        self.cells.full || self.asking.stops.full || self.asking.answers.full
+    }
 }
 
 /// The values of the cell at a place that boxes tell apart: so many from the least on.
@@ -96,16 +100,18 @@ fn ends_by_values(
     known: &[Range],
     boxes: &Boxes,
     n: u32,
-    left: &mut u64,
+    effort: &mut Effort,
     missed: &mut Boxes,
-) -> Result<bool, Memory>
+) -> bool
     requires there { n < length cycle.now.graph.now.operations }
     requires many { length known.now ≡ length cycle.now.graph.now.operations }
-    ensures { IfOk result (λ is. is ≡ true → EndsIn cycle.now.graph.now cycle.now.cells.now known.now boxes.now.list.items) }
+    ensures { result ≡ true → EndsIn cycle.now.graph.now cycle.now.cells.now known.now boxes.now.list.items }
 {
-    let mut ranges = narrowed(cycle, known)?;
     let depth = if boxes.len() == 1 { 0 } else { VALUES };
-    ends_by_cases(cycle, &mut ranges, boxes, n, depth, left, missed)
+    let Some(mut ranges) = narrowed(cycle, known, effort) else {
+        return false;
+    };
+    ends_by_cases(cycle, &mut ranges, boxes, n, depth, effort, missed)
 }
 
 /// Whether each whole cycle from cells in this box ends in one of the boxes, by the cases of the value of operation `pivot`; of cycles as they
@@ -117,25 +123,27 @@ fn is_box_kept(
     boxes: &Boxes,
     cells: &[Range],
     pivot: Option<u32>,
-    left: &mut u64,
+    effort: &mut Effort,
     missed: &mut Boxes,
-) -> Result<bool, Memory>
+) -> bool
     requires there { IfSome pivot (λ n. n < length graph.now.operations) }
-    ensures { IfOk result (λ is. is ≡ true → EndsFrom graph.now inputs.now boxes.now.list.items cells.now) }
+    ensures { result ≡ true → EndsFrom graph.now inputs.now boxes.now.list.items cells.now }
 {
-    let any = has_values(graph, cells);
-    if !any {
-        return Ok(true);
+    if !has_values(graph, cells) {
+        return true;
     }
     let cycle = Cycle {
         alloc,
         graph,
         cells,
     };
-    let told = walk(alloc, graph, cycle.cells, inputs)?;
+    let Ok(told) = walk(alloc, graph, cycle.cells, inputs) else {
+        effort.lack();
+        return false;
+    };
     match pivot {
-        None => ends(&cycle, told.known(), boxes, missed),
-        Some(n) => ends_by_values(&cycle, told.known(), boxes, n, left, missed),
+        None => ends(&cycle, told.known(), boxes, effort, missed),
+        Some(n) => ends_by_values(&cycle, told.known(), boxes, n, effort, missed),
     }
 }
 
@@ -147,20 +155,29 @@ fn are_boxes_kept(
     boxes: &Boxes,
     from: &Boxes,
     pivot: Option<u32>,
-    left: &mut u64,
+    effort: &mut Effort,
     missed: &mut Boxes,
-) -> Result<bool, Memory>
+) -> bool
     requires there { IfSome pivot (λ n. n < length graph.now.operations) }
-    ensures { IfOk result (λ is. is ≡ true → (k : ℕ) (b : Boxed) → slice_get from.now.list.items k ≡ Some b
-        → EndsFrom graph.now inputs.now boxes.now.list.items b.items) }
+    ensures { result ≡ true → (k : ℕ) (b : Boxed) → slice_get from.now.list.items k ≡ Some b
+        → EndsFrom graph.now inputs.now boxes.now.list.items b.items }
 {
     let mut all = true;
     'boxes: for k in 0..from.len() {
-        let kept = is_box_kept(alloc, graph, inputs, boxes, from.at(k), pivot, left, missed)?;
+        let kept = is_box_kept(
+            alloc,
+            graph,
+            inputs,
+            boxes,
+            from.at(k),
+            pivot,
+            effort,
+            missed,
+        );
         let both = both_hold(all, kept);
         all = both;
     }
-    Ok(all)
+    all
 }
 
 /// Whether the cells are always in one of the boxes, as far as that is seen; the ranges in which cycles from these boxes end, where that isn't
@@ -171,29 +188,34 @@ fn is_family(
     inputs: &[Range],
     boxes: &Boxes,
     pivot: Option<u32>,
-    left: &mut u64,
+    effort: &mut Effort,
     missed: &mut Boxes,
-) -> Result<bool, Memory>
+) -> bool
     requires there { IfSome pivot (λ n. n < length graph.now.operations) }
-    ensures { IfOk result (λ is. is ≡ true → Always graph.now inputs.now (InBox boxes.now.list.items (length graph.now.stores))) }
+    ensures { result ≡ true → Always graph.now inputs.now (InBox boxes.now.list.items (length graph.now.stores)) }
 {
     operands_are_in_their_types();
     let _operations = graph.len();
     *missed = Boxes::new(alloc);
-    let first = loaded_cells(alloc, graph, false)?;
+    let Ok(first) = loaded_cells(alloc, graph, false) else {
+        effort.lack();
+        return false;
+    };
     let begins = is_in_one(&first, boxes);
-    let kept = are_boxes_kept(alloc, graph, inputs, boxes, boxes, pivot, left, missed)?;
-    let both = both_hold(begins, kept);
-    Ok(both)
+    let kept = are_boxes_kept(alloc, graph, inputs, boxes, boxes, pivot, effort, missed);
+    both_hold(begins, kept)
 }
 
-/// So many boxes without a value.
-fn empty_boxes(alloc: Global, graph: &Graph, count: u32) -> Result<Boxes, Memory> {
+/// So many boxes without a value; fewer where memory is lacking.
+fn empty_boxes(alloc: Global, graph: &Graph, count: u32, effort: &mut Effort) -> Boxes {
     let mut boxes = Boxes::new(alloc);
     'boxes: for _ in 0..count {
-        boxes.push(vec![in alloc; Range::none(); cell_count(graph)]?)?;
+        match vec![in alloc; Range::none(); cell_count(graph)] {
+            Ok(cells) => boxes.push(cells, effort),
+            Err(_) => effort.lack(),
+        }
     }
-    Ok(boxes)
+    boxes
 }
 
 /// The number of the box for ranges of cells. One box is that of all values.
@@ -242,14 +264,18 @@ fn grow(
     }
 }
 
-/// The box of the initial values of the cells.
-fn first_box(alloc: Global, graph: &Graph) -> Result<Boxes, Memory> {
-    let cells = loaded_cells(alloc, graph, false)?;
-    Boxes::one(alloc, cells)
+/// The box of the initial values of the cells; none where memory is lacking.
+fn first_box(alloc: Global, graph: &Graph, effort: &mut Effort) -> Boxes {
+    let mut boxes = Boxes::new(alloc);
+    match loaded_cells(alloc, graph, false) {
+        Ok(cells) => boxes.push(cells, effort),
+        Err(Memory) => effort.lack(),
+    }
+    boxes
 }
 
 /// Boxes in one of which the cells always are, one for each of these values, by the cases of operation `pivot`, which stores them; None where
-/// none are found in so many rounds, or with the operations that are left.
+/// none are found in so many rounds, with the operations that are left, or with the memory that there is.
 fn family(
     alloc: Global,
     graph: &Graph,
@@ -258,14 +284,14 @@ fn family(
     pivot: Option<u32>,
     rounds: u32,
     budget: &mut Budget,
-) -> Result<Option<Boxes>, Memory>
+) -> Option<Boxes>
     requires there { IfSome pivot (λ n. n < length graph.now.operations) }
-    ensures { IfOk result (λ found. IfSome found (λ boxes. Always graph.now inputs.now (InBox boxes.list.items (length graph.now.stores)))) }
+    ensures { IfSome result (λ boxes. Always graph.now inputs.now (InBox boxes.list.items (length graph.now.stores))) }
 {
-    let mut boxes = empty_boxes(alloc, graph, values.count)?;
-    let mut missed = first_box(alloc, graph)?;
+    let mut boxes = empty_boxes(alloc, graph, values.count, &mut budget.cells);
+    let mut missed = first_box(alloc, graph, &mut budget.cells);
     'rounds: for round in 0..rounds {
-        if budget.left == 0 {
+        if budget.cells.left == 0 {
             break;
         }
         let step = step_of(round.saturating_sub(1));
@@ -276,45 +302,49 @@ fn family(
             inputs,
             &boxes,
             pivot,
-            &mut budget.left,
+            &mut budget.cells,
             &mut missed,
-        )?;
+        );
         if is {
-            return Ok(Some(boxes));
+            return Some(boxes);
         }
     }
-    Ok(None)
+    None
 }
 
 /// The box of the values with which cells begin and of those that are stored where they are in this one, where the cells are always in it too;
 /// else this one. It is narrower where a round took an end of the type that no value comes to.
-fn nearest(alloc: Global, graph: &Graph, inputs: &[Range], boxes: Boxes) -> Result<Boxes, Memory>
+fn nearest(
+    alloc: Global,
+    graph: &Graph,
+    inputs: &[Range],
+    boxes: Boxes,
+    effort: &mut Effort,
+) -> Boxes
     requires { Always graph.now inputs.now (InBox boxes.list.items (length graph.now.stores)) }
-    ensures { IfOk result (λ next. Always graph.now inputs.now (InBox next.list.items (length graph.now.stores))) }
+    ensures { Always graph.now inputs.now (InBox result.list.items (length graph.now.stores)) }
 {
-    let mut next = first_box(alloc, graph)?;
-    let mut left = 0;
+    let mut next = first_box(alloc, graph, effort);
     let mut stored = Boxes::new(alloc);
-    let _kept = are_boxes_kept(
+    are_boxes_kept(
         alloc,
         graph,
         inputs,
         &next,
         &boxes,
         None,
-        &mut left,
+        effort,
         &mut stored,
-    )?;
+    );
     grow(graph, &mut next, &stored, ONE, Step::Near, &[]);
-    let is = is_family(alloc, graph, inputs, &next, None, &mut left, &mut stored)?;
-    if is {
-        return Ok(next);
+    if is_family(alloc, graph, inputs, &next, None, effort, &mut stored) {
+        return next;
     }
-    Ok(boxes)
+    boxes
 }
 
 /// The box of the types of the cells.
-fn typed_box(alloc: Global, graph: &Graph) -> Result<Boxes, Memory>
+pub(crate) fn typed_box(alloc: Global, graph: &Graph) -> Result<Boxes, Memory>
     ensures { IfOk result (λ boxes. (inputs : List Interval) → Always graph.now inputs (InBox boxes.list.items (length graph.now.stores))) }
 {
     // Each cell always has a value of its type.
@@ -325,18 +355,20 @@ fn typed_box(alloc: Global, graph: &Graph) -> Result<Boxes, Memory>
 }
 
 /// One box in which the cells are always, on rows whose inputs are in these ranges. Where none is found in the rounds that are tried, it is
-/// that of their types.
-pub(crate) fn settled(alloc: Global, graph: &Graph, inputs: &[Range]) -> Result<Boxes, Memory>
-    ensures { IfOk result (λ boxes. Always graph.now inputs.now (InBox boxes.list.items (length graph.now.stores))) }
+/// the one that is given, that of their types.
+pub(crate) fn settled(
+    alloc: Global,
+    graph: &Graph,
+    inputs: &[Range],
+    typed: Boxes,
+    budget: &mut Budget,
+) -> Boxes
+    requires { Always graph.now inputs.now (InBox typed.list.items (length graph.now.stores)) }
+    ensures { Always graph.now inputs.now (InBox result.list.items (length graph.now.stores)) }
 {
-    let mut budget = budget_of(alloc, graph, false, false)?;
-    let found = family(alloc, graph, inputs, ONE, None, PLAIN_ROUNDS, &mut budget)?;
-    match found {
-        Some(boxes) => nearest(alloc, graph, inputs, boxes),
-        None => {
-            let typed = typed_box(alloc, graph)?;
-            nearest(alloc, graph, inputs, typed)
-        }
+    match family(alloc, graph, inputs, ONE, None, PLAIN_ROUNDS, budget) {
+        Some(boxes) => nearest(alloc, graph, inputs, boxes, &mut budget.cells),
+        None => nearest(alloc, graph, inputs, typed, &mut budget.cells),
     }
 }
 
@@ -346,17 +378,28 @@ fn with_family(
     alloc: Global,
     graph: &Graph,
     inputs: &[Range],
-    ranges: &Ranges,
+    ranges: Ranges,
     boxes: &Boxes,
     budget: &mut Budget,
-) -> Result<Ranges, Memory>
+) -> Ranges
     requires always { Always graph.now inputs.now (InBox boxes.now.list.items (length graph.now.stores)) }
-    requires sound { IsSound graph.now inputs.now ranges.now }
-    ensures { IfOk result (λ a. IsSound graph.now inputs.now a) }
+    requires sound { IsSound graph.now inputs.now ranges }
+    ensures { IsSound graph.now inputs.now result }
 {
-    let named = ranges.stops();
-    let boxed = found_from(alloc, graph, inputs, boxes, named, &mut budget.asking)?;
-    found_by(alloc, true, ranges, &boxed)
+    if let Ok(boxed) = found_from(
+        alloc,
+        graph,
+        inputs,
+        boxes,
+        ranges.stops(),
+        &mut budget.asking,
+    )
+        && let Ok(closer) = found_by(alloc, true, &ranges, &boxed)
+    {
+        return closer;
+    }
+    budget.cells.lack();
+    ranges
 }
 
 /// Whether an operation is named.
@@ -386,35 +429,47 @@ fn values_of(range: Range) -> u32 {
     past as u32 + 1
 }
 
+/// Appends values, unless memory is lacking.
+fn push_try(tries: &mut Vec<Values>, values: Values, effort: &mut Effort) {
+    if tries.push(values).is_err() {
+        effort.lack();
+    }
+}
+
 /// Appends the values of each cell that is a BOOL, or of each other one, where they are few by these ranges.
 fn push_tries(
     tries: &mut Vec<Values>,
     graph: &Graph,
     known: &[Range],
     bools: bool,
-) -> Result<(), Memory> {
+    effort: &mut Effort,
+) {
     'cells: for place in 0..cell_count(graph) {
         let range = cell_range(graph, known, place);
         let count = values_of(range);
         let is_bool = matches!(cell_type(graph, place), Ty::Bool);
         if is_bool == bools && count >= 2 {
-            tries.push(Values {
-                place,
-                least: range.low,
-                count,
-            })?;
+            let least = range.low;
+            push_try(
+                tries,
+                Values {
+                    place,
+                    least,
+                    count,
+                },
+                effort,
+            );
         }
     }
-    Ok(())
 }
 
 /// By which values boxes are told apart in turn: one box, and the values of each cell: first of numbers, as a state is one.
-fn tries_of(alloc: Global, graph: &Graph, known: &[Range]) -> Result<Vec<Values>, Memory> {
+fn tries_of(alloc: Global, graph: &Graph, known: &[Range], effort: &mut Effort) -> Vec<Values> {
     let mut tries = Vec::new(alloc);
-    tries.push(ONE)?;
-    push_tries(&mut tries, graph, known, false)?;
-    push_tries(&mut tries, graph, known, true)?;
-    Ok(tries)
+    push_try(&mut tries, ONE, effort);
+    push_tries(&mut tries, graph, known, false, effort);
+    push_tries(&mut tries, graph, known, true, effort);
+    tries
 }
 
 /// What is told of the operations of a graph, and what is told by boxes, one for each of these values, where such are found.
@@ -425,21 +480,20 @@ fn closer_by(
     ranges: Ranges,
     values: Values,
     budget: &mut Budget,
-) -> Result<Ranges, Memory>
+) -> Ranges
     requires sound { IsSound graph.now inputs.now ranges }
-    ensures { IfOk result (λ a. IsSound graph.now inputs.now a) }
+    ensures { IsSound graph.now inputs.now result }
 {
     if values.place >= cell_count(graph) {
-        return Ok(ranges);
+        return ranges;
     }
-    if !names_any(ranges.stops()) && budget.asking.answers == 0 {
-        return Ok(ranges);
+    if !names_any(ranges.stops()) && budget.asking.answers.left == 0 {
+        return ranges;
     }
     let pivot = store_at(graph, values.place);
-    let found = family(alloc, graph, inputs, values, Some(pivot), ROUNDS, budget)?;
-    match found {
-        Some(boxes) => with_family(alloc, graph, inputs, &ranges, &boxes, budget),
-        None => Ok(ranges),
+    match family(alloc, graph, inputs, values, Some(pivot), ROUNDS, budget) {
+        Some(boxes) => with_family(alloc, graph, inputs, ranges, &boxes, budget),
+        None => ranges,
     }
 }
 
@@ -451,39 +505,36 @@ fn closer_by_each(
     ranges: Ranges,
     tries: &[Values],
     budget: &mut Budget,
-) -> Result<Ranges, Memory>
+) -> Ranges
     requires sound { IsSound graph.now inputs.now ranges }
-    ensures { IfOk result (λ a. IsSound graph.now inputs.now a) }
+    ensures { IsSound graph.now inputs.now result }
 {
     let mut told = ranges;
     'tries: for k in 0..tries.len() {
-        let next = closer_by(alloc, graph, inputs, told, tries[k], budget)?;
-        told = next;
+        told = closer_by(alloc, graph, inputs, told, tries[k], budget);
     }
-    Ok(told)
+    told
 }
 
 /// What is told of the operations of a graph, whose cells are always in these boxes, by a closer look at those that are named: in these boxes,
-/// in one box, and by the values of its cells. Where it is looked closely, that is done also where none is named, for the ranges.
+/// in one box, and by the values of its cells. Where closer ranges are searched for, that is done also where none is named.
 pub(crate) fn closer(
     alloc: Global,
     graph: &Graph,
     inputs: &[Range],
-    ranges: &Ranges,
+    ranges: Ranges,
     boxes: &Boxes,
-    closely: bool,
-) -> Result<Ranges, Memory>
-    requires sound { IsSound graph.now inputs.now ranges.now }
+    budget: &mut Budget,
+) -> Ranges
+    requires sound { IsSound graph.now inputs.now ranges }
     requires always { Always graph.now inputs.now (InBox boxes.now.list.items (length graph.now.stores)) }
-    ensures { IfOk result (λ a. IsSound graph.now inputs.now a) }
+    ensures { IsSound graph.now inputs.now result }
 {
-    let searched = graph.len() <= MOST_SEARCHED;
-    let mut budget = budget_of(alloc, graph, searched, closely)?;
-    let here = with_family(alloc, graph, inputs, ranges, boxes, &mut budget)?;
-    if !searched {
-        return Ok(here);
+    let here = with_family(alloc, graph, inputs, ranges, boxes, budget);
+    if graph.len() > MOST_SEARCHED {
+        return here;
     }
     // Which cells are looked at is told by the ranges that they have here, so that closer ones take no room from a cell that tells more.
-    let tries = tries_of(alloc, graph, here.known())?;
-    closer_by_each(alloc, graph, inputs, here, &tries, &mut budget)
+    let tries = tries_of(alloc, graph, here.known(), &mut budget.cells);
+    closer_by_each(alloc, graph, inputs, here, &tries, budget)
 }

@@ -10,6 +10,7 @@ mod audit;
 mod boxes;
 mod cases;
 mod cells;
+mod effort;
 mod families;
 mod laws;
 mod naming;

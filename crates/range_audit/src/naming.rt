@@ -96,14 +96,13 @@ fn with_box(
     cells: &[Range],
     found: Ranges,
     wanted: &[Stops],
-    left: &mut Asking,
+    asking: &mut Asking,
 ) -> Result<Ranges, Memory>
     requires known { length found.known ≡ length graph.now.operations }
     requires stops { length found.stops ≡ length graph.now.operations }
     ensures { IfOk result (λ more. IsMore graph.now inputs.now cells.now found more) }
 {
-    let any = has_values(graph, cells);
-    if !any {
+    if !has_values(graph, cells) {
         return Ok(found);
     }
     let cycle = Cycle {
@@ -112,7 +111,7 @@ fn with_box(
         cells,
     };
     let told = walk(alloc, graph, cycle.cells, inputs)?;
-    let here = closer_found(&cycle, inputs, &told, wanted, found.stops(), left)?;
+    let here = closer_found(&cycle, inputs, &told, wanted, found.stops(), asking)?;
     found_by(alloc, false, &found, &here)
 }
 
@@ -124,13 +123,13 @@ pub(crate) fn found_from(
     inputs: &[Range],
     boxes: &Boxes,
     wanted: &[Stops],
-    left: &mut Asking,
+    asking: &mut Asking,
 ) -> Result<Ranges, Memory>
     ensures { IfOk result (IsAllFound graph.now.operations inputs.now (InBox boxes.now.list.items (length graph.now.stores))) }
 {
     let mut found = nothing_found(alloc, graph)?;
     'boxes: for k in 0..boxes.len() {
-        let more = with_box(alloc, graph, inputs, boxes.at(k), found, wanted, left)?;
+        let more = with_box(alloc, graph, inputs, boxes.at(k), found, wanted, asking)?;
         found = more;
     }
     Ok(found)

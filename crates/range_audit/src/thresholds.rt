@@ -2,35 +2,37 @@
 
 ghost use Rattle.std.specs.Prelude.{◌<◌, ◌≤◌, length};
 
+use crate::effort::Effort;
 use op_graph::Graph;
 use std::alloc::Global;
-use vcp_base::{Kind, Memory, Ty, greatest, least};
+use vcp_base::{Kind, Ty, greatest, least};
 
 /// Appends the number of operation `n` and its neighbours, where the operation is a CONST.
-fn push_number(numbers: &mut Vec<i64>, graph: &Graph, n: u32) -> Result<(), Memory> {
+fn push_number(numbers: &mut Vec<i64>, graph: &Graph, n: u32, effort: &mut Effort) {
     if n >= graph.len() {
-        return Ok(());
+        return;
     }
     let op = graph.operation(n);
-    if op.kind == Kind::Const {
-        let near = [op.imm.saturating_sub(1), op.imm, op.imm.saturating_add(1)];
-        numbers.extend_from_slice(&near)?;
+    let near = [op.imm.saturating_sub(1), op.imm, op.imm.saturating_add(1)];
+    if op.kind == Kind::Const && numbers.extend_from_slice(&near).is_err() {
+        effort.lack();
     }
-    Ok(())
 }
 
-/// The numbers that the comparisons of a graph read, and their neighbours, in order.
-pub(crate) fn thresholds(alloc: Global, graph: &Graph) -> Result<Vec<i64>, Memory> {
+/// The numbers that the comparisons of a graph read, and their neighbours, in order; not all of them where memory is lacking.
+pub(crate) fn thresholds(alloc: Global, graph: &Graph, effort: &mut Effort) -> Vec<i64> {
     let mut numbers = Vec::new(alloc);
     'operations: for i in 0..graph.len() {
         let op = graph.operation(i);
         if matches!(op.kind, Kind::Eq | Kind::Lt) {
-            push_number(&mut numbers, graph, op.a)?;
-            push_number(&mut numbers, graph, op.b)?;
+            push_number(&mut numbers, graph, op.a, effort);
+            push_number(&mut numbers, graph, op.b, effort);
         }
     }
-    numbers.sort()?;
-    Ok(numbers)
+    if numbers.sort().is_err() {
+        effort.lack();
+    }
+    numbers
 }
 
 /// How many of these numbers, which are in order, are below `v`.

@@ -1,7 +1,7 @@
 use Rattle.std.proofs.Common.{◌≡◌, ◌⊎◌, true, inl, inr, sym, subst, ◌∙◌, arith}
 use Rattle.range_walk.specs.Known.{may_stop}
 use Rattle.range_walk.specs.Intervals.{Fit}
-use Rattle.range_audit.proofs.Steps.{no_more_than, some_is}
+use Rattle.range_audit.proofs.Steps.{no_more_than}
 use Rattle.range_audit.proofs.asking.+stops_by_cases.Goals as goal
 
 pub tell-told-requires : goal.tell-told-requires
@@ -10,9 +10,9 @@ tell-told-requires t c = record { there = c.requires.there; many = c.requires.ma
 pub cases_of-requires : goal.cases_of-requires
 cases_of-requires t c = no_more_than _ _ _ c.requires.many c.requires.there
 
-pub returns-then-none : goal.returns-then-none
-returns-then-none t c = λ held row vs op why hold given whole fit there own no e.
-    absurd (c.has_none-none.ensures.fit c.if-none.true vs (omega (arith, whole, c.requires.many)) fit)
+pub returns-then-has_none : goal.returns-then-has_none
+returns-then-has_none t c = λ held row vs op why hold given whole fit there own no e.
+    absurd (c.has_none.ensures.fit c.if-has_none.true vs (omega (arith, whole, c.requires.many)) fit)
 
 pub returns-in_default : goal.returns-in_default
 returns-in_default t c = λ held row vs op why hold given whole fit there own no e.
@@ -20,10 +20,10 @@ returns-in_default t c = λ held row vs op why hold given whole fit there own no
 
 pub returns : goal.returns
 returns t c = λ held row vs op why hold given whole fit there own no e.
-    let two = some_is _ _ _ c.in_ok-found.ensures.halves c.in-Some.is in
-    let one : (may_stop why c.in_ok-first.first ≡ true) ⊎ (may_stop why c.in_ok-second.second ≡ true) =
+    let two = c.in-Some.ensures.halves in
+    let one : (may_stop why c.stops_by_cases-first.result ≡ true) ⊎ (may_stop why c.stops_by_cases-second.result ≡ true) =
     elim (two.one held row vs hold given (whole ∙ sym c.requires.many) fit) [
-      | inl low ↦ inl (c.in_ok-first.ensures held row vs op why hold given whole (subst (λ rs. Fit rs vs) (sym c.deref.ensures.value) low) there own no e)
-      | inr high ↦ inr (c.in_ok-second.ensures held row vs op why hold given whole (subst (λ rs. Fit rs vs) (sym c.deref-2.ensures.value) high) there own no e)
+      | inl low ↦ inl (c.stops_by_cases-first.ensures held row vs op why hold given whole (subst (λ rs. Fit rs vs) (sym c.deref.ensures.value) low) there own no e)
+      | inr high ↦ inr (c.stops_by_cases-second.ensures held row vs op why hold given whole (subst (λ rs. Fit rs vs) (sym c.deref-2.ensures.value) high) there own no e)
     ] in
-    c.joined_stops-either.ensures.holds why one
+    c.joined_stops.ensures.holds why one

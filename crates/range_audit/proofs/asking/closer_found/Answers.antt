@@ -16,10 +16,10 @@ pub operations-preserved : goal.operations-preserved
 operations-preserved c =
     let ops = c.args.cycle.now.graph.now.operations in
     let i = c.operations.i in
-    let range = subst (λ (ks : List Range). IsAlwaysIn ops c.args.cycle.now.cells.now ks i c.in_ok-range.range) c.known.ensures c.in_ok-range.ensures in
+    let range = subst (λ (ks : List Range). IsAlwaysIn ops c.args.cycle.now.cells.now ks i c.output_range-range.result) c.known.ensures c.output_range-range.ensures in
     record {
-      known = one_more _ _ _ c.in_ok-range.range i c.operations.invariant.known range c.in_ok-push.ensures.known;
-      stops = one_more _ _ _ c.in_ok-why.why i c.operations.invariant.stops c.in_ok-why.ensures c.in_ok-push.ensures.stops;
+      known = one_more _ _ _ c.output_range-range.result i c.operations.invariant.known range c.in_ok-push.ensures.known;
+      stops = one_more _ _ _ c.stops_of-why.result i c.operations.invariant.stops c.stops_of-why.ensures c.in_ok-push.ensures.stops;
     }
 
 pub returns : goal.returns

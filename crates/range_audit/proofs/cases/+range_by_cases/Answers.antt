@@ -1,12 +1,11 @@
 use Rattle.std.proofs.Common.{inl, inr, length, sym, ap, subst, ◌∙◌, arith}
 use Rattle.vcp_base.specs.Values.{at}
 use Rattle.range_walk.specs.Intervals.{Fit}
-use Rattle.range_audit.proofs.Steps.{some_is}
 use Rattle.range_audit.proofs.cases.+range_by_cases.Goals as goal
 
-pub returns-then-none : goal.returns-then-none
-returns-then-none t c = λ held row vs hold given whole fit.
-    absurd (c.has_none-none.ensures.fit c.if-none.true vs (omega (arith, whole, c.requires.there)) fit)
+pub returns-then-has_none : goal.returns-then-has_none
+returns-then-has_none t c = λ held row vs hold given whole fit.
+    absurd (c.has_none.ensures.fit c.if-has_none.true vs (omega (arith, whole, c.requires.there)) fit)
 
 pub returns-in_default : goal.returns-in_default
 returns-in_default t c = λ held row vs hold given whole fit.
@@ -14,14 +13,14 @@ returns-in_default t c = λ held row vs hold given whole fit.
 
 pub returns : goal.returns
 returns t c = λ held row vs hold given whole fit.
-    let two = some_is _ _ _ c.in_ok-found.ensures.halves c.in-Some.is in
+    let two = c.in-Some.ensures.halves in
     elim (two.one held row vs hold given whole fit) [
       | inl low ↦
-          c.joined-both.ensures.first (at vs c.args.j)
-          (c.in_ok-first.ensures held row vs hold given (whole ∙ sym two.low_many ∙ sym (ap length c.deref.ensures.value))
+          c.joined.ensures.first (at vs c.args.j)
+          (c.range_by_cases-first.ensures held row vs hold given (whole ∙ sym two.low_many ∙ sym (ap length c.deref.ensures.value))
           (subst (λ rs. Fit rs vs) (sym c.deref.ensures.value) low))
       | inr high ↦
-          c.joined-both.ensures.second (at vs c.args.j)
-          (c.in_ok-second.ensures held row vs hold given (whole ∙ sym two.high_many ∙ sym (ap length c.deref-2.ensures.value))
+          c.joined.ensures.second (at vs c.args.j)
+          (c.range_by_cases-second.ensures held row vs hold given (whole ∙ sym two.high_many ∙ sym (ap length c.deref-2.ensures.value))
           (subst (λ rs. Fit rs vs) (sym c.deref-2.ensures.value) high))
     ]

@@ -8,24 +8,24 @@ use Rattle.range_audit.proofs.cases.halved.Goals as goal
 
 pub narrow_to-requires : goal.narrow_to-requires
 narrow_to-requires c =
-    let before : length c.deref_mut.result.now ≡ length c.args.ranges.now = ap length (c.deref_mut.ensures.value ∙ c.in_ok-low.ensures) in
+    let before : length c.deref_mut.result.now ≡ length c.args.ranges.now = ap length (c.deref_mut.ensures.value ∙ c.in-Ok.ensures) in
     record { there = omega (arith, before, c.requires.there); many = omega (arith, before, c.requires.many) }
 
 pub narrow_to-requires-2 : goal.narrow_to-requires-2
 narrow_to-requires-2 c =
-    let before : length c.deref_mut-2.result.now ≡ length c.args.ranges.now = ap length (c.deref_mut-2.ensures.value ∙ c.in_ok-high.ensures) in
+    let before : length c.deref_mut-2.result.now ≡ length c.args.ranges.now = ap length (c.deref_mut-2.ensures.value ∙ c.in-Ok-copied.ensures) in
     record { there = omega (arith, before, c.requires.there); many = omega (arith, before, c.requires.many) }
 
 pub returns : goal.returns
 returns c =
     let low = c.narrow_to.new.ranges in
     let high = c.narrow_to-2.new.ranges in
-    let low_was = c.deref_mut.ensures.value ∙ c.in_ok-low.ensures in
-    let high_was = c.deref_mut-2.ensures.value ∙ c.in_ok-high.ensures in
+    let low_was = c.deref_mut.ensures.value ∙ c.in-Ok.ensures in
+    let high_was = c.deref_mut-2.ensures.value ∙ c.in-Ok-copied.ensures in
     let low_many = c.narrow_to.ensures.many ∙ ap length low_was in
     let high_many = c.narrow_to-2.ensures.many ∙ ap length high_was in
-    let low_is = with_items_is c.in_ok-low.low low (omega (arith, ap length low_was, c.narrow_to.ensures.many, c.deref_mut.ensures.len)) in
-    let high_is = with_items_is c.in_ok-high.high high (omega (arith, ap length high_was, c.narrow_to-2.ensures.many, c.deref_mut-2.ensures.len)) in
+    let low_is = with_items_is c.in-Ok.low low (omega (arith, ap length low_was, c.narrow_to.ensures.many, c.deref_mut.ensures.len)) in
+    let high_is = with_items_is c.in-Ok-copied.high high (omega (arith, ap length high_was, c.narrow_to-2.ensures.many, c.deref_mut-2.ensures.len)) in
     record {
       low_many = ap length low_is ∙ low_many;
       high_many = ap length high_is ∙ high_many;

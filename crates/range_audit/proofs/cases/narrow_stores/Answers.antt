@@ -5,8 +5,8 @@ use Rattle.range_audit.proofs.cases.narrow_stores.Goals as goal
 pub cells-init : goal.cells-init
 cells-init c = record { many = c.requires.many; fits = λ held row vs hold given whole fit. fit }
 
-pub range_by_cases-requires : goal.range_by_cases-requires
-range_by_cases-requires c =
+pub range_by_cases-r-requires : goal.range_by_cases-r-requires
+range_by_cases-r-requires c =
     let i = c.cells.invariant in
     record { there = subst (λ m. c.store_at-store.result < m) (sym i.many) c.store_at-store.ensures; many = as_many _ _ i.many }
 
@@ -21,11 +21,8 @@ cells-preserved c =
       fits = λ held row vs hold given whole fit.
           let before = i.fits held row vs hold given whole fit in
           c.put.ensures.fits vs (subst (λ m. c.store_at-store.result < m) (sym (whole ∙ c.requires.many)) c.store_at-store.ensures) before
-          (c.in_ok-r.ensures held row vs hold given (whole ∙ c.requires.many ∙ sym i.many) before);
+          (c.range_by_cases-r.ensures held row vs hold given (whole ∙ c.requires.many ∙ sym i.many) before);
     }
-
-pub returns-in_err-r-clause-fits : goal.returns-in_err-r-clause-fits
-returns-in_err-r-clause-fits c = c.cells.invariant.fits
 
 pub returns-clause-many : goal.returns-clause-many
 returns-clause-many c = c.cells.invariant.many ∙ sym c.requires.many

@@ -1,4 +1,4 @@
 use Rattle.range_audit.proofs.families.family.Goals as goal
 
 pub returns-then-is : goal.returns-then-is
-returns-then-is c = c.in_ok-is.ensures c.if-is.true
+returns-then-is c = c.is_family-is.ensures c.if-is.true

@@ -11,12 +11,12 @@ pub returns : goal.returns
 returns c = λ e.
     let g = c.args.graph.now in
     let boxes = c.args.boxes.now.list.items in
-    let both : (c.is_in_one-begins.result && c.in_ok-kept.kept) ≡ true = sym c.both_hold-both.ensures ∙ e in
-    let parts = and_parts c.is_in_one-begins.result c.in_ok-kept.kept both in
-    let first = subst (λ rs. Hold rs (initial g)) (sym c.deref.ensures.value) (c.in_ok-first.ensures.holds (initial g) (initial_loaded g)) in
+    let both : (c.is_in_one-begins.result && c.are_boxes_kept-kept.result) ≡ true = sym c.both_hold.ensures ∙ e in
+    let parts = and_parts c.is_in_one-begins.result c.are_boxes_kept-kept.result both in
+    let first = subst (λ rs. Hold rs (initial g)) (sym c.deref.ensures.value) (c.in-Ok.ensures.holds (initial g) (initial_loaded g)) in
     let begins = c.is_in_one-begins.ensures parts.0 (initial g) first in
     always g c.args.inputs.now (InBox boxes (length g.stores))
-    (subst (λ n. InBox boxes n (initial g)) (ap length c.deref.ensures.value ∙ c.in_ok-first.ensures.many) begins)
+    (subst (λ n. InBox boxes n (initial g)) (ap length c.deref.ensures.value ∙ c.in-Ok.ensures.many) begins)
     (λ held row inside row_in stops.
     let is = whole_cycle g held row stops in
-    c.in_ok-kept.ensures parts.1 inside.0 inside.1 inside.2 held row (cycle g held row).values inside.3 row_in is.0 is.1)
+    c.are_boxes_kept-kept.ensures parts.1 inside.0 inside.1 inside.2 held row (cycle g held row).values inside.3 row_in is.0 is.1)

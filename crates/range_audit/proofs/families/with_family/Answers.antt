@@ -1,19 +1,19 @@
 use Rattle.std.proofs.Common.{length, refl, sym, ◌∙◌}
-use Rattle.range_audit.proofs.Steps.{and_so}
 use Rattle.range_audit.proofs.families.with_family.Goals as goal
 
 pub found_by-requires : goal.found_by-requires
 found_by-requires c = record {
   stops = c.requires.sound.stops ∙ sym c.requires.sound.known;
-  others = c.in_ok-boxed.ensures.known ∙ sym c.requires.sound.known;
-  other_stops = c.in_ok-boxed.ensures.stops ∙ sym c.requires.sound.known;
+  others = c.in-Ok.ensures.known ∙ sym c.requires.sound.known;
+  other_stops = c.in-Ok.ensures.stops ∙ sym c.requires.sound.known;
 }
 
 pub returns : goal.returns
-returns c = and_so c.found_by.result c.found_by.ensures (λ told is.
+returns c =
     let g = c.args.graph.now in
     let sound = c.requires.sound in
-    let found = c.in_ok-boxed.ensures.found in
+    let found = c.in-Ok.ensures.found in
+    let is = c.in-Ok-found_by.ensures in
     record {
       known = is.known ∙ sound.known;
       stops = is.stops ∙ sound.known;
@@ -28,4 +28,4 @@ returns c = and_so c.found_by.result c.found_by.ensures (λ told is.
       };
       able = λ i op why there may. sound.able i op why there (is.first refl why i may);
       types = is.types refl g.operations sound.types;
-    })
+    }

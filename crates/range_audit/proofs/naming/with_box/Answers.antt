@@ -9,15 +9,15 @@ found_by-requires c = record {
   other_stops = c.in_ok-here.ensures.stops ∙ sym c.requires.known;
 }
 
-pub returns-then-not-any : goal.returns-then-not-any
-returns-then-not-any c = record {
+pub returns-then-not-has_values : goal.returns-then-not-has_values
+returns-then-not-has_values c = record {
   known = c.requires.known;
   stops = c.requires.stops;
   fits = λ vs fit. fit;
   named = λ why i e. e;
   here = record {
-    fits = λ held row vs inside row_in given. absurd (c.has_values-any.ensures.none c.if-not-any.true held inside);
-    names = λ held row vs op why inside row_in given there own no e. absurd (c.has_values-any.ensures.none c.if-not-any.true held inside);
+    fits = λ held row vs inside row_in given. absurd (c.has_values.ensures.none c.if-not-has_values.true held inside);
+    names = λ held row vs op why inside row_in given there own no e. absurd (c.has_values.ensures.none c.if-not-has_values.true held inside);
   };
 }
 
