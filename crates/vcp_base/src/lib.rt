@@ -11,6 +11,7 @@ mod digits;
 mod integers;
 mod kind;
 mod limits;
+mod list;
 mod memory;
 mod names;
 mod outcomes;
@@ -35,6 +36,7 @@ pub use limits::{
     MOST_NAMES, MOST_OPERATIONS, MOST_ROWS_BYTES, MOST_SIZE, MOST_SOURCE_BYTES, MOST_STAMP,
     MOST_STEP, MOST_TURN_NODES, SEEDS,
 };
+pub use list::{CopyList, List};
 pub use memory::Memory;
 pub use names::{is_letter, is_letter_or_digit, is_name};
 pub use outcomes::{outcome, short_outcome};
