@@ -1,8 +1,8 @@
 -- ValueBounds: the bounds of each kind's value, by the ranges of its operands.
-use Rattle.std.proofs.Common.{◌≡◌, ◌≢◌, ◌⊎◌, inl, inr, ℤ, pos, ◌-ℤ◌, ◌≤ℤ◌, ◌<ℤ◌, Bool, true, false, T, refl, sym, subst, arith}
+use Rattle.std.proofs.Common.{◌≡◌, ◌≢◌, ◌⊎◌, inl, inr, ℤ, pos, ◌-ℤ◌, ◌≤ℤ◌, ◌<ℤ◌, Bool, true, false, T, refl, sym, subst, not, arith}
 use Rattle.std.specs.Prelude.{int_le, int_lt}
 use Rattle.std.proofs.lemmas.Int.{ints}
-use Rattle.std.proofs.lemmas.Bool.{and_parts, and_from, both_ways, false_from_ne_true}
+use Rattle.std.proofs.lemmas.Bool.{and_parts, and_from, both_ways, false_from_ne_true, not_from_false, not_from_true}
 use Rattle.vcp_base.specs.declared.ty.Ty.{Ty}
 use Rattle.vcp_base.specs.declared.kind.Kind.{Kind}
 use Rattle.vcp_base.specs.declared.kind.Kind.TheVariants as kind
@@ -64,6 +64,24 @@ moved r x y e h = subst (λ v. IsIn r v) e h
 -- x isn't k, as its range leaves k out
 pub other_than : (r : Range) (x k : ℤ) → (IsIn r k → ⊥) → IsIn r x → same x k ≡ false
 other_than r x k out i = false_from_ne_true (same x k) (λ h. out (moved r x k (same_is x k h) i))
+
+-- bounds of whether two values are equal, where it may be seen that the ranges have one value, or that they share none
+pub equal : (a b : Range) (same_one none : Bool) (bounds : Bounds) (x y : ℤ) → IsIn a x → IsIn b y
+    → ((t : Bool) → (same_one ≡ true → t ≡ true) → (none ≡ true → t ≡ false) → IsWithin bounds (truth t))
+    → (same_one ≡ true → (x y : ℤ) → IsIn a x → IsIn b y → x ≡ y) → (none ≡ true → (x : ℤ) → IsIn a x → IsIn b x → ⊥)
+    → IsWithin bounds (truth (same x y))
+equal a b same_one none bounds x y i j found one apart =
+    found (same x y) (λ e. is_same x y (one e x y i j)) (λ e. false_from_ne_true (same x y) (λ h. apart e x i (moved b y x (sym (same_is x y h)) j)))
+
+-- bounds of whether they differ
+pub differing : (a b : Range) (none same_one : Bool) (bounds : Bounds) (x y : ℤ) → IsIn a x → IsIn b y
+    → ((t : Bool) → (none ≡ true → t ≡ true) → (same_one ≡ true → t ≡ false) → IsWithin bounds (truth t))
+    → (none ≡ true → (x : ℤ) → IsIn a x → IsIn b x → ⊥) → (same_one ≡ true → (x y : ℤ) → IsIn a x → IsIn b y → x ≡ y)
+    → IsWithin bounds (truth (not (same x y)))
+differing a b none same_one bounds x y i j found apart one =
+    found (not (same x y))
+    (λ e. not_from_false (same x y) (false_from_ne_true (same x y) (λ h. apart e x i (moved b y x (sym (same_is x y h)) j))))
+    (λ e. not_from_true (same x y) (is_same x y (one e x y i j)))
 
 pub is_less_than : (x y : ℤ) → x <ℤ y → int_lt x y ≡ true
 is_less_than x y h = true_is (int_lt x y) h.lt

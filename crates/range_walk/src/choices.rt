@@ -19,13 +19,6 @@ const DEPTH: u32 = 8;
 /// How many deep into the second of them. So few conditions are looked into of many that share their parts.
 const SECOND_DEPTH: u32 = 2;
 
-/// Whether the two numbers are one.
-fn is_one(n: u32, m: u32) -> bool
-    ensures { result ≡ true → n ≡ m }
-{
-    n == m
-}
-
 /// The range of operation `n`, which is in `r`, where of the operations that `op` reads the first is in `a` and the second in `b`, and what it
 /// gives of them is in `value`.
 fn compared(op: &Op, value: Range, a: Range, b: Range, n: u32, r: Range) -> Range
@@ -34,12 +27,10 @@ fn compared(op: &Op, value: Range, a: Range, b: Range, n: u32, r: Range) -> Rang
         → divides_by_zero op.now.kind (at vs op.now.b) ≡ false → IsIn r (at vs n) → IsIn result (at vs n) }
 {
     let o = narrowed(op.kind, value, Operands::new(a, b, b));
-    let is_first = is_one(n, op.a);
-    if is_first {
+    if n == op.a {
         return o.first;
     }
-    let is_second = is_one(n, op.b);
-    if is_second {
+    if n == op.b {
         return o.second;
     }
     r
@@ -106,8 +97,7 @@ fn made_of(graph: &Graph, known: &[Range], m: u32, value: Range, n: u32) -> Rang
     ensures { (held row vs : List ℤ) → Given graph.now.operations held row vs → Fit known.now vs → length known.now ≤ length vs
         → IsIn value (at vs m) → IsIn result (at vs n) }
 {
-    let same = is_one(n, m);
-    if same {
+    if n == m {
         return value;
     }
     let r = earlier_range(known, n);

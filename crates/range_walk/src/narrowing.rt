@@ -4,8 +4,8 @@ ghost use Rattle.std.specs.Prelude.{◌≡◌, ◌<◌, ◌≤◌, ℤ, true, Li
 ghost use Rattle.vcp_base.specs.Kinds.{operands as operands_of};
 ghost use Rattle.vcp_base.specs.Values.{at};
 ghost use Rattle.op_graph.specs.GraphRun.{operand};
-ghost use Rattle.range_walk.specs.Intervals.{IsIn, Fit, Hold};
-ghost use Rattle.range_walk.specs.Walking.{Given, OperandIs, OperandsAre, Narrows, Reads, ReadsCell};
+ghost use Rattle.range_walk.specs.Intervals.{IsIn, Fit};
+ghost use Rattle.range_walk.specs.Walking.{OperandIs, OperandsAre, Narrows, Reads, ReadsCell};
 
 use crate::operand_ranges::{Operands, narrowed};
 use crate::operations::operation_at;
@@ -34,19 +34,6 @@ pub fn first_ranges(ranges: &[Range], i: u32) -> &[Range]
     ensures fits { (vs : List ℤ) → Fit ranges.now vs → Fit result.now vs }
 {
     &ranges[..i as usize]
-}
-
-/// The range of operation `i` by what it reads.
-fn told_range(graph: &Graph, cells: &[Range], ranges: &[Range], i: u32) -> Range
-    requires there { i < length ranges.now }
-    requires many { length ranges.now ≤ length graph.now.operations }
-    requires cells { length cells.now ≡ length graph.now.stores }
-    ensures { (held row vs : List ℤ) → Hold cells.now held → Given graph.now.operations held row vs → length vs ≡ length ranges.now
-        → Fit ranges.now vs → IsIn result (at vs i) }
-{
-    let first = first_ranges(ranges, i);
-    let told = tell(graph, cells, first, i);
-    told.range
 }
 
 /// Whether the kind reads operation `n` as its operand `j`: a LOAD reads its cell.
@@ -106,8 +93,9 @@ fn settle(graph: &Graph, cells: &[Range], ranges: &mut [Range], i: u32)
     ensures many { length ranges.new ≡ length ranges.old }
     ensures fits { Narrows graph.now.operations cells.now ranges.old ranges.new }
 {
-    let told = told_range(graph, cells, ranges, i);
-    put(ranges, i, told);
+    let first = first_ranges(ranges, i);
+    let told = tell(graph, cells, first, i);
+    put(ranges, i, told.range);
     settle_operands(graph, cells, ranges, i);
 }
 
@@ -142,20 +130,13 @@ fn go_through(graph: &Graph, cells: &[Range], ranges: &mut [Range], back: bool)
     }
 }
 
-/// The difference of the ends, and one more where 0 isn't left out.
-fn size(r: Range) -> i128 {
-    let wide = r.high as i128 - r.low as i128;
-    if r.nonzero {
-        return wide;
-    }
-    wide + 1
-}
-
-/// The sum of the sizes of the ranges, which is less where one is made narrower.
+/// The sum of the sizes of the ranges, which is less where one is made narrower: the difference of the ends, and one more where 0 isn't left out.
 fn sizes(ranges: &[Range]) -> i128 {
     let mut sum: i128 = 0;
     'ranges: for i in 0..ranges.len() {
-        sum = sum.saturating_add(size(ranges[i]));
+        let r = ranges[i];
+        let wide = r.high as i128 - r.low as i128;
+        sum = sum.saturating_add(if r.nonzero { wide } else { wide + 1 });
     }
     sum
 }

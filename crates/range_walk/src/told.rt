@@ -11,7 +11,7 @@ ghost use Rattle.range_walk.specs.Walking.{Given, Tells, OperandIs, OperandsAre,
 use crate::choices::case_range;
 use crate::operand_ranges::Operands;
 use crate::operations::operation_at;
-use crate::range::{Bounds, Range, Stops, both_hold, earlier_range, range_at};
+use crate::range::{Bounds, Range, Stops, earlier_range, range_at};
 use crate::values::{chosen, twice_bounds, value_bounds};
 use op_graph::{Graph, Op};
 use vcp_base::{Kind, operands};
@@ -42,20 +42,11 @@ pub(crate) fn has_operand(kind: Kind, j: u32) -> bool
     j < operands(kind)
 }
 
-/// Whether an operation names one operation twice.
-fn names_one_twice(op: &Op) -> bool
-    ensures { result ≡ true → op.now.a ≡ op.now.b }
-{
-    op.a == op.b
-}
-
 /// Whether an operation reads one operation as both its operands.
 fn reads_one_twice(op: &Op) -> bool
     ensures { result ≡ true → (held vs : List ℤ) → operand held vs op.now 0 op.now.a ≡ operand held vs op.now 1 op.now.b }
 {
-    let has = has_operand(op.kind, 1);
-    let same = names_one_twice(op);
-    both_hold(has, same)
+    op.a == op.b && has_operand(op.kind, 1)
 }
 
 /// Bounds of the value of an operation that computes it, whose divisor isn't 0.

@@ -171,24 +171,6 @@ fn are_one(a: Range, b: Range) -> bool
     both_hold(first, second)
 }
 
-/// Bounds of whether x equals y.
-fn equal(a: Range, b: Range) -> Bounds
-    ensures { (x y : ℤ) → IsIn a x → IsIn b y → IsWithin result (truth (same x y)) }
-{
-    let yes = are_one(a, b);
-    let no = are_apart(a, b);
-    truth_bounds(yes, no)
-}
-
-/// Bounds of whether the two differ.
-fn differing(a: Range, b: Range) -> Bounds
-    ensures { (x y : ℤ) → IsIn a x → IsIn b y → IsWithin result (truth (not (same x y))) }
-{
-    let yes = are_apart(a, b);
-    let no = are_one(a, b);
-    truth_bounds(yes, no)
-}
-
 /// Bounds of whether x is less than y.
 fn less(a: Range, b: Range) -> Bounds
     ensures { (x y : ℤ) → IsIn a x → IsIn b y → IsWithin result (truth (int_lt x y)) }
@@ -257,11 +239,11 @@ pub(crate) fn value_bounds(op: &Op, a: Range, b: Range, c: Range) -> Bounds
         Kind::Mul => product(a, b),
         Kind::Div => quotient(a, b),
         Kind::Mod => rest(a, b),
-        Kind::Eq => equal(a, b),
+        Kind::Eq => truth_bounds(are_one(a, b), are_apart(a, b)),
         Kind::Lt => less(a, b),
         Kind::And => both(a, b),
         Kind::Or => either(a, b),
-        Kind::Xor => differing(a, b),
+        Kind::Xor => truth_bounds(are_apart(a, b), are_one(a, b)),
         Kind::Sel => {
             let value = chosen(a, b, c);
             value.bounds()

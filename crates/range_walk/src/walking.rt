@@ -42,9 +42,10 @@ pub fn walk(
     requires { length cells.now ≡ length graph.now.stores }
     ensures { IfOk result (λ a. IsWalk graph.now.operations cells.now inputs.now a) }
 {
-    let count = graph.len();
-    let mut ranges = Ranges::with_capacity(alloc, count as usize)?;
-    'operations: for i in 0..count {
+    let known = Vec::new(alloc);
+    let stops = Vec::new(alloc);
+    let mut ranges = Ranges::new(known, stops);
+    'operations: for i in 0..graph.len() {
         let told = told_at(graph, cells, inputs, ranges.known(), i);
         ranges.push(told.range, told.stops)?;
     }

@@ -47,8 +47,10 @@ pub(crate) fn is_head(cells: &ByteRecord) -> bool
 fn end_of(ty: Ty, cell: &[u8]) -> Option<i64>
     ensures { result ≡ end_in ty cell.now }
 {
-    let word = word_of(cell)?;
-    number_in(ty, word)
+    match word_of(cell) {
+        Some(word) => number_in(ty, word),
+        None => None,
+    }
 }
 
 /// The range of an input of the type between the two ends that cells spell.

@@ -75,8 +75,10 @@ fn place_of(columns: &Columns, free: &[bool], cell: &[u8]) -> Option<usize>
     ensures place { result ≡ place_of_name columns.now free.now cell.now }
     ensures within { IfSome result (λ i. i < length columns.now) }
 {
-    let name = word_of(cell)?;
-    place_named(columns, free, name)
+    match word_of(cell) {
+        Some(name) => place_named(columns, free, name),
+        None => None,
+    }
 }
 
 /// All values of the type of each input.

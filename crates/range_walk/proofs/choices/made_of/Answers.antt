@@ -5,8 +5,8 @@ use Rattle.range_walk.specs.Intervals.{IsIn}
 use Rattle.range_walk.proofs.Conditions.{selection, opposite, chosen_no, chosen_yes, twice_by, in_one, not_one, not_zero}
 use Rattle.range_walk.proofs.choices.made_of.Goals as goal
 
-pub returns-then-same : goal.returns-then-same
-returns-then-same c = λ held row vs given fit le value. subst (λ k. IsIn c.args.value (at vs k)) (sym (c.is_one-same.ensures c.if-same.true)) value
+pub returns-then-n-m : goal.returns-then-n-m
+returns-then-n-m c = λ held row vs given fit le value. subst (λ k. IsIn c.args.value (at vs k)) (sym c.if-n-m.true) value
 
 pub returns-then-found : goal.returns-then-found
 returns-then-found c = λ held row vs given fit le value.

@@ -2,7 +2,7 @@ use Rattle.std.proofs.Common.{◌≡◌, pos, false, sym, subst, ◌∙◌, rule
 use Rattle.vcp_base.specs.Kinds.{value, divides_by_zero}
 use Rattle.range_walk.specs.Intervals.{IsWithin}
 use Rattle.range_walk.proofs.Bits.{wide_is}
-use Rattle.range_walk.proofs.ValueBounds.{not_divided, given_value}
+use Rattle.range_walk.proofs.ValueBounds.{differing, equal, not_divided, given_value}
 use Rattle.range_walk.proofs.values.value_bounds.Goals as goal
 
 pub returns-in-Input : goal.returns-in-Input
@@ -63,7 +63,8 @@ returns-in-Mul c = λ x y z i j k d.
 
 pub returns-in-Eq : goal.returns-in-Eq
 returns-in-Eq c = λ x y z i j k d.
-    subst (λ t. IsWithin c.equal.result (value t c.args.op.now.imm x y z)) (sym c.in-Eq.is) (c.equal.ensures x y i j)
+    subst (λ t. IsWithin c.truth_bounds.result (value t c.args.op.now.imm x y z)) (sym c.in-Eq.is)
+    (equal c.args.a c.args.b _ _ _ x y i j c.truth_bounds.ensures c.are_one.ensures c.are_apart.ensures)
 
 pub returns-in-Lt : goal.returns-in-Lt
 returns-in-Lt c = λ x y z i j k d.
@@ -79,4 +80,5 @@ returns-in-Or c = λ x y z i j k d.
 
 pub returns-in-Xor : goal.returns-in-Xor
 returns-in-Xor c = λ x y z i j k d.
-    subst (λ t. IsWithin c.differing.result (value t c.args.op.now.imm x y z)) (sym c.in-Xor.is) (c.differing.ensures x y i j)
+    subst (λ t. IsWithin c.truth_bounds-in-Xor.result (value t c.args.op.now.imm x y z)) (sym c.in-Xor.is)
+    (differing c.args.a c.args.b _ _ _ x y i j c.truth_bounds-in-Xor.ensures c.are_apart-in-Xor.ensures c.are_one-in-Xor.ensures)

@@ -8,8 +8,8 @@ use Rattle.range_walk.proofs.walking.walk.Goals as goal
 
 pub operations-init : goal.operations-init
 operations-init c =
-    let known = ap (λ (r : KnownRanges). r.known) c.in_ok-ranges.ensures in
-    let stops = ap (λ (r : KnownRanges). r.stops) c.in_ok-ranges.ensures in
+    let known = ap (λ (r : KnownRanges). r.known) c.new-ranges.ensures ∙ c.new-known.ensures.items in
+    let stops = ap (λ (r : KnownRanges). r.stops) c.new-ranges.ensures ∙ c.new-stops.ensures.items in
     record {
       known_many = ap length known;
       stops_many = ap length stops;
@@ -35,7 +35,7 @@ operations-preserved c =
       known_many = ap length more ∙ length_push known t.range ∙ ap (λ n. n + 1) i.known_many;
       stops_many = ap length more_stops ∙ length_push stops t.stops ∙ ap (λ n. n + 1) i.stops_many;
       fits = each_push (FitsAt ops cells inputs) known _ t.range c.operations.i more i.known_many i.fits
-          (fits_here ops cells inputs known c.operations.i t (omega (arith, c.operations-test.true, c.len-count.ensures.count)) told i.fits);
+          (fits_here ops cells inputs known c.operations.i t (omega (arith, c.operations-test.true, c.len-i-end.ensures.count)) told i.fits);
       names = each_push (NamesAt ops cells inputs) stops _ t.stops c.operations.i more_stops i.stops_many i.names
           (names_here ops cells inputs known c.operations.i t told i.fits);
       able = each_push (AbleAt ops) stops _ t.stops c.operations.i more_stops i.stops_many i.able c.told_at-told.ensures.able;
@@ -49,7 +49,7 @@ returns c =
     let known = c.operations.ranges.known in
     let stops = c.operations.ranges.stops in
     let known_many : length known ≡ length g.operations =
-    omega (arith, i.known_many, c.operations-test.false, c.operations.auto.i-end, c.len-count.ensures.count) in
+    omega (arith, i.known_many, c.operations-test.false, c.operations.auto.i-end, c.len-i-end.ensures.count) in
     let stops_many : length stops ≡ length g.operations =
-    omega (arith, i.stops_many, c.operations-test.false, c.operations.auto.i-end, c.len-count.ensures.count) in
+    omega (arith, i.stops_many, c.operations-test.false, c.operations.auto.i-end, c.len-i-end.ensures.count) in
     whole_walk g.operations c.args.cells.now c.args.inputs.now known stops known_many stops_many i.fits i.names i.able i.lie
