@@ -1,5 +1,5 @@
 -- Apart: the endings of groups, one by one, and how many there are of each.
-use Rattle.std.proofs.Common.{◌≡◌, ℕ, ◌+◌, ◌≤◌, ◌++◌, append_assoc, All, List, [], ◌∷◌, length, drop, slice_get, Option, Some, None, ℤ, refl, sym, ap, ◌∙◌, arith}
+use Rattle.std.proofs.Common.{◌≡◌, ℕ, Bool, ◌+◌, ◌≤◌, ◌++◌, append_assoc, All, List, [], ◌∷◌, length, drop, slice_get, Option, Some, None, ℤ, refl, sym, ap, ◌∙◌, arith}
 use Rattle.std.proofs.Math.Path.{ap₂}
 use Rattle.std.proofs.lemmas.List.{append-nil, drop_all}
 use Rattle.op_graph.specs.Lists.{Lists}
@@ -52,9 +52,10 @@ each_over t g rows (p ∷ parts) whole =
 
 -- ---- one ending more
 
-pub one_more_ended : (n : ℕ) (es : List (Option SameEnding)) (i : ℕ) (e : Option SameEnding) → slice_get es i ≡ Some e →
-    ended_count n (drop i es) ≡ one_if (is_ended n e) + ended_count n (drop (i + 1) es)
-one_more_ended n es i e there = ap (ended_count n) (drop_here es i e there)
+pub one_more_ended : (n : ℕ) (es : List (Option SameEnding)) (i : ℕ) (e : Option SameEnding) (b : Bool) → slice_get es i ≡ Some e →
+    is_ended n e ≡ b → ended_count n (drop i es) ≡ one_if b + ended_count n (drop (i + 1) es)
+one_more_ended n es i e b there is =
+    ap (ended_count n) (drop_here es i e there) ∙ ap (λ (b : Bool). one_if b + ended_count n (drop (i + 1) es)) is
 
 pub no_more_ended : (n : ℕ) (es : List (Option SameEnding)) (i : ℕ) → length es ≤ i → ended_count n (drop i es) ≡ 0
 no_more_ended n es i past = ap (ended_count n) (drop_all i es past)

@@ -48,6 +48,10 @@ no_front line text none = never (is_line line text) (λ t. none line (sym ((byte
 pub wordless : (g : Lists) (at number : ℕ) (line : List ℕ) (ws : List (List ℕ)) → ws ≡ [] → verdict_by g at number line ws ≡ Err (fault.Group number)
 wordless g at number line ws none = ap (verdict_by g at number line) none
 
+-- whether a word is a number
+pub is_number : (word text digits : List ℕ) (n : ℕ) (b : Bool) → b ≡ bytes_eq word text → text ≡ digits → digits ≡ decimal n → b ≡ bytes_eq word (decimal n)
+is_number word text digits n b same is told = same ∙ ap (bytes_eq word) (is ∙ told)
+
 -- a line begins with another word than a number, or with it
 by_first : (g : Lists) (at number : ℕ) (line : List ℕ) (ws : List (List ℕ)) (w : List ℕ) (more : List (List ℕ)) (b : Bool) → ws ≡ w ∷ more
     → bytes_eq w (decimal at) ≡ b

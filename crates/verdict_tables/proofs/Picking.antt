@@ -24,25 +24,21 @@ one_counted t (verdict.RanOn cycle) = omega arith
 one_counted t (verdict.Refused cycle output found wanted) = omega arith
 one_counted t (verdict.Stopped cycle op kind) = omega arith
 
--- no more are counted than were looked at
-pub few_counted : (t : Totals) (v : Verdict) (b : Bool) (i : ℕ) → faults_of t ≤ i → faults_of (cond b (counted t v) t) ≤ i + 1
-few_counted t v true i few = omega (arith, one_counted t v, few)
-few_counted t v false i few = omega (arith, few)
-
 picked_or : (t : Totals) (v : Verdict) (b : Bool) (later : List Verdict)
     → totals_after t (cond b (v ∷ later) later) ≡ totals_after (cond b (counted t v) t) later
 picked_or t v true later = refl
 picked_or t v false later = refl
 
 -- one group more
-pub one_picked : (tb : Table) (n : ℕ) (groups : List (List Fault)) (vs : List Verdict) (i : ℕ) (faults : List Fault) (v : Verdict) (t : Totals)
-    → slice_get groups i ≡ Some faults → slice_get vs i ≡ Some v
+pub one_picked : (tb : Table) (n : ℕ) (groups : List (List Fault)) (vs : List Verdict) (i : ℕ) (faults : List Fault) (v : Verdict) (t : Totals) (b : Bool)
+    → slice_get groups i ≡ Some faults → slice_get vs i ≡ Some v → is_in tb n faults v ≡ b
     → totals_after t (picked tb n (drop i groups) (drop i vs))
-    ≡ totals_after (cond (is_in tb n faults v) (counted t v) t) (picked tb n (drop (i + 1) groups) (drop (i + 1) vs))
-one_picked tb n groups vs i faults v t at there =
+    ≡ totals_after (cond b (counted t v) t) (picked tb n (drop (i + 1) groups) (drop (i + 1) vs))
+one_picked tb n groups vs i faults v t b at there is =
     ap (λ (gs : List (List Fault)). totals_after t (picked tb n gs (drop i vs))) (drop_here groups i faults at)
     ∙ ap (λ (ws : List Verdict). totals_after t (picked tb n (faults ∷ drop (i + 1) groups) ws)) (drop_here vs i v there)
     ∙ picked_or t v (is_in tb n faults v) (picked tb n (drop (i + 1) groups) (drop (i + 1) vs))
+    ∙ ap (λ (b : Bool). totals_after (cond b (counted t v) t) (picked tb n (drop (i + 1) groups) (drop (i + 1) vs))) is
 
 -- no group is left
 pub none_picked : (tb : Table) (n : ℕ) (groups : List (List Fault)) (vs : List Verdict) (i : ℕ) (t : Totals) → length groups ≤ i

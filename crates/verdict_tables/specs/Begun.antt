@@ -8,12 +8,12 @@ use Rattle.fault_injector.specs.RunLaw.{Words}
 use Rattle.verdict_tables.specs.declared.endless.answering.Begun.{Begun}
 
 abbrev pub setting : Begun → Setting
-setting b = setting_at b.graph.now b.table.now b.cycle b.held.now b.row.now
+setting b = setting_at b.setting.graph.now b.setting.table.now b.setting.cycle b.setting.held.now b.setting.row.now
 
 -- the acts of the group in the cycle
 abbrev pub acts : Begun → ℕ → Option Act
-acts b = acts_of b.group.now b.cycle
+acts b = acts_of b.group.now b.setting.cycle
 
 -- what the cycle before left
 abbrev pub past : Begun → Words
-past b = record { held = b.past_held.now; answers = b.past.now }
+past b = record { held = b.past.held.now; answers = b.past.answers.now }

@@ -43,7 +43,7 @@ ending_number ends.Stands = 2
 -- a group is in row n
 abbrev pub is_ended : ℕ → Option SameEnding → Bool
 is_ended n None = false
-is_ended n (Some e) = ending_number e == n
+is_ended n (Some e) = n == ending_number e
 
 abbrev pub one_if : Bool → ℕ
 one_if true = 1

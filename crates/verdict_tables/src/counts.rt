@@ -1,8 +1,8 @@
 //! How many verdicts there are of each sort: in a row of a table, and in all.
 
-ghost use Rattle.std.specs.Prelude.{◌≡◌, ◌<◌, ◌≤◌, ◌+◌, cond, length, All};
+ghost use Rattle.std.specs.Prelude.{◌≡◌, ◌<◌, ◌≤◌, ◌+◌, length, All};
 ghost use Rattle.fault_script.specs.ScriptOf.{most_faults};
-ghost use Rattle.fault_injector.specs.FaultLines.{faults as faults_of, counted, totals_after, totals_of};
+ghost use Rattle.fault_injector.specs.FaultLines.{faults as faults_of, totals_after, totals_of};
 ghost use Rattle.verdict_tables.specs.Parts.{all_verdicts, totals_over as totals_over_of, most_parts, IsWhole};
 ghost use Rattle.verdict_tables.specs.Tables.{picked, totals_in as totals_in_of};
 ghost use Rattle.verdict_tables.specs.SumText.{shows_unseen as unseen_in};
@@ -10,19 +10,8 @@ ghost use Rattle.verdict_tables.specs.SumText.{shows_unseen as unseen_in};
 use crate::parts::Parts;
 use crate::tables::{Table, is_in};
 use crate::verdicts::Verdicts;
-use fault_injector::{Totals, Verdict};
+use fault_injector::Totals;
 use fault_script::Script;
-
-/// Totals with one verdict more, where it is one of theirs.
-fn count_if(mut totals: Totals, verdict: &Verdict, is: bool) -> Totals
-    requires { faults_of totals < 4294967295 }
-    ensures { result ≡ cond is (counted totals verdict.now) totals }
-{
-    if is {
-        totals.count(verdict);
-    }
-    totals
-}
 
 /// Totals with those of the verdicts in row `n` of a table.
 fn and_row(before: Totals, table: Table, n: u32, script: &Script, verdicts: &Verdicts) -> Totals
@@ -34,7 +23,10 @@ fn and_row(before: Totals, table: Table, n: u32, script: &Script, verdicts: &Ver
     let mut totals = before;
     'groups: for i in 0..script.len() {
         let verdict = verdicts.at(i);
-        totals = count_if(totals, &verdict, is_in(table, n, script.at(i), verdict));
+        if !is_in(table, n, script.at(i), verdict) {
+            continue;
+        }
+        totals.count(&verdict);
     }
     totals
 }

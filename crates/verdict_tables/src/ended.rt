@@ -5,7 +5,7 @@ ghost use Rattle.vcp_outside.specs.Gathering.{GathersTo};
 ghost use Rattle.fault_script.specs.ScriptOf.{most_faults};
 ghost use Rattle.verdict_tables.specs.Parts.{most_parts};
 ghost use Rattle.verdict_tables.specs.SumText.{row_text};
-ghost use Rattle.verdict_tables.specs.SameEndings.{ending_number as ending_number_of, is_ended as is_ended_of, one_if as one_if_of, ended_count};
+ghost use Rattle.verdict_tables.specs.SameEndings.{is_ended as is_ended_of, ended_count};
 ghost use Rattle.verdict_tables.specs.SameEndings.{all_endings, same_only, endings_text};
 
 use crate::SameEnding;
@@ -14,33 +14,16 @@ use crate::rows::{then_columns, then_titled};
 use fault_injector::Totals;
 use vcp_outside::{Line, Sink};
 
-/// The number of an ending's row.
-fn ending_number(ending: SameEnding) -> u32
-    ensures { result ≡ ending_number_of ending }
-{
-    match ending {
-        SameEnding::NeverReached => 0,
-        SameEnding::DiedOut => 1,
-        SameEnding::Stands => 2,
-    }
-}
-
 /// Whether a group is in row `n`.
 pub(crate) fn is_ended(n: u32, ending: Option<SameEnding>) -> bool
     ensures { result ≡ is_ended_of n ending }
 {
     match ending {
-        Some(ending) => ending_number(ending) == n,
+        Some(SameEnding::NeverReached) => n == 0,
+        Some(SameEnding::DiedOut) => n == 1,
+        Some(SameEnding::Stands) => n == 2,
         None => false,
     }
-}
-
-/// 1 for a group that is in a row.
-fn one_if(is: bool) -> u32
-    ensures one { result ≡ one_if_of is }
-    ensures few { result ≤ 1 }
-{
-    if is { 1 } else { 0 }
 }
 
 /// How many groups are in row `n`, with so many before them.
@@ -51,7 +34,10 @@ fn and_ended(before: u32, n: u32, endings: &Endings) -> u32
 {
     let mut count = before;
     'endings: for i in 0..endings.len() {
-        count += one_if(is_ended(n, endings.at(i)));
+        if !is_ended(n, endings.at(i)) {
+            continue;
+        }
+        count += 1;
     }
     count
 }

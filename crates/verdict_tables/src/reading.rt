@@ -1,6 +1,6 @@
 //! The verdicts of a text.
 
-ghost use Rattle.std.specs.Prelude.{◌≡◌, ◌≢◌, ◌≤◌, ◌+◌, [], Ok, Err, IfOk, IfErr, OnOk, length, All, decimal, bytes_eq, flat_map};
+ghost use Rattle.std.specs.Prelude.{◌≡◌, ◌≢◌, ◌≤◌, ◌+◌, [], Ok, Err, IfOk, IfErr, OnOk, length, All, flat_map};
 ghost use Rattle.std.specs.Str.Lines.{lines};
 ghost use Rattle.fault_script.specs.Groups.{GroupFits};
 ghost use Rattle.fault_script.specs.ScriptOf.{most_faults};
@@ -42,13 +42,6 @@ fn tells_totals(alloc: Global, totals: &Totals, line: &[u8]) -> Result<bool, Mem
         Ok(()) => Ok(is_text(line, told.bytes())),
         Err(Failed) => Err(Memory),
     }
-}
-
-/// Whether a word is this number.
-fn is_number(word: &[u8], number: u32) -> bool
-    ensures { result ≡ bytes_eq word.now (decimal number) }
-{
-    word == Buffer::new().format(number).as_bytes()
 }
 
 /// The verdict that line `number` tells of the group of line `at` of the script, by the words behind its first.
@@ -95,7 +88,7 @@ fn verdict_on(
 {
     let mut words = WordsLeft::new(line);
     match words.next() {
-        Some(word) => if is_number(word, at) {
+        Some(word) => if word == Buffer::new().format(at).as_bytes() {
             verdict_by(alloc, graph, at, number, line, &mut words)
         } else {
             Err(VerdictsFault::Group { line: number })

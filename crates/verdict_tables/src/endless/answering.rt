@@ -4,7 +4,6 @@ ghost use Rattle.std.specs.Prelude.{◌≡◌, ◌<◌, ◌≤◌, ◌==◌, ◌
 ghost use Rattle.vcp_base.specs.Limits.{most_cycles, most_operations};
 ghost use Rattle.coded_unit.specs.Asked.{Asked};
 ghost use Rattle.signature_table.specs.Signatures.{IsTableOf};
-ghost use Rattle.coded_machine.specs.Calls.{call_of};
 ghost use Rattle.fault_script.specs.Changes.{acts_of};
 ghost use Rattle.fault_injector.specs.Scripts.{right_by};
 ghost use Rattle.verdict_tables.specs.AnswersOver.{next_answer as next_answer_of};
@@ -14,29 +13,17 @@ use coded_machine::{Setting, call_after};
 use coded_unit::{Answer, Call, Word, table};
 use fault_injector::{Past, answered, changed, taken};
 use fault_script::{Act, Fault, Group};
-use op_graph::{Graph, Op};
-use signature_table::Table;
-use vcp_base::Row;
+use op_graph::Op;
 
 /// What a cycle begins with.
 #[derive(Clone, Copy)]
 pub(crate) struct Begun<'c> {
-    /// The operations, and what belongs to them.
-    pub graph: &'c Graph,
-    /// The numbers of the graph's code.
-    pub table: &'c Table,
+    /// What its calls are made of.
+    pub setting: Setting<'c>,
     /// The faults.
     pub group: &'c Group,
-    /// The number of the cycle.
-    pub cycle: u32,
-    /// The values of the inputs.
-    pub row: &'c Row,
-    /// The words of the cells.
-    pub held: &'c [Word],
-    /// The words that the cells had in the cycle before.
-    pub past_held: &'c [Word],
-    /// The answers of the cycle before.
-    pub past: &'c [Answer],
+    /// What the cycle before left.
+    pub past: Past<'c>,
 }
 
 /// Whether a fault is at an operation in a cycle.
@@ -70,39 +57,16 @@ fn right_answer(act: &Option<Act>, word: &Word, call: &Call) -> Answer
     }
 }
 
-/// The call of the operation behind these answers, before any change.
-fn next_call(b: &Begun<'_>, op: &Op, own: &[Answer]) -> Call
-    requires here { slice_get b.now.graph.now.operations (length own.now) ≡ Some op.now }
-    requires few { length own.now ≤ most_operations }
-    requires table { IsTableOf b.now.table.now b.now.graph.now }
-    requires cycle { b.now.cycle < most_cycles }
-    ensures call { result ≡ call_of (setting b.now) op.now own.now }
-    ensures asked { Asked result }
-{
-    let setting = Setting {
-        graph: b.graph,
-        table: b.table,
-        held: b.held,
-        row: b.row,
-        cycle: b.cycle,
-    };
-    call_after(&setting, op, own)
-}
-
 /// The answer of operation `op`, which comes behind these answers.
 pub(crate) fn next_answer(b: &Begun<'_>, op: &Op, own: &[Answer]) -> Answer
-    requires here { slice_get b.now.graph.now.operations (length own.now) ≡ Some op.now }
+    requires here { slice_get b.now.setting.graph.now.operations (length own.now) ≡ Some op.now }
     requires few { length own.now ≤ most_operations }
-    requires table { IsTableOf b.now.table.now b.now.graph.now }
-    requires cycle { b.now.cycle < most_cycles }
+    requires table { IsTableOf b.now.setting.table.now b.now.setting.graph.now }
+    requires cycle { b.now.setting.cycle < most_cycles }
     ensures { result ≡ next_answer_of (setting b.now) (acts b.now) (past b.now) own.now op.now }
 {
-    let act = act_at(b.group, b.cycle, own.len() as u32);
-    let before = Past {
-        held: b.past_held,
-        answers: b.past,
-    };
-    let word = taken(&before, own, op, &act);
-    let call = next_call(b, op, own);
+    let act = act_at(b.group, b.setting.cycle, own.len() as u32);
+    let word = taken(&b.past, own, op, &act);
+    let call = call_after(&b.setting, op, own);
     right_answer(&act, &word, &call)
 }

@@ -23,19 +23,19 @@ fn append(own: &mut Vec<Answer>, answer: &Answer)
 
 /// Makes `own` the answers of a cycle, up to the first that is no word, and answers whether all are words.
 pub(crate) fn run_cycle(b: &Begun<'_>, own: &mut Vec<Answer>) -> bool
-    requires room { length b.now.graph.now.operations ≤ vec_capacity own.old }
-    requires few { length b.now.graph.now.operations ≤ most_operations }
-    requires table { IsTableOf b.now.table.now b.now.graph.now }
-    requires cycle { b.now.cycle < most_cycles }
+    requires room { length b.now.setting.graph.now.operations ≤ vec_capacity own.old }
+    requires few { length b.now.setting.graph.now.operations ≤ most_operations }
+    requires table { IsTableOf b.now.setting.table.now b.now.setting.graph.now }
+    requires cycle { b.now.setting.cycle < most_cycles }
     ensures answers { own.new.items ≡ answers_in (setting b.now) (acts b.now) (past b.now) }
     ensures words { result ≡ all_words own.new.items }
-    ensures few { length own.new.items ≤ length b.now.graph.now.operations }
+    ensures few { length own.new.items ≤ length b.now.setting.graph.now.operations }
     ensures capacity { vec_capacity own.old ≤ vec_capacity own.new }
 {
     own.clear();
-    let count = b.graph.len();
+    let count = b.setting.graph.len();
     'operations: for k in 0..count {
-        let op = b.graph.operation(k);
+        let op = b.setting.graph.operation(k);
         let answer = next_answer(b, &op, own);
         append(own, &answer);
         if !is_word(&answer) {

@@ -12,8 +12,9 @@ ghost use Rattle.verdict_tables.specs.Moments.{Begins, CycleDone, Room};
 
 use crate::endless::answering::Begun;
 use crate::endless::cycle::run_cycle;
-use coded_machine::{first_words, store_words};
+use coded_machine::{Setting, first_words, store_words};
 use coded_unit::{Answer, Word};
+use fault_injector::Past;
 use fault_script::{Fault, Group};
 use input_rows::RowList;
 use op_graph::Graph;
@@ -132,7 +133,7 @@ fn store(graph: &Graph, work: &mut Work)
 }
 
 /// Carries cycle `n` on the row that the work has, and answers whether all its answers are words; then they are stored.
-fn carry(graph: &Graph, table: &Table, group: &Group, n: u32, work: &mut Work) -> bool
+fn carry<'c>(graph: &'c Graph, table: &'c Table, group: &'c Group, n: u32, work: &mut Work) -> bool
     requires table { IsTableOf table.now graph.now }
     requires cycle { n < most_cycles }
     requires room { Room graph.now work.old }
@@ -142,14 +143,18 @@ fn carry(graph: &Graph, table: &Table, group: &Group, n: u32, work: &mut Work) -
     // The rules of the graph are kept.
     let _rules = graph.len();
     let begun = Begun {
-        graph,
-        table,
+        setting: Setting {
+            graph,
+            table,
+            held: &work.held,
+            row: &work.inputs,
+            cycle: n,
+        },
         group,
-        cycle: n,
-        row: &work.inputs,
-        held: &work.held,
-        past_held: &work.past_held,
-        past: &work.past,
+        past: Past {
+            held: &work.past_held,
+            answers: &work.past,
+        },
     };
     let words = run_cycle(&begun, &mut work.own);
     work.reached |= comes_to_any(group, n, &work.own);

@@ -1,7 +1,5 @@
-use Rattle.std.proofs.Common.{refl, sym, ◌∙◌, arith, ◌+◌}
-use Rattle.fault_injector.specs.FaultLines.{faults}
-use Rattle.verdict_tables.specs.Tables.{is_in}
-use Rattle.verdict_tables.proofs.Picking.{one_picked, none_picked, few_counted}
+use Rattle.std.proofs.Common.{true, false, refl, sym, ◌∙◌, arith}
+use Rattle.verdict_tables.proofs.Picking.{one_counted, one_picked, none_picked}
 use Rattle.verdict_tables.proofs.counts.and_row.Goals as goal
 
 pub groups-init : goal.groups-init
@@ -9,19 +7,23 @@ groups-init c = record { left = refl; few = omega arith }
 
 pub groups-preserved : goal.groups-preserved
 groups-preserved c =
-    rw (c.count_if-totals.ensures, c.is_in.ensures)
+    rw c.count.ensures
     (record {
       left =
           c.groups.invariant.left
-          ∙ one_picked c.args.table c.args.n c.args.script.now c.args.verdicts.now c.groups.i c.at.result.now c.at-verdict.result c.groups.totals c.at.ensures
-          c.at-verdict.ensures;
-      few =
-          omega (
-            arith,
-            few_counted c.groups.totals c.at-verdict.result (is_in c.args.table c.args.n c.at.result.now c.at-verdict.result)
-                (faults c.args.before + c.groups.i) c.groups.invariant.few,
-          );
+          ∙ one_picked c.args.table c.args.n c.args.script.now c.args.verdicts.now c.groups.i c.at.result.now c.at-verdict.result c.groups.totals true
+          c.at.ensures c.at-verdict.ensures (sym c.is_in.ensures ∙ c.if-not-is_in.false);
+      few = omega (arith, one_counted c.groups.totals c.at-verdict.result, c.groups.invariant.few);
     })
+
+pub groups-preserved-then-not-is_in : goal.groups-preserved-then-not-is_in
+groups-preserved-then-not-is_in c = record {
+  left =
+      c.groups.invariant.left
+      ∙ one_picked c.args.table c.args.n c.args.script.now c.args.verdicts.now c.groups.i c.at.result.now c.at-verdict.result c.groups.totals false
+      c.at.ensures c.at-verdict.ensures (sym c.is_in.ensures ∙ c.if-not-is_in.true);
+  few = omega (arith, c.groups.invariant.few);
+}
 
 pub returns : goal.returns
 returns c = record {

@@ -1,14 +1,18 @@
-use Rattle.std.proofs.Common.{ap, ◌∙◌, arith}
-use Rattle.verdict_tables.specs.SameEndings.{one_if}
+use Rattle.std.proofs.Common.{true, false, sym, ◌∙◌, arith}
 use Rattle.verdict_tables.proofs.Apart.{one_more_ended, no_more_ended}
 use Rattle.verdict_tables.proofs.ended.and_ended.Goals as goal
 
 pub endings-preserved : goal.endings-preserved
 endings-preserved c =
     let i = c.endings.invariant in
-    let more = one_more_ended c.args.n c.args.endings.now c.endings.i c.at.result c.at.ensures in
-    let one = c.one_if-count.ensures.one ∙ ap one_if c.is_ended.ensures in
-    record { left = omega (arith, i.left, more, one); few = omega (arith, i.few, c.one_if-count.ensures.few) }
+    let more = one_more_ended c.args.n c.args.endings.now c.endings.i c.at.result true c.at.ensures (sym c.is_ended.ensures ∙ c.if-not-is_ended.false) in
+    record { left = omega (arith, i.left, more); few = omega (arith, i.few) }
+
+pub endings-preserved-then-not-is_ended : goal.endings-preserved-then-not-is_ended
+endings-preserved-then-not-is_ended c =
+    let i = c.endings.invariant in
+    let more = one_more_ended c.args.n c.args.endings.now c.endings.i c.at.result false c.at.ensures (sym c.is_ended.ensures ∙ c.if-not-is_ended.true) in
+    record { left = omega (arith, i.left, more); few = omega (arith, i.few) }
 
 pub returns : goal.returns
 returns c =

@@ -11,7 +11,7 @@ pub operations-preserved : goal.operations-preserved
 operations-preserved c =
     let i = c.operations.invariant in
     let b = c.args.b.now in
-    let ops = b.graph.now.operations in
+    let ops = b.setting.graph.now.operations in
     let own = c.operations.own.items in
     let op = c.operation-op.result in
     let a : Answer = c.next_answer-answer.result in
@@ -37,7 +37,7 @@ returns-then-not-is_word-clause-answers c =
     let no_word : is_word a ≡ false = sym c.is_word.ensures ∙ c.if-not-is_word.true in
     let is = c.next_answer-answer.ensures ∙ ap (λ (xs : List Answer). next_answer (setting b) (acts b) (past b) xs op) c.deref.ensures.value in
     c.append.ensures.items
-    ∙ sym (i.answers ∙ goes_no_further (setting b) (acts b) (past b) own b.graph.now.operations c.operations.k op a c.operation-op.ensures is no_word)
+    ∙ sym (i.answers ∙ goes_no_further (setting b) (acts b) (past b) own b.setting.graph.now.operations c.operations.k op a c.operation-op.ensures is no_word)
 
 pub returns-then-not-is_word-clause-words : goal.returns-then-not-is_word-clause-words
 returns-then-not-is_word-clause-words c =
@@ -66,7 +66,7 @@ returns-clause-answers c =
     let i = c.operations.invariant in
     let b = c.args.b.now in
     sym (i.answers
-    ∙ is_over (setting b) (acts b) (past b) c.operations.own.items b.graph.now.operations c.operations.k (omega (arith, i.all, c.operations-test.false)))
+    ∙ is_over (setting b) (acts b) (past b) c.operations.own.items b.setting.graph.now.operations c.operations.k (omega (arith, i.all, c.operations-test.false)))
 
 pub returns-clause-words : goal.returns-clause-words
 returns-clause-words c = sym c.operations.invariant.words

@@ -7,9 +7,9 @@ abbrev pub invariant-operations : goal.invariant-operations
 invariant-operations l = record {
   answers :
       answers_in (setting l.b) (acts l.b) (past l.b)
-      ≡ l.own.items ++ answers_from (setting l.b) (acts l.b) (past l.b) l.own.items (drop l.k l.b.graph.now.operations);
+      ≡ l.own.items ++ answers_from (setting l.b) (acts l.b) (past l.b) l.own.items (drop l.k l.b.setting.graph.now.operations);
   answered : length l.own.items ≡ l.k;
   words : all_words l.own.items ≡ true;
   room : vec_capacity l.fn.own ≤ vec_capacity l.own;
-  all : l.count ≡ length l.b.graph.now.operations;
+  all : l.count ≡ length l.b.setting.graph.now.operations;
 }
