@@ -96,6 +96,16 @@ queues_more marks queue n lt free q = record {
       omega (arith, longer, more, same);
 }
 
+-- where an operation isn't marked, the queue is shorter than the marks are many
+pub unmarked_short : (marks : List Bool) (queue : List ℕ) (n : ℕ) → n < length marks → marked marks n ≡ false → Queues marks queue
+    → length queue < length marks
+unmarked_short marks queue n lt free q =
+    let more = set_count marks n lt free in
+    let few = marks_few (set marks n true) in
+    let many = length-set marks n true in
+    let same = q.count in
+    omega (arith, more, few, many, same)
+
 pub grows_by_one : (marks : List Bool) (queue : List ℕ) (n : ℕ) → n < length marks → marked marks n ≡ false → Queues marks queue →
     Grows (λ k. k ≡ n) marks queue (set marks n true) (queue ++ n ∷ [])
 grows_by_one marks queue n lt free q = record {

@@ -4,7 +4,7 @@ ghost use Rattle.std.specs.Prelude.{◌≡◌, ◌≤◌, ◌<◌, ◌++◌, ◌
 ghost use Rattle.vcp_base.specs.Limits.{most_operations};
 ghost use Rattle.op_graph.specs.Rules.{IsGraph};
 ghost use Rattle.graph_passes.specs.Part.{below, chosen, moved as moved_of, moved_load, moved_output, own_number as own_number_of, part_of};
-ghost use Rattle.graph_passes.specs.Tables.{IsNumbered, by_places, by_tables, marked as marked_of, number_at as number_at_of};
+ghost use Rattle.graph_passes.specs.Tables.{AreKept, IsNumbered, by_places, by_tables, marked as marked_of, number_at as number_at_of};
 
 use op_graph::{Graph, Loaded, Op, Outlet};
 use std::alloc::Global;
@@ -61,13 +61,7 @@ fn kept_lists(
     operations: &Places,
     cells: &Places,
 ) -> Result<KeptLists, Memory>
-    ensures outputs { IfOk result (λ left. left.outputs.items ≡ map (moved_output (by_tables [] operations.now.numbers.items [] [])) graph.now.outputs) }
-    ensures loads { IfOk result (λ left. left.loads.items
-        ≡ chosen (marked_of cells.now.kept.items) (moved_load (by_tables [] operations.now.numbers.items [] [])) 0 graph.now.loads) }
-    ensures stores { IfOk result (λ left. left.stores.items
-        ≡ chosen (marked_of cells.now.kept.items) (number_at_of operations.now.numbers.items) 0 graph.now.stores) }
-    ensures operations { IfOk result (λ left. left.operations.items
-        ≡ chosen (marked_of operations.now.kept.items) (moved_of (by_tables [] operations.now.numbers.items [] cells.now.numbers.items)) 0 graph.now.operations) }
+    ensures { IfOk result (AreKept graph.now operations.now cells.now) }
 {
     let numbers: &[u32] = &operations.numbers;
     let kept_cell: &[bool] = &cells.kept;

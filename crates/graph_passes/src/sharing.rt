@@ -149,15 +149,16 @@ fn joined(alloc: Global, graph: &Graph) -> Result<Places, Memory>
 {
     // What an operation reads is an earlier one.
     entries_keep_their_rules();
-    let mut kept = Vec::new(alloc);
-    let mut numbers = Vec::new(alloc);
+    let kept = Vec::new(alloc);
+    let numbers = Vec::new(alloc);
+    let mut places = Places { kept, numbers };
     let mut firsts = Firsts::new(alloc);
     let mut count = 0;
     'operations: for i in 0..graph.len() {
-        let (number, is_kept) = placed(&mut firsts, &graph.operation(i), &numbers, count)?;
-        kept.push(is_kept)?;
-        numbers.push(number)?;
+        let (number, is_kept) = placed(&mut firsts, &graph.operation(i), &places.numbers, count)?;
+        places.kept.push(is_kept)?;
+        places.numbers.push(number)?;
         count = one_more(is_kept, count);
     }
-    Ok(Places { kept, numbers })
+    Ok(places)
 }

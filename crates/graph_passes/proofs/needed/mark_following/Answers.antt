@@ -1,9 +1,8 @@
 use Rattle.std.proofs.Common.{◌≡◌, ⊎_elim, inl, inr, true, sym, subst, ◌∙◌, arith}
-use Rattle.std.proofs.lemmas.Result.{on_ok_weaker}
 use Rattle.graph_passes.specs.Marking.{Takes, OfOneCell, Follows}
 use Rattle.graph_passes.specs.Tables.{marked}
 use Rattle.graph_passes.proofs.Needing.{takes_inside, takes_reads, reads_takes}
-use Rattle.graph_passes.proofs.Queueing.{both_ok, grows_on, marked_inside}
+use Rattle.graph_passes.proofs.Queueing.{grows_on, marked_inside}
 use Rattle.graph_passes.proofs.needed.mark_following.Goals as goal
 
 pub operation-op-requires : goal.operation-op-requires
@@ -24,10 +23,10 @@ other_of_cell-other-requires-clause-there c =
     omega (arith, inside, c.requires.many)
 
 pub mark-requires-clause-place : goal.mark-requires-clause-place
-mark-requires-clause-place c = omega (arith, c.other_of_cell-other.ensures.there, c.in_ok-mark_operands.ensures.grows.many, c.requires.many)
+mark-requires-clause-place c = omega (arith, c.other_of_cell-other.ensures.there, c.mark_operands.ensures.grows.many, c.requires.many)
 
 pub mark-requires-clause-queue : goal.mark-requires-clause-queue
-mark-requires-clause-queue c = c.in_ok-mark_operands.ensures.grows.lists
+mark-requires-clause-queue c = c.mark_operands.ensures.grows.lists
 
 pub returns-clause-grows : goal.returns-clause-grows
 returns-clause-grows c =
@@ -35,19 +34,19 @@ returns-clause-grows c =
     let q = c.args.q in
     let op = c.operation-op.result in
     let other = c.other_of_cell-other.result in
-    on_ok_weaker c.mark.result (λ grows. grows_on (Takes op) (λ k. k ≡ other) (Follows g q) _ _ _ _ _ _ c.in_ok-mark_operands.ensures.grows grows
+    grows_on (Takes op) (λ k. k ≡ other) (Follows g q) _ _ _ _ _ _ c.mark_operands.ensures.grows c.mark.ensures.grows
     (λ k takes. inr (record { why = inl (takes_reads g q op k c.operation-op.ensures takes) }))
     (λ k e. ⊎_elim
     (λ (same : other ≡ q). inl (subst (λ n. marked c.args.marks.now n ≡ true) (sym (e ∙ same)) c.requires.here))
     (λ (cell : OfOneCell g q other). inr (record { why = inr (subst (OfOneCell g q) (sym e) cell) }))
-    c.other_of_cell-other.ensures.sound)) c.mark.ensures.grows
+    c.other_of_cell-other.ensures.sound)
 
 pub returns-clause-marked : goal.returns-clause-marked
 returns-clause-marked c =
     let g = c.args.graph.now in
     let q = c.args.q in
-    on_ok_weaker c.mark.result (λ both k follows. elim follows.why [
-      | inl reads ↦ both.0.kept k
-          (c.in_ok-mark_operands.ensures.marked k (reads_takes g q c.operation-op.result k reads.0 c.operation-op.ensures reads.1))
-      | inr cell ↦ subst (λ n. marked c.mark.new.marks n ≡ true) (sym (c.other_of_cell-other.ensures.complete k cell)) both.1
-    ]) (both_ok _ _ c.mark.result c.mark.ensures.grows c.mark.ensures.marked)
+    λ k follows. elim follows.why [
+      | inl reads ↦ c.mark.ensures.grows.kept k
+          (c.mark_operands.ensures.marked k (reads_takes g q c.operation-op.result k reads.0 c.operation-op.ensures reads.1))
+      | inr cell ↦ subst (λ n. marked c.mark.new.marks n ≡ true) (sym (c.other_of_cell-other.ensures.complete k cell)) c.mark.ensures.marked
+    ]

@@ -9,6 +9,7 @@ pub queue-init : goal.queue-init
 queue-init c = record {
   many = c.requires.many;
   queue = c.requires.queue;
+  room = c.requires.room;
   kept = λ k here. here;
   done = λ p q k lt there follows. absurd (omega (arith, lt));
   sound = λ all k here. all k here;
@@ -31,11 +32,12 @@ queue-preserved c =
     let g = c.args.graph.now in
     let i = c.queue.invariant in
     let q = c.index-q.result.now in
-    let e = c.in_ok-mark_following.ensures in
+    let e = c.mark_following.ensures in
     let there = slice_get_read c.queue.queue.items (length c.queue.queue.items) c.queue.next q refl (omega (arith, c.queue-test.true)) c.index-q.ensures in
     record {
       many = e.grows.many ∙ i.many;
       queue = e.grows.lists;
+      room = e.room;
       kept = λ k here. e.grows.kept k (i.kept k here);
       done = done_more g _ _ _ _ c.queue.next q there e.grows e.marked i.done;
       sound = λ all k now. ⊎_elim

@@ -1,6 +1,7 @@
-use Rattle.std.proofs.Common.{◌≡◌, ⊎_elim, ◌<◌, false, true, Some, length, slice_get, sym, ap, subst, ◌∙◌, arith}
+use Rattle.std.proofs.Common.{◌≡◌, ⊎_elim, ◌<◌, ◌≤◌, false, true, Some, length, slice_get, sym, ap, subst, ◌∙◌, arith}
 use Rattle.std.proofs.lemmas.List.{length-replicate}
 use Rattle.std.proofs.lemmas.Option.{slice_get_within}
+use Rattle.std.specs.Prelude.{vec_capacity}
 use Rattle.graph_passes.specs.Pruning.{Needed, must_stay}
 use Rattle.graph_passes.specs.Tables.{marked}
 use Rattle.graph_passes.proofs.ByTables.{place_by}
@@ -16,12 +17,14 @@ operations-init c =
       stays = λ n op lt there must. absurd (omega (arith, lt));
       needed = λ n now. absurd (unmarked (length g.operations) c.args.marks.now n c.requires.none now);
       queue = queues_none (length g.operations) c.args.marks.now c.args.queue.now.items c.requires.none c.requires.empty;
+      room = subst (λ n. n ≤ vec_capacity c.args.queue.now) (sym (ap length c.requires.none ∙ length-replicate (length g.operations) false)) c.requires.room;
     }
 
 pub mark_if_it_stays-requires : goal.mark_if_it_stays-requires
 mark_if_it_stays-requires c = record {
   place = omega (arith, c.operations.invariant.many, c.operations-test.true, c.len-i-end.ensures.count);
   queue = c.operations.invariant.queue;
+  room = c.operations.invariant.room;
 }
 
 some_is : {X : Type 0} {a b : X} → Some a ≡ Some b → a ≡ b
@@ -32,7 +35,7 @@ operations-preserved c =
     let g = c.args.graph.now in
     let i = c.operations.invariant in
     let op = c.operation.result in
-    let e = c.in_ok-mark_if_it_stays.ensures in
+    let e = c.mark_if_it_stays.ensures in
     let after = c.mark_if_it_stays.new.marks in
     record {
       many = e.grows.many ∙ i.many;
@@ -47,6 +50,7 @@ operations-preserved c =
           (λ (p : (n ≡ c.operations.i) × (must_stay op ≡ true)). subst (Needed g) (sym p.0) (stays_needed g c.operations.i op c.operation.ensures p.1))
           (e.grows.sound n now);
       queue = e.grows.lists;
+      room = e.room;
     }
 
 pub returns-clause-stays : goal.returns-clause-stays

@@ -10,7 +10,7 @@ operations-init c = so_far_by _ _ _ _ _ _ _ _ c.new-kept.ensures.items c.new-num
 pub one_more-count-requires : goal.one_more-count-requires
 one_more-count-requires c =
     let s = c.operations in
-    let kept = below_few (marked s.kept.items) s.i in
+    let kept = below_few (marked s.places.kept.items) s.i in
     let few = c.len-i-end.ensures.rules.part.few_operations in
     omega (arith, kept, s.invariant.many, c.operations-test.true, c.len-i-end.ensures.count, few)
 
@@ -22,6 +22,6 @@ operations-preserved c =
     let placed = subst
     (λ m. Placed s.firsts c.placed.new.firsts m c.operation.result s.count c.in_ok-number.number c.in_ok-number.is_kept) c.deref.ensures.value
     (record { kept = e.kept; entry = e.entry; joined = e.joined; first = e.first }) in
-    let more = one_placed c.entries_keep_their_rules.ensures g c.len-i-end.ensures.rules s.i s.kept.items s.numbers.items s.firsts c.placed.new.firsts s.count
+    let more = one_placed c.entries_keep_their_rules.ensures g c.len-i-end.ensures.rules s.i s.places.kept.items s.places.numbers.items s.firsts c.placed.new.firsts s.count
     c.in_ok-number.number c.one_more-count.result c.in_ok-number.is_kept c.operation.result c.operation.ensures s.invariant placed c.one_more-count.ensures in
     so_far_by _ _ _ _ _ _ _ _ c.in_ok-push.ensures.items c.in_ok-push-2.ensures.items more
