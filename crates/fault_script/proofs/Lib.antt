@@ -2,6 +2,7 @@ pub mod AddedUp
 pub mod Alone
 pub mod GroupsFit
 pub mod LinesRead
+pub mod Moderate
 pub mod Worked
 pub mod WorkedFaults
 pub mod WorkedGroups

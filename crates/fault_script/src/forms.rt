@@ -3,10 +3,9 @@
 ghost use Rattle.std.specs.Prelude.{◌≡◌, ◌<◌, ◌∷◌, true, IfSome, option_map, option_and_then};
 ghost use Rattle.vcp_base.specs.Limits.{most_cycles};
 ghost use Rattle.fault_script.specs.Forms.{operand_change as operand_change_of, operand_act as operand_act_of, result_act as result_act_of};
-ghost use Rattle.fault_script.specs.Forms.{operator_act as operator_act_of, skip_act as skip_act_of, act_of, change_of};
+ghost use Rattle.fault_script.specs.Forms.{operator_act as operator_act_of, act_of, change_of};
 ghost use Rattle.fault_script.specs.Forms.{addend_of, index_of};
 ghost use Rattle.fault_script.specs.declared.act.Act.TheVariants as act;
-ghost use Rattle.vcp_base.specs.Integers.{is_addend};
 ghost use Rattle.vcp_base.specs.Words.{only, words as words_of};
 ghost use Rattle.fault_script.specs.Forms.{mark_named as mark_named_of, mark_of};
 ghost use Rattle.fault_script.specs.Fits.{is_moderate};
@@ -39,8 +38,7 @@ pub enum Mark {
 
 // What is added, as the last word.
 fn last_addend(more: &mut WordsLeft<'_>) -> Option<i64>
-    ensures value { result ≡ option_and_then addend_of (only more.old) }
-    ensures moderate { IfSome result (λ e. is_addend e ≡ true) }
+    ensures { result ≡ option_and_then addend_of (only more.old) }
 {
     match more.only() {
         Some(word) => addend(word),
@@ -50,8 +48,7 @@ fn last_addend(more: &mut WordsLeft<'_>) -> Option<i64>
 
 // What is done to operand j: `add e`, `from r` or `stale`.
 fn operand_change(j: u32, how: &[u8], more: &mut WordsLeft<'_>) -> Option<Act>
-    ensures act { result ≡ operand_change_of j how.now more.old }
-    ensures moderate { IfSome result (λ a. is_moderate a ≡ true) }
+    ensures { result ≡ operand_change_of j how.now more.old }
 {
     if same_bytes(how, b"add") {
         return added_to(j, more);
@@ -67,8 +64,7 @@ fn operand_change(j: u32, how: &[u8], more: &mut WordsLeft<'_>) -> Option<Act>
 
 // A number is added to operand j, as the last word.
 fn added_to(j: u32, more: &mut WordsLeft<'_>) -> Option<Act>
-    ensures act { result ≡ option_map (λ e. act.OperandAdd j e) (option_and_then addend_of (only more.old)) }
-    ensures moderate { IfSome result (λ a. is_moderate a ≡ true) }
+    ensures { result ≡ option_map (λ e. act.OperandAdd j e) (option_and_then addend_of (only more.old)) }
 {
     match last_addend(more) {
         Some(e) => Some(Act::OperandAdd { j, e }),
@@ -78,17 +74,20 @@ fn added_to(j: u32, more: &mut WordsLeft<'_>) -> Option<Act>
 
 // Operand j is that of a register, as the last word.
 fn read_from(j: u32, more: &mut WordsLeft<'_>) -> Option<Act>
-    ensures act { result ≡ option_map (λ r. act.OperandFrom j r) (option_and_then index_of (only more.old)) }
-    ensures moderate { IfSome result (λ a. is_moderate a ≡ true) }
+    ensures { result ≡ option_map (λ r. act.OperandFrom j r) (option_and_then index_of (only more.old)) }
 {
-    let r = index_number(more.only()?)?;
-    Some(Act::OperandFrom { j, r })
+    let Some(word) = more.only() else {
+        return None;
+    };
+    match index_number(word) {
+        Some(r) => Some(Act::OperandFrom { j, r }),
+        None => None,
+    }
 }
 
 // The act of the words behind `operand n k`.
 fn operand_act(more: &mut WordsLeft<'_>) -> Option<Act>
-    ensures act { result ≡ operand_act_of more.old }
-    ensures moderate { IfSome result (λ a. is_moderate a ≡ true) }
+    ensures { result ≡ operand_act_of more.old }
 {
     let Some(j) = more.next() else {
         return None;
@@ -104,8 +103,7 @@ fn operand_act(more: &mut WordsLeft<'_>) -> Option<Act>
 
 // The act of the words behind `result n k`.
 fn result_act(more: &mut WordsLeft<'_>) -> Option<Act>
-    ensures act { result ≡ result_act_of more.old }
-    ensures moderate { IfSome result (λ a. is_moderate a ≡ true) }
+    ensures { result ≡ result_act_of more.old }
 {
     let Some(how) = more.next() else {
         return None;
@@ -121,25 +119,20 @@ fn result_act(more: &mut WordsLeft<'_>) -> Option<Act>
 
 // The act of the words behind `operator n k`.
 fn operator_act(more: &mut WordsLeft<'_>) -> Option<Act>
-    ensures act { result ≡ operator_act_of more.old }
-    ensures moderate { IfSome result (λ a. is_moderate a ≡ true) }
+    ensures { result ≡ operator_act_of more.old }
 {
-    let kind = kind_named(more.only()?)?;
-    Some(Act::Operator { kind })
-}
-
-// The act of the words behind `skip n k`.
-fn skip_act(more: &WordsLeft<'_>) -> Option<Act>
-    ensures act { result ≡ skip_act_of more.now }
-    ensures moderate { IfSome result (λ a. is_moderate a ≡ true) }
-{
-    if more.is_end() { Some(Act::Skip) } else { None }
+    let Some(word) = more.only() else {
+        return None;
+    };
+    match kind_named(word) {
+        Some(kind) => Some(Act::Operator { kind }),
+        None => None,
+    }
 }
 
 // The act of a line, from its first word and those behind n and k.
 fn act(verb: &[u8], more: &mut WordsLeft<'_>) -> Option<Act>
-    ensures act { result ≡ act_of verb.now more.old }
-    ensures moderate { IfSome result (λ a. is_moderate a ≡ true) }
+    ensures { result ≡ act_of verb.now more.old }
 {
     if same_bytes(verb, b"operand") {
         return operand_act(more);
@@ -150,8 +143,8 @@ fn act(verb: &[u8], more: &mut WordsLeft<'_>) -> Option<Act>
     if same_bytes(verb, b"operator") {
         return operator_act(more);
     }
-    if same_bytes(verb, b"skip") {
-        return skip_act(more);
+    if same_bytes(verb, b"skip") && more.is_end() {
+        return Some(Act::Skip);
     }
     None
 }

@@ -13,11 +13,9 @@ fn number_below(bound: u64, word: &[u8]) -> Option<u32>
     ensures value { result ≡ number_below_of bound word.now }
     ensures below { IfSome result (λ n. n < bound) }
 {
-    let number = numeral(word)?;
-    if number < bound {
-        Some(number as u32)
-    } else {
-        None
+    match numeral(word) {
+        Some(number) if number < bound => Some(number as u32),
+        _ => None,
     }
 }
 
