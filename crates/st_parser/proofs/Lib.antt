@@ -31,3 +31,4 @@ pub mod LevelViews
 pub mod Running
 pub mod HandedOn
 mod MarkTests
+mod LabelPhases

@@ -9,8 +9,6 @@ use Rattle.st_tree.specs.StmtViews.{label_trees, stmt_trees, arm_trees, branch_t
 use Rattle.st_tree.specs.Items.{arm_items, branch_items}
 use Rattle.st_parser.specs.declared.fault.SyntaxFault.{SyntaxFault}
 use Rattle.st_parser.specs.declared.fault.SyntaxFault.TheVariants as fault
-use Rattle.st_parser.specs.declared.labels.Constant.{Constant}
-use Rattle.st_parser.specs.declared.labels.Constant.TheVariants as constant_is
 use Rattle.st_parser.specs.declared.state.Selection.{Selection}
 use Rattle.st_parser.specs.declared.state.Loop.{Loop}
 use Rattle.st_parser.specs.declared.state.Body.{Body}
@@ -18,8 +16,9 @@ use Rattle.st_parser.specs.declared.state.Body.TheVariants as body_is
 use Rattle.st_parser.specs.declared.state.Level.{Level}
 use Rattle.st_parser.specs.declared.state.Purpose.{Purpose}
 use Rattle.st_parser.specs.declared.state.Purpose.TheVariants as purpose_is
+use Rattle.st_parser.specs.declared.state.Constant.{Constant}
+use Rattle.st_parser.specs.declared.state.Constant.TheVariants as constant_is
 use Rattle.st_parser.specs.declared.state.LabelPhase.{LabelPhase}
-use Rattle.st_parser.specs.declared.state.LabelPhase.TheVariants as label_is
 use Rattle.st_parser.specs.declared.state.Phase.{Phase}
 use Rattle.st_parser.specs.declared.state.Phase.TheVariants as phase_is
 use Rattle.st_parser.specs.declared.state.Bodies.{Bodies}
@@ -58,18 +57,26 @@ purpose (purpose_is.ToBegin l) = machine.to_begin (loop l)
 purpose (purpose_is.ToEnd l first) = machine.to_end (loop l) (expr_tree first)
 purpose (purpose_is.ToStep l first last) = machine.to_step (loop l) (expr_tree first) (expr_tree last)
 
-abbrev pub label_phase : LabelPhase → machine.LabelPhase
-label_phase label_is.FirstWanted = machine.first_wanted
-label_phase (label_is.FirstNegated s) = machine.first_negated s
-label_phase (label_is.FirstRead e) = machine.first_read (expr_tree e)
-label_phase (label_is.LastWanted e) = machine.last_wanted (expr_tree e)
-label_phase (label_is.LastNegated e s) = machine.last_negated (expr_tree e) s
-label_phase (label_is.LastRead e f) = machine.last_read (expr_tree e) (expr_tree f)
+-- how far a label is whose first constant is whole, where its last one is read, and whose constant is read so far
+abbrev pub wanted : Option ExprTree → machine.LabelPhase
+wanted None = machine.first_wanted
+wanted (Some e) = machine.last_wanted e
 
--- how far the label is whose constant was read so far
-abbrev pub constant : (ExprTree → machine.LabelPhase) → (Spot → machine.LabelPhase) → Constant → machine.LabelPhase
-constant read negated (constant_is.Whole e) = read (expr_tree e)
-constant read negated (constant_is.Negated s) = negated s
+abbrev pub negated : Option ExprTree → Spot → machine.LabelPhase
+negated None = machine.first_negated
+negated (Some e) = machine.last_negated e
+
+abbrev pub read : Option ExprTree → ExprTree → machine.LabelPhase
+read None = machine.first_read
+read (Some e) = machine.last_read e
+
+abbrev pub constant : Option ExprTree → Constant → machine.LabelPhase
+constant first constant_is.Wanted = wanted first
+constant first (constant_is.Negated s) = negated first s
+constant first (constant_is.Read e) = read first (expr_tree e)
+
+abbrev pub label_phase : LabelPhase → machine.LabelPhase
+label_phase p = constant (expr_tree_or_none p.first) p.constant
 
 abbrev pub phase : Phase → machine.Phase
 phase phase_is.Start = machine.start

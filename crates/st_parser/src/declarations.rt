@@ -5,7 +5,7 @@ ghost use Rattle.st_lexer.specs.Reading.{IsInside};
 ghost use Rattle.st_tree.specs.StmtTree.{no_stmts};
 ghost use Rattle.st_tree.specs.ExprViews.{expr_tree, expr_tree_or_none};
 ghost use Rattle.st_tree.specs.StmtViews.{stmt_trees};
-ghost use Rattle.st_parser.specs.declared.state.Heading.{Heading as HeadingOf};
+ghost use Rattle.st_parser.specs.declared.state.Parsed.{Parsed as ParsedOf};
 ghost use Rattle.st_tree.specs.Spelling.{bytes_in};
 ghost use Rattle.st_parser.specs.Marks.{mark_of as mark, is as is_mark};
 ghost use Rattle.st_parser.specs.ExprMachine.{Context};
@@ -17,28 +17,28 @@ ghost use Rattle.st_parser.specs.ProgramMachine as machine;
 
 use crate::expressions::{Progress, read};
 use crate::fault::SyntaxFault;
-use crate::forms::{Form, Mode, no_forms};
+use crate::forms::{Mode, no_forms};
 use crate::levels::nothing_read;
 use crate::marks::{Mark, has, is, mark_of};
 use crate::names::{Source, name_of};
-use crate::refusals::{discard, discard_forms, refuse_program};
-use crate::state::{Bodies, Heading, Phase, Place};
+use crate::refusals::{discard, discard_phase, refuse_program};
+use crate::state::{Parsed, Phase, Place};
 use crate::statements::stmt_step;
 use st_lexer::Token;
 use st_tree::{Block, Blocks, Decl, Declared, DeclaredNames, Decls, Expr, Section};
 use std::alloc::Global;
 use std::mem;
-use vcp_base::{Memory, Ty};
+use vcp_base::Memory;
 
 // A token is one more of the declared names.
-fn add_name(source: Source, heading: &mut Heading, t: Token) -> Result<Place, SyntaxFault>
+fn add_name(source: Source, parsed: &mut Parsed, t: Token) -> Result<Place, SyntaxFault>
     requires inside { IsInside source.text.now t }
-    ensures { Gives (view.program heading.new) result
-        (Ok (machine.at_comma (view.opening heading.old)
-        (view.names heading.old ++ machine.declared (record { bytes = bytes_in source.entry.text.now; most = source.entry.most }) t ∷ []))) }
+    ensures { Gives (view.program parsed.new) result
+        (Ok (machine.at_comma (view.opening parsed.old)
+        (view.names parsed.old ++ machine.declared (record { bytes = bytes_in source.entry.text.now; most = source.entry.most }) t ∷ []))) }
 {
     match name_of(source.alloc, source.text, t) {
-        Ok(name) => match heading.names.push(Declared { name, spot: t.spot }) {
+        Ok(name) => match parsed.names.push(Declared { name, spot: t.spot }) {
             Ok(()) => Ok(Place::AtComma),
             Err(Memory) => Err(SyntaxFault::Memory),
         },
@@ -47,90 +47,84 @@ fn add_name(source: Source, heading: &mut Heading, t: Token) -> Result<Place, Sy
 }
 
 // The end of a declaration, which is one more of its block.
-fn with_decl(
-    alloc: Global,
-    heading: &mut Heading,
-    ty: Ty,
-    init: Option<Expr>,
-) -> Result<Place, SyntaxFault>
-    ensures { Gives (view.program heading.new) result
-        (Ok (machine.at_decl (machine.with_decl (view.opening heading.old) (view.names heading.old) ty (expr_tree_or_none init)))) }
+fn with_decl(alloc: Global, parsed: &mut Parsed, init: Option<Expr>) -> Result<Place, SyntaxFault>
+    ensures { Gives (view.program parsed.new) result
+        (Ok (machine.at_decl (machine.with_decl (view.opening parsed.old) (view.names parsed.old) parsed.old.ty (expr_tree_or_none init)))) }
 {
-    let names = mem::replace(&mut heading.names, DeclaredNames::new(alloc));
-    match heading.decls.push(Decl { names, ty, init }) {
+    let names = mem::replace(&mut parsed.names, DeclaredNames::new(alloc));
+    let ty = parsed.ty;
+    match parsed.decls.push(Decl { names, ty, init }) {
         Ok(()) => Ok(Place::AtDecl),
         Err(Memory) => Err(SyntaxFault::Memory),
     }
 }
 
 // The end of a block, which is one more of the program.
-fn with_block(alloc: Global, heading: &mut Heading) -> Result<Place, SyntaxFault>
-    ensures { Gives (view.program heading.new) result (Ok (machine.at_block (machine.with_block (view.opening heading.old)))) }
+fn with_block(alloc: Global, parsed: &mut Parsed) -> Result<Place, SyntaxFault>
+    ensures { Gives (view.program parsed.new) result (Ok (machine.at_block (machine.with_block (view.opening parsed.old)))) }
 {
-    let decls = mem::replace(&mut heading.decls, Decls::new(alloc));
-    let section = heading.section;
-    match heading.blocks.push(Block { section, decls }) {
+    let decls = mem::replace(&mut parsed.decls, Decls::new(alloc));
+    let section = parsed.section;
+    match parsed.blocks.push(Block { section, decls }) {
         Ok(()) => Ok(Place::AtBlock),
         Err(Memory) => Err(SyntaxFault::Memory),
     }
 }
 
 // A block of no declarations yet.
-fn begin(alloc: Global, heading: &mut Heading, section: Section)
-    ensures { view.opening heading.new ≡ machine.begun (view.front heading.old) section }
+fn begin(alloc: Global, parsed: &mut Parsed, section: Section)
+    ensures { view.opening parsed.new ≡ machine.begun (view.front parsed.old) section }
 {
-    heading.section = section;
-    heading.decls = Decls::new(alloc);
+    parsed.section = section;
+    parsed.decls = Decls::new(alloc);
 }
 
 // A token where a declaration may begin.
-fn decl_at(
-    source: Source,
-    heading: &mut Heading,
-    mark: Mark,
-    t: Token,
-) -> Result<Place, SyntaxFault>
+fn decl_at(source: Source, parsed: &mut Parsed, mark: Mark, t: Token) -> Result<Place, SyntaxFault>
     requires inside { IsInside source.text.now t }
-    ensures { Gives (view.program heading.new) result
-        (machine.decl_at (record { bytes = bytes_in source.entry.text.now; most = source.entry.most }) (view.opening heading.old) mark t) }
+    ensures { Gives (view.program parsed.new) result
+        (machine.decl_at (record { bytes = bytes_in source.entry.text.now; most = source.entry.most }) (view.opening parsed.old) mark t) }
 {
     if is(mark, Mark::Name) {
-        heading.names = DeclaredNames::new(source.alloc);
-        return add_name(source, heading, t);
+        parsed.names = DeclaredNames::new(source.alloc);
+        return add_name(source, parsed, t);
     }
     if is(mark, Mark::EndVar) {
-        return with_block(source.alloc, heading);
+        return with_block(source.alloc, parsed);
     }
     refuse_program(t)
 }
 
 // A token of the body.
-fn body_step(source: Source, bodies: Bodies, phase: Phase, t: Token) -> Result<Place, SyntaxFault>
+fn body_step(source: Source, parsed: &mut Parsed, t: Token) -> Result<Place, SyntaxFault>
     requires inside { IsInside source.text.now t }
-    ensures { (h : HeadingOf) → Gives (view.program h) result (machine.body_step (view.front h)
-        (stmt_step_of (record { bytes = bytes_in source.entry.text.now; most = source.entry.most }) (levels bodies.outer.items)
-        (stmt_trees bodies.stmts.items.items) (phase_of phase) t)) }
+    ensures { Gives (view.program parsed.new) result (machine.body_step (view.front parsed.old)
+        (stmt_step_of (record { bytes = bytes_in source.entry.text.now; most = source.entry.most }) (levels parsed.old.bodies.outer.items)
+        (stmt_trees parsed.old.bodies.stmts.items.items) (phase_of parsed.old.bodies.phase) t)) }
 {
-    let mut bodies = bodies;
-    match stmt_step(source, &mut bodies, phase, t) {
-        Ok(phase) => Ok(Place::InBody { bodies, phase }),
+    let phase = mem::replace(&mut parsed.bodies.phase, Phase::Start);
+    match stmt_step(source, &mut parsed.bodies, phase, t) {
+        Ok(phase) => {
+            discard_phase(mem::replace(&mut parsed.bodies.phase, phase));
+            Ok(Place::InBody)
+        }
         Err(fault) => Err(fault),
     }
 }
 
 // The first token of the body.
-fn body_begins(source: Source, t: Token) -> Result<Place, SyntaxFault>
+fn body_begins(source: Source, parsed: &mut Parsed, t: Token) -> Result<Place, SyntaxFault>
     requires inside { IsInside source.text.now t }
-    ensures { (h : HeadingOf) → Gives (view.program h) result
-        (machine.body_step (view.front h) (stmt_step_of (record { bytes = bytes_in source.entry.text.now; most = source.entry.most })
-        [] no_stmts start t)) }
+    ensures { Gives (view.program parsed.new) result (machine.body_step (view.front parsed.old)
+        (stmt_step_of (record { bytes = bytes_in source.entry.text.now; most = source.entry.most }) [] no_stmts start t)) }
 {
-    body_step(source, nothing_read(source.alloc), Phase::Start, t)
+    parsed.bodies = nothing_read(source.alloc);
+    body_step(source, parsed, t)
 }
 
 // The first token of a program.
 fn program_at(t: Token) -> Result<Place, SyntaxFault>
-    ensures { (c : Context) → (h : HeadingOf) → Gives (view.program h) result (machine.program_step c machine.at_program t) }
+    ensures { (c : Context) → (p : ParsedOf) → Gives (view.program p) result (machine.program_step c machine.at_program t) }
 {
     if has(t, Mark::Program) {
         return Ok(Place::AtName);
@@ -139,16 +133,16 @@ fn program_at(t: Token) -> Result<Place, SyntaxFault>
 }
 
 // The token behind PROGRAM.
-fn name_at(source: Source, heading: &mut Heading, t: Token) -> Result<Place, SyntaxFault>
+fn name_at(source: Source, parsed: &mut Parsed, t: Token) -> Result<Place, SyntaxFault>
     requires inside { IsInside source.text.now t }
-    ensures { Gives (view.program heading.new) result
+    ensures { Gives (view.program parsed.new) result
         (machine.program_step (record { bytes = bytes_in source.entry.text.now; most = source.entry.most }) machine.at_name t) }
 {
     if has(t, Mark::Name) {
         return match name_of(source.alloc, source.text, t) {
             Ok(name) => {
-                heading.name = name;
-                heading.blocks = Blocks::new(source.alloc);
+                parsed.name = name;
+                parsed.blocks = Blocks::new(source.alloc);
                 Ok(Place::AtBlock)
             }
             Err(Memory) => Err(SyntaxFault::Memory),
@@ -158,53 +152,53 @@ fn name_at(source: Source, heading: &mut Heading, t: Token) -> Result<Place, Syn
 }
 
 // A token where a block may begin, or the body.
-fn block_at(source: Source, heading: &mut Heading, t: Token) -> Result<Place, SyntaxFault>
+fn block_at(source: Source, parsed: &mut Parsed, t: Token) -> Result<Place, SyntaxFault>
     requires inside { IsInside source.text.now t }
-    ensures { Gives (view.program heading.new) result
-        (machine.block_at (record { bytes = bytes_in source.entry.text.now; most = source.entry.most }) (view.front heading.old) (mark t.tok) t) }
+    ensures { Gives (view.program parsed.new) result
+        (machine.block_at (record { bytes = bytes_in source.entry.text.now; most = source.entry.most }) (view.front parsed.old) (mark t.tok) t) }
 {
     let mark = mark_of(t.tok);
     if is(mark, Mark::VarInput) {
-        begin(source.alloc, heading, Section::Input);
+        begin(source.alloc, parsed, Section::Input);
         return Ok(Place::AtDecl);
     }
     if is(mark, Mark::VarOutput) {
-        begin(source.alloc, heading, Section::Output);
+        begin(source.alloc, parsed, Section::Output);
         return Ok(Place::AtDecl);
     }
     if is(mark, Mark::Var) {
         return Ok(Place::AtVar);
     }
-    body_begins(source, t)
+    body_begins(source, parsed, t)
 }
 
 // A token behind VAR.
-fn var_at(source: Source, heading: &mut Heading, t: Token) -> Result<Place, SyntaxFault>
+fn var_at(source: Source, parsed: &mut Parsed, t: Token) -> Result<Place, SyntaxFault>
     requires inside { IsInside source.text.now t }
-    ensures { Gives (view.program heading.new) result
-        (machine.var_at (record { bytes = bytes_in source.entry.text.now; most = source.entry.most }) (view.front heading.old) (mark t.tok) t) }
+    ensures { Gives (view.program parsed.new) result
+        (machine.var_at (record { bytes = bytes_in source.entry.text.now; most = source.entry.most }) (view.front parsed.old) (mark t.tok) t) }
 {
     let mark = mark_of(t.tok);
     match mark {
         Mark::Constant => {
-            begin(source.alloc, heading, Section::Constant);
+            begin(source.alloc, parsed, Section::Constant);
             Ok(Place::AtDecl)
         }
         Mark::Retain => {
-            begin(source.alloc, heading, Section::Retain);
+            begin(source.alloc, parsed, Section::Retain);
             Ok(Place::AtDecl)
         }
         _ => {
-            begin(source.alloc, heading, Section::Local);
-            decl_at(source, heading, mark, t)
+            begin(source.alloc, parsed, Section::Local);
+            decl_at(source, parsed, mark, t)
         }
     }
 }
 
 // The token behind a declared name.
 fn comma_at(t: Token) -> Result<Place, SyntaxFault>
-    ensures { (c : Context) → (h : HeadingOf) → Gives (view.program h) result
-        (machine.program_step c (machine.at_comma (view.opening h) (view.names h)) t) }
+    ensures { (c : Context) → (p : ParsedOf) → Gives (view.program p) result
+        (machine.program_step c (machine.at_comma (view.opening p) (view.names p)) t) }
 {
     let mark = mark_of(t.tok);
     if is(mark, Mark::Comma) {
@@ -217,116 +211,103 @@ fn comma_at(t: Token) -> Result<Place, SyntaxFault>
 }
 
 // The token behind the comma of a declared name.
-fn next_name_at(source: Source, heading: &mut Heading, t: Token) -> Result<Place, SyntaxFault>
+fn next_name_at(source: Source, parsed: &mut Parsed, t: Token) -> Result<Place, SyntaxFault>
     requires inside { IsInside source.text.now t }
-    ensures { Gives (view.program heading.new) result
+    ensures { Gives (view.program parsed.new) result
         (machine.program_step (record { bytes = bytes_in source.entry.text.now; most = source.entry.most })
-        (machine.at_next_name (view.opening heading.old) (view.names heading.old)) t) }
+        (machine.at_next_name (view.opening parsed.old) (view.names parsed.old)) t) }
 {
     if has(t, Mark::Name) {
-        return add_name(source, heading, t);
+        return add_name(source, parsed, t);
     }
     refuse_program(t)
 }
 
 // The token behind the colon of a declaration.
-fn type_at(t: Token) -> Result<Place, SyntaxFault>
-    ensures { (h : HeadingOf) → Gives (view.program h) result (machine.type_at (view.opening h) (view.names h) (mark t.tok) t) }
+fn type_at(parsed: &mut Parsed, t: Token) -> Result<Place, SyntaxFault>
+    ensures { Gives (view.program parsed.new) result (machine.type_at (view.opening parsed.old) (view.names parsed.old) (mark t.tok) t) }
 {
     match mark_of(t.tok) {
-        Mark::Type(ty) => Ok(Place::AtInit { ty }),
+        Mark::Type(ty) => {
+            parsed.ty = ty;
+            Ok(Place::AtInit)
+        }
         _ => refuse_program(t),
     }
 }
 
 // The token behind the type of a declaration.
-fn init_begins(alloc: Global, heading: &mut Heading, ty: Ty, t: Token) -> Result<Place, SyntaxFault>
-    ensures { (c : Context) → Gives (view.program heading.new) result
-        (machine.program_step c (machine.at_init (view.opening heading.old) (view.names heading.old) ty) t) }
+fn init_begins(alloc: Global, parsed: &mut Parsed, t: Token) -> Result<Place, SyntaxFault>
+    ensures { (c : Context) → Gives (view.program parsed.new) result
+        (machine.program_step c (machine.at_init (view.opening parsed.old) (view.names parsed.old) parsed.old.ty) t) }
 {
     let mark = mark_of(t.tok);
     if is(mark, Mark::Semi) {
-        return with_decl(alloc, heading, ty, None);
+        return with_decl(alloc, parsed, None);
     }
     if is(mark, Mark::Assign) {
-        let forms = no_forms(alloc);
-        let mode = Mode::Want;
-        return Ok(Place::InInit { ty, forms, mode });
+        parsed.forms = no_forms(alloc);
+        parsed.mode = Mode::Want;
+        return Ok(Place::InInit);
     }
     refuse_program(t)
 }
 
 // The token behind an initial value.
-fn init_ends(
-    alloc: Global,
-    heading: &mut Heading,
-    ty: Ty,
-    init: Expr,
-    t: Token,
-) -> Result<Place, SyntaxFault>
-    ensures { Gives (view.program heading.new) result
+fn init_ends(alloc: Global, parsed: &mut Parsed, init: Expr, t: Token) -> Result<Place, SyntaxFault>
+    ensures { Gives (view.program parsed.new) result
         (cond (is_mark (mark t.tok) Mark.Semi)
-        (Ok (machine.at_decl (machine.with_decl (view.opening heading.old) (view.names heading.old) ty (Some (expr_tree init)))))
+        (Ok (machine.at_decl (machine.with_decl (view.opening parsed.old) (view.names parsed.old) parsed.old.ty (Some (expr_tree init)))))
         (refused_of t)) }
 {
     if has(t, Mark::Semi) {
-        return with_decl(alloc, heading, ty, Some(init));
+        return with_decl(alloc, parsed, Some(init));
     }
     discard(init);
     refuse_program(t)
 }
 
 // A token of an initial value, or the one behind it.
-fn init_at(
-    source: Source,
-    heading: &mut Heading,
-    ty: Ty,
-    forms: Vec<Form>,
-    mode: Mode,
-    t: Token,
-) -> Result<Place, SyntaxFault>
+fn init_at(source: Source, parsed: &mut Parsed, t: Token) -> Result<Place, SyntaxFault>
     requires inside { IsInside source.text.now t }
-    ensures { Gives (view.program heading.new) result
+    ensures { Gives (view.program parsed.new) result
         (machine.program_step (record { bytes = bytes_in source.entry.text.now; most = source.entry.most })
-        (machine.in_init (view.opening heading.old) (view.names heading.old) ty
-        (form_view.forms forms.items) (form_view.mode mode)) t) }
+        (machine.in_init (view.opening parsed.old) (view.names parsed.old) parsed.old.ty
+        (form_view.forms parsed.old.forms.items) (form_view.mode parsed.old.mode)) t) }
 {
-    let mut forms = forms;
-    match read(source, 0, &mut forms, mode, t) {
-        Ok(Progress::On(mode)) => Ok(Place::InInit { ty, forms, mode }),
-        Ok(Progress::Ended(e)) => {
-            discard_forms(forms);
-            init_ends(source.alloc, heading, ty, e, t)
+    let mode = mem::replace(&mut parsed.mode, Mode::Want);
+    match read(source, 0, &mut parsed.forms, mode, t) {
+        Ok(Progress::On(mode)) => {
+            parsed.mode = mode;
+            Ok(Place::InInit)
         }
-        Err(fault) => {
-            discard_forms(forms);
-            Err(fault)
-        }
+        Ok(Progress::Ended(e)) => init_ends(source.alloc, parsed, e, t),
+        Err(fault) => Err(fault),
     }
 }
 
 /// A token of a program.
 pub fn program_step(
     source: Source,
-    heading: &mut Heading,
+    parsed: &mut Parsed,
     place: Place,
     t: Token,
 ) -> Result<Place, SyntaxFault>
     requires inside { IsInside source.text.now t }
-    ensures { Gives (view.program heading.new) result
-        (machine.program_step (record { bytes = bytes_in source.entry.text.now; most = source.entry.most }) (view.program heading.old place) t) }
+    ensures { Gives (view.program parsed.new) result
+        (machine.program_step (record { bytes = bytes_in source.entry.text.now; most = source.entry.most }) (view.program parsed.old place) t) }
 {
     match place {
         Place::AtProgram => program_at(t),
-        Place::AtName => name_at(source, heading, t),
-        Place::AtBlock => block_at(source, heading, t),
-        Place::AtVar => var_at(source, heading, t),
-        Place::AtDecl => decl_at(source, heading, mark_of(t.tok), t),
+        Place::AtName => name_at(source, parsed, t),
+        Place::AtBlock => block_at(source, parsed, t),
+        Place::AtVar => var_at(source, parsed, t),
+        Place::AtDecl => decl_at(source, parsed, mark_of(t.tok), t),
         Place::AtComma => comma_at(t),
-        Place::AtNextName => next_name_at(source, heading, t),
-        Place::AtType => type_at(t),
-        Place::AtInit { ty } => init_begins(source.alloc, heading, ty, t),
-        Place::InInit { ty, forms, mode } => init_at(source, heading, ty, forms, mode, t),
-        Place::InBody { bodies, phase } => body_step(source, bodies, phase, t),
+        Place::AtNextName => next_name_at(source, parsed, t),
+        Place::AtType => type_at(parsed, t),
+        Place::AtInit => init_begins(source.alloc, parsed, t),
+        Place::InInit => init_at(source, parsed, t),
+        Place::InBody => body_step(source, parsed, t),
     }
 }

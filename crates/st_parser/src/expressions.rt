@@ -9,7 +9,7 @@ ghost use Rattle.st_parser.specs.ExprMachine as spec;
 ghost use Rattle.st_parser.specs.FormViews as view;
 
 use crate::fault::SyntaxFault;
-use crate::forms::{Form, Mode, add, close, extend, is_within, take};
+use crate::forms::{Form, Mode, add, close, is_within, take};
 use crate::marks::{Begins, Goes, begins_by, goes_by};
 use crate::names::{Source, name_of};
 use crate::refusals::refuse_form;
@@ -162,8 +162,8 @@ fn close_at(forms: &mut Vec<Form>, e: Expr, t: Token) -> Result<Progress, Syntax
     let taken = take(forms);
     match taken {
         Some(Form::Bracket) => Ok(Progress::On(Mode::Have(e))),
-        Some(Form::Arguments(name, spot, args)) => match extend(args, e) {
-            Ok(args) => Ok(Progress::On(Mode::Have(Expr::call(name, args, spot)))),
+        Some(Form::Arguments(name, spot, mut args)) => match args.push(e) {
+            Ok(()) => Ok(Progress::On(Mode::Have(Expr::call(name, args, spot)))),
             Err(Memory) => Err(SyntaxFault::Memory),
         },
         Some(Form::Sign(_, _)) | Some(Form::Left(_, _, _)) | None => { refuse_form(taken, e, t) }
@@ -177,8 +177,8 @@ fn part_at(forms: &mut Vec<Form>, e: Expr, t: Token) -> Result<Progress, SyntaxF
 {
     let taken = take(forms);
     match taken {
-        Some(Form::Arguments(name, spot, args)) => match extend(args, e) {
-            Ok(args) => opens(forms, Form::Arguments(name, spot, args)),
+        Some(Form::Arguments(name, spot, mut args)) => match args.push(e) {
+            Ok(()) => opens(forms, Form::Arguments(name, spot, args)),
             Err(Memory) => Err(SyntaxFault::Memory),
         },
         Some(Form::Bracket) | Some(Form::Sign(_, _)) | Some(Form::Left(_, _, _)) | None => {

@@ -1,8 +1,6 @@
 //! Why tokens are no program.
 
-ghost use Rattle.std.specs.Prelude.{◌≡◌};
-
-use vcp_base::{Memory, Spot};
+use vcp_base::Spot;
 
 /// Why tokens are no program, or want of memory.
 #[derive(Clone, Copy, Drop)]
@@ -14,14 +12,4 @@ pub enum SyntaxFault {
     Depth { spot: Spot },
     /// Want of memory. It is merged with no other cause.
     Memory,
-}
-
-impl From<Memory> for SyntaxFault {
-    ghost use Rattle.st_parser.specs.declared.fault.SyntaxFault.TheVariants.{Memory};
-
-    ghost from_gives = { λ _ e. e ≡ Memory };
-
-    fn from(_: Memory) -> Self {
-        SyntaxFault::Memory
-    }
 }

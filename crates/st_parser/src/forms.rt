@@ -1,8 +1,7 @@
 //! The forms of an expression that are open.
 
 ghost use Rattle.std.specs.Prelude.{◌≡◌, ◌+◌, ◌≤◌, ◌∷◌, [], IfOk, OnOk, ◌↔◌, IsTrue};
-ghost use Rattle.st_tree.specs.Appended.{exprs_and};
-ghost use Rattle.st_tree.specs.ExprViews.{expr_tree, expr_trees};
+ghost use Rattle.st_tree.specs.ExprViews.{expr_tree};
 ghost use Rattle.st_tree.specs.Operators.{chain};
 ghost use Rattle.st_parser.specs.ExprMachine as spec;
 ghost use Rattle.st_parser.specs.FormViews as view;
@@ -57,16 +56,6 @@ pub fn take(forms: &mut Vec<Form>) -> Option<Form>
     ensures { view.Takes (view.forms forms.old.items) result (view.forms forms.new.items) }
 {
     forms.pop()
-}
-
-/// The arguments with one more.
-pub fn extend(args: Exprs, e: Expr) -> Result<Exprs, Memory>
-    ensures { IfOk result (λ all. expr_trees all.items.items
-        ≡ exprs_and (expr_trees args.items.items) (expr_tree e)) }
-{
-    let mut args = args;
-    args.push(e)?;
-    Ok(args)
 }
 
 // Opens a form again, round an operand that does not close it.

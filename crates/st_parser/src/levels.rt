@@ -3,6 +3,7 @@
 ghost use Rattle.std.specs.Prelude.{◌≡◌, [], ◌∷◌, OnOk, length, suc};
 ghost use Rattle.st_tree.specs.StmtTree.{no_stmts};
 ghost use Rattle.st_tree.specs.StmtViews.{stmt_tree, stmt_trees};
+ghost use Rattle.st_parser.specs.declared.state.Phase.TheVariants as phase_;
 ghost use Rattle.st_parser.specs.ExprMachine.{want};
 ghost use Rattle.st_parser.specs.StateViews as view;
 ghost use Rattle.st_parser.specs.StmtMachine as machine;
@@ -82,9 +83,11 @@ pub fn expects(alloc: Global, purpose: Purpose) -> Phase
 pub fn nothing_read(alloc: Global) -> Bodies
     ensures outer { view.levels result.outer.items ≡ [] }
     ensures stmts { stmt_trees result.stmts.items.items ≡ no_stmts }
+    ensures phase { result.phase ≡ phase_.Start }
 {
     Bodies {
         outer: Vec::new(alloc),
         stmts: Stmts::new(alloc),
+        phase: Phase::Start,
     }
 }

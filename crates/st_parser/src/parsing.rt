@@ -4,12 +4,10 @@ ghost use Rattle.std.specs.Prelude.{◌≡◌, All, IfOk, IfErr};
 ghost use Rattle.vcp_base.specs.Limits.{most_depth};
 ghost use Rattle.st_lexer.specs.Reading.{IsInside};
 ghost use Rattle.st_tree.specs.ProgramTree.{ProgramTree};
-ghost use Rattle.st_tree.specs.StmtViews.{stmt_trees};
 ghost use Rattle.st_tree.specs.ProgramViews.{program_tree};
 ghost use Rattle.st_tree.specs.Spelling.{bytes_in, Spells, SpellsWithin};
 ghost use Rattle.st_parser.specs.Answers.{NoneTooDeep, Refuses, IsAnswered};
-ghost use Rattle.st_parser.specs.StateViews.{Gives, levels, phase as phase_of};
-ghost use Rattle.st_parser.specs.StmtMachine.{finished};
+ghost use Rattle.st_parser.specs.StateViews.{Gives};
 ghost use Rattle.st_parser.specs.ProgramViews as view;
 ghost use Rattle.st_parser.specs.ProgramMachine as machine;
 
@@ -17,59 +15,38 @@ use crate::declarations::program_step;
 use crate::fault::SyntaxFault;
 use crate::levels::leave;
 use crate::names::Source;
-use crate::refusals::discard_phase;
-use crate::state::{Bodies, Heading, Phase, Place};
+use crate::state::{Parsed, Phase, Place};
 use st_lexer::Tokens;
-use st_tree::{Program, spelling_begins};
+use st_tree::{Program, Stmts, spelling_begins};
 use std::alloc::Global;
+use std::mem;
 use vcp_base::{MOST_DEPTH, Spot};
 
-// The program whose END_PROGRAM was read, where no body is open.
-fn root_finish(end: Spot, heading: Heading, bodies: Bodies) -> Result<Program, SyntaxFault>
-    ensures { Gives program_tree result
-        (machine.finish end (machine.in_body (view.front heading) (levels bodies.outer.items) (stmt_trees bodies.stmts.items.items) finished)) }
-{
-    let Bodies { mut outer, stmts } = bodies;
-    match leave(&mut outer) {
-        None => Ok(heading.program(stmts)),
-        Some(level) => {
-            drop(level);
-            Err(SyntaxFault::Syntax { spot: end })
-        }
-    }
-}
-
-// What is whole where the tokens end behind this place of a body.
-fn body_finish(
-    end: Spot,
-    heading: Heading,
-    bodies: Bodies,
-    phase: Phase,
-) -> Result<Program, SyntaxFault>
-    ensures { Gives program_tree result
-        (machine.finish end (machine.in_body (view.front heading) (levels bodies.outer.items) (stmt_trees bodies.stmts.items.items) (phase_of phase))) }
-{
-    match phase {
-        Phase::Finished => root_finish(end, heading, bodies),
-        Phase::Start
-        | Phase::Named { .. }
-        | Phase::Reading { .. }
-        | Phase::Closed
-        | Phase::LoopBegun { .. }
-        | Phase::LoopNamed { .. }
-        | Phase::Labelling { .. } => {
-            discard_phase(phase);
-            Err(SyntaxFault::Syntax { spot: end })
-        }
-    }
-}
-
 // What is whole where the tokens end.
-fn finish(end: Spot, heading: Heading, place: Place) -> Result<Program, SyntaxFault>
-    ensures { Gives program_tree result (machine.finish end (view.program heading place)) }
+fn finish(alloc: Global, end: Spot, parsed: Parsed, place: Place) -> Result<Program, SyntaxFault>
+    ensures { Gives program_tree result (machine.finish end (view.program parsed place)) }
 {
+    let mut parsed = parsed;
     match place {
-        Place::InBody { bodies, phase } => body_finish(end, heading, bodies, phase),
+        Place::InBody => match parsed.bodies.phase {
+            Phase::Finished => match leave(&mut parsed.bodies.outer) {
+                None => {
+                    let body = mem::replace(&mut parsed.bodies.stmts, Stmts::new(alloc));
+                    Ok(parsed.program(body))
+                }
+                Some(level) => {
+                    drop(level);
+                    Err(SyntaxFault::Syntax { spot: end })
+                }
+            },
+            Phase::Start
+            | Phase::Named { .. }
+            | Phase::Reading { .. }
+            | Phase::Closed
+            | Phase::LoopBegun { .. }
+            | Phase::LoopNamed { .. }
+            | Phase::Labelling { .. } => Err(SyntaxFault::Syntax { spot: end }),
+        },
         Place::AtProgram
         | Place::AtName
         | Place::AtBlock
@@ -78,11 +55,8 @@ fn finish(end: Spot, heading: Heading, place: Place) -> Result<Program, SyntaxFa
         | Place::AtComma
         | Place::AtNextName
         | Place::AtType
-        | Place::AtInit { .. }
-        | Place::InInit { .. } => {
-            drop(place);
-            Err(SyntaxFault::Syntax { spot: end })
-        }
+        | Place::AtInit
+        | Place::InInit => Err(SyntaxFault::Syntax { spot: end }),
     }
 }
 
@@ -98,15 +72,15 @@ fn read_program(
         (machine.read_program (record { bytes = bytes_in text.now; most = most }) tokens.now.end tokens.now.tokens) }
 {
     let source = Source { alloc, text, most };
-    let mut heading = Heading::new(alloc);
+    let mut parsed = Parsed::new(alloc);
     let mut place = Place::AtProgram;
     for i in 0..tokens.len() {
-        match program_step(source, &mut heading, place, tokens.at(i)) {
+        match program_step(source, &mut parsed, place, tokens.at(i)) {
             Ok(next) => place = next,
             Err(fault) => return Err(fault),
         }
     }
-    finish(tokens.end(), heading, place)
+    finish(alloc, tokens.end(), parsed, place)
 }
 
 /// The one program that the tokens of a text spell, no token deeper than 64; or the place of the

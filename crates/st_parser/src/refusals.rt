@@ -9,7 +9,6 @@ ghost use Rattle.st_parser.specs.declared.fault.SyntaxFault.TheVariants.{Syntax}
 use crate::expressions::Progress;
 use crate::fault::SyntaxFault;
 use crate::forms::Form;
-use crate::labels::Constant;
 use crate::state::{Body, LabelPhase, Phase, Place, Purpose, Selection};
 use st_lexer::Token;
 use st_tree::{Expr, Labels, Stmts};
@@ -79,20 +78,6 @@ pub fn refuse_form(taken: Option<Form>, e: Expr, t: Token) -> Result<Progress, S
 
 /// A token that goes on with nothing that is read of a program.
 pub fn refuse_program(t: Token) -> Result<Place, SyntaxFault>
-    ensures { result ≡ Err (Syntax t.spot) }
-{
-    Err(SyntaxFault::Syntax { spot: t.spot })
-}
-
-/// A token that begins no constant.
-pub fn refuse_constant(t: Token) -> Result<Constant, SyntaxFault>
-    ensures { result ≡ Err (Syntax t.spot) }
-{
-    Err(SyntaxFault::Syntax { spot: t.spot })
-}
-
-/// A token that is no number.
-pub fn refuse_number(t: Token) -> Result<Expr, SyntaxFault>
     ensures { result ≡ Err (Syntax t.spot) }
 {
     Err(SyntaxFault::Syntax { spot: t.spot })

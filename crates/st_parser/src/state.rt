@@ -3,6 +3,8 @@
 ghost use Rattle.std.specs.Prelude.{◌≡◌};
 
 use crate::forms::{Form, Mode};
+use crate::levels::nothing_read;
+use crate::refusals::{discard_forms, discard_phase};
 use st_tree::{
     Arms, Blocks, Branches, DeclaredNames, Decls, Expr, Labels, Program, Section, Stmts,
 };
@@ -78,15 +80,24 @@ pub enum Purpose {
     ToStep { head: Loop, first: Expr, last: Expr },
 }
 
-/// How far a label is read; a constant may have its sign alone so far.
+/// How far a constant of a label is read.
 #[derive(Drop)]
-pub enum LabelPhase {
-    FirstWanted,
-    FirstNegated { sign: Spot },
-    FirstRead { first: Expr },
-    LastWanted { first: Expr },
-    LastNegated { first: Expr, sign: Spot },
-    LastRead { first: Expr, last: Expr },
+pub enum Constant {
+    /// Nothing of it.
+    Wanted,
+    /// Its sign alone.
+    Negated { sign: Spot },
+    /// The whole.
+    Read { value: Expr },
+}
+
+/// How far a label is read.
+#[derive(Drop)]
+pub struct LabelPhase {
+    /// The first constant, where it is whole and a last one belongs to the label.
+    pub first: Option<Expr>,
+    /// The constant that is read.
+    pub constant: Constant,
 }
 
 /// What was read last.
@@ -125,16 +136,29 @@ pub enum Phase {
     Finished,
 }
 
-/// The levels that are open, and the statements so far of the innermost body.
-#[derive(Drop)]
+/// What is read so far of the body of a program.
 pub struct Bodies {
-    /// The last one is the innermost.
+    /// The levels that are open. The last one is the innermost.
     pub outer: Vec<Level>,
+    /// The statements so far of the innermost body.
     pub stmts: Stmts,
+    /// What was read last.
+    pub phase: Phase,
 }
 
-/// What is read so far of the declarations of a program.
-pub struct Heading {
+impl Drop for Bodies {
+    fn drop(self) {
+        let Bodies {
+            outer: _,
+            stmts: _,
+            phase,
+        } = self;
+        discard_phase(phase);
+    }
+}
+
+/// What is read so far of a program. What its place does not speak of is what was there before.
+pub struct Parsed {
     /// The program's name.
     pub name: Text,
     /// The blocks that are whole.
@@ -145,29 +169,46 @@ pub struct Heading {
     pub decls: Decls,
     /// The names of the declaration that is read.
     pub names: DeclaredNames,
+    /// The type of these names.
+    pub ty: Ty,
+    /// The open forms of their initial value.
+    pub forms: Vec<Form>,
+    /// What was read last of their initial value.
+    pub mode: Mode,
+    /// The body.
+    pub bodies: Bodies,
 }
 
-impl Drop for Heading {
+impl Drop for Parsed {
     fn drop(self) {
-        let Heading {
+        let Parsed {
             name: _,
             blocks: _,
             section: _,
             decls: _,
             names: _,
+            ty: _,
+            forms,
+            mode: _,
+            bodies: _,
         } = self;
+        discard_forms(forms);
     }
 }
 
-impl Heading {
+impl Parsed {
     /// Nothing is read. It takes no memory.
-    pub fn new(alloc: Global) -> Heading {
-        Heading {
+    pub fn new(alloc: Global) -> Parsed {
+        Parsed {
             name: Text::from_vec(Vec::new(alloc)),
             blocks: Blocks::new(alloc),
             section: Section::Local,
             decls: Decls::new(alloc),
             names: DeclaredNames::new(alloc),
+            ty: Ty::Bool,
+            forms: Vec::new(alloc),
+            mode: Mode::Want,
+            bodies: nothing_read(alloc),
         }
     }
 
@@ -177,19 +218,24 @@ impl Heading {
         ensures blocks { result.blocks ≡ self.blocks }
         ensures body { result.body ≡ body }
     {
-        let Heading {
+        let Parsed {
             name,
             blocks,
             section: _,
             decls: _,
             names: _,
+            ty: _,
+            forms,
+            mode: _,
+            bodies: _,
         } = self;
+        discard_forms(forms);
         Program { name, blocks, body }
     }
 }
 
 /// What was read last of a program.
-#[derive(Drop)]
+#[derive(Clone, Copy, Drop)]
 pub enum Place {
     /// Nothing: PROGRAM is wanted.
     AtProgram,
@@ -208,18 +254,9 @@ pub enum Place {
     /// The colon behind the declared names.
     AtType,
     /// The type of the declared names.
-    AtInit {
-        ty: Ty,
-    },
+    AtInit,
     /// A part of an initial value.
-    InInit {
-        ty: Ty,
-        forms: Vec<Form>,
-        mode: Mode,
-    },
+    InInit,
     /// A part of the body.
-    InBody {
-        bodies: Bodies,
-        phase: Phase,
-    },
+    InBody,
 }

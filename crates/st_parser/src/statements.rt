@@ -14,7 +14,7 @@ ghost use Rattle.st_parser.specs.FormViews as form_view;
 ghost use Rattle.st_parser.specs.StateViews as view;
 ghost use Rattle.st_parser.specs.StmtMachine as machine;
 
-use crate::endings::{else_at, elsif_at, end_case_at, end_for_at, end_if_at, with_branch};
+use crate::endings::{else_at, elsif_at, end_case_at, end_for_at, end_if_at};
 use crate::expressions::{Progress, read};
 use crate::fault::SyntaxFault;
 use crate::forms::{Form, Mode};
@@ -25,9 +25,9 @@ use crate::names::{Source, name_of};
 use crate::refusals::{
     discard, discard_forms, discard_label, discard_phase, discard_purpose, refuse, refuse_end,
 };
-use crate::state::{Bodies, Body, LabelPhase, Level, Loop, Phase, Purpose, Selection};
+use crate::state::{Bodies, Body, Constant, LabelPhase, Level, Loop, Phase, Purpose, Selection};
 use st_lexer::Token;
-use st_tree::{Arms, Branches, Expr, Labels, Stmt, Stmts};
+use st_tree::{Arms, Branch, Branches, Expr, Labels, Stmt, Stmts};
 use std::alloc::Global;
 use std::mem;
 use vcp_base::{Memory, Spot, Text};
@@ -47,8 +47,14 @@ fn next_label_in(
         (view.levels bodies.old.outer.items) (stmt_trees bodies.old.stmts.items.items) (stmt_trees stmts.items.items) (view.label_phase phase) t) }
 {
     match body {
-        Body::OfBranch { selection, labels } => match with_branch(selection, labels, stmts) {
-            Ok(selection) => {
+        Body::OfBranch {
+            mut selection,
+            labels,
+        } => match selection.branches.push(Branch {
+            labels,
+            body: stmts,
+        }) {
+            Ok(()) => {
                 let labels = Labels::new(source.alloc);
                 label_step(source, bodies, selection, labels, phase, t)
             }
@@ -121,7 +127,11 @@ fn level_ends(
     if is(mark, Mark::EndFor) {
         return end_for_at(body, bodies, stmts, t);
     }
-    next_label_in(source, body, bodies, stmts, LabelPhase::FirstWanted, t)
+    let phase = LabelPhase {
+        first: None,
+        constant: Constant::Wanted,
+    };
+    next_label_in(source, body, bodies, stmts, phase, t)
 }
 
 // A token that ends the program's body, where no other is open.
@@ -217,8 +227,13 @@ fn named_at(
     if has(t, Mark::Assign) {
         return Ok(expects(source.alloc, Purpose::ToAssign { name, spot }));
     }
-    let first = Expr::name(name, spot);
-    next_label(source, bodies, LabelPhase::FirstRead { first }, t)
+    let phase = LabelPhase {
+        first: None,
+        constant: Constant::Read {
+            value: Expr::name(name, spot),
+        },
+    };
+    next_label(source, bodies, phase, t)
 }
 
 // The token behind the value of an assignment.
@@ -274,7 +289,10 @@ fn selected(alloc: Global, spot: Spot, on: Expr, t: Token) -> Result<Phase, Synt
         return Ok(Phase::Labelling {
             selection: Selection { on, spot, branches },
             labels: Labels::new(alloc),
-            phase: LabelPhase::FirstWanted,
+            phase: LabelPhase {
+                first: None,
+                constant: Constant::Wanted,
+            },
         });
     }
     discard(on);

@@ -5,15 +5,15 @@ use Rattle.st_parser.proofs.declarations.program_step.Goals as goal
 pub returns-in-AtProgram : goal.returns-in-AtProgram
 returns-in-AtProgram c =
     let k : Context = record { bytes = bytes_in c.args.source.text.now; most = c.args.source.most } in
-    rw c.in-AtProgram.is (c.program_at.ensures k c.args.heading.now)
+    rw c.in-AtProgram.is (c.program_at.ensures k c.args.parsed.now)
 
 pub returns-in-AtComma : goal.returns-in-AtComma
 returns-in-AtComma c =
     let k : Context = record { bytes = bytes_in c.args.source.text.now; most = c.args.source.most } in
-    rw c.in-AtComma.is (c.comma_at.ensures k c.args.heading.now)
+    rw c.in-AtComma.is (c.comma_at.ensures k c.args.parsed.now)
 
 pub returns-in-AtType : goal.returns-in-AtType
-returns-in-AtType c = rw c.in-AtType.is (c.type_at.ensures c.args.heading.now)
+returns-in-AtType c = rw c.in-AtType.is c.type_at.ensures
 
 pub returns-in-AtInit : goal.returns-in-AtInit
 returns-in-AtInit c =
@@ -21,7 +21,7 @@ returns-in-AtInit c =
     rw c.in-AtInit.is (c.init_begins.ensures k)
 
 pub returns-in-InBody : goal.returns-in-InBody
-returns-in-InBody c = rw c.in-InBody.is (c.body_step.ensures c.args.heading.now)
+returns-in-InBody c = rw c.in-InBody.is c.body_step.ensures
 
 pub returns-in-AtName : goal.returns-in-AtName
 returns-in-AtName c = rw c.in-AtName.is c.name_at.ensures

@@ -9,8 +9,8 @@ use Rattle.st_parser.proofs.MarkTests.{next-test}
 use Rattle.st_parser.proofs.declarations.type_at.Goals as goal
 
 pub returns-in_default : goal.returns-in_default
-returns-in_default c = λ h.
-    let v = program h in
+returns-in_default c =
+    let v = program c.args.parsed.now in
     let r = c.refuse_program.result in
     let m = mark_of c.args.t.tok in
     let end : Gives v r (refused c.args.t) = subst (λ x. Gives v x (refused c.args.t)) (sym c.refuse_program.ensures) refl in

@@ -13,12 +13,12 @@ use Rattle.st_parser.proofs.declarations.var_at.Goals as goal
 pub returns-in_default : goal.returns-in_default
 returns-in_default c =
     let k : Context = record { bytes = bytes_in c.args.source.text.now; most = c.args.source.most } in
-    let v = program c.decl_at.new.heading in
+    let v = program c.decl_at.new.parsed in
     let r = c.decl_at.result in
     let m = mark_of c.args.t.tok in
-    let marked : Gives v r (decl_at k (opening c.begin-in_default.new.heading) m c.args.t) =
-    subst (λ x. Gives v r (decl_at k (opening c.begin-in_default.new.heading) x c.args.t)) c.mark_of-mark.ensures c.decl_at.ensures in
-    let given : Gives v r (decl_at k (begun (front c.args.heading.now) section.Local) m c.args.t) =
+    let marked : Gives v r (decl_at k (opening c.begin-in_default.new.parsed) m c.args.t) =
+    subst (λ x. Gives v r (decl_at k (opening c.begin-in_default.new.parsed) x c.args.t)) c.mark_of-mark.ensures c.decl_at.ensures in
+    let given : Gives v r (decl_at k (begun (front c.args.parsed.now) section.Local) m c.args.t) =
     subst (λ o. Gives v r (decl_at k o m c.args.t)) c.begin-in_default.ensures marked in
     next-test v r m mark.Constant _ _ (λ e. c.in_default.not-Constant (c.mark_of-mark.ensures ∙ e))
     (next-test v r m mark.Retain _ _ (λ e. c.in_default.not-Retain (c.mark_of-mark.ensures ∙ e)) given)

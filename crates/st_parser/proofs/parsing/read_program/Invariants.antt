@@ -6,5 +6,5 @@ use Rattle.st_parser.proofs.parsing.read_program.Given as goal
 
 abbrev pub invariant-loop-i : goal.invariant-loop-i
 invariant-loop-i l =
-    run (record { bytes = bytes_in l.fn.text; most = l.fn.most }) l.tokens.end (drop l.i l.tokens.tokens) (program l.heading l.place)
+    run (record { bytes = bytes_in l.fn.text; most = l.fn.most }) l.tokens.end (drop l.i l.tokens.tokens) (program l.parsed l.place)
     ≡ read_program (record { bytes = bytes_in l.fn.text; most = l.fn.most }) l.tokens.end l.tokens.tokens
