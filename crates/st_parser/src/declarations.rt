@@ -2,7 +2,6 @@
 
 ghost use Rattle.std.specs.Prelude.{◌≡◌, [], ◌∷◌, ◌++◌, Ok, Some, cond};
 ghost use Rattle.st_lexer.specs.Reading.{IsInside};
-ghost use Rattle.st_tree.specs.StmtTree.{no_stmts};
 ghost use Rattle.st_tree.specs.ExprViews.{expr_tree, expr_tree_or_none};
 ghost use Rattle.st_tree.specs.StmtViews.{stmt_trees};
 ghost use Rattle.st_parser.specs.declared.state.Parsed.{Parsed as ParsedOf};
@@ -12,7 +11,7 @@ ghost use Rattle.st_parser.specs.ExprMachine.{Context};
 ghost use Rattle.st_parser.specs.FormViews as form_view;
 ghost use Rattle.st_parser.specs.StateViews.{Gives, levels, phase as phase_of};
 ghost use Rattle.st_parser.specs.ProgramViews as view;
-ghost use Rattle.st_parser.specs.StmtMachine.{start, refused as refused_of, stmt_step as stmt_step_of};
+ghost use Rattle.st_parser.specs.StmtMachine.{refused as refused_of, stmt_step as stmt_step_of};
 ghost use Rattle.st_parser.specs.ProgramMachine as machine;
 
 use crate::expressions::{Progress, read};
@@ -112,16 +111,6 @@ fn body_step(source: Source, parsed: &mut Parsed, t: Token) -> Result<Place, Syn
     }
 }
 
-// The first token of the body.
-fn body_begins(source: Source, parsed: &mut Parsed, t: Token) -> Result<Place, SyntaxFault>
-    requires inside { IsInside source.text.now t }
-    ensures { Gives (view.program parsed.new) result (machine.body_step (view.front parsed.old)
-        (stmt_step_of (record { bytes = bytes_in source.entry.text.now; most = source.entry.most }) [] no_stmts start t)) }
-{
-    parsed.bodies = nothing_read(source.alloc);
-    body_step(source, parsed, t)
-}
-
 // The first token of a program.
 fn program_at(t: Token) -> Result<Place, SyntaxFault>
     ensures { (c : Context) → (p : ParsedOf) → Gives (view.program p) result (machine.program_step c machine.at_program t) }
@@ -169,7 +158,8 @@ fn block_at(source: Source, parsed: &mut Parsed, t: Token) -> Result<Place, Synt
     if is(mark, Mark::Var) {
         return Ok(Place::AtVar);
     }
-    body_begins(source, parsed, t)
+    parsed.bodies = nothing_read(source.alloc);
+    body_step(source, parsed, t)
 }
 
 // A token behind VAR.
