@@ -1,4 +1,4 @@
-use Rattle.std.proofs.Common.{sym, subst, Option, None, Some}
+use Rattle.std.proofs.Common.{sym, subst, Option}
 use Rattle.st_tree.specs.declared.expr.Expr.{Expr}
 use Rattle.st_tree.specs.ExprViews.{expr_tree_or_none}
 use Rattle.st_tree.specs.StmtViews.{label_trees, stmt_trees}
