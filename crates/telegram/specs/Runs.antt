@@ -1,5 +1,5 @@
 -- Runs: what a wire's script leaves behind on any unit.
-use Rattle.std.specs.Prelude.{◌≡◌, ◌<◌, ◌≤◌, ◌+◌, ◌-◌, ℕ, zero, suc, Bool, true, false, List, [], ◌∷◌, ◌++◌, length, Option, Some, None, IfSome, ℤ, Result, Ok, Err}
+use Rattle.std.specs.Prelude.{◌≡◌, ◌<◌, ◌≤◌, ◌+◌, ◌-◌, ℕ, zero, suc, List, [], ◌∷◌, ◌++◌, length, Option, Some, None, IfSome, ℤ, Result, Ok, Err}
 use Rattle.std.specs.Io.KnownBytes.{Appends}
 use Rattle.vcp_outside.specs.Counts.{Rose}
 use Rattle.vcp_outside.specs.Seen.{SinkSeen}
@@ -49,11 +49,6 @@ told_text w es words cut = handings_text (told_handings w es words cut) ++ told_
 -- what is meant: the lines and the totals of the wire run
 abbrev pub meant_text : Wire → List Event → List ℕ
 meant_text w es = handings_text (wired w es) ++ wire_end_text (length (sent_in es)) (length (delivered (wired w es)))
-
--- a cycle begins with the event
-abbrev pub is_cycle : Event → Bool
-is_cycle (event.Cycle values) = true
-is_cycle (event.Deliver line id number alter) = false
 
 -- how many values a receipt delivers
 abbrev pub one_of : Receipt → ℕ

@@ -1,5 +1,8 @@
 //! What happens on a wire.
 
+ghost use Rattle.std.specs.Prelude.{◌≡◌, ◌≤◌, ◌+◌, ℕ};
+ghost use Rattle.telegram.specs.ScriptOf.{begun_after};
+
 use vcp_base::Row;
 
 /// What happens on a wire, as a line of a script says.
@@ -21,4 +24,17 @@ pub enum Event {
         /// What is added to the word, at most 2^62 in size.
         alter: i64,
     },
+}
+
+impl Event {
+    /// How many cycles begin with it: one, or none.
+    pub(crate) fn cycles(&self) -> u32
+        ensures after { (begun : ℕ) → begun_after begun self.now ≡ begun + result }
+        ensures few { result ≤ 1 }
+    {
+        match self {
+            Event::Cycle { .. } => 1,
+            Event::Deliver { .. } => 0,
+        }
+    }
 }

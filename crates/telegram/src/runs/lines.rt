@@ -1,40 +1,27 @@
 //! The lines of a run over a wire. Each call writes one line to a sink and takes no memory. It answers
 //! `Failed` only where the sink's count of faults rose, and then a part of the line is written.
 
-ghost use Rattle.std.specs.Prelude.{ℕ};
-ghost use Rattle.telegram.specs.declared.receipt.Receipt.TheVariants as receipt;
 ghost use Rattle.vcp_outside.specs.Written.{WritesTo};
 ghost use Rattle.vcp_outside.specs.Gathering.{GathersTo};
 ghost use Rattle.telegram.specs.WireLines.{receipt_text, receipt_line as receipt_line_of, wire_end_text, unsent_text};
 
 use crate::Receipt;
-use vcp_base::Residue;
 use vcp_outside::{Failed, Line, Sink, begin};
-
-// Goes on with a delivered value, after its telegram's number.
-fn then_delivered<O: Sink>(line: &mut Line, out: &mut O, number: u32, value: i64)
-    ensures { GathersTo (O.seen out.old) (O.seen out.new) line.old line.new (receipt_text number (receipt.Delivered value)) }
-{
-    line.numbered(out, b"delivered ", number as u64);
-    line.signed(out, b" ", value);
-}
-
-// Goes on with the residue that was found and the one of the sender that is heard.
-fn then_stray<O: Sink>(line: &mut Line, out: &mut O, found: Residue, expected: Residue)
-    ensures { (number : ℕ) → GathersTo (O.seen out.old) (O.seen out.new) line.old line.new (receipt_text number (receipt.Stray found expected)) }
-{
-    line.numbered(out, b"stray found ", found);
-    line.numbered(out, b" expected ", expected);
-}
 
 // Goes on with what the receiver answered to a telegram of this number.
 fn then_receipt<O: Sink>(line: &mut Line, out: &mut O, number: u32, receipt: &Receipt)
     ensures { GathersTo (O.seen out.old) (O.seen out.new) line.old line.new (receipt_text number receipt.now) }
 {
     match *receipt {
-        Receipt::Delivered { value } => then_delivered(line, out, number, value),
+        Receipt::Delivered { value } => {
+            line.numbered(out, b"delivered ", number as u64);
+            line.signed(out, b" ", value);
+        }
         Receipt::Early { begun } => line.numbered(out, b"early ", begun as u64),
-        Receipt::Stray { found, expected } => then_stray(line, out, found, expected),
+        Receipt::Stray { found, expected } => {
+            line.numbered(out, b"stray found ", found);
+            line.numbered(out, b" expected ", expected);
+        }
         Receipt::Order { last } => line.numbered(out, b"order last ", last as u64),
         Receipt::Age { cycle } => line.numbered(out, b"age ", cycle as u64),
         Receipt::Value => line.text(out, b"value"),

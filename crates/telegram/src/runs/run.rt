@@ -5,7 +5,7 @@ ghost use Rattle.vcp_base.specs.Limits.{most_cycles};
 ghost use Rattle.telegram.specs.Sendings.{most_senders};
 ghost use Rattle.telegram.specs.WireRun.{sent_in};
 ghost use Rattle.telegram.specs.ScriptOf.{ScriptFits};
-ghost use Rattle.telegram.specs.Runs.{RunsWire, is_cycle, one_of};
+ghost use Rattle.telegram.specs.Runs.{RunsWire, one_of};
 ghost use Rattle.telegram.specs.declared.runs.wire_end.WireRunFault.TheVariants as fault;
 
 use crate::runs::lines::{end_line, receipt_line, unsent_line};
@@ -15,7 +15,7 @@ use crate::{Event, Events, Receipt, Receiver, Telegram, WireScript, receipts_fol
 use coded_unit::{Unit, Word};
 use std::alloc::Global;
 use vcp_base::Memory;
-use vcp_outside::Sink;
+use vcp_outside::{Failed, Sink};
 
 // How many cycles there are.
 fn cycles_of(events: &Events) -> usize
@@ -23,21 +23,9 @@ fn cycles_of(events: &Events) -> usize
 {
     let mut cycles = 0;
     'events: for i in 0..events.len() {
-        if begins(events.at(i)) {
-            cycles += 1;
-        }
+        cycles += events.at(i).cycles() as usize;
     }
     cycles
-}
-
-// Whether a cycle begins.
-fn begins(event: &Event) -> bool
-    ensures { result ≡ is_cycle event.now }
-{
-    match event {
-        Event::Cycle { .. } => true,
-        Event::Deliver { .. } => false,
-    }
 }
 
 // Room for the words of all senders in so many cycles.
@@ -99,7 +87,10 @@ pub fn run_wire<U: Unit, O: Sink>(
     ensures stayed { result ≢ Err fault.Write → (O.seen out.new).faults ≡ (O.seen out.old).faults }
 {
     receipts_follow_the_equation();
-    let mut words = room(alloc, script.wire.senders, cycles_of(&script.events))?;
+    let mut words = match room(alloc, script.wire.senders, cycles_of(&script.events)) {
+        Ok(words) => words,
+        Err(Memory) => return Err(WireRunFault::Memory),
+    };
     let mut receiver = Receiver::new(
         script.wire.listen,
         script.wire.age,
@@ -112,8 +103,10 @@ pub fn run_wire<U: Unit, O: Sink>(
         match script.events.at(i) {
             Event::Cycle { values } => {
                 if let Some(id) = send_all(unit, &script.wire, begun, values, &mut words) {
-                    unsent_line(out, begun, id)?;
-                    return Ok(WireEnd::Unsent { cycle: begun, id });
+                    match unsent_line(out, begun, id) {
+                        Ok(()) => return Ok(WireEnd::Unsent { cycle: begun, id }),
+                        Err(Failed) => return Err(WireRunFault::Write),
+                    }
                 }
                 receiver.tick();
                 begun += 1;
@@ -129,11 +122,15 @@ pub fn run_wire<U: Unit, O: Sink>(
                     number: *number,
                     word,
                 });
-                receipt_line(out, *line, *number, &receipt)?;
-                delivered += delivered_by(&receipt);
+                match receipt_line(out, *line, *number, &receipt) {
+                    Ok(()) => delivered += delivered_by(&receipt),
+                    Err(Failed) => return Err(WireRunFault::Write),
+                }
             }
         }
     }
-    end_line(out, begun, delivered)?;
-    Ok(WireEnd::Complete)
+    match end_line(out, begun, delivered) {
+        Ok(()) => Ok(WireEnd::Complete),
+        Err(Failed) => Err(WireRunFault::Write),
+    }
 }

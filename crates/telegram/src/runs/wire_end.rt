@@ -1,11 +1,5 @@
 //! How a run over a wire ends.
 
-ghost use Rattle.std.specs.Prelude.{◌≡◌};
-ghost use Rattle.telegram.specs.declared.runs.wire_end.WireRunFault.TheVariants as fault;
-
-use vcp_base::Memory;
-use vcp_outside::Failed;
-
 /// How a run over a wire ended.
 #[derive(Clone, Copy)]
 pub enum WireEnd {
@@ -27,20 +21,4 @@ pub enum WireRunFault {
     Write,
     /// There was no memory for the words. Nothing was sent or written.
     Memory,
-}
-
-impl From<Failed> for WireRunFault {
-    ghost from_gives = { λ _ f. f ≡ fault.Write };
-
-    fn from(_: Failed) -> WireRunFault {
-        WireRunFault::Write
-    }
-}
-
-impl From<Memory> for WireRunFault {
-    ghost from_gives = { λ _ f. f ≡ fault.Memory };
-
-    fn from(_: Memory) -> WireRunFault {
-        WireRunFault::Memory
-    }
 }

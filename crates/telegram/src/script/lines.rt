@@ -15,14 +15,7 @@ use crate::script::numbers::{number_below, numbers};
 use crate::script::wire_fault::WireFault;
 use crate::{Event, Wire};
 use std::alloc::Global;
-use vcp_base::{Row, Ty, WordsLeft, fits, is_addend};
-
-// Whether a value is a DINT.
-fn is_dint(v: i64) -> bool
-    ensures { result ≡ fits_of ty.Dint v }
-{
-    fits(Ty::Dint, v as i128)
-}
+use vcp_base::{Row, Ty, WordsLeft, fits, is_addend, same_bytes};
 
 // Whether each of these values is a DINT.
 #[tactic(auto, using(crate::proofs::LinesFit::next_fits, crate::proofs::LinesFit::all_fit))]
@@ -30,7 +23,7 @@ fn are_dints(values: &Row) -> bool
     ensures { result ≡ list_all (fits_of ty.Dint) values.now }
 {
     'values: for i in 0..values.len() {
-        if !is_dint(values.at(i)) {
+        if !fits(Ty::Dint, values.at(i) as i128) {
             return false;
         }
     }
@@ -110,13 +103,17 @@ pub fn event(
     let Some(verb) = words.next() else {
         return Err(WireFault::Form { line });
     };
-    if verb == b"cycle".as_slice() {
-        let values = numbers(alloc, line, &mut words)?;
-        return cycle(wire, line, values);
+    if same_bytes(verb, b"cycle") {
+        return match numbers(alloc, line, &mut words) {
+            Ok(values) => cycle(wire, line, values),
+            Err(fault) => Err(fault),
+        };
     }
-    if verb == b"deliver".as_slice() {
-        let numbers = numbers(alloc, line, &mut words)?;
-        return delivery(wire, begun, line, &numbers);
+    if same_bytes(verb, b"deliver") {
+        return match numbers(alloc, line, &mut words) {
+            Ok(numbers) => delivery(wire, begun, line, &numbers),
+            Err(fault) => Err(fault),
+        };
     }
     Err(WireFault::Form { line })
 }

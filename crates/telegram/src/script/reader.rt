@@ -1,22 +1,22 @@
 //! The script of a text.
 
-ghost use Rattle.std.specs.Prelude.{◌≡◌, ◌≢◌, ◌≤◌, ◌+◌, ℕ, length, Ok, Err, IfOk, IfErr};
+ghost use Rattle.std.specs.Prelude.{◌≡◌, ◌≢◌, ◌≤◌, ◌+◌, length, Ok, Err, IfOk, IfErr};
 ghost use Rattle.std.specs.List.{list_any};
 ghost use Rattle.std.specs.Str.Lines.{lines};
 ghost use Rattle.vcp_base.specs.Limits.{most_source_bytes};
 ghost use Rattle.vcp_base.specs.Lines.{read_lines};
 ghost use Rattle.telegram.specs.WireRun.{AreEvents, IsWire};
-ghost use Rattle.telegram.specs.ScriptOf.{AreSent, ScriptFits, begun_after, events_of, is_head, script_of};
+ghost use Rattle.telegram.specs.ScriptOf.{AreSent, ScriptFits, events_of, is_head, script_of};
 ghost use Rattle.telegram.specs.declared.script.wire_fault.WireFault.TheVariants as refusal;
 
+use crate::Wire;
 use crate::script::events::Events;
 use crate::script::head::{head, names_wire};
 use crate::script::lines::event;
 use crate::script::script::WireScript;
 use crate::script::wire_fault::WireFault;
-use crate::{Event, Wire};
 use std::alloc::Global;
-use vcp_base::first_read;
+use vcp_base::{Memory, first_read};
 
 // Whether a line of a text has `wire` as its first word.
 #[tactic(auto, using(crate::proofs::Heads::head_here, crate::proofs::Heads::no_head_here, crate::proofs::Heads::no_head_left))]
@@ -36,17 +36,6 @@ fn has_head(bytes: &[u8]) -> bool
     false
 }
 
-// How many cycles begin with an event.
-fn begins(event: &Event) -> u32
-    ensures after { (begun : ℕ) → begun_after begun event.now ≡ begun + result }
-    ensures few { result ≤ 1 }
-{
-    match event {
-        Event::Cycle { .. } => 1,
-        Event::Deliver { .. } => 0,
-    }
-}
-
 // The events of the lines of a text before which so many lines stand.
 #[tactic(auto, using(crate::proofs::Reading::nothing_read, crate::proofs::Reading::one_event, crate::proofs::Reading::refused_line, crate::proofs::Reading::all_read, crate::proofs::Reading::none_read, crate::proofs::Reading::one_read))]
 fn events(alloc: Global, wire: &Wire, bytes: &[u8], before: u32) -> Result<Events, WireFault>
@@ -62,9 +51,15 @@ fn events(alloc: Global, wire: &Wire, bytes: &[u8], before: u32) -> Result<Event
     let mut number = before;
     let mut begun = 0;
     'lines: while let Some((at, line, more)) = first_read(rest, number) {
-        let event = event(alloc, wire, begun, at, line)?;
-        begun += begins(&event);
-        events.push(event)?;
+        let event = match event(alloc, wire, begun, at, line) {
+            Ok(event) => event,
+            Err(fault) => return Err(fault),
+        };
+        begun += event.cycles();
+        match events.push(event) {
+            Ok(()) => {}
+            Err(Memory) => return Err(WireFault::Memory),
+        }
         number = at;
         rest = more;
     }
@@ -94,7 +89,12 @@ pub fn read_wire(alloc: Global, bytes: &[u8]) -> Result<WireScript, WireFault>
     let Some((number, line, more)) = first_read(bytes, 0) else {
         return Err(WireFault::Form { line: 1 });
     };
-    let wire = head(alloc, number, line)?;
-    let events = events(alloc, &wire, more, number)?;
-    Ok(WireScript { wire, events })
+    let wire = match head(alloc, number, line) {
+        Ok(wire) => wire,
+        Err(fault) => return Err(fault),
+    };
+    match events(alloc, &wire, more, number) {
+        Ok(events) => Ok(WireScript { wire, events }),
+        Err(fault) => Err(fault),
+    }
 }

@@ -1,7 +1,6 @@
-use Rattle.std.proofs.Common.{rules, ◌≤◌, ◌+◌, ◌*◌, ◌∙◌, ℕ, ℤ, ◌+ℤ◌, List, length, slice_get, Some, Err, arith, refl, ap, sym, subst}
+use Rattle.std.proofs.Common.{rules, ◌≤◌, ◌+◌, ◌*◌, ◌∙◌, ℕ, ℤ, ◌+ℤ◌, List, length, slice_get, Some, arith, refl, ap, sym, subst}
 use Rattle.std.proofs.Math.Nat.{le_refl, le_trans}
 use Rattle.std.proofs.lemmas.List.{drop_all}
-use Rattle.std.proofs.lemmas.Result.{err_from_is_err_and}
 use Rattle.coded_unit.specs.Words.{nearest_word}
 use Rattle.telegram.specs.Receipts.{State, nothing_heard, receipt_of}
 use Rattle.telegram.specs.WireRun.{IsEvent}
@@ -11,16 +10,15 @@ use Rattle.telegram.proofs.SoFar.{SoFar, cycle_sent, few_cycles, handed, kept_le
 use Rattle.telegram.proofs.Ends.{no_memory, complete, end_failed, line_failed, unsent, unsent_failed}
 use Rattle.telegram.proofs.Telling.{one_at_most}
 use Rattle.telegram.proofs.runs.run.run_wire.Goals as goal
-use Rattle.telegram.proofs.runs.run.run_wire.Goals.{in-Cycle+in_default, in-Deliver+in_ok-receipt_line-in-Deliver}
+use Rattle.telegram.proofs.runs.run.run_wire.Goals.{in-Cycle+in_default, in-Deliver+in-Ok-receipt_line}
 
 -- ---- before the first event
 
-pub returns-in_err-words : goal.returns-in_err-words
-returns-in_err-words g c =
-    let p = err_from_is_err_and c.from_residual.result c.from_residual.ensures.1 in
+pub returns-in-Err : goal.returns-in-Err
+returns-in-Err g c =
     record {
       runs =
-          rw (p.1, p.2) (no_memory c.args.script.now.wire c.args.script.now.events (g.U.Unit.seen c.args.unit.now) (g.O.Sink.seen c.args.out.now));
+          (no_memory c.args.script.now.wire c.args.script.now.events (g.U.Unit.seen c.args.unit.now) (g.O.Sink.seen c.args.out.now));
       later = le_refl _;
       stayed = λ other. refl;
     }
@@ -33,12 +31,12 @@ events-init g c =
     let old = g.O.Sink.seen c.args.out.now in
     record {
       so_far =
-          subst (λ (s : State). SoFar w es before before old old 0 0 0 s c.in_ok-words.words.items) (sym c.new-receiver.ensures)
-          (subst (λ (l : List ℤ). SoFar w es before before old old 0 0 0 (nothing_heard w.listen w.age w.seed w.step) l) (sym c.in_ok-words.ensures.empty)
+          subst (λ (s : State). SoFar w es before before old old 0 0 0 s c.in-Ok.words.items) (sym c.new-receiver.ensures)
+          (subst (λ (l : List ℤ). SoFar w es before before old old 0 0 0 (nothing_heard w.listen w.age w.seed w.step) l) (sym c.in-Ok.ensures.empty)
           (so_far_none w es before old c.requires.sent));
       faults = le_refl _;
       stayed = refl;
-      room = c.in_ok-words.ensures.room ∙ ap (λ (n : ℕ). n * w.senders) c.cycles_of.ensures;
+      room = c.in-Ok.ensures.room ∙ ap (λ (n : ℕ). n * w.senders) c.cycles_of.ensures;
     }
 
 -- ---- a cycle begins
@@ -82,25 +80,23 @@ tick-requires g c =
     let same = ap (λ (s : State). s.begun) c.events.invariant.so_far.hears_is in
     omega (arith, below, same, c.requires.events.few)
 
-pub returns-in_err-unsent_line-in-Cycle : goal.returns-in_err-unsent_line-in-Cycle
-returns-in_err-unsent_line-in-Cycle g c =
+pub returns-in-Err-unsent_line : goal.returns-in-Err-unsent_line
+returns-in-Err-unsent_line g c =
     let w = c.args.script.now.wire in
     let es = c.args.script.now.events in
-    let p = err_from_is_err_and c.from_residual-in_err-unsent_line-in-Cycle.result c.from_residual-in_err-unsent_line-in-Cycle.ensures.1 in
     record {
       runs =
-          rw (p.1, p.2)
           (unsent_failed w es (g.U.Unit.seen c.args.unit.now) (g.U.Unit.seen c.events.unit) (g.O.Sink.seen c.args.out.now) (g.O.Sink.seen c.events.out)
           c.events.i c.events.begun c.events.delivered c.events.receiver c.events.words.items c.events.invariant.so_far c.events.invariant.faults
           (c.receipts_follow_the_equation.ensures.run w es c.requires.wire c.requires.events) c.in-Cycle.values c.send_all.new.words.items
           (g.U.Unit.seen c.send_all.new.unit) c.in-Some.id (c.at.ensures ∙ ap Some c.in-Cycle.is) c.in-Some.ensures.sends (g.O.Sink.seen c.unsent_line.new.out)
-          c.in_err-unsent_line-in-Cycle.ensures.part c.in_err-unsent_line-in-Cycle.ensures.cause.failed);
-      later = le_trans c.events.invariant.faults c.in_err-unsent_line-in-Cycle.ensures.cause.later;
-      stayed = λ other. absurd (other (p.1 ∙ ap Err p.2));
+          c.in-Err-unsent_line.ensures.part c.in-Err-unsent_line.ensures.cause.failed);
+      later = le_trans c.events.invariant.faults c.in-Err-unsent_line.ensures.cause.later;
+      stayed = λ other. absurd (other refl);
     }
 
-pub returns-in-Some : goal.returns-in-Some
-returns-in-Some g c =
+pub returns-in-Ok-unsent_line : goal.returns-in-Ok-unsent_line
+returns-in-Ok-unsent_line g c =
     let w = c.args.script.now.wire in
     let es = c.args.script.now.events in
     record {
@@ -109,9 +105,9 @@ returns-in-Some g c =
           c.events.i c.events.begun c.events.delivered c.events.receiver c.events.words.items c.events.invariant.so_far c.events.invariant.faults
           (c.receipts_follow_the_equation.ensures.run w es c.requires.wire c.requires.events) c.in-Cycle.values c.send_all.new.words.items
           (g.U.Unit.seen c.send_all.new.unit) c.in-Some.id (c.at.ensures ∙ ap Some c.in-Cycle.is) c.in-Some.ensures.sends (g.O.Sink.seen c.unsent_line.new.out)
-          c.in_ok-unsent_line-in-Cycle.ensures.whole;
-      later = le_trans c.events.invariant.faults c.in_ok-unsent_line-in-Cycle.ensures.cause.later;
-      stayed = λ other. c.in_ok-unsent_line-in-Cycle.ensures.cause.stayed ∙ c.events.invariant.stayed;
+          c.in-Ok-unsent_line.ensures.whole;
+      later = le_trans c.events.invariant.faults c.in-Ok-unsent_line.ensures.cause.later;
+      stayed = λ other. c.in-Ok-unsent_line.ensures.cause.stayed ∙ c.events.invariant.stayed;
     }
 
 -- ---- a telegram is handed
@@ -168,8 +164,8 @@ take-receipt-requires g c =
     few_cycles w es before now old new c.events.i c.events.begun c.events.delivered c.events.receiver c.events.words.items c.events.invariant.so_far in
     le_trans (le_trans sent few) c.requires.events.few
 
-pub returns-in_err-receipt_line-in-Deliver : goal.returns-in_err-receipt_line-in-Deliver
-returns-in_err-receipt_line-in-Deliver g c =
+pub returns-in-Err-receipt_line : goal.returns-in-Err-receipt_line
+returns-in-Err-receipt_line g c =
     let w = c.args.script.now.wire in
     let es = c.args.script.now.events in
     let s = c.events.receiver in
@@ -179,17 +175,15 @@ returns-in_err-receipt_line-in-Deliver g c =
     let kept_there = ap (λ (l : List ℤ). slice_get l (n * w.senders + c.in-Deliver.id)) (sym c.deref.ensures.value) ∙ c.word_at.ensures in
     let added = ap (λ (z : ℤ). nearest_word (c.word_at.result +ℤ z)) (same_addend c.in-Deliver.alter sent.1) in
     let x_is = c.take-receipt.ensures.receipt ∙ ap (λ (z : ℤ). receipt_of s (record { number = n; word = z })) (c.shift-word.ensures ∙ added) in
-    let p = err_from_is_err_and c.from_residual-in_err-receipt_line-in-Deliver.result c.from_residual-in_err-receipt_line-in-Deliver.ensures.1 in
     record {
       runs =
-          rw (p.1, p.2)
           (line_failed w es (g.U.Unit.seen c.args.unit.now) (g.U.Unit.seen c.events.unit) (g.O.Sink.seen c.args.out.now) (g.O.Sink.seen c.events.out)
           c.events.i c.events.begun c.events.delivered s c.events.words.items c.events.invariant.so_far c.events.invariant.faults
           (c.receipts_follow_the_equation.ensures.run w es c.requires.wire c.requires.events) c.in-Deliver.line c.in-Deliver.id n c.in-Deliver.alter
           c.word_at.result c.take-receipt.result there sent.0 kept_there x_is (g.O.Sink.seen c.receipt_line.new.out)
-          c.in_err-receipt_line-in-Deliver.ensures.part c.in_err-receipt_line-in-Deliver.ensures.cause.failed);
-      later = le_trans c.events.invariant.faults c.in_err-receipt_line-in-Deliver.ensures.cause.later;
-      stayed = λ other. absurd (other (p.1 ∙ ap Err p.2));
+          c.in-Err-receipt_line.ensures.part c.in-Err-receipt_line.ensures.cause.failed);
+      later = le_trans c.events.invariant.faults c.in-Err-receipt_line.ensures.cause.later;
+      stayed = λ other. absurd (other refl);
     }
 
 pub overflow_add-delivered : goal.overflow_add-delivered
@@ -222,7 +216,7 @@ events-preserved g c =
             stayed = rw t.out-is invariant.stayed;
             room = rw t.words-is (t.send_all.ensures.room ∙ invariant.room);
           }
-      | in-Deliver+in_ok-receipt_line-in-Deliver t ↦
+      | in-Deliver+in-Ok-receipt_line t ↦
           let n = t.in-Deliver.number in
           let there = c.at.ensures ∙ ap Some t.in-Deliver.is in
           let sent = every_at (IsEvent w) es c.events.i _ c.requires.events.each there in
@@ -232,35 +226,18 @@ events-preserved g c =
           let next =
           handed w es before now old new c.events.i c.events.begun c.events.delivered s kept invariant.so_far t.in-Deliver.line t.in-Deliver.id n
           t.in-Deliver.alter t.word_at.result t.take-receipt.result there sent.0 kept_there x_is (g.O.Sink.seen t.receipt_line.new.out)
-          (c.events.delivered + t.delivered_by-delivered.result) t.in_ok-receipt_line-in-Deliver.ensures.whole
+          (c.events.delivered + t.delivered_by-delivered.result) t.in-Ok-receipt_line.ensures.whole
           (ap (λ (k : ℕ). c.events.delivered + k) t.delivered_by-delivered.ensures) in
           let later = t.receipt_line.ensures.cause.later in
           record {
             so_far = rw (t.out-is, t.unit-is, t.words-is, t.receiver-is, t.begun-is, t.delivered-is, t.take-receipt.ensures.receiver) next;
             faults = rw t.out-is (le_trans invariant.faults later);
-            stayed = rw t.out-is (t.in_ok-receipt_line-in-Deliver.ensures.cause.stayed ∙ invariant.stayed);
+            stayed = rw t.out-is (t.in-Ok-receipt_line.ensures.cause.stayed ∙ invariant.stayed);
             room = rw t.words-is invariant.room;
           }
     ]
 
 -- ---- behind the last event
-
-pub returns-in_err-end_line : goal.returns-in_err-end_line
-returns-in_err-end_line g c =
-    let w = c.args.script.now.wire in
-    let es = c.args.script.now.events in
-    let p = err_from_is_err_and c.from_residual-in_err-end_line.result c.from_residual-in_err-end_line.ensures.1 in
-    let past : length es ≤ c.events.i = subst (λ n. n ≤ c.events.i) c.len-i-end.ensures c.events-test.false in
-    record {
-      runs =
-          rw (p.1, p.2)
-          (end_failed w es (g.U.Unit.seen c.args.unit.now) (g.U.Unit.seen c.events.unit) (g.O.Sink.seen c.args.out.now) (g.O.Sink.seen c.events.out)
-          c.events.i c.events.begun c.events.delivered c.events.receiver c.events.words.items c.events.invariant.so_far c.events.invariant.faults
-          (c.receipts_follow_the_equation.ensures.run w es c.requires.wire c.requires.events) (drop_all c.events.i es past) (g.O.Sink.seen c.end_line.new.out)
-          c.in_err-end_line.ensures.part c.in_err-end_line.ensures.cause.failed);
-      later = le_trans c.events.invariant.faults c.in_err-end_line.ensures.cause.later;
-      stayed = λ other. absurd (other (p.1 ∙ ap Err p.2));
-    }
 
 pub returns : goal.returns
 returns g c =
@@ -269,12 +246,27 @@ returns g c =
     let past : length es ≤ c.events.i = subst (λ n. n ≤ c.events.i) c.len-i-end.ensures c.events-test.false in
     record {
       runs =
+          (end_failed w es (g.U.Unit.seen c.args.unit.now) (g.U.Unit.seen c.events.unit) (g.O.Sink.seen c.args.out.now) (g.O.Sink.seen c.events.out)
+          c.events.i c.events.begun c.events.delivered c.events.receiver c.events.words.items c.events.invariant.so_far c.events.invariant.faults
+          (c.receipts_follow_the_equation.ensures.run w es c.requires.wire c.requires.events) (drop_all c.events.i es past) (g.O.Sink.seen c.end_line.new.out)
+          c.in-Err-end_line.ensures.part c.in-Err-end_line.ensures.cause.failed);
+      later = le_trans c.events.invariant.faults c.in-Err-end_line.ensures.cause.later;
+      stayed = λ other. absurd (other refl);
+    }
+
+pub returns-in-Ok-end_line : goal.returns-in-Ok-end_line
+returns-in-Ok-end_line g c =
+    let w = c.args.script.now.wire in
+    let es = c.args.script.now.events in
+    let past : length es ≤ c.events.i = subst (λ n. n ≤ c.events.i) c.len-i-end.ensures c.events-test.false in
+    record {
+      runs =
           complete w es (g.U.Unit.seen c.args.unit.now) (g.U.Unit.seen c.events.unit) (g.O.Sink.seen c.args.out.now) (g.O.Sink.seen c.events.out)
           c.events.i c.events.begun c.events.delivered c.events.receiver c.events.words.items c.events.invariant.so_far c.events.invariant.faults
           (c.receipts_follow_the_equation.ensures.run w es c.requires.wire c.requires.events) (drop_all c.events.i es past) (g.O.Sink.seen c.end_line.new.out)
-          c.in_ok-end_line.ensures.whole;
-      later = le_trans c.events.invariant.faults c.in_ok-end_line.ensures.cause.later;
-      stayed = λ other. c.in_ok-end_line.ensures.cause.stayed ∙ c.events.invariant.stayed;
+          c.in-Ok-end_line.ensures.whole;
+      later = le_trans c.events.invariant.faults c.in-Ok-end_line.ensures.cause.later;
+      stayed = λ other. c.in-Ok-end_line.ensures.cause.stayed ∙ c.events.invariant.stayed;
     }
 
 pub new-receiver-requires : goal.new-receiver-requires
