@@ -1,9 +1,8 @@
 -- UpTo: a pair's run between two of its cycles.
-use Rattle.std.proofs.Common.{ℕ, ◌+◌, ◌<◌, ◌≤◌, ◌≡◌, ◌≢◌, false, refl, ap, subst, sym, ◌∙◌, ℤ, List, [], ◌∷◌, ◌++◌, append-nil, length, length-append, map, arith, Option, Result, Ok, Err}
+use Rattle.std.proofs.Common.{ℕ, ◌+◌, ◌<◌, ◌≤◌, ◌≡◌, ◌≢◌, false, refl, ap, subst, sym, ◌∙◌, ℤ, List, [], ◌∷◌, ◌++◌, append-nil, length, length-append, map, arith, Option, Ok, Err}
 use Rattle.std.proofs.Math.Nat.{le_refl}
 use Rattle.std.proofs.lemmas.List.{length-map}
 use Rattle.std.specs.Io.KnownBytes.{Appends}
-use Rattle.std.specs.Result.{IsErr}
 use Rattle.vcp_base.specs.Limits.{most_cycles}
 use Rattle.vcp_outside.specs.Written.{Writes}
 use Rattle.vcp_outside.specs.declared.failed.Failed.{Failed}
@@ -24,7 +23,6 @@ use Rattle.pair_channel.specs.PairRuns.{PairSoFar, pair_row_if}
 use Rattle.pair_channel.specs.PairStates.{PairState, fresh_pair}
 use Rattle.pair_channel.specs.PairTurns.{PairTurn}
 use Rattle.pair_channel.specs.PairMoments.{PairMoment}
-use Rattle.pair_channel.specs.PairRows.{cycle_end}
 
 -- What stands between two cycles of a pair's run over the rows `left`, of which `rest` are left: a cycle was carried and released for each of
 -- the rows taken, and its row of outputs is written.
@@ -106,18 +104,13 @@ cycles_left g t u left rest now b n p row h few one =
 
 -- ---- a row that couldn't all be written
 
-pub failed_row : (n : ℕ) (row : List ℤ) (old new : Option (List ℕ)) (before now : ℕ) (bytes : List ℕ) (e : Failed) (q : Result PairEnd Failed) →
-    IsErr q → bytes ≡ row_text n row → Writes {T = Unit {0}} old new before now bytes (Err e) →
-    Writes old new before now (texts_from row_text n (pair_row_if (cycle_end q) row)) q
-failed_row n row old new before now bytes e (Ok x) failed is h = absurd cc
-failed_row n row old new before now bytes e (Err f) failed is h =
+pub failed_row : (n : ℕ) (row : List ℤ) (old new : Option (List ℕ)) (before now : ℕ) (bytes : List ℕ) (e : Failed) → bytes ≡ row_text n row →
+    Writes {T = Unit {0}} old new before now bytes (Err e) →
+    Writes {T = PairEnd} old new before now (texts_from row_text n (row ∷ [])) (Err e)
+failed_row n row old new before now bytes e is h =
     let k : Writes {T = Unit {0}} {E = Failed} old new before now (texts_from row_text n (row ∷ [])) (Err e) =
     subst (λ b. Writes {T = Unit {0}} {E = Failed} old new before now b (Err e)) (is ∙ sym (append-nil (row_text n row))) h in
     record { whole = tt; part = k.part; cause = record { later = k.cause.later; capped = k.cause.capped; stayed = tt; failed = k.cause.failed } }
-
-pub failed_released : (q : Result PairEnd Failed) → IsErr q → cycle_end q ≡ pair.Released
-failed_released (Ok e) failed = absurd cc
-failed_released (Err f) failed = refl
 
 -- ---- a row that was written, and an end without one
 

@@ -18,28 +18,19 @@ pub(crate) fn both(first: &CycleEnd, second: &CycleEnd, row: &Row, other: &Row) 
     ensures { result ≡ both_of first.now second.now row.now other.now }
 {
     if first == second {
-        alike(first, row, other)
+        match *first {
+            CycleEnd::Released => compare_rows(row, other),
+            CycleEnd::Stopped { op, kind } => PairEnd::Stopped { op, kind },
+            refused => PairEnd::Parted {
+                first: refused,
+                second: refused,
+            },
+        }
     } else {
         PairEnd::Parted {
             first: *first,
             second: *second,
         }
-    }
-}
-
-/// How a cycle ends that both channels ended so.
-fn alike(end: &CycleEnd, row: &Row, other: &Row) -> PairEnd
-    requires few { length row.now < 2 ^ 32 }
-    requires width { length other.now ≡ length row.now }
-    ensures { result ≡ both_of end.now end.now row.now other.now }
-{
-    match *end {
-        CycleEnd::Released => compare_rows(row, other),
-        CycleEnd::Stopped { op, kind } => PairEnd::Stopped { op, kind },
-        refused => PairEnd::Parted {
-            first: refused,
-            second: refused,
-        },
     }
 }
 

@@ -4,36 +4,13 @@
 ghost use Rattle.vcp_outside.specs.Written.{WritesTo};
 ghost use Rattle.vcp_outside.specs.Gathering.{GathersTo};
 ghost use Rattle.pair_channel.specs.PairDone.{IsNumbered};
-ghost use Rattle.pair_channel.specs.PairLines.{channel_text, differ_text, parted_text, refused_output_text, operation_text};
+ghost use Rattle.pair_channel.specs.PairLines.{channel_text, differ_text, parted_text};
 
 use coded_machine::CycleEnd;
 use op_graph::Graph;
 use run_report::output_name;
-use vcp_base::{Residue, StopKind, Text, stop_name};
+use vcp_base::{Text, stop_name};
 use vcp_outside::{Failed, Line, Sink, begin};
-
-// Goes on with the number of an operation that stopped, and why.
-fn then_operation<O: Sink>(line: &mut Line, out: &mut O, op: u32, kind: StopKind)
-    ensures { GathersTo (O.seen out.old) (O.seen out.new) line.old line.new (operation_text op kind) }
-{
-    line.count(out, op as u64);
-    line.texts(out, b" ", stop_name(kind));
-}
-
-// Goes on with an output that is refused, the residue that was found and the expected one.
-fn then_refusal<O: Sink>(
-    line: &mut Line,
-    out: &mut O,
-    name: &Text,
-    found: Residue,
-    expected: Residue,
-)
-    ensures { GathersTo (O.seen out.old) (O.seen out.new) line.old line.new (refused_output_text name.now found expected) }
-{
-    line.texts(out, b"refused ", name.bytes());
-    line.numbered(out, b" found ", found);
-    line.numbered(out, b" expected ", expected);
-}
 
 // Goes on with how a channel ended a cycle.
 fn then_channel<O: Sink>(line: &mut Line, out: &mut O, graph: &Graph, end: &CycleEnd)
@@ -42,12 +19,19 @@ fn then_channel<O: Sink>(line: &mut Line, out: &mut O, graph: &Graph, end: &Cycl
 {
     match *end {
         CycleEnd::Released => line.text(out, b"released"),
-        CycleEnd::Stopped { op, kind } => then_operation(line, out, op, kind),
+        CycleEnd::Stopped { op, kind } => {
+            line.count(out, op as u64);
+            line.texts(out, b" ", stop_name(kind));
+        }
         CycleEnd::Refused {
             output,
             found,
             expected,
-        } => then_refusal(line, out, output_name(graph, output), found, expected),
+        } => {
+            line.texts(out, b"refused ", output_name(graph, output).bytes());
+            line.numbered(out, b" found ", found);
+            line.numbered(out, b" expected ", expected);
+        }
     }
 }
 

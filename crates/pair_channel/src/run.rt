@@ -56,10 +56,10 @@ fn run_cycle<U: Unit, V: Unit, O: Sink>(
 {
     let cycle = pair.cycles();
     match pair.cycle(first, second, inputs, outputs) {
-        PairEnd::Released => {
-            row_line(out, cycle, outputs)?;
-            Ok(PairEnd::Released)
-        }
+        PairEnd::Released => match row_line(out, cycle, outputs) {
+            Ok(()) => Ok(PairEnd::Released),
+            Err(Failed) => Err(Failed),
+        },
         end => Ok(end),
     }
 }
@@ -145,11 +145,21 @@ fn print_run<S: RowReader, U: Unit, V: Unit, O: Sink>(
     pairs_follow_their_answers();
     counts_bound_a_pair();
     let _rules = graph.len();
-    let names = graph.output_columns(alloc)?;
-    header_line(out, &names)?;
-    let end = run_rows(alloc, graph, pair, rows, first, second, out)?;
-    print_end(out, graph, pair.cycles(), &end)?;
-    Ok(end)
+    let names = match graph.output_columns(alloc) {
+        Ok(names) => names,
+        Err(Memory) => return Err(RunFault::Memory),
+    };
+    match header_line(out, &names) {
+        Ok(()) => {}
+        Err(Failed) => return Err(RunFault::Write),
+    }
+    match run_rows(alloc, graph, pair, rows, first, second, out) {
+        Ok(end) => match print_end(out, graph, pair.cycles(), &end) {
+            Ok(()) => Ok(end),
+            Err(Failed) => Err(RunFault::Write),
+        },
+        Err(fault) => Err(fault),
+    }
 }
 
 /// Runs a graph on a pair of channels, whose tables these are and whose seeds differ, over the rows that are left, the first channel on one
