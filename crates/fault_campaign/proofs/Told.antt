@@ -1,5 +1,5 @@
 -- Told: what a campaign on a pair has run and told, group by group.
-use Rattle.std.proofs.Common.{◌≡◌, ◌≤◌, ◌+◌, ℕ, zero, suc, ℤ, List, [], ◌∷◌, ◌++◌, length, take, slice_get, option_map, Option, Some, Ok, Err, refl, ap, sym, subst, ◌∙◌, length-append, arith}
+use Rattle.std.proofs.Common.{◌≡◌, ◌≤◌, ◌+◌, ℕ, zero, suc, ℤ, List, [], ◌∷◌, ◌++◌, length, take, slice_get, option_map, Option, Some, Result, Ok, Err, refl, ap, sym, subst, ◌∙◌, length-append, arith}
 use Rattle.std.proofs.lemmas.Option.{slice_get-map, slice_get_within}
 use Rattle.std.specs.Io.KnownBytes.{Appends}
 use Rattle.std.proofs.KnownBytes.{Appends-trans, Appends-nil}
@@ -10,6 +10,7 @@ use Rattle.signature_table.specs.Signatures.{Numbers}
 use Rattle.fault_script.specs.declared.act.Fault.{Fault}
 use Rattle.fault_script.specs.Groups.{line_of}
 use Rattle.fault_campaign.specs.Campaign.{verdicts_of}
+use Rattle.fault_campaign.specs.declared.fault.CampaignFault.{CampaignFault}
 use Rattle.fault_campaign.specs.declared.fault.CampaignFault.TheVariants as fault
 use Rattle.fault_campaign.proofs.CarriedByHand.{honest_first, honest_second}
 use Rattle.fault_injector.specs.Verdicts.{verdict_of}
@@ -21,6 +22,14 @@ use Rattle.fault_campaign.specs.PairCampaigns.{GroupsRan, PairsTold, group_lines
 use Rattle.fault_campaign.specs.PairVerdicts.{told_verdict, told_verdicts}
 use Rattle.fault_campaign.proofs.PairsTelling.{totals_next}
 use Rattle.fault_campaign.proofs.Telling.{no_lines, lines_next, line_failed, totals_failed}
+
+-- ---- what isn't a failed write
+
+pub wanted : {V : Type 0} → (let r : Result V CampaignFault = Err fault.Memory in r) ≡ Err fault.Write → ⊥
+wanted is = cc
+
+pub done : {V : Type 0} {v : V} → (let r : Result V CampaignFault = Ok v in r) ≡ Err fault.Write → ⊥
+done is = cc
 
 take_one_more : {X : Type 0} (xs : List X) (i : ℕ) (x : X) → slice_get xs i ≡ Some x → take (suc i) xs ≡ take i xs ++ x ∷ []
 take_one_more [] i x e = absurd cc

@@ -57,8 +57,10 @@ pub fn run_campaign<U: Unit, O: Sink>(
 {
     // The calls are put together from those of the run without faults and of the reruns.
     groups_are_rerun_one_after_another();
-    let reference = Reference::new(alloc, graph, table, rows, unit)?;
-    judge_groups(alloc, out, &reference, script, unit)
+    match Reference::new(alloc, graph, table, rows, unit) {
+        Ok(reference) => judge_groups(alloc, out, &reference, script, unit),
+        Err(Memory) => Err(CampaignFault::Memory),
+    }
 }
 
 /// The same behind a run without faults that was carried before.

@@ -18,7 +18,8 @@ use input_rows::RowList;
 use op_graph::Graph;
 use signature_table::Table;
 use std::alloc::Global;
-use vcp_outside::Sink;
+use vcp_base::Memory;
+use vcp_outside::{Failed, Sink};
 
 /// Runs each group of a script on a pair of channels, whose tables these are and whose seeds differ, over rows of inputs, in order: the
 /// faults in the first channel, on the unit, and the second channel on the processor itself. It writes the line of a group before the next
@@ -54,10 +55,18 @@ pub fn run_pairs<U: Unit, O: Sink>(
     let mut totals = PairTotals::new();
     'groups: for i in 0..script.len() {
         let group = script.at(i);
-        let verdict = run_group(alloc, graph, table, other, rows, group, unit)?;
-        group_line(out, group.line(), &verdict)?;
+        let verdict = match run_group(alloc, graph, table, other, rows, group, unit) {
+            Ok(verdict) => verdict,
+            Err(Memory) => return Err(CampaignFault::Memory),
+        };
+        match group_line(out, group.line(), &verdict) {
+            Ok(()) => {}
+            Err(Failed) => return Err(CampaignFault::Write),
+        }
         totals.count(&verdict);
     }
-    pair_totals_line(out, &totals)?;
-    Ok(())
+    match pair_totals_line(out, &totals) {
+        Ok(()) => Ok(()),
+        Err(Failed) => Err(CampaignFault::Write),
+    }
 }

@@ -31,7 +31,7 @@ use crate::reruns::marks::{mark_cells, mark_operations};
 use crate::reruns::passing::{advance, ends_same, next_touched};
 use crate::reruns::reading::read;
 use crate::reruns::reference::{CycleAnswers, Reference};
-use crate::reruns::room::append;
+use crate::reruns::room::{append, with_room};
 use crate::reruns::standing::{Standing, gather};
 use coded_machine::{cycles_by_hand_are_whole, end_of_answers, first_words, store_words};
 use coded_unit::{Answer, Unit, Word};
@@ -95,25 +95,23 @@ impl Work {
         let _sound = reference.cycles();
         let operations = graph.len() as usize;
         let cells = graph.cells() as usize;
+        let held = first_words(alloc, graph, table)?;
         let inputs = Row::zeros(alloc, graph.inputs())?;
-        let mut work = Work {
-            own: Vec::new(alloc),
-            past: Vec::new(alloc),
-            held: Vec::new(alloc),
-            past_held: Vec::new(alloc),
-            touched: Vec::new(alloc),
-            cell_marks: Vec::new(alloc),
-            marked_by: Vec::new(alloc),
+        let mut full = false;
+        let work = Work {
+            own: with_room(alloc, operations, &mut full),
+            past: with_room(alloc, operations, &mut full),
+            held,
+            past_held: with_room(alloc, cells, &mut full),
+            touched: with_room(alloc, operations, &mut full),
+            cell_marks: with_room(alloc, cells, &mut full),
+            marked_by: with_room(alloc, cells, &mut full),
             steady: false,
             inputs,
         };
-        work.own = Vec::with_capacity(alloc, operations)?;
-        work.past = Vec::with_capacity(alloc, operations)?;
-        work.held = first_words(alloc, graph, table)?;
-        work.past_held = Vec::with_capacity(alloc, cells)?;
-        work.touched = Vec::with_capacity(alloc, operations)?;
-        work.cell_marks = Vec::with_capacity(alloc, cells)?;
-        work.marked_by = Vec::with_capacity(alloc, cells)?;
+        if full {
+            return Err(Memory);
+        }
         Ok(work)
     }
 }
