@@ -3,7 +3,6 @@
 ghost use Rattle.std.specs.Prelude.{◌≡◌};
 ghost use Rattle.op_graph.specs.declared.build.Build.TheVariants as build;
 
-use std::alloc::AllocFailed;
 use vcp_base::Memory;
 
 /// Why an operation was not added. The builder is unchanged.
@@ -19,14 +18,6 @@ impl From<Memory> for Build {
     ghost from_gives = { λ _ e. e ≡ build.Memory };
 
     fn from(_: Memory) -> Self {
-        Build::Memory
-    }
-}
-
-impl<T: Drop> From<AllocFailed<T>> for Build {
-    ghost from_gives = { λ _ e. e ≡ build.Memory };
-
-    fn from(_: AllocFailed<T>) -> Self {
         Build::Memory
     }
 }

@@ -99,7 +99,9 @@ fn append_both<T: Drop>(
     if k >= MOST_OPERATIONS {
         return Err(Build::Full);
     }
-    entries.push(entry)?;
+    if entries.push(entry).is_err() {
+        return Err(Build::Memory);
+    }
     if operations.push(op).is_err() {
         entries.pop();
         return Err(Build::Memory);
@@ -261,7 +263,9 @@ impl GraphBuilder {
         if k >= MOST_OPERATIONS as usize {
             return Err(Build::Full);
         }
-        self.operations.push(op)?;
+        if self.operations.push(op).is_err() {
+            return Err(Build::Memory);
+        }
         Ok(k as u32)
     }
 

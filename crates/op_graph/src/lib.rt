@@ -24,7 +24,7 @@ pub use laws::{
 pub use lists::GraphLists;
 pub use op::{Cell, Loaded, Op, Outlet, TurnNode, Var};
 pub use rules::{
-    Entry, Place, converts, entry_of, from_fits, imm_fits, kind_fits, operand_fits, reads_as,
-    reads_operation, takes_type, turn_fits, ty_fits,
+    Entry, Place, converts, entry_of, from_fits, imm_fits, kind_fits, named, operand_fits,
+    reads_as, reads_operation, takes_type, turn_fits, ty_fits,
 };
 pub use turns_round::TurnsRound;

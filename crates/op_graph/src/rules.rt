@@ -4,6 +4,7 @@ ghost use Rattle.std.specs.Prelude.{◌≡◌, ◌==◌, ◌<◌, ℕ, pos};
 ghost use Rattle.std.specs.Option.{is_some};
 ghost use Rattle.std.specs.Ordering.{int_eq};
 ghost use Rattle.vcp_base.specs.declared.ty.Ty.{Ty as Type_};
+ghost use Rattle.op_graph.specs.Reads.{named as named_of};
 ghost use Rattle.op_graph.specs.Rules.{entry_of as entry_of_place, agree as agree_of, kind_fits as kind_fits_of, converts as converts_of};
 ghost use Rattle.op_graph.specs.Rules.{takes_type as takes_type_of, from_fits as from_fits_of, ty_fits as ty_fits_of, reads_as as reads_as_of};
 ghost use Rattle.op_graph.specs.Rules.{operand_fits as operand_fits_of, imm_fits as imm_fits_of, turn_fits as turn_fits_of};
@@ -105,6 +106,18 @@ pub fn ty_fits(kind: Kind, from: Ty, to: Ty) -> bool
         Kind::Conv => converts(from, to),
         Kind::Eq | Kind::Lt => same_type(to, Ty::Bool),
         _ => same_type(from, to),
+    }
+}
+
+/// The operation that operand `j`, counted from 0, names.
+#[inline(always)]
+pub fn named(op: &Op, j: u32) -> u32
+    ensures { result ≡ named_of op.now j }
+{
+    match j {
+        0 => op.a,
+        1 => op.b,
+        _ => op.c,
     }
 }
 
