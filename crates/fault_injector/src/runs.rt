@@ -17,4 +17,4 @@ pub use run_laws::{
     one_fault_runs_by_its_act, runs_under_acts_keep_the_run_law, scripted_runs_are_right_runs,
 };
 pub use scripted::{Carried, Scripted, answered, carried_of, changed, is_skip};
-pub use taking::{Past, named, taken};
+pub use taking::{Past, taken};

@@ -12,8 +12,7 @@ use crate::reruns::passing::none_marked;
 use crate::reruns::reference::CycleAnswers;
 use crate::reruns::room::append;
 use crate::reruns::standing::{Standing, act_at, first_place};
-use fault_injector::named;
-use op_graph::{Graph, Op};
+use op_graph::{Graph, Op, named};
 use vcp_base::{Kind, operands};
 
 /// Whether an operation has an operand `j`, and what it reads there is touched: a cell for LOAD, and else an operation.

@@ -7,7 +7,7 @@ ghost use Rattle.coded_unit.specs.Right.{Right};
 ghost use Rattle.fault_script.specs.Changes.{operand_word as operand_word_of, with_operand as with_operand_of, changed as changed_of, answered as answered_of};
 ghost use Rattle.fault_script.specs.Changes.{takes_word as takes_word_of, is_skip as is_skip_of, word_of, is_call_of as is_call_of_of};
 ghost use Rattle.fault_script.specs.Changes.{is_call_before as is_call_before_of, kept_by as kept_by_of, kept_after as kept_after_of, none_kept};
-ghost use Rattle.fault_script.specs.Changes.{act_at_call, act_with, shifted as shifted_of};
+ghost use Rattle.fault_script.specs.Changes.{act_at_call, act_with};
 ghost use Rattle.fault_script.specs.Groups.{Apart};
 ghost use Rattle.fault_injector.specs.Carried.{faults_of, keeps_of};
 ghost use Rattle.coded_unit.specs.Seen.{StoodStill};
@@ -17,7 +17,7 @@ use crate::runs::kept_words::KeptWords;
 use coded_unit::{Answer, Call, Unit, Word, table};
 use fault_script::{Act, Fault, Group};
 use std::alloc::Global;
-use vcp_base::{Kind, Memory};
+use vcp_base::Memory;
 
 /// A fault, and the word that was kept for it of an earlier call, where there is one.
 #[derive(Clone, Copy)]
@@ -329,15 +329,6 @@ fn with_operand(call: &Call, j: u32, word: &Word) -> Call
     other
 }
 
-/// The call with this kind.
-fn with_kind(call: &Call, kind: Kind) -> Call
-    ensures { result ≡ record call.now { kind = kind } }
-{
-    let mut other = *call;
-    other.kind = kind;
-    other
-}
-
 /// The call that is done in place of a call, where the act takes this word.
 #[tactic(auto, using(crate::proofs::Carrying::one_call))]
 pub fn changed(act: &Act, word: &Word, call: &Call) -> Call
@@ -347,32 +338,25 @@ pub fn changed(act: &Act, word: &Word, call: &Call) -> Call
     match *act {
         Act::OperandAdd { j, e } => with_operand(call, j, &operand_word(call, j).shift(e)),
         Act::OperandFrom { j, r: _ } | Act::OperandStale { j } => with_operand(call, j, word),
-        Act::Operator { kind } => with_kind(call, kind),
+        Act::Operator { kind } => Call { kind, ..*call },
         Act::ResultAdd { e: _ } | Act::Skip => *call,
     }
 }
 
-/// The answer that is handed back in place of an answer, where the act takes this word.
+/// The answer that is handed back in place of an answer, where the act takes this word. A stop to which something is added stays as it is.
 pub fn answered(act: &Act, word: &Word, given: &Answer) -> Answer
     ensures { result ≡ answered_of act.now word.now given.now }
 {
     match *act {
-        Act::ResultAdd { e } => shifted(e, given),
+        Act::ResultAdd { e } => match given {
+            Answer::Word(word) => Answer::Word(word.shift(e)),
+            Answer::Range | Answer::DivZero | Answer::Operand => *given,
+        },
         Act::Skip => Answer::Word(*word),
         Act::OperandAdd { j: _, e: _ }
         | Act::OperandFrom { j: _, r: _ }
         | Act::OperandStale { j: _ }
         | Act::Operator { kind: _ } => *given,
-    }
-}
-
-/// An answer with `e` added to its word; a stop stays as it is.
-fn shifted(e: i64, given: &Answer) -> Answer
-    ensures { result ≡ shifted_of e given.now }
-{
-    match given {
-        Answer::Word(word) => Answer::Word(word.shift(e)),
-        Answer::Range | Answer::DivZero | Answer::Operand => *given,
     }
 }
 

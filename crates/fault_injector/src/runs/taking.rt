@@ -9,7 +9,7 @@ ghost use Rattle.fault_injector.specs.RunLaw.{taken as taken_of};
 use coded_machine::{cell_at, word_at};
 use coded_unit::{Answer, Word};
 use fault_script::Act;
-use op_graph::Op;
+use op_graph::{Op, named};
 use vcp_base::Kind;
 
 /// What a cycle left.
@@ -19,18 +19,6 @@ pub struct Past<'c> {
     pub held: &'c [Word],
     /// Its answers.
     pub answers: &'c [Answer],
-}
-
-/// The operation that operand `j` of an operation reads.
-#[inline(always)]
-pub fn named(op: &Op, j: u32) -> u32
-    ensures { result ≡ named_of op.now j }
-{
-    match j {
-        0 => op.a,
-        1 => op.b,
-        _ => op.c,
-    }
 }
 
 /// The word that operand `j` of an operation read in the cycle before.

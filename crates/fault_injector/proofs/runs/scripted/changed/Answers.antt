@@ -12,7 +12,7 @@ returns-in-OperandFrom-clause-asked c = λ asked.
 
 pub returns-in-Operator-clause-asked : goal.returns-in-Operator-clause-asked
 returns-in-Operator-clause-asked c = λ asked.
-    subst Asked (sym c.with_kind.ensures) (record { corr = asked.corr; stamp = asked.stamp; from = asked.from; ty = asked.ty })
+    record { corr = asked.corr; stamp = asked.stamp; from = asked.from; ty = asked.ty }
 
 pub returns-in-ResultAdd-clause-asked : goal.returns-in-ResultAdd-clause-asked
 returns-in-ResultAdd-clause-asked c = λ asked. asked
