@@ -1,8 +1,9 @@
 -- Making: the corrections of a graph, one operation after another.
-use Rattle.std.proofs.Common.{◌≡◌, ◌∙◌, ℕ, zero, suc, ◌+◌, ◌<◌, ◌++◌, ◌∷◌, [], All, List, length, drop, slice_get, get_or, Some, arith, add-one, drop-cons}
+use Rattle.std.proofs.Common.{◌≡◌, ◌∙◌, ℕ, zero, suc, ◌+◌, ◌<◌, ◌≤◌, ◌++◌, ◌∷◌, [], All, List, length, drop, slice_get, get_or, Some, arith, add-one, drop-cons}
 use Rattle.std.proofs.Common.{append_assoc, length-append, sym, ap}
 use Rattle.std.specs.Prelude.{unsigned_abs}
 use Rattle.std.proofs.lemmas.Option.{get_or_from_slice_get, slice_get_within}
+use Rattle.std.proofs.lemmas.List.{append-nil, drop_all}
 use Rattle.std.proofs.lemmas.List.Elements.{All-append}
 use Rattle.vcp_base.specs.declared.code.Profile.{Profile}
 use Rattle.vcp_base.specs.Code.{modulus}
@@ -33,3 +34,9 @@ one_more p seed step held operations made k op c m there is below =
       residues = All-append (λ x. x < modulus p) made (c ∷ []) m.residues (λ i d one. one_at (modulus p) c i d below one);
       rest = append_assoc made (c ∷ []) tail ∙ ap (λ x. made ++ x ∷ tail) is ∙ sym (ap (λ ops. made ++ corrections_from p seed step held k ops) front) ∙ m.rest;
     }
+
+-- where all are made, these are the graph's
+pub whole : (p : Profile) (seed step : ℕ) (held : List Cell) (operations : List Op) (made : List ℕ) (k : ℕ)
+    → MadeUpTo p seed step held operations made k → length operations ≤ k → made ≡ corrections_from p seed step held 0 operations
+whole p seed step held operations made k m past =
+    sym (ap (λ ops. made ++ corrections_from p seed step held k ops) (drop_all k operations past) ∙ append-nil made) ∙ m.rest

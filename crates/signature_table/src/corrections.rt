@@ -49,8 +49,9 @@ pub fn correction(
     remainder(profile, taken_out(own, first, second, third))
 }
 
-/// The signature of an operand that reads operation `n`.
-fn read_signature(
+/// The signature of an operand that reads operation `n`; of a LOAD's, that of the STORE of its cell, less the step. It is 2^60 at most,
+/// and -1000 at least.
+pub fn read_signature(
     profile: Profile,
     seed: u32,
     step: u16,

@@ -9,10 +9,10 @@ mod laws;
 mod signatures;
 mod table;
 
-pub use corrections::correction;
+pub use corrections::{correction, read_signature};
 pub use laws::{
     a_cycle_later_residues_are_five_steps_apart, constants_are_in_range,
     expected_residues_are_residues, signatures_are_distinct,
 };
 pub use signatures::{expected, signature_of, stamp};
-pub use table::Table;
+pub use table::{Table, store_of};

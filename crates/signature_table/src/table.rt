@@ -41,14 +41,15 @@ impl Table {
         ensures numbers { IfOk result (λ table. table ≡ table_of seed step graph.now) }
         ensures count { IfOk result (λ table. length table.corrections ≡ length graph.now.operations) }
     {
+        let profile = graph.profile();
         let mut corrections = Vec::new(alloc);
         'operations: for k in 0..graph.len() {
             let op = graph.operation(k);
             let store = store_of(graph, &op);
-            corrections.push(correction(graph.profile(), seed, step, k, &op, store))?;
+            corrections.push(correction(profile, seed, step, k, &op, store))?;
         }
         Ok(Table {
-            profile: graph.profile(),
+            profile,
             seed,
             step,
             corrections,
@@ -112,7 +113,7 @@ impl Table {
 
 /// The number of the STORE of the cell that a LOAD reads, which its `imm` names; `None` where there is
 /// no such cell.
-fn store_of(graph: &Graph, op: &Op) -> Option<u32>
+pub fn store_of(graph: &Graph, op: &Op) -> Option<u32>
     ensures { result ≡ store_of_cell (cells graph.now) (unsigned_abs op.now.imm) }
 {
     let i = op.imm.unsigned_abs();
