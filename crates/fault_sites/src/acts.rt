@@ -3,30 +3,18 @@
 ghost use Rattle.std.specs.Prelude.{◌≡◌, ◌<◌, length, slice_get};
 ghost use Rattle.std.specs.Option.{option_to_list};
 ghost use Rattle.vcp_base.specs.Spellings.{kinds};
-ghost use Rattle.op_graph.specs.Reads.{named as named_of};
-ghost use Rattle.fault_sites.specs.Sites.{reads as reads_of, may_replace as may_replace_of, from_one, may_stand as may_stand_of, operator_one};
+ghost use Rattle.fault_sites.specs.Sites.{reads as reads_of, from_one, may_stand as may_stand_of, operator_one};
 ghost use Rattle.fault_sites.specs.Acts.{act_at, columns as columns_of_class, rows as rows_of_class};
 
 use crate::class::Class;
 use crate::telling::Acts;
 use crate::values::{ADDENDS, bit};
 use fault_script::Act;
-use op_graph::{Graph, Op};
+use op_graph::{Graph, Op, named};
 use vcp_base::{Kind, kind_code, kind_of_code, operand_type, operands, within};
 
 /// How many kinds there are.
 pub const KINDS: u8 = 19;
-
-/// The operation that operand `j` names.
-pub fn named(op: &Op, j: u32) -> u32
-    ensures { result ≡ named_of op.now j }
-{
-    match j {
-        0 => op.a,
-        1 => op.b,
-        _ => op.c,
-    }
-}
 
 /// Whether operand `j` is the word of operation `r`. A LOAD reads its cell, and no operation.
 fn reads(op: &Op, j: u32, r: u32) -> bool
@@ -38,20 +26,13 @@ fn reads(op: &Op, j: u32, r: u32) -> bool
     }
 }
 
-/// Whether the word of operation `r`, which is `source`, may take the place of operand `j`.
-fn may_replace(op: &Op, j: u32, r: u32, source: &Op) -> bool
-    ensures { result ≡ may_replace_of op.now j r source.now }
-{
-    within(source.ty, operand_type(op.kind, j, op.from)) && !reads(op, j, r)
-}
-
-/// Operand `j` as the word of operation `r`, where that may take its place.
+/// Operand `j` as the word of operation `r`, where that may take its place: its type goes there, and it isn't the one that is read anyway.
 pub fn from_of(graph: &Graph, op: &Op, j: u32, r: u32) -> Option<Act>
     requires { r < length graph.now.operations }
     ensures { from_one op.now j r (slice_get graph.now.operations r) ≡ option_to_list result }
 {
     let source = graph.operation(r);
-    if may_replace(op, j, r, &source) {
+    if within(source.ty, operand_type(op.kind, j, op.from)) && !reads(op, j, r) {
         Some(Act::OperandFrom { j, r })
     } else {
         None

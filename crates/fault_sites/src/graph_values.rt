@@ -7,8 +7,7 @@ ghost use Rattle.op_graph.specs.Reads.{named as named_of};
 ghost use Rattle.fault_sites.specs.Run.{after, begun};
 ghost use Rattle.fault_sites.specs.Running.{Room, before, moment};
 
-use crate::acts::named;
-use op_graph::{Graph, Op};
+use op_graph::{Graph, Op, named};
 use std::alloc::Global;
 use std::mem::swap;
 use vcp_base::{Kind, Memory, Row, StopKind, operands, short_outcome};

@@ -1,34 +1,21 @@
 //! Words of the cycle before, as operands: what has to be added for each is taken from a run without faults.
 
-ghost use Rattle.std.specs.Prelude.{◌≡◌, ◌<◌, ◌≤◌, ◌+◌, ◌-◌, length, slice_get, unsigned_abs};
+ghost use Rattle.std.specs.Prelude.{◌≡◌, ◌<◌, ◌≤◌, ◌+◌, ◌-◌, length, slice_get};
 ghost use Rattle.std.specs.Option.{option_to_list};
 ghost use Rattle.vcp_base.specs.Limits.{most_cycles};
-ghost use Rattle.op_graph.specs.Lists.{cells};
-ghost use Rattle.signature_table.specs.Signatures.{store_of as store_of_cell};
 ghost use Rattle.fault_sites.specs.Late.{late_add, late_addend, late_one, loads_from as loads_from_of};
 ghost use Rattle.fault_sites.specs.Late.{may_be_late as may_be_late_of, past_word as past_word_of, read_word as read_word_of};
 ghost use Rattle.fault_sites.specs.Late.{stored_word as stored_word_of};
 ghost use Rattle.fault_sites.specs.RunCycle.{as_cycle};
 
-use crate::acts::named;
 use crate::cycle_values::CycleValues;
 use crate::flips::expected_word;
 use crate::graph_values::{at, operand};
 use coded_unit::Word;
 use fault_script::Act;
-use op_graph::{Graph, Op};
+use op_graph::{Graph, Op, named};
+use signature_table::store_of;
 use vcp_base::{Kind, operand_type, within};
-
-/// The number of the STORE of the cell that a LOAD reads, which its `imm` names; `None` where there is no such cell.
-pub fn store_of(graph: &Graph, op: &Op) -> Option<u32>
-    ensures { result ≡ store_of_cell (cells graph.now) (unsigned_abs op.now.imm) }
-{
-    let i = op.imm.unsigned_abs();
-    if i >= graph.cells() as u64 {
-        return None;
-    }
-    Some(graph.cell(i as u32).store)
-}
 
 /// Whether a LOAD reads its word of the cycle before from operation `r`.
 fn loads_from(graph: &Graph, op: &Op, r: u32) -> bool

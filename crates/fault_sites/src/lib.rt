@@ -30,11 +30,11 @@ mod values;
 mod words_read;
 mod writing;
 
-pub use acts::{KINDS, from_of, named, operator_of};
+pub use acts::{KINDS, from_of, operator_of};
 pub use class::{Class, Classes};
 pub use counts::count_sites;
 pub use digest::image_digest;
-pub use late::{may_be_late, store_of};
+pub use late::may_be_late;
 pub use laws::{
     a_flip_turns_one_bit, a_line_is_read_back, a_script_is_read_back,
     a_script_of_a_run_is_read_back, each_fault_of_a_class_has_a_site, each_flip_stands_once,
