@@ -151,21 +151,12 @@ read_all piece bytes = do
 
 -- ---- what code returned
 
--- what a function returned, seen by view, is what reading gives, the piece and the bytes after it or the fault
-abbrev pub GivesExactly : {X Y : Type 0} → (X → Y) → Result X FieldFault → Result Y FieldFault → Type 0
-GivesExactly view (Ok x) read = read ≡ Ok (view x)
-GivesExactly view (Err f) read = read ≡ Err f
-
--- reading goes on as `next` does, or has the fault
-abbrev pub Passes : {X Y : Type 0} → Result X FieldFault → Result Y FieldFault → Result Y FieldFault → Type 0
-Passes (Ok x) next read = read ≡ next
-Passes (Err f) next read = read ≡ Err f
-
--- the same, unless memory ran out
+-- the reading has the fault, unless memory ran out
 abbrev pub Fails : {Y : Type 0} → ReadError → Result Y FieldFault → Type 0
 Fails errors.Memory read = Unit {0}
 Fails (errors.FieldFault f) read = read ≡ Err f
 
+-- what a function returned, seen by view, is what reading gives, or the fault, unless memory ran out
 abbrev pub Gives : {X Y : Type 0} → (X → Y) → Result X ReadError → Result Y FieldFault → Type 0
 Gives view (Ok x) read = read ≡ Ok (view x)
 Gives view (Err e) read = Fails e read

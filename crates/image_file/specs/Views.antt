@@ -1,17 +1,12 @@
 -- What the reader's values say.
-use Rattle.std.specs.Prelude.{◌≡◌, ℕ, List, []}
+use Rattle.std.specs.Prelude.{◌≡◌, ℕ, []}
 use Rattle.op_graph.specs.Rules.{Scope as Lists, Each, OutputFits, LoadFits, StoreFits}
 use Rattle.image_file.specs.declared.head.Counts.{Counts}
 use Rattle.image_file.specs.declared.scope.Scope.{Scope}
 use Rattle.image_file.specs.declared.walk.Walk.{Walk}
 use Rattle.op_graph.specs.Walk.{passed}
-use Rattle.op_graph.specs.declared.op.Var.{Var}
-use Rattle.op_graph.specs.declared.op.Outlet.{Outlet}
-use Rattle.op_graph.specs.declared.op.Cell.{Cell}
-use Rattle.op_graph.specs.declared.op.Op.{Op}
-use Rattle.image_file.specs.Pieces.{FormatPiece, listed}
 use Rattle.image_file.specs.declared.whole.Whole.{Whole}
-use Rattle.image_file.specs.Image.{Head, Said, said, op_piece, Parts}
+use Rattle.image_file.specs.Image.{Head, Said, Parts}
 
 abbrev pub head : Counts → Head
 head c = record {
@@ -34,9 +29,9 @@ said_of s = record { profile = s.profile; seed = s.seed; step = s.step; scope = 
 
 abbrev pub parts : Whole → Parts
 parts w = record {
-  profile = w.profile;
-  step = w.step;
-  seed = w.seed;
+  profile = w.counts.profile;
+  step = w.counts.step;
+  seed = w.counts.seed;
   names = w.names.items;
   inputs = w.inputs.items;
   outputs = w.outputs.items;
@@ -58,7 +53,3 @@ pub record IsAt (s : Lists) (i : ℕ) (w : Walk) : Type 0 where
   pub out : w.out ≡ passed (λ o. o.op) i s.outputs
   pub load : w.load ≡ passed (λ l. l.load) i s.loads
   pub store : w.store ≡ passed (λ n. n) i s.stores
-
--- the operations, after what the head, the inputs, the outputs and the cells say
-abbrev pub operations_piece : Counts → List Var → List Outlet → List Cell → FormatPiece (List Op)
-operations_piece c inputs outputs cells = listed c.operations (op_piece (said c.profile c.seed c.step inputs outputs cells c.turn_nodes))

@@ -1,16 +1,16 @@
 //! The head of an image.
 
-ghost use Rattle.std.specs.Prelude.{◌≡◌, ◌≤◌, ◌==◌, ◌&&◌, ◌+◌, ◌*◌, ℕ, List, nat_le, Some, Result, IfOk};
+ghost use Rattle.std.specs.Prelude.{◌≡◌, ◌≤◌, ◌&&◌, ℕ, List, nat_le, Result};
 ghost use Rattle.image_file.specs.declared.fields.fault.FieldFault.{FieldFault as Fault};
 ghost use Rattle.image_file.specs.declared.fields.fault.FieldFault.TheVariants as fault;
-ghost use Rattle.image_file.specs.Pieces.{GivesExactly, Passes, byte_field};
-ghost use Rattle.image_file.specs.Fields.{number, number16, version_field, behind, IsByte};
-ghost use Rattle.image_file.specs.Image.{Head, head_piece, counts_piece, entry_counts, later_counts};
+ghost use Rattle.image_file.specs.Fields.{number16, version_field, behind};
+ghost use Rattle.image_file.specs.Image.{Head, head_piece};
 ghost use Rattle.image_file.specs.Codes.{version_of};
-ghost use Rattle.vcp_base.specs.Limits.{most_step, most_names, most_operations, most_turn_nodes};
+ghost use Rattle.image_file.specs.Readings.{GoesOn, Takes};
+ghost use Rattle.vcp_base.specs.Limits.{most_step, most_operations, most_turn_nodes};
 ghost use Rattle.image_file.specs.Views.{head as head_of};
 
-use crate::fields::{FieldFault, Reader};
+use crate::fields::{FieldFault, ReadError, Reader};
 use vcp_base::{
     MOST_CELLS, MOST_NAMES, MOST_OPERATIONS, MOST_STEP, MOST_TURN_NODES, Profile, SEEDS,
 };
@@ -29,27 +29,16 @@ pub(crate) struct Counts {
     pub(crate) operations: u32,
 }
 
-/// A byte of the magic.
-fn magic_byte_here(wanted: u8, bytes: &mut Reader<'_>) -> Result<u8, FieldFault>
-    ensures { GivesExactly (λ x. (x, bytes.new.left.now)) result
-        ((byte_field (λ n. Some n) (λ n. n) IsByte (λ n. n == wanted) (λ left. fault.Magic left)).read bytes.old.left.now) }
-{
-    let left = bytes.left.len();
-    match bytes.read_u8() {
-        Ok(n) if n == wanted => Ok(n),
-        Ok(_) => Err(FieldFault::Magic { left }),
-        Err(fault) => Err(fault),
-    }
-}
-
 /// These bytes of the magic.
-fn magic_here(wanted: &[u8], bytes: &mut Reader<'_>) -> Result<(), FieldFault>
-    ensures { (next : List ℕ → Result (Head × List ℕ) Fault) → Passes result (next bytes.new.left.now) (behind wanted.now next bytes.old.left.now) }
+fn magic_here(wanted: &[u8], bytes: &mut Reader<'_>)
+    ensures { (next : List ℕ → Result (Head × List ℕ) Fault) →
+        GoesOn bytes.old.fault bytes.new.fault (behind wanted.now next bytes.old.left.now) (next bytes.new.left.now) }
 {
     'wanted: for i in 0..wanted.len() {
-        magic_byte_here(wanted[i], bytes)?;
+        let left = bytes.left.len();
+        let n = bytes.read_u8();
+        bytes.check(n == wanted[i], FieldFault::Magic { left });
     }
-    Ok(())
 }
 
 /// The code of a version.
@@ -64,53 +53,51 @@ fn profile_named(n: u16) -> Option<Profile>
 }
 
 /// The version at the front, as the code that it means.
-fn version_here(bytes: &mut Reader<'_>) -> Result<Profile, FieldFault>
-    ensures { GivesExactly (λ x. (x, bytes.new.left.now)) result (version_field.read bytes.old.left.now) }
+fn version_here(bytes: &mut Reader<'_>) -> Profile
+    ensures { Takes bytes.old bytes.new version_field.read result }
 {
     let left = bytes.left.len();
-    match bytes.read_u16() {
-        Ok(n) => match profile_named(n) {
-            None => Err(FieldFault::Version { left }),
-            Some(profile) => Ok(profile),
-        },
-        Err(fault) => Err(fault),
+    let n = bytes.read_u16();
+    match profile_named(n) {
+        Some(profile) => profile,
+        None => {
+            bytes.refuse(ReadError::FieldFault(FieldFault::Version { left }));
+            Profile::Narrow
+        }
     }
 }
 
 /// The step at the front, 1 to 1000.
-fn step_here(bytes: &mut Reader<'_>) -> Result<u16, FieldFault>
-    ensures is { GivesExactly (λ x. (x, bytes.new.left.now)) result
-        ((number16 (λ n. nat_le 1 n && nat_le n most_step) (λ left n. fault.Field left)).read bytes.old.left.now) }
-    ensures from { IfOk result (λ x. 1 ≤ x) }
-    ensures to { IfOk result (λ x. x ≤ most_step) }
+fn step_here(bytes: &mut Reader<'_>) -> u16
+    ensures is { Takes bytes.old bytes.new (number16 (λ n. nat_le 1 n && nat_le n most_step) (λ left n. fault.Field left)).read result }
+    ensures to { result ≤ most_step }
 {
     let left = bytes.left.len();
-    match bytes.read_u16() {
-        Ok(n) if 1 <= n && n <= MOST_STEP => Ok(n),
-        Ok(_) => Err(FieldFault::Field { left }),
-        Err(fault) => Err(fault),
+    let n = bytes.read_u16();
+    if 1 <= n && n <= MOST_STEP {
+        n
+    } else {
+        bytes.refuse(ReadError::FieldFault(FieldFault::Field { left }));
+        1
     }
 }
 
-/// The numbers of cells, turn nodes and operations at the front, behind the others.
-fn later_counts_here(
-    profile: Profile,
-    step: u16,
-    seed: u32,
-    names: u32,
-    inputs: u32,
-    outputs: u32,
-    bytes: &mut Reader<'_>,
-) -> Result<Counts, FieldFault>
-    requires inputs { inputs ≤ most_names }
-    requires outputs { outputs ≤ most_names }
-    ensures is { GivesExactly (λ x. (head_of x, bytes.new.left.now)) result ((later_counts profile step seed names inputs outputs).read bytes.old.left.now) }
-    ensures below { IfOk result (λ x. (x.step ≡ step) × (x.turn_nodes ≤ most_turn_nodes) × (x.operations ≤ most_operations)) }
+/// The head at the front.
+pub(crate) fn head_here(bytes: &mut Reader<'_>) -> Counts
+    ensures is { Takes bytes.old bytes.new head_piece.read (head_of result) }
+    ensures below { (result.step ≤ most_step) × (result.turn_nodes ≤ most_turn_nodes) × (result.operations ≤ most_operations) }
 {
-    let cells = bytes.at_most(MOST_CELLS)?;
-    let turn_nodes = bytes.at_most(MOST_TURN_NODES)?;
-    let operations = bytes.between(inputs + outputs + 2 * cells, MOST_OPERATIONS)?;
-    Ok(Counts {
+    magic_here(b"VCPANBD\n", bytes);
+    let profile = version_here(bytes);
+    let step = step_here(bytes);
+    let seed = bytes.below(SEEDS);
+    let names = bytes.at_most(MOST_NAMES);
+    let inputs = bytes.at_most(MOST_NAMES);
+    let outputs = bytes.at_most(MOST_NAMES);
+    let cells = bytes.at_most(MOST_CELLS);
+    let turn_nodes = bytes.at_most(MOST_TURN_NODES);
+    let operations = bytes.between(inputs + outputs + 2 * cells, MOST_OPERATIONS);
+    Counts {
         profile,
         step,
         seed,
@@ -120,42 +107,5 @@ fn later_counts_here(
         cells,
         turn_nodes,
         operations,
-    })
-}
-
-/// The numbers of names, inputs and outputs at the front, and the others.
-fn entry_counts_here(
-    profile: Profile,
-    step: u16,
-    seed: u32,
-    bytes: &mut Reader<'_>,
-) -> Result<Counts, FieldFault>
-    ensures is { GivesExactly (λ x. (head_of x, bytes.new.left.now)) result ((entry_counts profile step seed).read bytes.old.left.now) }
-    ensures below { IfOk result (λ x. (x.step ≡ step) × (x.turn_nodes ≤ most_turn_nodes) × (x.operations ≤ most_operations)) }
-{
-    let names = bytes.at_most(MOST_NAMES)?;
-    let inputs = bytes.at_most(MOST_NAMES)?;
-    let outputs = bytes.at_most(MOST_NAMES)?;
-    later_counts_here(profile, step, seed, names, inputs, outputs, bytes)
-}
-
-fn counts_here(bytes: &mut Reader<'_>) -> Result<Counts, FieldFault>
-    ensures is { GivesExactly (λ x. (head_of x, bytes.new.left.now)) result (counts_piece.read bytes.old.left.now) }
-    ensures below { IfOk result (λ x. (x.step ≤ most_step) × (x.turn_nodes ≤ most_turn_nodes) × (x.operations ≤ most_operations)) }
-{
-    let profile = version_here(bytes)?;
-    let step = step_here(bytes)?;
-    let seed = bytes.below(SEEDS)?;
-    entry_counts_here(profile, step, seed, bytes)
-}
-
-/// The head at the front.
-pub(crate) fn head_here(bytes: &mut Reader<'_>) -> Result<Counts, FieldFault>
-    ensures is { GivesExactly (λ x. (head_of x, bytes.new.left.now)) result (head_piece.read bytes.old.left.now) }
-    ensures below { IfOk result (λ x. (x.step ≤ most_step) × (x.turn_nodes ≤ most_turn_nodes) × (x.operations ≤ most_operations)) }
-{
-    match magic_here(b"VCPANBD\n", bytes) {
-        Ok(()) => counts_here(bytes),
-        Err(fault) => Err(fault),
     }
 }

@@ -1,111 +1,112 @@
 //! The names, inputs, outputs, cells and turn nodes of an image.
 
-ghost use Rattle.std.specs.Prelude.{◌≤◌, [], map, IfOk};
-ghost use Rattle.image_file.specs.Pieces.{Gives, listed};
+ghost use Rattle.std.specs.Prelude.{◌≡◌, ◌≤◌, [], map, None};
+ghost use Rattle.image_file.specs.Pieces.{listed};
 ghost use Rattle.image_file.specs.Entries.{name_piece, input_piece, output_piece, cell_piece, turn_piece};
 ghost use Rattle.vcp_base.specs.Limits.{most_turn_nodes};
 ghost use Rattle.op_graph.specs.Rules.{Each, OutputFits, LoadFits, StoreFits};
 ghost use Rattle.image_file.specs.Image.{load_of, store_of};
+ghost use Rattle.image_file.specs.Readings.{Takes};
 
-use crate::fields::{
-    Keys, ReadError, Reader, are_bytes, cell_of, input_of, name_of, output_of, turn_of,
-};
+use crate::fields::{Keys, Reader, are_bytes, cell_of, input_of, name_of, output_of, turn_of};
+use crate::head::Counts;
 use op_graph::{Cell, Outlet, TurnNode, Var};
 use std::alloc::Global;
-use vcp_base::{Profile, Text};
+use vcp_base::Text;
 
-/// That many names.
-pub(crate) fn names_of(
-    alloc: Global,
-    count: u32,
-    bytes: &mut Reader<'_>,
-) -> Result<Vec<Text>, ReadError>
-    ensures { Gives (λ x. (x.items, bytes.new.left.now)) result ((listed count name_piece).read bytes.old.left.now) }
+/// The names.
+pub(crate) fn names_of(alloc: Global, counts: &Counts, bytes: &mut Reader<'_>) -> Vec<Text>
+    ensures { Takes bytes.old bytes.new (listed counts.now.names name_piece).read result.items }
 {
     let mut found: Vec<Text> = Vec::new(alloc);
     let mut seen = Keys::new(alloc);
-    'entries: for _ in 0..count {
-        let entry = name_of(alloc, &mut seen, bytes)?;
-        found.push(entry)?;
+    'entries: for _ in 0..counts.names {
+        if bytes.fault.is_some() {
+            return found;
+        }
+        let entry = name_of(alloc, &mut seen, bytes);
+        bytes.push(&mut found, entry);
     }
-    Ok(found)
+    found
 }
 
-/// That many inputs.
-pub(crate) fn inputs_of(
-    alloc: Global,
-    profile: Profile,
-    names: u32,
-    count: u32,
-    bytes: &mut Reader<'_>,
-) -> Result<Vec<Var>, ReadError>
-    ensures { Gives (λ x. (x.items, bytes.new.left.now)) result ((listed count (input_piece profile names)).read bytes.old.left.now) }
+/// The inputs.
+pub(crate) fn inputs_of(alloc: Global, counts: &Counts, bytes: &mut Reader<'_>) -> Vec<Var>
+    ensures { Takes bytes.old bytes.new (listed counts.now.inputs (input_piece counts.now.profile counts.now.names)).read result.items }
 {
     let mut found: Vec<Var> = Vec::new(alloc);
-    'entries: for _ in 0..count {
-        let entry = input_of(profile, names, &found, bytes)?;
-        found.push(entry)?;
+    'entries: for _ in 0..counts.inputs {
+        if bytes.fault.is_some() {
+            return found;
+        }
+        let entry = input_of(counts.profile, counts.names, &found, bytes);
+        bytes.push(&mut found, entry);
     }
-    Ok(found)
+    found
 }
 
-/// That many outputs.
-pub(crate) fn outputs_of(
-    alloc: Global,
-    profile: Profile,
-    names: u32,
-    operations: u32,
-    count: u32,
-    bytes: &mut Reader<'_>,
-) -> Result<Vec<Outlet>, ReadError>
-    ensures is { Gives (λ x. (x.items, bytes.new.left.now)) result ((listed count (output_piece profile names operations)).read bytes.old.left.now) }
-    ensures rising { IfOk result (λ x. Each (OutputFits names operations) [] x.items) }
+/// The outputs.
+pub(crate) fn outputs_of(alloc: Global, counts: &Counts, bytes: &mut Reader<'_>) -> Vec<Outlet>
+    ensures is { Takes bytes.old bytes.new
+        (listed counts.now.outputs (output_piece counts.now.profile counts.now.names counts.now.operations)).read result.items }
+    ensures rising { bytes.new.fault ≡ None → Each (OutputFits counts.now.names counts.now.operations) [] result.items }
 {
     are_bytes(bytes.left);
     let mut found: Vec<Outlet> = Vec::new(alloc);
-    'entries: for _ in 0..count {
-        let entry = output_of(profile, names, operations, &found, bytes)?;
-        found.push(entry)?;
+    'entries: for _ in 0..counts.outputs {
+        if bytes.fault.is_some() {
+            return found;
+        }
+        let entry = output_of(
+            counts.profile,
+            counts.names,
+            counts.operations,
+            &found,
+            bytes,
+        );
+        bytes.push(&mut found, entry);
     }
-    Ok(found)
+    found
 }
 
-/// That many cells.
-pub(crate) fn cells_of(
-    alloc: Global,
-    profile: Profile,
-    names: u32,
-    operations: u32,
-    count: u32,
-    bytes: &mut Reader<'_>,
-) -> Result<Vec<Cell>, ReadError>
-    ensures is { Gives (λ x. (x.items, bytes.new.left.now)) result ((listed count (cell_piece profile names operations)).read bytes.old.left.now) }
-    ensures loads { IfOk result (λ x. Each (LoadFits names operations) [] (map load_of x.items)) }
-    ensures stores { IfOk result (λ x. Each (StoreFits (map load_of x.items) operations) [] (map store_of x.items)) }
+/// The cells.
+pub(crate) fn cells_of(alloc: Global, counts: &Counts, bytes: &mut Reader<'_>) -> Vec<Cell>
+    ensures is { Takes bytes.old bytes.new
+        (listed counts.now.cells (cell_piece counts.now.profile counts.now.names counts.now.operations)).read result.items }
+    ensures loads { bytes.new.fault ≡ None → Each (LoadFits counts.now.names counts.now.operations) [] (map load_of result.items) }
+    ensures stores { bytes.new.fault ≡ None →
+        Each (StoreFits (map load_of result.items) counts.now.operations) [] (map store_of result.items) }
 {
     are_bytes(bytes.left);
     let mut found: Vec<Cell> = Vec::new(alloc);
-    'entries: for _ in 0..count {
-        let entry = cell_of(profile, names, operations, &found, bytes)?;
-        found.push(entry)?;
+    'entries: for _ in 0..counts.cells {
+        if bytes.fault.is_some() {
+            return found;
+        }
+        let entry = cell_of(
+            counts.profile,
+            counts.names,
+            counts.operations,
+            &found,
+            bytes,
+        );
+        bytes.push(&mut found, entry);
     }
-    Ok(found)
+    found
 }
 
-/// That many turns.
-pub(crate) fn turns_of(
-    alloc: Global,
-    names: u32,
-    count: u32,
-    bytes: &mut Reader<'_>,
-) -> Result<Vec<TurnNode>, ReadError>
-    requires { count ≤ most_turn_nodes }
-    ensures { Gives (λ x. (x.items, bytes.new.left.now)) result ((listed count (turn_piece names)).read bytes.old.left.now) }
+/// The turn nodes.
+pub(crate) fn turns_of(alloc: Global, counts: &Counts, bytes: &mut Reader<'_>) -> Vec<TurnNode>
+    requires { counts.now.turn_nodes ≤ most_turn_nodes }
+    ensures { Takes bytes.old bytes.new (listed counts.now.turn_nodes (turn_piece counts.now.names)).read result.items }
 {
     let mut found: Vec<TurnNode> = Vec::new(alloc);
-    'entries: for _ in 0..count {
-        let entry = turn_of(names, &found, bytes)?;
-        found.push(entry)?;
+    'entries: for _ in 0..counts.turn_nodes {
+        if bytes.fault.is_some() {
+            return found;
+        }
+        let entry = turn_of(counts.names, &found, bytes);
+        bytes.push(&mut found, entry);
     }
-    Ok(found)
+    found
 }

@@ -1,9 +1,9 @@
 //! The inputs, outputs, cells and turn nodes of an image, one at a time.
 
 ghost use Rattle.std.specs.Prelude.{◌≡◌, ◌<◌, ◌&&◌, ◌-◌, ◌^◌, nat_lt, length, true, slice_get};
-ghost use Rattle.image_file.specs.Pieces.{GivesExactly};
 ghost use Rattle.image_file.specs.Fields.{number};
 ghost use Rattle.image_file.specs.Entries.{above as above_of, number_of, input_piece, output_piece, cell_piece, turn_piece};
+ghost use Rattle.image_file.specs.Readings.{Takes};
 
 use crate::fields::fault::FieldFault;
 use crate::fields::reading::Reader;
@@ -70,48 +70,50 @@ fn last_store(before: &[Cell]) -> Option<u32>
     }
 }
 
+/// Whether a number is below a limit and above the last one.
+fn is_rising(last: Option<u32>, limit: u32, n: u32) -> bool
+    ensures { result ≡ (nat_lt n limit && above_of last n) }
+{
+    n < limit && above(last, n)
+}
+
+/// The same of a STORE, which is also above its cell's LOAD.
+fn is_rising_store(load: u32, last: Option<u32>, limit: u32, n: u32) -> bool
+    ensures { result ≡ (nat_lt load n && nat_lt n limit && above_of last n) }
+{
+    load < n && n < limit && above(last, n)
+}
+
 /// A number below a limit and above the last one; another one is `Field`.
-fn rising(bytes: &mut Reader<'_>, limit: u32, last: Option<u32>) -> Result<u32, FieldFault>
-    ensures { GivesExactly (λ x. (x, bytes.new.left.now)) result ((number (λ n. nat_lt n limit && above_of last n)).read bytes.old.left.now) }
+fn rising(bytes: &mut Reader<'_>, limit: u32, last: Option<u32>) -> u32
+    ensures { Takes bytes.old bytes.new (number (λ n. nat_lt n limit && above_of last n)).read result }
 {
     let left = bytes.left.len();
-    match bytes.read_u32() {
-        Ok(n) if n < limit && above(last, n) => Ok(n),
-        Ok(_) => Err(FieldFault::Field { left }),
-        Err(fault) => Err(fault),
-    }
+    let n = bytes.read_u32();
+    bytes.check(is_rising(last, limit, n), FieldFault::Field { left });
+    n
 }
 
 /// The STORE of a cell after its LOAD: a number below a limit and above the last one.
-fn store_after(
-    bytes: &mut Reader<'_>,
-    load: u32,
-    limit: u32,
-    last: Option<u32>,
-) -> Result<u32, FieldFault>
-    ensures { GivesExactly (λ x. (x, bytes.new.left.now)) result
-        ((number (λ n. nat_lt load n && nat_lt n limit && above_of last n)).read bytes.old.left.now) }
+fn store_after(bytes: &mut Reader<'_>, load: u32, limit: u32, last: Option<u32>) -> u32
+    ensures { Takes bytes.old bytes.new (number (λ n. nat_lt load n && nat_lt n limit && above_of last n)).read result }
 {
     let left = bytes.left.len();
-    match bytes.read_u32() {
-        Ok(n) if load < n && n < limit && above(last, n) => Ok(n),
-        Ok(_) => Err(FieldFault::Field { left }),
-        Err(fault) => Err(fault),
-    }
+    let n = bytes.read_u32();
+    bytes.check(
+        is_rising_store(load, last, limit, n),
+        FieldFault::Field { left },
+    );
+    n
 }
 
 /// The next input, after others: its name is there and above theirs, and its type is of the code.
-pub fn input_of(
-    profile: Profile,
-    names: u32,
-    before: &[Var],
-    bytes: &mut Reader<'_>,
-) -> Result<Var, FieldFault>
-    ensures { GivesExactly (λ x. (x, bytes.new.left.now)) result ((input_piece profile names before.now).read bytes.old.left.now) }
+pub fn input_of(profile: Profile, names: u32, before: &[Var], bytes: &mut Reader<'_>) -> Var
+    ensures { Takes bytes.old bytes.new (input_piece profile names before.now).read result }
 {
-    let name = rising(bytes, names, last_input(before))?;
-    let ty = bytes.any_ty(profile)?;
-    Ok(Var { name, ty })
+    let name = rising(bytes, names, last_input(before));
+    let ty = bytes.any_ty(profile);
+    Var { name, ty }
 }
 
 /// The next output, after others: its name and its operation are there and above theirs, and its type is of the code.
@@ -121,13 +123,13 @@ pub fn output_of(
     operations: u32,
     before: &[Outlet],
     bytes: &mut Reader<'_>,
-) -> Result<Outlet, FieldFault>
-    ensures { GivesExactly (λ x. (x, bytes.new.left.now)) result ((output_piece profile names operations before.now).read bytes.old.left.now) }
+) -> Outlet
+    ensures { Takes bytes.old bytes.new (output_piece profile names operations before.now).read result }
 {
-    let name = rising(bytes, names, last_output(before))?;
-    let ty = bytes.any_ty(profile)?;
-    let op = rising(bytes, operations, last_output_op(before))?;
-    Ok(Outlet { name, ty, op })
+    let name = rising(bytes, names, last_output(before));
+    let ty = bytes.any_ty(profile);
+    let op = rising(bytes, operations, last_output_op(before));
+    Outlet { name, ty, op }
 }
 
 /// The next cell, after others: its name is there, its type is of the code, its initial value is in its type,
@@ -138,38 +140,34 @@ pub fn cell_of(
     operations: u32,
     before: &[Cell],
     bytes: &mut Reader<'_>,
-) -> Result<Cell, FieldFault>
-    ensures { GivesExactly (λ x. (x, bytes.new.left.now)) result ((cell_piece profile names operations before.now).read bytes.old.left.now) }
+) -> Cell
+    ensures { Takes bytes.old bytes.new (cell_piece profile names operations before.now).read result }
 {
-    let name = bytes.below(names)?;
-    let ty = bytes.any_ty(profile)?;
-    let init = bytes.value(ty)?;
-    let load = rising(bytes, operations, last_load(before))?;
-    let store = store_after(bytes, load, operations, last_store(before))?;
-    Ok(Cell {
+    let name = bytes.below(names);
+    let ty = bytes.any_ty(profile);
+    let init = bytes.value(ty);
+    let load = rising(bytes, operations, last_load(before));
+    let store = store_after(bytes, load, operations, last_store(before));
+    Cell {
         name,
         ty,
         init,
         load,
         store,
-    })
+    }
 }
 
 /// The next turn node, after others: its parent, counted from 1, is one of them, or 0 for none.
-pub fn turn_of(
-    names: u32,
-    before: &[TurnNode],
-    bytes: &mut Reader<'_>,
-) -> Result<TurnNode, FieldFault>
+pub fn turn_of(names: u32, before: &[TurnNode], bytes: &mut Reader<'_>) -> TurnNode
     requires { length before.now < 2 ^ 32 }
-    ensures { GivesExactly (λ x. (x, bytes.new.left.now)) result ((turn_piece names before.now).read bytes.old.left.now) }
+    ensures { Takes bytes.old bytes.new (turn_piece names before.now).read result }
 {
-    let parent = bytes.at_most(before.len() as u32)?;
-    let name = bytes.below(names)?;
-    let value = bytes.any_value()?;
-    Ok(TurnNode {
+    let parent = bytes.at_most(before.len() as u32);
+    let name = bytes.below(names);
+    let value = bytes.any_value();
+    TurnNode {
         parent,
         name,
         value,
-    })
+    }
 }

@@ -1,10 +1,6 @@
 //! Why bytes are no image, or could not be read.
 
-ghost use Rattle.std.specs.Prelude.{◌≡◌};
-ghost use Rattle.image_file.specs.declared.fields.fault.ReadError.TheVariants as errors;
-
-use std::alloc::{AllocError, AllocFailed};
-use vcp_base::{Memory as NoMemory, Residue};
+use vcp_base::Residue;
 
 /// The first fault of the bytes. `left` counts the bytes from the fault's first byte on.
 #[derive(Clone, Copy)]
@@ -46,36 +42,4 @@ pub enum ReadError {
     Memory,
     /// The bytes are no image.
     FieldFault(FieldFault),
-}
-
-impl From<AllocError> for ReadError {
-    ghost from_gives = { λ _ e. e ≡ errors.Memory };
-
-    fn from(_: AllocError) -> ReadError {
-        ReadError::Memory
-    }
-}
-
-impl From<NoMemory> for ReadError {
-    ghost from_gives = { λ _ e. e ≡ errors.Memory };
-
-    fn from(_: NoMemory) -> ReadError {
-        ReadError::Memory
-    }
-}
-
-impl<T: Drop> From<AllocFailed<T>> for ReadError {
-    ghost from_gives = { λ _ e. e ≡ errors.Memory };
-
-    fn from(_: AllocFailed<T>) -> ReadError {
-        ReadError::Memory
-    }
-}
-
-impl From<FieldFault> for ReadError {
-    ghost from_gives = { λ f e. e ≡ errors.FieldFault f };
-
-    fn from(fault: FieldFault) -> ReadError {
-        ReadError::FieldFault(fault)
-    }
 }

@@ -1,10 +1,9 @@
 //! Names, which are told apart without regard to case.
 
-ghost use Rattle.std.specs.Prelude.{◌≡◌, ◌<◌, ◌==◌, ◌&&◌, ◌||◌, ◌++◌, ◌∷◌, [], not, false, map, bytes_eq, IfOk, OnOk, OnErr};
+ghost use Rattle.std.specs.Prelude.{◌≡◌, ◌++◌, ◌∷◌, [], not, true, false, bytes_eq, None, IfOk, OnOk};
 ghost use Rattle.std.specs.List.{list_any};
-ghost use Rattle.image_file.specs.declared.fields.fault.FieldFault.TheVariants as fault;
-ghost use Rattle.image_file.specs.Pieces.{Gives, text_field};
-ghost use Rattle.image_file.specs.Entries.{lower, name_fits, name_by};
+ghost use Rattle.image_file.specs.Entries.{lower, name_by};
+ghost use Rattle.image_file.specs.Readings.{Takes, Keeps};
 
 use crate::fields::fault::{FieldFault, ReadError};
 use crate::fields::reading::Reader;
@@ -44,12 +43,25 @@ impl Keys {
         }
     }
 
-    /// Adds a name, unless it is there, and says whether it did. Without memory the names are as before.
-    fn insert(&mut self, name: &[u8]) -> Result<bool, Memory>
+    /// Adds a name that was read, unless it is there, and says whether it did.
+    fn insert(&mut self, name: &[u8], bytes: &mut Reader<'_>) -> bool
+        ensures keeps { Keeps bytes.old bytes.new }
+        ensures said { bytes.new.fault ≡ None → result ≡ not (list_any (bytes_eq (lower name.now)) self.old) }
+        ensures added { bytes.new.fault ≡ None → result ≡ true → self.new ≡ self.old ++ lower name.now ∷ [] }
+    {
+        match self.added(name) {
+            Ok(added) => added,
+            Err(_) => {
+                bytes.refuse(ReadError::Memory);
+                false
+            }
+        }
+    }
+
+    // The same, where there is memory.
+    fn added(&mut self, name: &[u8]) -> Result<bool, Memory>
         ensures said { IfOk result (λ r. r ≡ not (list_any (bytes_eq (lower name.now)) self.old)) }
         ensures added { OnOk result (list_any (bytes_eq (lower name.now)) self.old ≡ false → self.new ≡ self.old ++ lower name.now ∷ []) }
-        ensures kept { IfOk result (λ r. r ≡ false → self.new ≡ self.old) }
-        ensures unchanged { OnErr result (self.new ≡ self.old) }
     {
         let key = name.to_ascii_lowercase(self.alloc)?;
         let (_place, added) = self.keys.insert_full(key)?;
@@ -57,43 +69,17 @@ impl Keys {
     }
 }
 
-/// A name's bytes.
-fn text_here(
-    alloc: Global,
-    n: u32,
-    seen: &mut Keys,
-    bytes: &mut Reader<'_>,
-) -> Result<Text, ReadError>
-    ensures is { Gives (λ x. (x, bytes.new.left.now)) result ((text_field n (name_fits seen.old) (λ left. fault.Field left)).read bytes.old.left.now) }
-    ensures seen { IfOk result (λ x. seen.new ≡ seen.old ++ lower x ∷ []) }
-    ensures unchanged { OnErr result (seen.new ≡ seen.old) }
-{
-    let n = n as usize;
-    let left = bytes.left.len();
-    if left < n {
-        return Err(ReadError::FieldFault(FieldFault::Short));
-    }
-    let (text, rest) = bytes.left.split_at(n);
-    if !is_name(text) {
-        return Err(ReadError::FieldFault(FieldFault::Field { left }));
-    }
-    let name = Text::copy_of(alloc, text)?;
-    if !seen.insert(text)? {
-        return Err(ReadError::FieldFault(FieldFault::Field { left }));
-    }
-    bytes.left = rest;
-    Ok(name)
-}
-
 /// The next name, one to 1,048,576 letters, digits and underscores without a digit first; `Field` at its
-/// length or its first byte where it is no name or, without regard to case, one of those seen. It is seen from then
-/// on; after an error the names seen are as before.
-#[tactic(auto, unfolding(crate::specs::Entries::name_by))]
-pub fn name_of(alloc: Global, seen: &mut Keys, bytes: &mut Reader<'_>) -> Result<Text, ReadError>
-    ensures is { Gives (λ x. (x, bytes.new.left.now)) result ((name_by seen.old).read bytes.old.left.now) }
-    ensures seen { IfOk result (λ x. seen.new ≡ seen.old ++ lower x ∷ []) }
-    ensures unchanged { OnErr result (seen.new ≡ seen.old) }
+/// length or its first byte where it is no name or, without regard to case, one of those seen. It is seen from then on.
+pub fn name_of(alloc: Global, seen: &mut Keys, bytes: &mut Reader<'_>) -> Text
+    ensures is { Takes bytes.old bytes.new (name_by seen.old).read result }
+    ensures seen { bytes.new.fault ≡ None → seen.new ≡ seen.old ++ lower result ∷ [] }
 {
-    let n = bytes.between(1, MOST_NAME_BYTES)?;
-    text_here(alloc, n, seen, bytes)
+    let n = bytes.between(1, MOST_NAME_BYTES);
+    let left = bytes.left.len();
+    let text = bytes.take(n as usize);
+    bytes.check(is_name(text), FieldFault::Field { left });
+    let is_new = seen.insert(text, bytes);
+    bytes.check(is_new, FieldFault::Field { left });
+    bytes.copy(alloc, text)
 }

@@ -1,53 +1,48 @@
-use Rattle.std.proofs.Common.{[], arith}
-use Rattle.std.proofs.lemmas.Result.{err_from_is_err_and}
-use Rattle.image_file.specs.Pieces.{many}
+use Rattle.std.proofs.Common.{◌∙◌, sym, arith}
 use Rattle.image_file.specs.Entries.{cell_piece}
-use Rattle.image_file.proofs.Loop.{goes_on, ends_with, is_done}
+use Rattle.image_file.proofs.Loop.{one_more, is_done}
 use Rattle.image_file.proofs.PieceLaws.{listed_law}
 use Rattle.image_file.proofs.Sections.{cell_law}
 use Rattle.image_file.proofs.Kept.{loads_keep, stores_keep}
+use Rattle.image_file.proofs.Chains.{stopped, not_none}
 use Rattle.image_file.proofs.lists.cells_of.Goals as goal
-
-pub returns-in_err-entry-clause-is : goal.returns-in_err-entry-clause-is
-returns-in_err-entry-clause-is c =
-    let p = err_from_is_err_and c.from_residual.result c.from_residual.ensures.1 in
-    rw (p.1, p.2)
-    (ends_with (λ b. (cell_piece c.args.profile c.args.names c.args.operations b).read) c.in_err-entry.field-0.0 _ c.entries.found.items c.args.count
-    c.entries.counter c.entries.bytes.left.now _
-    c.deref.ensures.value c.entries-test.true c.in_err-entry.ensures c.entries.invariant)
 
 pub entries-preserved : goal.entries-preserved
 entries-preserved c =
-    rw c.in_ok-push.ensures.items
-    (goes_on (λ b. (cell_piece c.args.profile c.args.names c.args.operations b).read) _ c.entries.found.items c.args.count c.entries.counter
-    c.entries.bytes.left.now
-    c.in_ok-entry.entry c.cell_of.new.bytes.left.now _ c.deref.ensures.value c.entries-test.true c.in_ok-entry.ensures c.entries.invariant)
+    one_more (λ b. (cell_piece c.args.counts.now.profile c.args.counts.now.names c.args.counts.now.operations b).read)
+    _ c.entries.found.items _ c.args.counts.now.cells c.entries.counter c.cell_of-entry.result
+    c.entries.invariant c.entries-test.true c.deref.ensures.value c.cell_of-entry.ensures c.push.ensures.keeps c.push.ensures.pushed
 
-pub returns-clause-loads : goal.returns-clause-loads
-returns-clause-loads c =
-    loads_keep c.args.profile c.args.names c.args.operations c.entries.found.items
-    (((listed_law c.args.count (cell_piece c.args.profile c.args.names c.args.operations)
-    (cell_law c.args.profile c.args.names c.args.operations)).takes c.args.bytes.now.left.now c.entries.found.items c.entries.bytes.left.now
-    c.are_bytes.ensures
-    (is_done (λ b. (cell_piece c.args.profile c.args.names c.args.operations b).read) c.entries.found.items c.args.count c.entries.counter
-    c.entries.bytes.left.now
-    (many c.args.count (λ b. (cell_piece c.args.profile c.args.names c.args.operations b).read) [] c.args.bytes.now.left.now)
-    (omega (arith, c.entries-test)) c.entries.invariant)).1.1)
+pub returns-then-is_some-clause-is : goal.returns-then-is_some-clause-is
+returns-then-is_some-clause-is c = stopped c.entries.invariant (sym c.is_some.ensures ∙ c.if-is_some.true)
 
-pub returns-clause-stores : goal.returns-clause-stores
-returns-clause-stores c =
-    stores_keep c.args.profile c.args.names c.args.operations c.entries.found.items
-    (((listed_law c.args.count (cell_piece c.args.profile c.args.names c.args.operations)
-    (cell_law c.args.profile c.args.names c.args.operations)).takes c.args.bytes.now.left.now c.entries.found.items c.entries.bytes.left.now
-    c.are_bytes.ensures
-    (is_done (λ b. (cell_piece c.args.profile c.args.names c.args.operations b).read) c.entries.found.items c.args.count c.entries.counter
-    c.entries.bytes.left.now
-    (many c.args.count (λ b. (cell_piece c.args.profile c.args.names c.args.operations b).read) [] c.args.bytes.now.left.now)
-    (omega (arith, c.entries-test)) c.entries.invariant)).1.1)
+pub returns-then-is_some-clause-loads : goal.returns-then-is_some-clause-loads
+returns-then-is_some-clause-loads c = λ o. absurd (not_none c.entries.bytes.fault (sym c.is_some.ensures ∙ c.if-is_some.true) o)
+
+pub returns-then-is_some-clause-stores : goal.returns-then-is_some-clause-stores
+returns-then-is_some-clause-stores c = λ o. absurd (not_none c.entries.bytes.fault (sym c.is_some.ensures ∙ c.if-is_some.true) o)
 
 pub returns-clause-is : goal.returns-clause-is
 returns-clause-is c =
-    is_done (λ b. (cell_piece c.args.profile c.args.names c.args.operations b).read) c.entries.found.items c.args.count c.entries.counter
-    c.entries.bytes.left.now
-    (many c.args.count (λ b. (cell_piece c.args.profile c.args.names c.args.operations b).read) [] c.args.bytes.now.left.now)
-    (omega (arith, c.entries-test)) c.entries.invariant
+    is_done (λ b. (cell_piece c.args.counts.now.profile c.args.counts.now.names c.args.counts.now.operations b).read)
+    c.entries.found.items c.args.counts.now.cells c.entries.counter (omega (arith, c.entries-test)) c.entries.invariant
+
+pub returns-clause-loads : goal.returns-clause-loads
+returns-clause-loads c = λ o.
+    let all = is_done (λ b. (cell_piece c.args.counts.now.profile c.args.counts.now.names c.args.counts.now.operations b).read)
+    c.entries.found.items c.args.counts.now.cells c.entries.counter (omega (arith, c.entries-test)) c.entries.invariant in
+    loads_keep c.args.counts.now.profile c.args.counts.now.names c.args.counts.now.operations c.entries.found.items
+    (((listed_law c.args.counts.now.cells (cell_piece c.args.counts.now.profile c.args.counts.now.names c.args.counts.now.operations)
+    (cell_law c.args.counts.now.profile c.args.counts.now.names c.args.counts.now.operations)).takes c.args.bytes.now.left.now
+    c.entries.found.items c.entries.bytes.left.now
+    c.are_bytes.ensures (all.same o)).1.1)
+
+pub returns-clause-stores : goal.returns-clause-stores
+returns-clause-stores c = λ o.
+    let all = is_done (λ b. (cell_piece c.args.counts.now.profile c.args.counts.now.names c.args.counts.now.operations b).read)
+    c.entries.found.items c.args.counts.now.cells c.entries.counter (omega (arith, c.entries-test)) c.entries.invariant in
+    stores_keep c.args.counts.now.profile c.args.counts.now.names c.args.counts.now.operations c.entries.found.items
+    (((listed_law c.args.counts.now.cells (cell_piece c.args.counts.now.profile c.args.counts.now.names c.args.counts.now.operations)
+    (cell_law c.args.counts.now.profile c.args.counts.now.names c.args.counts.now.operations)).takes c.args.bytes.now.left.now
+    c.entries.found.items c.entries.bytes.left.now
+    c.are_bytes.ensures (all.same o)).1.1)

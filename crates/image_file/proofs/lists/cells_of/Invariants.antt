@@ -1,11 +1,13 @@
-use Rattle.std.proofs.Common.{◌≡◌, ◌-◌, []}
+use Rattle.std.proofs.Common.{◌-◌, []}
 use Rattle.image_file.specs.Pieces.{many}
 use Rattle.image_file.specs.Entries.{cell_piece}
+use Rattle.image_file.specs.Readings.{GoesOn}
 use Rattle.image_file.proofs.Loop.{with_front}
 use Rattle.image_file.proofs.lists.cells_of.Given as goal
 
 abbrev pub invariant-entries : goal.invariant-entries
 invariant-entries l =
-    (with_front l.found.items (many (l.count - l.counter) (λ b. ((cell_piece l.profile l.names l.operations) b).read) l.found.items l.bytes.left.now)
-    ≡ many l.count
-    (λ b. ((cell_piece l.profile l.names l.operations) b).read) [] l.initial.bytes.left.now)
+    GoesOn l.initial.bytes.fault l.bytes.fault
+    (many l.counts.cells (λ b. (cell_piece l.counts.profile l.counts.names l.counts.operations b).read) [] l.initial.bytes.left.now)
+    (with_front l.found.items
+    (many (l.counts.cells - l.counter) (λ b. (cell_piece l.counts.profile l.counts.names l.counts.operations b).read) l.found.items l.bytes.left.now))

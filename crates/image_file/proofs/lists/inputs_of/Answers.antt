@@ -1,27 +1,19 @@
-use Rattle.std.proofs.Common.{[], arith}
-use Rattle.std.proofs.lemmas.Result.{err_from_is_err_and}
-use Rattle.image_file.specs.Pieces.{many}
+use Rattle.std.proofs.Common.{◌∙◌, sym, arith}
 use Rattle.image_file.specs.Entries.{input_piece}
-use Rattle.image_file.proofs.Loop.{goes_on, ends_with, is_done}
+use Rattle.image_file.proofs.Loop.{one_more, is_done}
+use Rattle.image_file.proofs.Chains.{stopped}
 use Rattle.image_file.proofs.lists.inputs_of.Goals as goal
-
-pub returns-in_err-entry : goal.returns-in_err-entry
-returns-in_err-entry c =
-    let p = err_from_is_err_and c.from_residual.result c.from_residual.ensures.1 in
-    rw (p.1, p.2)
-    (ends_with (λ b. (input_piece c.args.profile c.args.names b).read) c.in_err-entry.field-0.0 _ c.entries.found.items c.args.count c.entries.counter
-    c.entries.bytes.left.now _
-    c.deref.ensures.value c.entries-test.true c.in_err-entry.ensures c.entries.invariant)
 
 pub entries-preserved : goal.entries-preserved
 entries-preserved c =
-    rw c.in_ok-push.ensures.items
-    (goes_on (λ b. (input_piece c.args.profile c.args.names b).read) _ c.entries.found.items c.args.count c.entries.counter c.entries.bytes.left.now
-    c.in_ok-entry.entry c.input_of.new.bytes.left.now _ c.deref.ensures.value c.entries-test.true c.in_ok-entry.ensures c.entries.invariant)
+    one_more (λ b. (input_piece c.args.counts.now.profile c.args.counts.now.names b).read)
+    _ c.entries.found.items _ c.args.counts.now.inputs c.entries.counter c.input_of-entry.result
+    c.entries.invariant c.entries-test.true c.deref.ensures.value c.input_of-entry.ensures c.push.ensures.keeps c.push.ensures.pushed
+
+pub returns-then-is_some : goal.returns-then-is_some
+returns-then-is_some c = stopped c.entries.invariant (sym c.is_some.ensures ∙ c.if-is_some.true)
 
 pub returns : goal.returns
 returns c =
-    is_done (λ b. (input_piece c.args.profile c.args.names b).read) c.entries.found.items c.args.count c.entries.counter
-    c.entries.bytes.left.now
-    (many c.args.count (λ b. (input_piece c.args.profile c.args.names b).read) [] c.args.bytes.now.left.now)
+    is_done (λ b. (input_piece c.args.counts.now.profile c.args.counts.now.names b).read) c.entries.found.items c.args.counts.now.inputs c.entries.counter
     (omega (arith, c.entries-test)) c.entries.invariant

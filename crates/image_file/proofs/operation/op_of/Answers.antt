@@ -1,27 +1,27 @@
-use Rattle.std.proofs.Common.{refl}
-use Rattle.std.proofs.lemmas.Result.{err_from_is_err_and}
-use Rattle.image_file.specs.Image.{op_by}
-use Rattle.image_file.proofs.Chains.{gives, goes, stops}
+use Rattle.std.proofs.Common.{refl, rules, SFits, w64, to_z, of_z, ℕ, ℤ, List, Ok}
+use Rattle.std.proofs.lemmas.Int.{to_z-of_z}
+use Rattle.op_graph.specs.Rules.{entry_of, imm_fits}
+use Rattle.image_file.specs.Fields.{signed}
+use Rattle.image_file.specs.Image.{op_by, op_operands, op_number}
+use Rattle.image_file.specs.Readings.{GoesOn}
+use Rattle.image_file.proofs.Chains.{then, stays}
 use Rattle.image_file.proofs.operation.op_of.Goals as goal
 
-pub returns-in_err-kind : goal.returns-in_err-kind
-unfolding op_by
-returns-in_err-kind c =
-    let p = err_from_is_err_and c.from_residual.result c.from_residual.ensures.1 in
-    rw (p.1, p.2) (stops _ c.in_err-kind.ensures)
-
-pub returns-in_err-from : goal.returns-in_err-from
-unfolding op_by
-returns-in_err-from c =
-    let p = err_from_is_err_and c.from_residual-in_err-from.result c.from_residual-in_err-from.ensures.1 in
-    rw (p.1, p.2) (goes _ c.in_ok-kind.ensures (stops _ c.in_err-from.ensures))
-
-pub returns-in_err-ty : goal.returns-in_err-ty
-unfolding op_by
-returns-in_err-ty c =
-    let p = err_from_is_err_and c.from_residual-in_err-ty.result c.from_residual-in_err-ty.ensures.1 in
-    rw (p.1, p.2) (goes _ c.in_ok-kind.ensures (goes _ c.in_ok-from.ensures (stops _ c.in_err-ty.ensures)))
-
 pub returns : goal.returns
-unfolding op_by
-returns c = gives (λ x. (x, c.op_of_kind.new.bytes.left.now)) c.op_of_kind.result (goes _ c.in_ok-kind.ensures (goes _ c.in_ok-from.ensures (goes _ c.in_ok-ty.ensures refl))) c.op_of_kind.ensures
+unfolding op_by op_operands op_number
+returns c =
+    let fits : SFits w64 c.imm_here-imm.result = search rules in
+    let imm : GoesOn {B = ℤ × List ℕ} c.operand_here-c.new.bytes.fault c.imm_here-imm.new.bytes.fault
+    ((signed (imm_fits (entry_of c.args.p.now c.kind_here-kind.result) c.kind_here-kind.result c.ty_here-ty.result)).read c.operand_here-c.new.bytes.left.now)
+    (Ok (to_z w64 (of_z w64 c.imm_here-imm.result), c.imm_here-imm.new.bytes.left.now))
+    = rw (to_z-of_z w64 c.imm_here-imm.result fits) c.imm_here-imm.ensures in
+    then _ c.kind_here-kind.ensures
+    (then _ c.from_here-from.ensures
+    (then _ c.ty_here-ty.ensures
+    (then _ c.operand_here-a.ensures
+    (then _ c.operand_here-b.ensures
+    (then _ c.operand_here-c.ensures
+    (then _ imm
+    (then _ (then _ c.read_u32-line.ensures (stays refl))
+    (then _ (then _ c.read_u32-col.ensures (stays refl))
+    (then _ c.turn_here-turn.ensures c.correction_here.ensures)))))))))

@@ -1,28 +1,9 @@
 use Rattle.std.proofs.Common.{refl}
-use Rattle.std.proofs.lemmas.Result.{err_from_is_err_and}
 use Rattle.image_file.specs.Entries.{output_piece}
-use Rattle.image_file.proofs.Chains.{goes, stops}
+use Rattle.image_file.proofs.Chains.{then, stays}
 use Rattle.image_file.proofs.fields.entries.output_of.Goals as goal
-
-pub returns-in_err-name : goal.returns-in_err-name
-unfolding output_piece
-returns-in_err-name c =
-    let p = err_from_is_err_and c.from_residual.result c.from_residual.ensures.1 in
-    rw (p.1, p.2) (stops _ (rw c.last_output.ensures at c.in_err-name.ensures))
-
-pub returns-in_err-ty : goal.returns-in_err-ty
-unfolding output_piece
-returns-in_err-ty c =
-    let p = err_from_is_err_and c.from_residual-in_err-ty.result c.from_residual-in_err-ty.ensures.1 in
-    rw (p.1, p.2) (goes _ (rw c.last_output.ensures at c.in_ok-name.ensures) (stops _ c.in_err-ty.ensures))
-
-pub returns-in_err-op : goal.returns-in_err-op
-unfolding output_piece
-returns-in_err-op c =
-    let p = err_from_is_err_and c.from_residual-in_err-op.result c.from_residual-in_err-op.ensures.1 in
-    let name = rw c.last_output.ensures at c.in_ok-name.ensures in
-    rw (p.1, p.2) (goes _ name (goes _ c.in_ok-ty.ensures (stops _ (rw c.last_output_op.ensures at c.in_err-op.ensures))))
 
 pub returns : goal.returns
 unfolding output_piece
-returns c = goes _ (rw c.last_output.ensures at c.in_ok-name.ensures) (goes _ c.in_ok-ty.ensures (goes _ (rw c.last_output_op.ensures at c.in_ok-op.ensures) refl))
+returns c = then _ (rw c.last_output.ensures at c.rising-name.ensures)
+    (then _ c.any_ty-ty.ensures (then _ (rw c.last_output_op.ensures at c.rising-op.ensures) (stays refl)))

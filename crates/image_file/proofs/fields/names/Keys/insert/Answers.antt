@@ -1,34 +1,25 @@
-use Rattle.std.proofs.Common.{◌≡◌, ◌∙◌, ◌++◌, ◌∷◌, [], ap, not, map, bytes_eq, sym}
-use Rattle.std.specs.List.{list_any}
-use Rattle.std.specs.Char.{to_ascii_lowercase}
-use Rattle.image_file.proofs.KeyLists.{any_items, pushed, kept}
+use Rattle.std.proofs.Common.{◌≡◌, ◌∙◌, Bool, true, false, not, sym, refl}
+use Rattle.image_file.proofs.Chains.{stays, no_memory, is_kept}
 use Rattle.image_file.proofs.fields.names.Keys.insert.Goals as goal
 
-pub returns-clause-said : goal.returns-clause-said
-returns-clause-said c =
-    let any : list_any (λ k. bytes_eq c.in_ok-key.key.items k.items) c.self.inside.keys.keys ≡ list_any
-    (bytes_eq (map to_ascii_lowercase c.args.name.now)) c.args.self.now =
-    any_items (λ k. k.items) c.in_ok-key.key.items c.self.inside.keys.keys
-    ∙ ap (λ n. list_any (bytes_eq n) (map (λ k. k.items) c.self.inside.keys.keys)) c.in_ok-key.ensures.ok
-    ∙ ap (list_any (bytes_eq (map to_ascii_lowercase c.args.name.now))) c.self.view_is in
-    c.in_ok-_place.ensures.added ∙ ap not any
+was_not : (b : Bool) → not b ≡ true → b ≡ false
+was_not true is = absurd cc
+was_not false is = refl
 
-pub returns-clause-added : goal.returns-clause-added
-returns-clause-added c = λ absent.
-    let any : list_any (λ k. bytes_eq c.in_ok-key.key.items k.items) c.self.inside.keys.keys ≡ list_any
-    (bytes_eq (map to_ascii_lowercase c.args.name.now)) c.args.self.now =
-    any_items (λ k. k.items) c.in_ok-key.key.items c.self.inside.keys.keys
-    ∙ ap (λ n. list_any (bytes_eq n) (map (λ k. k.items) c.self.inside.keys.keys)) c.in_ok-key.ensures.ok
-    ∙ ap (list_any (bytes_eq (map to_ascii_lowercase c.args.name.now))) c.self.view_is in
-    ap (map (λ k. k.items)) c.in_ok-_place.ensures.keys
-    ∙ pushed (λ k. k.items) c.self.inside.keys.keys c.in_ok-key.key (list_any (λ k. bytes_eq c.in_ok-key.key.items k.items) c.self.inside.keys.keys)
-    (any ∙ absent)
-    ∙ ap (λ s. s ++ c.in_ok-key.key.items ∷ []) c.self.view_is
-    ∙ ap (λ n. c.args.self.now ++ n ∷ []) c.in_ok-key.ensures.ok
+pub returns-in-Ok-clause-keeps : goal.returns-in-Ok-clause-keeps
+returns-in-Ok-clause-keeps c = stays refl
 
-pub returns-clause-kept : goal.returns-clause-kept
-returns-clause-kept c = λ said.
-    ap (map (λ k. k.items)) c.in_ok-_place.ensures.keys
-    ∙ kept (λ k. k.items) c.self.inside.keys.keys c.in_ok-key.key (list_any (λ k. bytes_eq c.in_ok-key.key.items k.items) c.self.inside.keys.keys)
-    (sym c.in_ok-_place.ensures.added ∙ said)
-    ∙ c.self.view_is
+pub returns-in-Ok-clause-said : goal.returns-in-Ok-clause-said
+returns-in-Ok-clause-said c = λ o. c.in-Ok.ensures.said
+
+pub returns-in-Ok-clause-added : goal.returns-in-Ok-clause-added
+returns-in-Ok-clause-added c = λ o new. c.in-Ok.ensures.added (was_not _ (sym c.in-Ok.ensures.said ∙ new))
+
+pub returns-in-Err-clause-keeps : goal.returns-in-Err-clause-keeps
+returns-in-Err-clause-keeps c = no_memory c.refuse.ensures.fault
+
+pub returns-in-Err-clause-said : goal.returns-in-Err-clause-said
+returns-in-Err-clause-said c = λ o. absurd (is_kept _ _ c.refuse.ensures.fault o)
+
+pub returns-in-Err-clause-added : goal.returns-in-Err-clause-added
+returns-in-Err-clause-added c = λ o. absurd (is_kept _ _ c.refuse.ensures.fault o)

@@ -1,0 +1,5 @@
+use Rattle.image_file.proofs.Chains.{then, tested}
+use Rattle.image_file.proofs.fields.reading.Reader.below.Goals as goal
+
+pub returns : goal.returns
+returns c = then _ c.read_u32-n.ensures (tested _ _ _ c.check.ensures.left c.check.ensures.fault)
