@@ -134,16 +134,6 @@ fn level_ends(
     next_label_in(source, body, bodies, stmts, phase, t)
 }
 
-// A token that ends the program's body, where no other is open.
-fn root_ends(mark: Mark, t: Token) -> Result<Phase, SyntaxFault>
-    ensures { (c : Context) → (ss : StmtTrees) → view.Gives (view.within [] ss) result (machine.body_ends c [] ss mark t) }
-{
-    if is(mark, Mark::EndProgram) {
-        return Ok(Phase::Finished);
-    }
-    refuse(t)
-}
-
 // A token that ends the innermost body, or begins the next branch.
 fn body_ends(
     source: Source,
@@ -157,7 +147,12 @@ fn body_ends(
         (view.levels bodies.old.outer.items) (stmt_trees bodies.old.stmts.items.items) mark t) }
 {
     match leave(&mut bodies.outer) {
-        None => root_ends(mark, t),
+        None => {
+            if is(mark, Mark::EndProgram) {
+                return Ok(Phase::Finished);
+            }
+            refuse(t)
+        }
         Some(level) => {
             let stmts = mem::replace(&mut bodies.stmts, level.before);
             level_ends(source, level.body, bodies, stmts, mark, t)
@@ -429,17 +424,6 @@ fn read_at(
     }
 }
 
-// The token behind a statement but for its semicolon.
-fn closed_at(t: Token) -> Result<Phase, SyntaxFault>
-    ensures { (c : Context) → (outer : List machine.Level) → (ss : StmtTrees) →
-        view.Gives (view.within outer ss) result (machine.stmt_step c outer ss machine.closed t) }
-{
-    if has(t, Mark::Semi) {
-        return Ok(Phase::Start);
-    }
-    refuse(t)
-}
-
 // The token behind FOR.
 fn loop_begun_at(source: Source, spot: Spot, t: Token) -> Result<Phase, SyntaxFault>
     requires inside { IsInside source.text.now t }
@@ -494,7 +478,12 @@ pub fn stmt_step(
             forms,
             mode,
         } => read_at(source, bodies, purpose, forms, mode, t),
-        Phase::Closed => closed_at(t),
+        Phase::Closed => {
+            if has(t, Mark::Semi) {
+                return Ok(Phase::Start);
+            }
+            refuse(t)
+        }
         Phase::LoopBegun { spot } => loop_begun_at(source, spot, t),
         Phase::LoopNamed { head } => loop_named_at(source.alloc, head, t),
         Phase::Labelling {

@@ -2,11 +2,6 @@ use Rattle.st_tree.specs.Spelling.{bytes_in}
 use Rattle.st_parser.specs.ExprMachine.{Context}
 use Rattle.st_parser.proofs.statements.stmt_step.Goals as goal
 
-pub returns-in-Closed : goal.returns-in-Closed
-returns-in-Closed c =
-    let k : Context = record { bytes = bytes_in c.args.source.text.now; most = c.args.source.most } in
-    rw c.in-Closed.is (c.closed_at.ensures k _ _)
-
 pub returns-in-LoopBegun : goal.returns-in-LoopBegun
 returns-in-LoopBegun c = rw c.in-LoopBegun.is (c.loop_begun_at.ensures _ _)
 
