@@ -2,6 +2,7 @@ pub mod Causes
 mod FilesLoaded
 mod RowsLoaded
 pub mod Lines
+mod ToldLines
 pub mod NotBytes
 pub mod RowsRead
 pub mod RowsWorked

@@ -22,16 +22,21 @@ pub fn are_alike(graph: &Graph, other: &Graph) -> bool {
     graph.profile() == other.profile()
         && are_same_operations(graph.operations(), other.operations())
         && have_same_places(graph, other)
-        && graph.all_turn_nodes() == other.all_turn_nodes()
+        && are_equal(graph.all_turn_nodes(), other.all_turn_nodes())
         && are_same_names(graph.all_names(), other.all_names())
 }
 
 // Whether two graphs have the same inputs, outputs and cells.
 fn have_same_places(graph: &Graph, other: &Graph) -> bool {
-    graph.all_inputs() == other.all_inputs()
-        && graph.all_outputs() == other.all_outputs()
-        && graph.loads() == other.loads()
-        && graph.stores() == other.stores()
+    are_equal(graph.all_inputs(), other.all_inputs())
+        && are_equal(graph.all_outputs(), other.all_outputs())
+        && are_equal(graph.loads(), other.loads())
+        && are_equal(graph.stores(), other.stores())
+}
+
+// Whether two lists are equal.
+fn are_equal<T: PartialEq>(list: &[T], other: &[T]) -> bool {
+    list == other
 }
 
 // Whether two lists of operations are the same.

@@ -1,14 +1,14 @@
 //! The lines of refusals.
 
-ghost use Rattle.std.specs.Prelude.{◌≡◌, [], ◌∷◌, ◌++◌, codes, decimal};
+ghost use Rattle.std.specs.Prelude.{◌≡◌, [], ◌∷◌, ◌++◌, codes};
 ghost use Rattle.vcp_outside.specs.Written.{WritesTo};
+ghost use Rattle.vcp_outside.specs.Gathering.{GathersTo};
 ghost use Rattle.vcp_inputs.specs.Lines.{diagnostic, diagnostic_text, refusal_text, input_text};
 ghost use Rattle.vcp_inputs.specs.Lines.{input_status as status_of_input};
-ghost use Rattle.vcp_inputs.specs.Told.{as_diagnostic};
+ghost use Rattle.vcp_inputs.specs.Told.{as_diagnostic, told_text};
 
 use crate::diagnostics::{Told, told_of};
 use crate::refusal::{NoInput, Refusal};
-use vcp_base::Residue;
 use vcp_outside::{Failed, Line, Sink, write_all};
 
 /// The line where memory was wanted.
@@ -47,16 +47,40 @@ pub fn input_status(input: &NoInput) -> u8
 fn tell<E: Sink>(err: &mut E, name: &[u8], told: &Told) -> Result<(), Failed>
     ensures { WritesTo (E.seen err.old) (E.seen err.new) (diagnostic_text name.now (as_diagnostic told.now)) result }
 {
+    if let Told::Memory = told {
+        return write_all(err, NO_MEMORY);
+    }
+    let mut line = Line::new();
+    line.text(err, name);
+    then_told(&mut line, err, told);
+    line.end(err)
+}
+
+// Goes on with what is told, behind a file's name.
+fn then_told<E: Sink>(line: &mut Line, err: &mut E, told: &Told)
+    ensures { GathersTo (E.seen err.old) (E.seen err.new) line.old line.new (told_text told.now) }
+{
     match told {
-        Told::Whole(what) => tell_whole(err, name, what),
-        Told::Place(place, what) => tell_place(err, name, *place, what),
-        Told::Pair(line, column, what) => tell_pair(err, name, *line, *column, what),
+        Told::Whole(what) => line.texts(err, b" ", what),
+        Told::Place(place, what) => {
+            line.numbered(err, b":", *place as u64);
+            line.texts(err, b" ", what);
+        }
+        Told::Pair(row, column, what) => {
+            line.numbered(err, b":", *row as u64);
+            line.numbered(err, b":", *column as u64);
+            line.texts(err, b" ", what);
+        }
         Told::Correction {
             offset,
             stored,
             expected,
-        } => tell_correction(err, name, *offset, *stored, *expected),
-        Told::Memory => write_all(err, NO_MEMORY),
+        } => {
+            line.numbered(err, b":", *offset as u64);
+            line.numbered(err, b" I6 Table stored ", *stored);
+            line.numbered(err, b" expected ", *expected);
+        }
+        Told::Memory => {}
     }
 }
 
@@ -70,16 +94,6 @@ pub fn tell_of<E: Sink>(err: &mut E, name: &[u8], what: &[u8]) -> Result<(), Fai
     line.end(err)
 }
 
-/// Prints a line of the file under a name as a whole.
-fn tell_whole<E: Sink>(err: &mut E, name: &[u8], what: &[u8]) -> Result<(), Failed>
-    ensures { WritesTo (E.seen err.old) (E.seen err.new) (diagnostic_text name.now (diagnostic [] what.now)) result }
-{
-    let mut line = Line::new();
-    line.text(err, name);
-    line.texts(err, b" ", what);
-    line.end(err)
-}
-
 /// Prints a line of a number's place, as a record, an offset or a line of a script, and what is said of it.
 pub fn tell_place<E: Sink>(err: &mut E, name: &[u8], place: u32, what: &[u8]) -> Result<(), Failed>
     ensures { WritesTo (E.seen err.old) (E.seen err.new) (diagnostic_text name.now (diagnostic (place ∷ []) what.now)) result }
@@ -88,42 +102,5 @@ pub fn tell_place<E: Sink>(err: &mut E, name: &[u8], place: u32, what: &[u8]) ->
     line.text(err, name);
     line.numbered(err, b":", place as u64);
     line.texts(err, b" ", what);
-    line.end(err)
-}
-
-/// Prints a line of a place of two numbers, as a line and a column, and what is said of it.
-fn tell_pair<E: Sink>(
-    err: &mut E,
-    name: &[u8],
-    row: u32,
-    column: u32,
-    what: &[u8],
-) -> Result<(), Failed>
-    ensures { WritesTo (E.seen err.old) (E.seen err.new) (diagnostic_text name.now (diagnostic (row ∷ column ∷ []) what.now)) result }
-{
-    let mut line = Line::new();
-    line.text(err, name);
-    line.numbered(err, b":", row as u64);
-    line.numbered(err, b":", column as u64);
-    line.texts(err, b" ", what);
-    line.end(err)
-}
-
-/// Prints the line of a correction that isn't the expected one.
-fn tell_correction<E: Sink>(
-    err: &mut E,
-    name: &[u8],
-    offset: u32,
-    stored: Residue,
-    expected: Residue,
-) -> Result<(), Failed>
-    ensures { WritesTo (E.seen err.old) (E.seen err.new) (diagnostic_text name.now
-        (diagnostic (offset ∷ []) (codes "I6 Table stored " ++ (decimal stored ++ (codes " expected " ++ decimal expected))))) result }
-{
-    let mut line = Line::new();
-    line.text(err, name);
-    line.numbered(err, b":", offset as u64);
-    line.numbered(err, b" I6 Table stored ", stored);
-    line.numbered(err, b" expected ", expected);
     line.end(err)
 }

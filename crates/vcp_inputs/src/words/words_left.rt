@@ -41,7 +41,9 @@ fn number(word: &Text, least: u64, most: u64) -> Option<u64>
     ensures least { IfSome result (λ n. least ≤ n) }
     ensures most { IfSome result (λ n. n ≤ most) }
 {
-    let number = numeral(word.bytes())?;
+    let Some(number) = numeral(word.bytes()) else {
+        return None;
+    };
     if least <= number && number <= most {
         Some(number)
     } else {
@@ -131,11 +133,19 @@ impl<'a> CommandWords<'a> {
         let mut seed = None;
         let mut step = None;
         'options: while let Some(option) = self.next() {
-            let given = self.next()?;
-            if seed.is_none() && option.bytes() == b"--seed".as_slice() {
-                seed = Some(number(given, 0, SEEDS as u64 - 1)? as u32);
-            } else if step.is_none() && option.bytes() == b"--step".as_slice() {
-                step = Some(number(given, 1, MOST_STEP as u64)? as u16);
+            let Some(given) = self.next() else {
+                return None;
+            };
+            if seed.is_none() && same_bytes(option.bytes(), b"--seed") {
+                let Some(number) = number(given, 0, SEEDS as u64 - 1) else {
+                    return None;
+                };
+                seed = Some(number as u32);
+            } else if step.is_none() && same_bytes(option.bytes(), b"--step") {
+                let Some(number) = number(given, 1, MOST_STEP as u64) else {
+                    return None;
+                };
+                step = Some(number as u16);
             } else {
                 return None;
             }

@@ -1,16 +1,11 @@
+use Rattle.vcp_inputs.proofs.Lines.{writes_same}
+use Rattle.vcp_inputs.proofs.ToldLines.{told_line}
 use Rattle.vcp_inputs.proofs.telling.tell.Goals as goal
-
-pub returns-in-Whole : goal.returns-in-Whole
-returns-in-Whole g c = rw c.in-Whole.is c.tell_whole.ensures
-
-pub returns-in-Place : goal.returns-in-Place
-returns-in-Place g c = rw c.in-Place.is c.tell_place.ensures
-
-pub returns-in-Pair : goal.returns-in-Pair
-returns-in-Pair g c = rw c.in-Pair.is c.tell_pair.ensures
-
-pub returns-in-Correction : goal.returns-in-Correction
-returns-in-Correction g c = rw c.in-Correction.is c.tell_correction.ensures
 
 pub returns-in-Memory : goal.returns-in-Memory
 returns-in-Memory g c = rw c.in-Memory.is c.write_all.ensures
+
+pub returns : goal.returns
+returns g c =
+    let named = c.text.ensures.gathers _ _ _ (c.new-line.ensures.begun _ _) in
+    writes_same (c.end.ensures.writes _ _ _ (c.then_told.ensures _ _ _ named)) (told_line c.args.name.now c.args.told.now c.in_default.not-Memory)
