@@ -46,8 +46,8 @@ calls-preserved g c =
           p.performed p.right;
     }
 
-pub returns-clause-turn : goal.returns-clause-turn
-returns-clause-turn g c =
+pub returns : goal.returns
+returns g c =
     let i = c.calls.invariant in
     let old : PairState = c.args.pair.now in
     let p : PairState = c.calls.pair in
@@ -56,20 +56,23 @@ returns-clause-turn g c =
     let going = ap (λ (x : PairState). x.ended) i.pair ∙ c.requires.going in
     let x = outer_seen c.args.scripted.now.wrong in
     let y = outer_seen c.calls.scripted.wrong in
-    c.pairs_by_hand_are_whole.ensures old p new row (CallsOf (setting old.first row) (given p.first)) c.end.result c.args.outputs.now c.end.new.out x y
-    processor_seen processor_seen i.so_far.done.under i.pair (first_finished p going (c.in_default.ensures.none.0 refl)) i.so_far.carried
-    (c.end.ensures.concluded going)
+    let concluded = c.end.ensures.concluded going in
+    record {
+      turn =
+          c.pairs_by_hand_are_whole.ensures old p new row (CallsOf (setting old.first row) (given p.first)) c.end.result c.args.outputs.now c.end.new.out x y
+          processor_seen processor_seen i.so_far.done.under i.pair (first_finished p going (c.in_default.ensures.none.0 refl)) i.so_far.carried concluded;
+      asked =
+          cycle_asked old.first p.first row (faults_of c.args.scripted.now.carried.items) (keeps_of c.args.scripted.now.carried.items)
+          (keeps_of c.calls.scripted.carried.items) c.args.scripted.now.wrong c.calls.scripted.wrong (g.U.Unit.seen c.args.scripted.now.unit.now)
+          (g.U.Unit.seen c.calls.scripted.unit.now) new.first.answers concluded.first_answers i.so_far;
+      between = c.end.ensures.between;
+      width = c.end.ensures.width;
+      same = i.same;
+      faults = i.faults;
+    }
 
-pub returns-clause-asked : goal.returns-clause-asked
-returns-clause-asked g c =
-    let i = c.calls.invariant in
-    let old : PairState = c.args.pair.now in
-    let p : PairState = c.calls.pair in
-    let new : PairState = c.end.new.self in
-    let going = ap (λ (x : PairState). x.ended) i.pair ∙ c.requires.going in
-    cycle_asked old.first p.first c.args.inputs.now (faults_of c.args.scripted.now.carried.items) (keeps_of c.args.scripted.now.carried.items)
-    (keeps_of c.calls.scripted.carried.items) c.args.scripted.now.wrong c.calls.scripted.wrong (g.U.Unit.seen c.args.scripted.now.unit.now)
-    (g.U.Unit.seen c.calls.scripted.unit.now) new.first.answers (c.end.ensures.concluded going).first_answers i.so_far
+pub put-requires : goal.put-requires
+put-requires g c = c.in-Some.ensures.some.0 refl
 
 pub end-requires : goal.end-requires
 end-requires g c = search rules

@@ -37,20 +37,16 @@ rows-init g c =
           c.requires.kept;
     }
 
-pub carry-requires-clause-going : goal.carry-requires-clause-going
-carry-requires-clause-going g c = c.rows.invariant.so_far.run.going
-
-pub carry-requires-clause-first_going : goal.carry-requires-clause-first_going
-carry-requires-clause-first_going g c = c.rows.invariant.so_far.run.first.going
-
-pub carry-requires-clause-between : goal.carry-requires-clause-between
-carry-requires-clause-between g c = c.rows.invariant.so_far.between
-
-pub carry-requires-clause-few : goal.carry-requires-clause-few
-carry-requires-clause-few g c = let i = c.rows.invariant in omega (arith, i.cycles, i.count, c.rows-test.true, c.requires.few)
-
-pub carry-requires-clause-out : goal.carry-requires-clause-out
-carry-requires-clause-out g c = let i = c.rows.invariant in i.outputs ∙ ap (λ (x : Lists). length x.outputs) (sym i.so_far.run.first.graph)
+pub carry-requires : goal.carry-requires
+carry-requires g c =
+    let i = c.rows.invariant in
+    record {
+      going = i.so_far.run.going;
+      first_going = i.so_far.run.first.going;
+      between = i.so_far.between;
+      few = omega (arith, i.cycles, i.count, c.rows-test.true, c.requires.few);
+      out = i.outputs ∙ ap (λ (x : Lists). length x.outputs) (sym i.so_far.run.first.graph);
+    }
 
 pub rows-preserved : goal.rows-preserved
 rows-preserved g c =

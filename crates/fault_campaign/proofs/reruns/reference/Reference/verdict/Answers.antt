@@ -1,4 +1,4 @@
-use Rattle.std.proofs.Common.{[], length, subst, sym, arith, rules}
+use Rattle.std.proofs.Common.{[], length, subst, sym, ◌∙◌, arith, rules}
 use Rattle.coded_machine.specs.CycleEnds.{initial_words}
 use Rattle.fault_script.specs.Changes.{acts_of}
 use Rattle.fault_injector.specs.RunLaw.{no_words}
@@ -9,19 +9,34 @@ use Rattle.fault_campaign.specs.Reruns.{InCycles}
 use Rattle.fault_campaign.proofs.Named.{runs_named}
 use Rattle.fault_campaign.proofs.reruns.reference.Reference.verdict.Goals as goal
 
-pub returns-clause-names : goal.returns-clause-names
-returns-clause-names g c =
+pub returns : goal.returns
+returns g c =
     let r : KeptRun = c.args.self.now in
-    let named = runs_named c.entries_keep_their_rules.ensures r.table r.graph (acts_of c.args.group.now) (length r.rows) c.cycles-cycles.ensures.sound.0
-    r.rows r.answers 0 no_words (initial_words r.graph r.table.seed) [] c.rerun.ensures.given (omega arith) in
-    subst (λ (v : Verdict). Names (length r.graph.outputs) (length r.graph.operations) v) (sym c.rerun.ensures.verdict_is) named.names
-
-pub returns-clause-cycle : goal.returns-clause-cycle
-returns-clause-cycle g c =
-    let r : KeptRun = c.args.self.now in
-    let named = runs_named c.entries_keep_their_rules.ensures r.table r.graph (acts_of c.args.group.now) (length r.rows) c.cycles-cycles.ensures.sound.0
-    r.rows r.answers 0 no_words (initial_words r.graph r.table.seed) [] c.rerun.ensures.given (omega arith) in
-    subst (λ (v : Verdict). InCycles (length r.rows) v) (sym c.rerun.ensures.verdict_is) named.cycle
+    let sound = c.cycles-cycles.ensures.sound in
+    let reran = c.rerun.ensures in
+    let named = runs_named c.entries_keep_their_rules.ensures r.table r.graph (acts_of c.args.group.now) (length r.rows) sound.0
+    r.rows r.answers 0 no_words (initial_words r.graph r.table.seed) [] reran.given (omega arith) in
+    let run_laws = c.runs_under_acts_keep_the_run_law.ensures in
+    let ends = c.ends_under_acts_are_read_off_the_answers.ensures in
+    record {
+      reran = reran;
+      verdict = λ right fits honest.
+          reran.verdict_is
+          ∙ c.verdicts_read_off_right_answers_are_defined.ensures r.table r.graph c.args.group.now r.rows r.answers reran.given sound.0 sound.1 sound.2.0 fits
+          sound.3 right reran.exact.enough (reran.carried.honest honest.0 honest.1);
+      names = subst (λ (v : Verdict). Names (length r.graph.outputs) (length r.graph.operations) v) (sym reran.verdict_is) named.names;
+      cycle = subst (λ (v : Verdict). InCycles (length r.rows) v) (sym reran.verdict_is) named.cycle;
+      never_falls = reran.carried.never_falls;
+      err = tt;
+      touched = c.touched_operations_are_told_by_what_they_read.ensures;
+      asks = c.reruns_ask_at_touched_operations.ensures;
+      right_runs = c.reruns_of_right_answers_are_right_runs.ensures;
+      run_law = run_laws.runs;
+      groups = run_laws.groups;
+      values = c.one_fault_runs_by_its_act.ensures;
+      accepted = ends.ends;
+      outputs = ends.outputs;
+    }
 
 pub returns-in-Err : goal.returns-in-Err
 returns-in-Err g c = search rules
