@@ -60,6 +60,11 @@ by_all E sound (x ∷ xs) (y ∷ ys) all =
 pub pointwise_same : {X : Type 0} (E : X → X → Bool) → ((x y : X) → E x y ≡ true → x ≡ y) → (xs ys : List X) (r : Bool) → r ≡ pointwise E xs ys → r ≡ true → xs ≡ ys
 pointwise_same E sound xs ys r is same = by_all E sound xs ys (sym is ∙ same)
 
+-- and those of which `!=` doesn't say that they differ
+pub pointwise_alike : {X : Type 0} (E : X → X → Bool) → ((x y : X) → E x y ≡ true → x ≡ y) → (xs ys : List X) (r : Bool)
+    → r ≡ not (pointwise E xs ys) → r ≡ false → xs ≡ ys
+pointwise_alike E sound xs ys r is same = by_all E sound xs ys (not_false (pointwise E xs ys) r is same)
+
 -- operations with the same fields but for their places
 pub same_fields : (a b : Op) → a.kind ≡ b.kind → a.from ≡ b.from → a.ty ≡ b.ty → a.a ≡ b.a → a.b ≡ b.b → a.c ≡ b.c → a.imm ≡ b.imm → a.turn ≡ b.turn
     → unplaced a ≡ unplaced b

@@ -1,11 +1,20 @@
 -- Ranged: what is told of the ranges of operations.
-use Rattle.std.proofs.Common.{◌≡◌, ℕ, zero, suc, refl, sym, subst, Bool, ℤ, List, [], length, false}
+use Rattle.std.proofs.Common.{◌≡◌, ◌==◌, not, ℕ, zero, suc, refl, sym, subst, ap, arith, Bool, ℤ, List, [], length, false}
+use Rattle.std.proofs.lemmas.Bool.Decides.{nat_tests}
 use Rattle.op_graph.specs.Lists.{Lists}
 use Rattle.range_walk.specs.declared.range.Range.{Range}
 use Rattle.range_audit.specs.Audit.{RowsIn, IsAuditWithin, named_below, NeverStops, NeverStopsWithin}
 use Rattle.range_walk.specs.Known.{KnownRanges}
 use Rattle.range_audit.specs.RangeText.{ranges_text}
 use Rattle.vcp_study_core.specs.Texts.{IsRanged, are_named}
+
+-- one is named where their number isn't 0
+isn't_zero : (n : ℕ) → (suc n == 0) ≡ false
+isn't_zero n = grind (arith, nat_tests)
+
+pub some_named : (n : ℕ) → not (n == 0) ≡ are_named n
+some_named zero = refl
+some_named (suc n) = ap not (isn't_zero n)
 
 -- where none is found, no operation is named
 none_named : (n : ℕ) (found : Bool) → found ≡ are_named n → found ≡ false → n ≡ 0

@@ -1,6 +1,6 @@
 //! The command `ranges`, behind its image.
 
-ghost use Rattle.std.specs.Prelude.{ℕ, List, ◌≡◌, ◌≤◌, Some, IfOk, IfErr, length};
+ghost use Rattle.std.specs.Prelude.{ℕ, List, ◌≤◌, Some, IfOk, IfErr, length};
 ghost use Rattle.std.specs.Option.{option_map};
 ghost use Rattle.std.specs.Io.KnownBytes.{IsAtEnd};
 ghost use Rattle.vcp_base.specs.Limits.{most_names};
@@ -10,7 +10,7 @@ ghost use Rattle.vcp_study_core.specs.Forms.{ranges};
 ghost use Rattle.vcp_study_core.specs.FromFiles.{as_found_by};
 ghost use Rattle.vcp_study_core.specs.Parts.{NotTable, RangesFrom, TellsRanges};
 ghost use Rattle.vcp_study_core.specs.Tasks.{StudyOf};
-ghost use Rattle.vcp_study_core.specs.Texts.{IsRanged, WritesOne, are_named};
+ghost use Rattle.vcp_study_core.specs.Texts.{IsRanged, WritesOne};
 ghost use Rattle.vcp_study_core.specs.declared.fault.Fault.TheVariants as fault;
 
 use crate::fault::{Fault, told};
@@ -26,13 +26,6 @@ use vcp_base::{Columns, MOST_SOURCE_BYTES, Memory, Text};
 use vcp_inputs::{Image, NoInput, Refusal, graph_columns};
 use vcp_outside::{Files, Sink};
 
-/// Whether an operation may stop, by how many may.
-fn is_named(named: u32) -> bool
-    ensures { result ≡ are_named named }
-{
-    named != 0
-}
-
 /// Writes which operations of a graph may stop, on rows whose inputs are in these ranges; whether one may.
 fn write_ranges<'a, O: Sink>(
     alloc: Global,
@@ -46,8 +39,8 @@ fn write_ranges<'a, O: Sink>(
     all_rows_are_in_no_ranges();
     match ranges_within(alloc, graph, inputs, all) {
         Ok(ranges) => {
-            let named = is_named(count_named(graph, &ranges));
-            told(write_ranges_text(out, graph, &ranges, all), named)
+            let named = count_named(graph, &ranges);
+            told(write_ranges_text(out, graph, &ranges, all), named != 0)
         }
         Err(Memory) => Err(Fault::Memory),
     }

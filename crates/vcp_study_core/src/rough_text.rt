@@ -76,7 +76,13 @@ impl Growing {
         self.put(b"\n");
         self.blocks(slots);
         for stmt in &program.body().items {
-            self.statement(slots, stmt);
+            match stmt {
+                TStmt::If { arms, .. } => match arms.items.as_slice() {
+                    [arm] => self.conditional(slots, arm),
+                    _ => {}
+                },
+                _ => self.assignment(slots, stmt),
+            }
         }
         self.put(b"END_PROGRAM\n");
     }
@@ -203,16 +209,5 @@ impl Growing {
             self.assignment(slots, stmt);
         }
         self.put(b"END_IF;\n");
-    }
-
-    /// The statement of an instruction.
-    fn statement(&mut self, slots: &[Slot], stmt: &TStmt) {
-        match stmt {
-            TStmt::If { arms, .. } => match arms.items.as_slice() {
-                [arm] => self.conditional(slots, arm),
-                _ => {}
-            },
-            _ => self.assignment(slots, stmt),
-        }
     }
 }

@@ -1,22 +1,21 @@
 //! From words to a command.
 
-ghost use Rattle.std.specs.Prelude.{ℕ, List, ◌≡◌, ◌≤◌, IfSome, Some, None, cond, drop};
+ghost use Rattle.std.specs.Prelude.{ℕ, List, ◌≡◌, ◌≤◌, IfSome, Some, None, drop};
 ghost use Rattle.std.specs.Option.{option_map};
 ghost use Rattle.vcp_base.specs.Limits.{most_cycles, most_horizon};
-ghost use Rattle.vcp_study_core.specs.Forms.{list_image, list_text};
 ghost use Rattle.vcp_study_core.specs.Forms.{form, form_of, named_form, waves, waves_form, last_name as last_name_of};
-ghost use Rattle.vcp_study_core.specs.Forms.{study, study_of, fault_study_of, graph, dot, last_horizon as last_horizon_of, ranges_form};
-ghost use Rattle.vcp_study_core.specs.Forms.{all_form, inputs_form, cover_form, IsSound, IsSoundStudy};
-ghost use Rattle.vcp_study_core.specs.Forms.{faults_form, sites_form, behind_form, class_form, cycles_in as cycles_in_of};
-ghost use Rattle.vcp_study_core.specs.Forms.{rest_form, run_sites, next_by, next_of, behind_of, sum_form, script_form, chosen_of};
+ghost use Rattle.vcp_study_core.specs.Forms.{study, study_of, fault_study_of, last_horizon as last_horizon_of, ranges_form};
+ghost use Rattle.vcp_study_core.specs.Forms.{inputs_form, cover_form, IsSound, IsSoundStudy};
+ghost use Rattle.vcp_study_core.specs.Forms.{faults_form, behind_form, class_form, cycles_in as cycles_in_of};
+ghost use Rattle.vcp_study_core.specs.Forms.{next_by, next_of, behind_of, sum_form, chosen_of};
 ghost use Rattle.vcp_study_core.specs.SumSteps.{as_next, as_behind, ended_of, IsFew, FewBehind};
 ghost use Rattle.verdict_tables.specs.Parts.{most_parts};
-ghost use Rattle.vcp_inputs.specs.Forms.{rows_of, AreFew, code_of, is_end};
+ghost use Rattle.vcp_inputs.specs.Forms.{rows_of, AreFew};
 
 use crate::command::{AloneStudy, ImageStudy, StudyCommand};
 use crate::part_words::{Named, PartWords};
 use fault_cover::classes_named as cover_classes_named;
-use fault_sites::{Chosen, Part, RunClass, classes_named, run_class_named};
+use fault_sites::{Chosen, Part, classes_named, run_class_named};
 use run_picture::{Period, period_named};
 use vcp_base::{MOST_CYCLES, MOST_HORIZON, Text, Words, numeral, same_bytes};
 use vcp_inputs::{CommandWords, RowsWord};
@@ -49,27 +48,26 @@ fn named_words<'a>(
     ensures sound { IfSome result (λ command. IsSound (form command)) }
 {
     if same_bytes(command, b"waves") {
-        return waves_words(name, words);
+        return match period_said(words) {
+            Some(period) => Some(StudyCommand::Waves { file: name, period }),
+            None => None,
+        };
     }
     if same_bytes(command, b"image") {
-        return list_image_words(name, words);
+        return match words.code() {
+            Some(code) => Some(StudyCommand::ListImage { source: name, code }),
+            None => None,
+        };
     }
     if same_bytes(command, b"text") {
-        return list_text_words(name, words);
+        return if words.is_end() {
+            Some(StudyCommand::ListText { source: name })
+        } else {
+            None
+        };
     }
     match study_words(all, command, words) {
         Some(study) => Some(StudyCommand::On { image: name, study }),
-        None => None,
-    }
-}
-
-/// Behind FILE, of `waves`.
-fn waves_words<'a>(file: &'a Text, words: &mut CommandWords<'_>) -> Option<StudyCommand<'a>>
-    ensures form { option_map form result ≡ waves_form file.now words.old }
-    ensures sound { IfSome result (λ command. IsSound (form command)) }
-{
-    match period_said(words) {
-        Some(period) => Some(StudyCommand::Waves { file, period }),
         None => None,
     }
 }
@@ -97,29 +95,6 @@ fn period_said(words: &mut CommandWords<'_>) -> Option<Option<Period>>
     }
 }
 
-/// The words of `image`, behind the name of an instruction list.
-fn list_image_words<'a>(source: &'a Text, words: &mut CommandWords<'a>) -> Option<StudyCommand<'a>>
-    ensures form { option_map form result ≡ option_map (list_image source.now) (code_of words.old) }
-    ensures sound { IfSome result (λ command. IsSound (form command)) }
-{
-    match words.code() {
-        Some(code) => Some(StudyCommand::ListImage { source, code }),
-        None => None,
-    }
-}
-
-/// The words of `text`, behind the name of an instruction list: none.
-fn list_text_words<'a>(source: &'a Text, words: &CommandWords<'a>) -> Option<StudyCommand<'a>>
-    ensures form { option_map form result ≡ cond (is_end words.now) (Some (list_text source.now)) None }
-    ensures sound { IfSome result (λ command. IsSound (form command)) }
-{
-    if words.is_end() {
-        Some(StudyCommand::ListText { source })
-    } else {
-        None
-    }
-}
-
 /// What is done with an image, by a command's name and, of all words, those behind the image's name.
 fn study_words<'a>(
     all: &'a Words,
@@ -131,10 +106,16 @@ fn study_words<'a>(
     ensures sound { IfSome result (λ s. IsSoundStudy (study s)) }
 {
     if same_bytes(command, b"graph") {
-        return graph_words(words);
+        return match last_horizon(words) {
+            Some(horizon) => Some(ImageStudy::Alone(AloneStudy::Graph { horizon })),
+            None => None,
+        };
     }
     if same_bytes(command, b"dot") {
-        return dot_words(words);
+        return match last_horizon(words) {
+            Some(horizon) => Some(ImageStudy::Alone(AloneStudy::Dot { horizon })),
+            None => None,
+        };
     }
     if same_bytes(command, b"ranges") {
         return ranges_words(words);
@@ -156,7 +137,10 @@ fn fault_study_words<'a>(
     ensures sound { IfSome result (λ s. IsSoundStudy (study s)) }
 {
     if same_bytes(command, b"sites") {
-        return sites_words(words);
+        return match words.rows() {
+            Some(rows) => behind_words(rows, words),
+            None => None,
+        };
     }
     if same_bytes(command, b"sum") {
         return sum_words(all, words);
@@ -165,7 +149,10 @@ fn fault_study_words<'a>(
         return faults_words(words);
     }
     if same_bytes(command, b"script") {
-        return script_words(words);
+        return match last_name(words) {
+            Some(named) => Some(ImageStudy::Script { named }),
+            None => None,
+        };
     }
     None
 }
@@ -191,28 +178,6 @@ fn last_horizon(words: &mut CommandWords<'_>) -> Option<u32>
     }
 }
 
-/// The word of `graph`.
-fn graph_words<'a>(words: &mut CommandWords<'_>) -> Option<ImageStudy<'a>>
-    ensures form { option_map study result ≡ option_map graph (last_horizon_of words.old) }
-    ensures sound { IfSome result (λ s. IsSoundStudy (study s)) }
-{
-    match last_horizon(words) {
-        Some(horizon) => Some(ImageStudy::Alone(AloneStudy::Graph { horizon })),
-        None => None,
-    }
-}
-
-/// The word of `dot`.
-fn dot_words<'a>(words: &mut CommandWords<'_>) -> Option<ImageStudy<'a>>
-    ensures form { option_map study result ≡ option_map dot (last_horizon_of words.old) }
-    ensures sound { IfSome result (λ s. IsSoundStudy (study s)) }
-{
-    match last_horizon(words) {
-        Some(horizon) => Some(ImageStudy::Alone(AloneStudy::Dot { horizon })),
-        None => None,
-    }
-}
-
 /// Of `ranges`, behind `--all`, where that is said: `--inputs` and FILE.
 fn inputs_words<'a>(all: bool, word: &Text, words: &mut CommandWords<'a>) -> Option<ImageStudy<'a>>
     ensures form { option_map study result ≡ inputs_form all word.now words.old }
@@ -230,20 +195,6 @@ fn inputs_words<'a>(all: bool, word: &Text, words: &mut CommandWords<'a>) -> Opt
     }
 }
 
-/// Of `ranges`, behind `--all`.
-fn all_words<'a>(words: &mut CommandWords<'a>) -> Option<ImageStudy<'a>>
-    ensures form { option_map study result ≡ all_form words.old }
-    ensures sound { IfSome result (λ s. IsSoundStudy (study s)) }
-{
-    match words.next() {
-        Some(word) => inputs_words(true, word, words),
-        None => Some(ImageStudy::Ranges {
-            all: true,
-            inputs: None,
-        }),
-    }
-}
-
 /// The words of `ranges`.
 fn ranges_words<'a>(words: &mut CommandWords<'a>) -> Option<ImageStudy<'a>>
     ensures form { option_map study result ≡ ranges_form words.old }
@@ -251,7 +202,13 @@ fn ranges_words<'a>(words: &mut CommandWords<'a>) -> Option<ImageStudy<'a>>
 {
     match words.next() {
         Some(word) => if same_bytes(word.bytes(), b"--all") {
-            all_words(words)
+            match words.next() {
+                Some(word) => inputs_words(true, word, words),
+                None => Some(ImageStudy::Ranges {
+                    all: true,
+                    inputs: None,
+                }),
+            }
         } else {
             inputs_words(false, word, words)
         },
@@ -353,40 +310,6 @@ fn class_words<'a>(
     }
 }
 
-/// Which of the sites that the words of a run decide.
-fn run_words<'a>(
-    rows: RowsWord<'a>,
-    class: RunClass,
-    words: &mut CommandWords<'a>,
-) -> Option<ImageStudy<'a>>
-    requires { AreFew (rows_of rows) }
-    ensures form { option_map study result ≡ option_map (run_sites (rows_of rows.entry) class) (chosen_of words.old) }
-    ensures sound { IfSome result (λ s. IsSoundStudy (study s)) }
-{
-    match chosen_words(words) {
-        Some(chosen) => Some(ImageStudy::RunSites {
-            rows,
-            class,
-            chosen,
-        }),
-        None => None,
-    }
-}
-
-/// CYCLES, and which of the groups of `rest`.
-fn rest_words<'a>(rows: RowsWord<'_>, words: &mut CommandWords<'_>) -> Option<ImageStudy<'a>>
-    ensures form { option_map study result ≡ rest_form (rows_of rows.entry) words.old }
-    ensures sound { IfSome result (λ s. IsSoundStudy (study s)) }
-{
-    match cycles_in(rows) {
-        Some(cycles) => match chosen_words(words) {
-            Some(chosen) => Some(ImageStudy::Alone(AloneStudy::RestSites { cycles, chosen })),
-            None => None,
-        },
-        None => None,
-    }
-}
-
 /// Of `sites`, what is behind ROWS, or behind CYCLES: CLASS, and which of the sites.
 fn behind_words<'a>(rows: RowsWord<'a>, words: &mut CommandWords<'a>) -> Option<ImageStudy<'a>>
     requires { AreFew (rows_of rows) }
@@ -395,24 +318,29 @@ fn behind_words<'a>(rows: RowsWord<'a>, words: &mut CommandWords<'a>) -> Option<
 {
     match words.next() {
         Some(word) => if same_bytes(word.bytes(), b"rest") {
-            rest_words(rows, words)
+            match cycles_in(rows) {
+                Some(cycles) => match chosen_words(words) {
+                    Some(chosen) => Some(ImageStudy::Alone(AloneStudy::RestSites {
+                        cycles,
+                        chosen,
+                    })),
+                    None => None,
+                },
+                None => None,
+            }
         } else {
             match run_class_named(word.bytes()) {
-                Some(class) => run_words(rows, class, words),
+                Some(class) => match chosen_words(words) {
+                    Some(chosen) => Some(ImageStudy::RunSites {
+                        rows,
+                        class,
+                        chosen,
+                    }),
+                    None => None,
+                },
                 None => class_words(rows, word, words),
             }
         },
-        None => None,
-    }
-}
-
-/// The words of `sites`.
-fn sites_words<'a>(words: &mut CommandWords<'a>) -> Option<ImageStudy<'a>>
-    ensures form { option_map study result ≡ sites_form words.old }
-    ensures sound { IfSome result (λ s. IsSoundStudy (study s)) }
-{
-    match words.rows() {
-        Some(rows) => behind_words(rows, words),
         None => None,
     }
 }
@@ -542,17 +470,6 @@ fn faults_words<'a>(words: &mut CommandWords<'a>) -> Option<ImageStudy<'a>>
             }),
             None => None,
         },
-        None => None,
-    }
-}
-
-/// The word of `script`: NAMED.
-fn script_words<'a>(words: &mut CommandWords<'a>) -> Option<ImageStudy<'a>>
-    ensures form { option_map study result ≡ script_form words.old }
-    ensures sound { IfSome result (λ s. IsSoundStudy (study s)) }
-{
-    match last_name(words) {
-        Some(named) => Some(ImageStudy::Script { named }),
         None => None,
     }
 }

@@ -1,8 +1,14 @@
+use Rattle.std.proofs.Common.{◌≡◌, rules}
+use borrow.Author.Tests.{tests}
 use Rattle.vcp_study_core.proofs.Comparing.{same_fields}
 use Rattle.vcp_study_core.proofs.same_graphs.same_operation.Goals as goal
 
 pub returns : goal.returns
 returns c same =
-    same_fields c.args.a.now c.args.b.now (c.is_kind.ensures c.if-not-is_kind.false) (c.is_type.ensures c.if-not-is_type.false)
-    (c.is_type-2.ensures c.if-not-is_type-2.false) c.if-a-b.false c.if-a-b-2.false c.if-a-b-3.false
-    (c.is_value.ensures c.if-not-is_value.false) c.if-a-b-4.false
+    let a = c.args.a.now in
+    let b = c.args.b.now in
+    let kind : a.kind ≡ b.kind = search (tests, rules) in
+    let from : a.from ≡ b.from = search (tests, rules) in
+    let ty : a.ty ≡ b.ty = search (tests, rules) in
+    let imm : a.imm ≡ b.imm = search (tests, rules) in
+    same_fields a b kind from ty c.if-a-b.false c.if-a-b-2.false c.if-a-b-3.false imm c.if-a-b-5.false

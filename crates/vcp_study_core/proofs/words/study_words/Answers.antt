@@ -1,13 +1,24 @@
+use Rattle.std.proofs.Common.{ap}
+use Rattle.std.specs.Option.{option_map}
+use Rattle.vcp_study_core.specs.Forms.{graph, dot}
 use Rattle.vcp_study_core.proofs.WordForms.{this_form, other_form}
 use Rattle.vcp_study_core.proofs.words.study_words.Goals as goal
 
-pub returns-then-same_bytes-clause-form : goal.returns-then-same_bytes-clause-form
-returns-then-same_bytes-clause-form c = this_form _ _ _ _ _ c.same_bytes.ensures c.if-same_bytes.true c.graph_words.ensures.form
+pub returns-in-Some-clause-form : goal.returns-in-Some-clause-form
+returns-in-Some-clause-form c = this_form _ _ _ _ _ c.same_bytes.ensures c.if-same_bytes.true (ap (option_map graph) c.in-Some.ensures.horizon)
 
-pub returns-then-same_bytes-2-clause-form : goal.returns-then-same_bytes-2-clause-form
-returns-then-same_bytes-2-clause-form c =
+pub returns-in-None-clause-form : goal.returns-in-None-clause-form
+returns-in-None-clause-form c = this_form _ _ _ _ _ c.same_bytes.ensures c.if-same_bytes.true (ap (option_map graph) c.in-None.ensures.horizon)
+
+pub returns-in-Some-last_horizon-clause-form : goal.returns-in-Some-last_horizon-clause-form
+returns-in-Some-last_horizon-clause-form c =
     other_form _ _ _ _ _ c.same_bytes.ensures c.if-same_bytes.false
-    (this_form _ _ _ _ _ c.same_bytes-2.ensures c.if-same_bytes-2.true c.dot_words.ensures.form)
+    (this_form _ _ _ _ _ c.same_bytes-2.ensures c.if-same_bytes-2.true (ap (option_map dot) c.in-Some-last_horizon.ensures.horizon))
+
+pub returns-in-None-last_horizon-clause-form : goal.returns-in-None-last_horizon-clause-form
+returns-in-None-last_horizon-clause-form c =
+    other_form _ _ _ _ _ c.same_bytes.ensures c.if-same_bytes.false
+    (this_form _ _ _ _ _ c.same_bytes-2.ensures c.if-same_bytes-2.true (ap (option_map dot) c.in-None-last_horizon.ensures.horizon))
 
 pub returns-then-same_bytes-3-clause-form : goal.returns-then-same_bytes-3-clause-form
 returns-then-same_bytes-3-clause-form c =
