@@ -1,6 +1,6 @@
 -- Covering: what is found of all faults, as a text.
 use Rattle.std.proofs.Common.{◌≡◌, ℕ, ◌+◌, ◌*◌, ◌<◌, ◌^◌, ◌==◌, Bool, true, false, cond, List, [], ◌∷◌, ◌++◌, length, flat_map, All, codes, slice_get}
-use Rattle.std.proofs.Common.{Some, IfOk, OnOk, Result, Ok, Err}
+use Rattle.std.proofs.Common.{Some, IfOk, Result, Ok, Err}
 use Rattle.std.proofs.Common.{refl, sym, ap, ap₂, subst, ◌∙◌, arith, append_assoc, length-append}
 use Rattle.std.specs.List.{filter}
 use Rattle.std.proofs.lemmas.List.Elements.{All-cons, All-get_or, All-nil}
@@ -202,7 +202,3 @@ found_slices is same also = record {
 pub if_ok_weaker : {T E : Type 0} (r : Result T E) (P Q : T → Type 0) → ((x : T) → P x → Q x) → IfOk r P → IfOk r Q
 if_ok_weaker (Ok x) P Q f h = f x h
 if_ok_weaker (Err e) P Q f h = tt
-
-pub on_ok_weaker : {T E : Type 0} (r : Result T E) (P Q : Type 0) → (P → Q) → OnOk r P → OnOk r Q
-on_ok_weaker (Ok x) P Q f h = f h
-on_ok_weaker (Err e) P Q f h = tt

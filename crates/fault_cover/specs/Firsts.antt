@@ -3,7 +3,6 @@ use Rattle.std.specs.Prelude.{◌≡◌, ℕ, ◌≤◌, Bool, nat_le, nat_lt, c
 use Rattle.std.specs.Option.{is_some}
 use Rattle.op_graph.specs.declared.op.Outlet.{Outlet}
 use Rattle.op_graph.specs.Lists.{Lists}
-use Rattle.fault_cover.specs.Beginnings.{starts_at}
 use Rattle.fault_cover.specs.Sources.{Refuses, Source, comes}
 use Rattle.fault_cover.specs.declared.nearest.Nearest.{Nearest}
 use Rattle.fault_cover.specs.declared.starts.Start.{Start}
@@ -52,6 +51,3 @@ ToldAt g first borders any from (told.Shows n output) = (n ≡ borders) × (outp
 ToldAt g first borders any from told.Nothing = ⊥
 ToldAt g first borders any from (told.RunsOn n q) = ⊥
 ToldAt g first borders any from told.Beyond = ⊥
-
-abbrev pub IsToldAt : Lists → ℕ → ℕ → Bool → List Start → Effect → Type 0
-IsToldAt g first borders any starts told = (from : List Source) → starts ≡ starts_at g.profile from → ToldAt g first borders any from told

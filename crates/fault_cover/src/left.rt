@@ -1,6 +1,6 @@
 //! How many faults of each operation run on, or are beyond the horizon.
 
-ghost use Rattle.std.specs.Prelude.{◌≡◌, ◌+◌, ◌*◌, ◌/◌, ◌%◌, ◌<◌, ◌≤◌, ◌++◌, ◌∷◌, [], false, ℕ, List, Some, IfOk, OnOk, cond, length};
+ghost use Rattle.std.specs.Prelude.{◌≡◌, ◌+◌, ◌*◌, ◌/◌, ◌%◌, ◌<◌, ◌≤◌, ◌++◌, ◌∷◌, [], false, ℕ, List, Some, IfOk, cond, length};
 ghost use Rattle.range_walk.specs.declared.range.Stops.{Stops};
 ghost use Rattle.op_graph.specs.Lists.{Lists};
 ghost use Rattle.signature_table.specs.Signatures.{IsTableOf};
@@ -160,12 +160,22 @@ fn least_from(keys: &[u64], from: u64, most: u64) -> Option<u64>
     best
 }
 
-/// One more line.
-fn push_line(lines: &mut Vec<LeftLine>, line: LeftLine) -> Result<(), Memory>
-    ensures { OnOk result (lines.new.items ≡ lines.old.items ++ line ∷ []) }
-{
-    lines.push(line)?;
-    Ok(())
+/// Lines, and whether memory was wanting for one of them.
+#[derive(Drop)]
+struct Lines {
+    list: Vec<LeftLine>,
+    lacked: bool,
+}
+
+impl Lines {
+    /// One more line.
+    fn push(&mut self, line: LeftLine)
+        ensures { self.new.lacked ≡ false → (self.old.lacked ≡ false) × (self.new.list.items ≡ self.old.list.items ++ line ∷ []) }
+    {
+        if self.list.push(line).is_err() {
+            self.lacked = true;
+        }
+    }
 }
 
 /// The line of those that have a number.
@@ -184,87 +194,72 @@ fn key_line(width: u32, keys: &[u64], k: u32, key: u64) -> LeftLine
 }
 
 /// A line for each number below `most` that any have, in order.
-fn add_key_lines(
-    lines: &mut Vec<LeftLine>,
-    k: u32,
-    width: u32,
-    keys: &[u64],
-    most: u64,
-) -> Result<(), Memory>
+fn add_key_lines(lines: &mut Lines, k: u32, width: u32, keys: &[u64], most: u64)
     requires { 0 < width }
-    ensures { OnOk result (lines.new.items ≡ lines.old.items ++ each_below (key_line_of k width keys.now) most) }
+    ensures { lines.new.lacked ≡ false → (lines.old.lacked ≡ false) × (lines.new.list.items
+        ≡ lines.old.list.items ++ each_below (key_line_of k width keys.now) most) }
 {
     let mut next = 0;
     'keys: while let Some(key) = least_from(keys, next, most) {
         let line = key_line(width, keys, k, key);
-        push_line(lines, line)?;
+        lines.push(line);
         next = key + 1;
     }
-    Ok(())
 }
 
 /// The line of those that are beyond, where there are any.
-fn add_beyond(lines: &mut Vec<LeftLine>, k: u32, beyond: u64) -> Result<(), Memory>
-    ensures { OnOk result (lines.new.items ≡ lines.old.items ++ beyond_line k beyond) }
+fn add_beyond(lines: &mut Lines, k: u32, beyond: u64)
+    ensures { lines.new.lacked ≡ false → (lines.old.lacked ≡ false) × (lines.new.list.items ≡ lines.old.list.items ++ beyond_line k beyond) }
 {
     if beyond == 0 {
-        return Ok(());
+        return;
     }
-    push_line(
-        lines,
-        LeftLine {
-            at: k,
-            told: LeftEffect::Beyond,
-            faults: beyond,
-        },
-    )
+    lines.push(LeftLine {
+        at: k,
+        told: LeftEffect::Beyond,
+        faults: beyond,
+    });
 }
 
 /// The lines of an operation's faults that run on or are beyond.
-fn add_lines(
-    lines: &mut Vec<LeftLine>,
-    k: u32,
-    width: u32,
-    horizon: u32,
-    keys: &[u64],
-    beyond: u64,
-) -> Result<(), Memory>
+fn add_lines(lines: &mut Lines, k: u32, width: u32, horizon: u32, keys: &[u64], beyond: u64)
     requires { 0 < width }
-    ensures { OnOk result (lines.new.items ≡ lines.old.items ++ (each_below (key_line_of k width keys.now) ((horizon + 1) * width)
-        ++ beyond_line k beyond)) }
+    ensures { lines.new.lacked ≡ false → (lines.old.lacked ≡ false) × (lines.new.list.items
+        ≡ lines.old.list.items ++ (each_below (key_line_of k width keys.now) ((horizon + 1) * width) ++ beyond_line k beyond)) }
 {
     let most = (horizon as u64 + 1) * width as u64;
-    add_key_lines(lines, k, width, keys, most)?;
-    add_beyond(lines, k, beyond)
+    add_key_lines(lines, k, width, keys, most);
+    add_beyond(lines, k, beyond);
 }
 
 /// The lines of operation `k`.
 fn add_lines_at(
     alloc: Global,
-    lines: &mut Vec<LeftLine>,
+    lines: &mut Lines,
     subject: &Subject<'_>,
     classes: &[CoverClass],
     k: u32,
-) -> Result<(), Memory>
+)
     requires table { IsTableOf subject.now.table.now subject.now.graph.now }
     requires mapped { IsMapped subject.now.graph.now subject.now.survey.now }
     requires there { k < length subject.now.graph.now.operations }
-    ensures { OnOk result ((stops : List Stops)
+    ensures { lines.new.lacked ≡ false → (lines.old.lacked ≡ false) × ((stops : List Stops)
         → IsSurvey (subject_of subject.now.graph.now subject.now.table.now subject.now.survey.now.horizon stops) subject.now.survey.now
-        → AreLinesAt (subject_of subject.now.graph.now subject.now.table.now subject.now.survey.now.horizon stops) classes.now k lines.old.items
-        lines.new.items) }
+        → AreLinesAt (subject_of subject.now.graph.now subject.now.table.now subject.now.survey.now.horizon stops) classes.now k lines.old.list.items
+        lines.new.list.items) }
 {
     let mut left = Left::new(alloc);
     let mut line = Line::new();
     let mut nowhere = Nowhere {};
     then_faults_at(&mut line, &mut nowhere, &mut left, subject, classes, k);
     if left.lacked {
-        return Err(Memory);
+        lines.lacked = true;
+        return;
     }
     let survey = subject.survey;
     let horizon = survey.horizon();
     let width = subject.graph.len();
-    add_lines(lines, k, width, horizon, &left.keys, left.beyond)
+    add_lines(lines, k, width, horizon, &left.keys, left.beyond);
 }
 
 /// The lines of all operations whose faults run on or are beyond, in order. Nothing is written.
@@ -280,9 +275,16 @@ pub(crate) fn lines_left(
         → AreLinesOf (subject_of subject.now.graph.now subject.now.table.now subject.now.survey.now.horizon stops) classes.now
         (length subject.now.graph.now.operations) lines.items) }
 {
-    let mut lines = Vec::new(alloc);
+    let mut lines = Lines {
+        list: Vec::new(alloc),
+        lacked: false,
+    };
     'operations: for k in 0..subject.graph.len() {
-        add_lines_at(alloc, &mut lines, subject, classes, k)?;
+        add_lines_at(alloc, &mut lines, subject, classes, k);
     }
-    Ok(lines)
+    let Lines { list, lacked } = lines;
+    if lacked {
+        return Err(Memory);
+    }
+    Ok(list)
 }

@@ -203,9 +203,8 @@ fn begin(alloc: Global, graph: &Graph, wanted: &[bool]) -> Result<Vec<Option<Nea
     ensures many { IfOk result (λ found. length found.items ≡ length graph.now.operations) }
     ensures within { IfOk result (λ found. AreWithin 0 found.items) }
 {
-    let count = graph.len();
-    let mut found = Vec::with_capacity(alloc, count as usize)?;
-    'operations: for k in 0..count {
+    let mut found = Vec::new(alloc);
+    'operations: for k in 0..graph.len() {
         found.push(itself(wanted[k as usize], k))?;
     }
     Ok(found)

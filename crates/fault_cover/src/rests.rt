@@ -1,15 +1,12 @@
 //! What the later readings of each word come to, for each number of readings that come before.
 
-ghost use Rattle.std.specs.Prelude.{◌≡◌, ◌+◌, ◌-◌, ◌<◌, ◌≤◌, ◌++◌, ◌∷◌, [], suc, Some, drop, length, slice_get, pos, ◌+ℤ◌};
+ghost use Rattle.std.specs.Prelude.{◌≡◌, ◌+◌, ◌-◌, ◌<◌, ◌++◌, ◌∷◌, [], suc, Some, drop, length, slice_get};
 ghost use Rattle.std.specs.Prelude.{IfOk, OnOk};
 ghost use Rattle.vcp_base.specs.Code.{modulus as modulus_of};
-ghost use Rattle.coded_unit.specs.Words.{modulo};
-ghost use Rattle.op_graph.specs.declared.op.Outlet.{Outlet};
 ghost use Rattle.op_graph.specs.Rules.{IsGraph};
 ghost use Rattle.fault_cover.specs.declared.nearest.Nearest.{Nearest as Found};
-ghost use Rattle.fault_cover.specs.Beginnings.{ArePlaced, IsPlaced, start_at};
-ghost use Rattle.fault_cover.specs.Sources.{Source, part};
-ghost use Rattle.fault_cover.specs.Surveys.{AreMaps, AreRests, AreWordRests, IsOutOf, IsOutputOf, IsRest, SumsTo, before_of};
+ghost use Rattle.fault_cover.specs.Beginnings.{ArePlaced, IsPlaced};
+ghost use Rattle.fault_cover.specs.Surveys.{AreMaps, AreRests, AreWordRests, IsOutOf, IsRest, SumsTo, before_of};
 
 use crate::items::item;
 use crate::nearest::{Nearest, is_nearer, nearer};
@@ -91,35 +88,7 @@ fn came(old: Rest, near: Option<Nearest>) -> Residue
     }
 }
 
-/// What comes from a start to the output whose OUT is reached first, beside what came before; 0 where that is beyond the horizon.
-fn then_sum(
-    graph: &Graph,
-    survey: &Survey,
-    near: Nearest,
-    start: &Start,
-    before: Residue,
-) -> Residue
-    requires graph { IsGraph graph.now }
-    requires maps { AreMaps graph.now survey.now }
-    requires out { IsOutOf graph.now near.op }
-    requires placed { IsPlaced graph.now.profile (length graph.now.operations) start.now }
-    requires before { before < modulus_of graph.now.profile }
-    ensures below { result < modulus_of graph.now.profile }
-    ensures value { (o : Outlet) (s : Source) → IsOutputOf graph.now survey.now near o → near.borders ≤ survey.now.horizon
-        → start.now ≡ start_at graph.now.profile s → result ≡ modulo graph.now.profile (pos before +ℤ part graph.now o.op near.borders s) }
-{
-    // OUTs are operations.
-    entries_keep_their_rules();
-    constants_are_in_range();
-    let horizon = survey.horizon();
-    if horizon < near.borders {
-        return 0;
-    }
-    let number = survey.number(near.op);
-    then_comes(graph, survey.weights(), number, near.borders, start, before)
-}
-
-/// What comes to the output whose OUT is reached first with one more start, from which `near` is reached first.
+/// What comes to the output whose OUT is reached first with one more start, from which `near` is reached first; 0 where that is beyond the horizon.
 fn sum_of(
     graph: &Graph,
     survey: &Survey,
@@ -136,12 +105,26 @@ fn sum_of(
     ensures below { result < modulus_of graph.now.profile }
     ensures value { SumsTo graph.now survey.now (before_of old.output old.sum near) output start.now result }
 {
+    // OUTs are operations.
+    entries_keep_their_rules();
     constants_are_in_range();
     match output {
         None => 0,
         Some(first) => {
             let before = came(old, near);
-            then_sum(graph, survey, first, start, before)
+            let horizon = survey.horizon();
+            if horizon < first.borders {
+                return 0;
+            }
+            let number = survey.number(first.op);
+            then_comes(
+                graph,
+                survey.weights(),
+                number,
+                first.borders,
+                start,
+                before,
+            )
         }
     }
 }
@@ -206,7 +189,7 @@ pub(crate) fn word_rests(
     // The LOAD of each cell is an operation.
     entries_keep_their_rules();
     words_split_in_one_way();
-    let mut all = Vec::with_capacity(alloc, graph.len() as usize)?;
+    let mut all = Vec::new(alloc);
     'words: for k in 0..graph.len() {
         let word = survey.readings(k);
         let rests = rests_of(alloc, graph, survey, word)?;

@@ -6,7 +6,7 @@ ghost use Rattle.vcp_base.specs.Code.{modulus as modulus_of};
 ghost use Rattle.vcp_base.specs.Kinds.{multiplier as multiplier_of};
 ghost use Rattle.coded_unit.specs.Words.{Small as Moderate};
 ghost use Rattle.op_graph.specs.Reads.{named as named_of};
-ghost use Rattle.signature_table.specs.Signatures.{signature, stored_signature};
+ghost use Rattle.signature_table.specs.Signatures.{signature};
 ghost use Rattle.fault_script.specs.Differences.{made, origin as origin_of, exchanged as exchanged_of};
 ghost use Rattle.fault_cover.specs.Beginnings.{AreReadings, IsStart, amount_of, rest_of, start_at, starts_of};
 ghost use Rattle.fault_cover.specs.Sources.{as_source};
@@ -14,9 +14,9 @@ ghost use Rattle.fault_cover.specs.Sources.{as_source};
 use crate::disturbance::Disturbance;
 use coded_unit::remainder;
 use fault_script::Act;
-use fault_sites::{Reading, WordReadings, named, readings as readings_of, store_of};
-use op_graph::{Graph, Op};
-use signature_table::{Table, signature_of};
+use fault_sites::{Reading, WordReadings, readings as readings_of};
+use op_graph::{Graph, Op, named};
+use signature_table::{Table, read_signature, signature_of, store_of};
 use std::alloc::Global;
 use std::marker::Model;
 use vcp_base::{Kind, Memory, Profile, Residue, multiplier};
@@ -100,7 +100,7 @@ fn starts_by_word(
 ) -> Result<Vec<Starts>, Memory>
     ensures { IfOk result (λ starts. starts.items ≡ map (starts_of profile) by_word.now) }
 {
-    let mut starts = Vec::with_capacity(alloc, by_word.len())?;
+    let mut starts = Vec::new(alloc);
     'words: for k in 0..by_word.len() {
         let word = &by_word[k];
         starts.push(starts_by(alloc, profile, word.all())?)?;
@@ -121,18 +121,6 @@ pub(crate) fn readings(
     starts_by_word(alloc, profile, &by_word)
 }
 
-/// The signature of what the LOAD of a cell reads: that of its STORE, less the step.
-fn stored(table: &Table, store: Option<u32>) -> i64
-    ensures value { result ≡ stored_signature table.now.profile table.now.seed table.now.step store }
-    ensures low { negsuc 1000 ≤ℤ result }
-    ensures high { result ≤ℤ pos (2 ^ 60) }
-{
-    match store {
-        Some(n) => signature_of(table.profile(), table.seed(), n) as i64 - table.step() as i64,
-        None => 0,
-    }
-}
-
 /// The signature that an operand of an operation has, where it names operation `n`.
 fn origin(graph: &Graph, table: &Table, op: &Op, j: u32, n: u32) -> i64
     requires { named_of op.now j ≡ n }
@@ -140,10 +128,15 @@ fn origin(graph: &Graph, table: &Table, op: &Op, j: u32, n: u32) -> i64
     ensures low { negsuc 1000 ≤ℤ result }
     ensures high { result ≤ℤ pos (2 ^ 60) }
 {
-    match op.kind {
-        Kind::Load => stored(table, store_of(graph, op)),
-        _ => signature_of(table.profile(), table.seed(), n) as i64,
-    }
+    let store = store_of(graph, op);
+    read_signature(
+        table.profile(),
+        table.seed(),
+        table.step(),
+        store,
+        op.kind,
+        n,
+    )
 }
 
 /// A number times a factor, which is a multiplier or the difference of two.

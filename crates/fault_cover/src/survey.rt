@@ -153,7 +153,7 @@ fn may_stop(alloc: Global, stops: &[Stops]) -> Result<Vec<bool>, Memory>
     ensures many { IfOk result (λ wanted. length wanted.items ≡ length stops.now) }
     ensures able { IfOk result (λ wanted. AreAble stops.now wanted.items) }
 {
-    let mut wanted = Vec::with_capacity(alloc, stops.len())?;
+    let mut wanted = Vec::new(alloc);
     'operations: for i in 0..stops.len() {
         let why = item(stops, i);
         wanted.push(why.are_any())?;

@@ -3,7 +3,6 @@
 ghost use Rattle.std.specs.Prelude.{◌≡◌, ◌<◌, ◌≤◌, ◌^◌, List, Some, None, true, false, pos, ◌+ℤ◌, ◌≤ℤ◌, drop, map, length, slice_get};
 ghost use Rattle.vcp_base.specs.Code.{modulus as modulus_of};
 ghost use Rattle.coded_unit.specs.Words.{modulo};
-ghost use Rattle.op_graph.specs.declared.op.Op.{Op as Operation};
 ghost use Rattle.op_graph.specs.declared.op.Outlet.{Outlet};
 ghost use Rattle.op_graph.specs.Rules.{IsGraph};
 ghost use Rattle.signature_table.specs.Signatures.{IsTableOf, Numbers};
@@ -12,8 +11,8 @@ ghost use Rattle.weight_audit.specs.Audit.{IsAudit};
 ghost use Rattle.fault_cover.specs.declared.effect.Effect.TheVariants as told;
 ghost use Rattle.fault_cover.specs.Beginnings.{ArePlaced, IsPlaced, rest_of as rest_of_disturbance, start_at, starts_at};
 ghost use Rattle.fault_cover.specs.Sited.{IsSited};
-ghost use Rattle.fault_cover.specs.Firsts.{IsFirstOf, IsToldAt, NoneRefuses, OneRefuses, before as before_of, behind as behind_of, outlook_of as outlook_is};
-ghost use Rattle.fault_cover.specs.Sources.{Refuses, Source, as_source, comes as comes_of, is_any as is_any_of, part, readings, sources};
+ghost use Rattle.fault_cover.specs.Firsts.{IsFirstOf, NoneRefuses, OneRefuses, before as before_of, behind as behind_of, outlook_of as outlook_is};
+ghost use Rattle.fault_cover.specs.Sources.{Source, as_source, comes as comes_of, is_any as is_any_of, part, readings};
 ghost use Rattle.fault_cover.specs.Surveys.{IsMapped, IsSurvey};
 ghost use Rattle.fault_cover.specs.Telling.{Tells, TellsOf, copies as copies_of, does_the_same as does_the_same_of};
 ghost use Rattle.fault_cover.specs.Telling.{gives_own as gives_own_of, subject};
@@ -177,29 +176,6 @@ fn comes(graph: &Graph, weights: &Weights, output: u32, borders: u32, starts: &[
     sum
 }
 
-/// Whether an output refuses what arrives at it.
-fn output_refuses(
-    graph: &Graph,
-    weights: &Weights,
-    output: u32,
-    borders: u32,
-    starts: &[Start],
-    any: bool,
-) -> bool
-    requires audit { IsAudit graph.now weights.now.horizon weights.now }
-    requires output { output < length graph.now.outputs }
-    requires borders { borders ≤ weights.now.horizon }
-    requires placed { ArePlaced graph.now.profile (length graph.now.operations) starts.now }
-    ensures yes { (from : List Source) (o : Outlet) → starts.now ≡ starts_at graph.now.profile from → slice_get graph.now.outputs output ≡ Some o
-        → result ≡ true → Refuses graph.now.profile any (comes_of graph.now o.op borders from) }
-    ensures no { (from : List Source) (o : Outlet) → starts.now ≡ starts_at graph.now.profile from → slice_get graph.now.outputs output ≡ Some o
-        → result ≡ false → Refuses graph.now.profile any (comes_of graph.now o.op borders from) → ⊥ }
-{
-    words_split_in_one_way();
-    let residue = comes(graph, weights, output, borders, starts);
-    refuses(graph.profile(), any, residue)
-}
-
 /// Whether one of the outputs from this one on refuses what arrives at it. What isn't reached has the weight 0, and refuses nothing.
 fn is_refused(
     graph: &Graph,
@@ -215,38 +191,15 @@ fn is_refused(
     ensures yes { (from : List Source) → starts.now ≡ starts_at graph.now.profile from → result ≡ true → OneRefuses graph.now borders any from }
     ensures no { (from : List Source) → starts.now ≡ starts_at graph.now.profile from → result ≡ false → NoneRefuses graph.now first borders any from }
 {
+    words_split_in_one_way();
     'outputs: for output in first..graph.outputs() {
-        let refuses = output_refuses(graph, weights, output, borders, starts, any);
-        if refuses {
+        let residue = comes(graph, weights, output, borders, starts);
+        let refused = refuses(graph.profile(), any, residue);
+        if refused {
             return true;
         }
     }
     false
-}
-
-/// What is reported where outputs are reached first, across so many borders, of which this is the first.
-fn told_at(
-    graph: &Graph,
-    weights: &Weights,
-    first: u32,
-    borders: u32,
-    starts: &[Start],
-    any: bool,
-) -> Effect
-    requires audit { IsAudit graph.now weights.now.horizon weights.now }
-    requires borders { borders ≤ weights.now.horizon }
-    requires placed { ArePlaced graph.now.profile (length graph.now.operations) starts.now }
-    ensures { IsToldAt graph.now first borders any starts.now result }
-{
-    let refused = is_refused(graph, weights, first, borders, starts, any);
-    if refused {
-        Effect::Refused { borders }
-    } else {
-        Effect::Shows {
-            borders,
-            output: first,
-        }
-    }
 }
 
 /// What is reported of what spreads from these starts.
@@ -269,7 +222,16 @@ fn told_of(graph: &Graph, survey: &Survey, starts: &[Start], any: bool) -> Effec
         Outlook::Is(told) => told,
         Outlook::Outputs(near) => {
             let first = survey.number(near.op);
-            told_at(graph, survey.weights(), first, near.borders, starts, any)
+            let borders = near.borders;
+            let refused = is_refused(graph, survey.weights(), first, borders, starts, any);
+            if refused {
+                Effect::Refused { borders }
+            } else {
+                Effect::Shows {
+                    borders,
+                    output: first,
+                }
+            }
         }
     }
 }
@@ -336,30 +298,6 @@ fn left_of(starts: &[Start], right: usize) -> &[Start]
     &starts[right..]
 }
 
-/// What is reported where outputs are reached first, across so many borders, and this comes to the first of them for each 1 of the number that is added.
-fn told_of_sum(
-    graph: &Graph,
-    survey: &Survey,
-    borders: u32,
-    sum: Residue,
-    starts: &[Start],
-) -> Effect
-    requires graph { IsGraph graph.now }
-    requires mapped { IsMapped graph.now survey.now }
-    requires placed { ArePlaced graph.now.profile (length graph.now.operations) starts.now }
-    requires below { sum < modulus_of graph.now.profile }
-    ensures { (t : Numbers) (stops : List Stops) (from : List Source) → IsSurvey (subject graph.now t survey.now.horizon stops) survey.now
-        → starts.now ≡ starts_at graph.now.profile from
-        → (Refuses graph.now.profile true (pos sum) → TellsOf (subject graph.now t survey.now.horizon stops) true from (told.Refused borders))
-        → TellsOf (subject graph.now t survey.now.horizon stops) true from result }
-{
-    let refused = refuses(graph.profile(), true, sum);
-    if refused {
-        return Effect::Refused { borders };
-    }
-    told_of(graph, survey, starts, true)
-}
-
 /// What is reported where the word of operation `k` changes behind so many readings. What comes to the output that is reached first was summed before.
 fn told_of_rest(graph: &Graph, survey: &Survey, k: u32, right: u32) -> Effect
     requires graph { IsGraph graph.now }
@@ -380,30 +318,16 @@ fn told_of_rest(graph: &Graph, survey: &Survey, k: u32, right: u32) -> Effect
     let outlook = outlook_of(survey.horizon(), rest.output, rest.stop);
     match outlook {
         Outlook::Is(told) => told,
-        Outlook::Outputs(near) => told_of_sum(graph, survey, near.borders, rest.sum, left),
+        Outlook::Outputs(near) => {
+            let refused = refuses(graph.profile(), true, rest.sum);
+            if refused {
+                return Effect::Refused {
+                    borders: near.borders,
+                };
+            }
+            told_of(graph, survey, left, true)
+        }
     }
-}
-
-/// What is reported where what is amiss begins at operation `k` alone.
-fn told_of_one(
-    graph: &Graph,
-    table: &Table,
-    survey: &Survey,
-    k: u32,
-    disturbance: &Disturbance,
-) -> Effect
-    requires graph { IsGraph graph.now }
-    requires mapped { IsMapped graph.now survey.now }
-    requires there { k < length graph.now.operations }
-    requires one { rest_of_disturbance disturbance.now ≡ None }
-    ensures { (stops : List Stops) (op : Operation) → slice_get graph.now.operations k ≡ Some op
-        → IsSurvey (subject graph.now table.now survey.now.horizon stops) survey.now
-        → TellsOf (subject graph.now table.now survey.now.horizon stops) (is_any_of disturbance.now) (sources table.now graph.now k op disturbance.now) result }
-{
-    let begun = start_of(graph, table, k, disturbance);
-    let starts = [begun];
-    let any = is_any(disturbance);
-    told_of(graph, survey, &starts, any)
 }
 
 /// What is reported of what is amiss at operation `k` of a surveyed graph, whose table this is.
@@ -430,6 +354,11 @@ pub fn tell(
     let rest = rest_of(disturbance);
     match rest {
         Some(right) => told_of_rest(graph, survey, k, right),
-        None => told_of_one(graph, table, survey, k, disturbance),
+        None => {
+            let begun = start_of(graph, table, k, disturbance);
+            let starts = [begun];
+            let any = is_any(disturbance);
+            told_of(graph, survey, &starts, any)
+        }
     }
 }

@@ -1,15 +1,15 @@
 use Rattle.std.proofs.Common.{[]}
 use Rattle.fault_cover.specs.Telling.{subject}
-use Rattle.fault_cover.proofs.Covering.{on_ok_weaker}
 use Rattle.fault_cover.proofs.Lining.{lines_added}
 use Rattle.fault_cover.proofs.left.add_lines_at.Goals as goal
 
 pub returns : goal.returns
-returns c =
-    on_ok_weaker c.add_lines.result _ _
-    (λ is. λ stops survey.
-    let passes = c.then_faults_at.ensures stops survey in
-    lines_added (subject c.args.subject.now.graph.now c.args.subject.now.table.now c.args.subject.now.survey.now.horizon stops) c.args.classes.now c.args.k
-    c.then_faults_at.new.listener c.deref.result.now c.len-width.result _ _ passes.heard c.if-left.false c.deref.ensures.value c.len-width.ensures.count
-    (passes.keeps [] (c.new-left.ensures c.args.subject.now.graph.now)) c.requires.there passes.are c.horizon-horizon.result c.horizon-horizon.ensures is)
-    c.add_lines.ensures
+returns c = λ none.
+    let is = c.add_lines.ensures none in (
+      is.0,
+      λ stops survey.
+          let passes = c.then_faults_at.ensures stops survey in
+          lines_added (subject c.args.subject.now.graph.now c.args.subject.now.table.now c.args.subject.now.survey.now.horizon stops) c.args.classes.now c.args.k
+          c.then_faults_at.new.listener c.deref.result.now c.len-width.result _ _ passes.heard c.if-left.false c.deref.ensures.value c.len-width.ensures.count
+          (passes.keeps [] (c.new-left.ensures c.args.subject.now.graph.now)) c.requires.there passes.are c.horizon-horizon.result c.horizon-horizon.ensures is.1,
+    )

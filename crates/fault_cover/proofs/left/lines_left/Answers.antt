@@ -4,12 +4,13 @@ use Rattle.fault_cover.proofs.Lining.{lines_more}
 use Rattle.fault_cover.proofs.left.lines_left.Goals as goal
 
 pub operations-preserved : goal.operations-preserved
-operations-preserved c = λ stops survey.
+operations-preserved c = λ none stops survey.
+    let added = c.add_lines_at.ensures none in
     lines_more (subject c.args.subject.now.graph.now c.args.subject.now.table.now c.args.subject.now.survey.now.horizon stops) c.args.classes.now
-    c.operations.k _ _ (c.operations.invariant stops survey) (c.in_ok-add_lines_at.ensures stops survey)
+    c.operations.k _ _ (c.operations.invariant added.0 stops survey) (added.1 stops survey)
 
 pub returns : goal.returns
 returns c =
     let all : c.operations.k ≡ length c.args.subject.now.graph.now.operations =
     omega (arith, c.operations-test.false, c.operations.auto.k-end, c.len-k-end.ensures.count) in
-    rw all at c.operations.invariant
+    rw all at (c.operations.invariant c.if-lacked.false)

@@ -1,4 +1,4 @@
-use Rattle.std.proofs.Common.{List}
+use Rattle.std.proofs.Common.{◌≡◌, false, List}
 use Rattle.range_walk.specs.declared.range.Stops.{Stops}
 use Rattle.fault_cover.specs.Leftovers.{AreLinesOf}
 use Rattle.fault_cover.specs.Surveys.{IsSurvey}
@@ -7,5 +7,5 @@ use Rattle.fault_cover.proofs.left.lines_left.Given as goal
 
 abbrev pub invariant-operations : goal.invariant-operations
 invariant-operations l =
-    (stops : List Stops) → IsSurvey (subject l.subject.graph.now l.subject.table.now l.subject.survey.now.horizon stops) l.subject.survey.now
-    → AreLinesOf (subject l.subject.graph.now l.subject.table.now l.subject.survey.now.horizon stops) l.classes l.k l.lines.items
+    l.lines.lacked ≡ false → (stops : List Stops) → IsSurvey (subject l.subject.graph.now l.subject.table.now l.subject.survey.now.horizon stops) l.subject.survey.now
+    → AreLinesOf (subject l.subject.graph.now l.subject.table.now l.subject.survey.now.horizon stops) l.classes l.k l.lines.list.items

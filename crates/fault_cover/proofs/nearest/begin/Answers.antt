@@ -13,10 +13,10 @@ operations-preserved c =
 pub returns-clause-begun : goal.returns-clause-begun
 returns-clause-begun c =
     begun_all c.args.wanted.now c.operations.found.items c.operations.k c.operations.invariant.many c.operations.invariant.each
-    (omega (arith, c.requires, c.len-count.ensures.count, c.operations-test.false, c.operations.auto.k-end))
+    (omega (arith, c.requires, c.len-k-end.ensures.count, c.operations-test.false, c.operations.auto.k-end))
 
 pub returns-clause-within : goal.returns-clause-within
 returns-clause-within c =
     begun_within c.args.graph.now c.args.wanted.now c.operations.found.items
     (begun_all c.args.wanted.now c.operations.found.items c.operations.k c.operations.invariant.many c.operations.invariant.each
-    (omega (arith, c.requires, c.len-count.ensures.count, c.operations-test.false, c.operations.auto.k-end)))
+    (omega (arith, c.requires, c.len-k-end.ensures.count, c.operations-test.false, c.operations.auto.k-end)))

@@ -8,7 +8,7 @@ pub words-init : goal.words-init
 words-init c =
     let p = c.args.profile in
     let words = c.args.by_word.now in
-    ap (λ xs. xs ++ map (starts_of p) (drop 0 words)) c.in_ok-starts.ensures.items ∙ made_none (map (starts_of p)) words
+    ap (λ xs. xs ++ map (starts_of p) (drop 0 words)) c.new-starts.ensures.items ∙ made_none (map (starts_of p)) words
 
 pub words-preserved : goal.words-preserved
 words-preserved c =

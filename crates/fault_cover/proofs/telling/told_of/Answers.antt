@@ -1,5 +1,6 @@
-use Rattle.std.proofs.Common.{ap, sym, subst, ◌≤◌, ◌∙◌, arith}
+use Rattle.std.proofs.Common.{refl, ap, sym, subst, ◌≤◌, ◌∙◌, arith}
 use Rattle.weight_audit.specs.Audit.{IsAudit}
+use Rattle.fault_cover.specs.declared.effect.Effect.TheVariants as told
 use Rattle.fault_cover.specs.Firsts.{outlook_of}
 use Rattle.fault_cover.proofs.Tellings.{audit_for, is_out, out_inside, outputs_first, placed_for, told_at_outputs, told_directly, within_for}
 use Rattle.fault_cover.proofs.telling.told_of.Goals as goal
@@ -37,13 +38,13 @@ number-first-requires c =
     let inside = out_inside g c.in-Outputs.near.op c.entries_keep_their_rules.ensures c.requires.graph.part out in
     omega (arith, inside, m.numbers.many)
 
-pub told_at-requires-clause-audit : goal.told_at-requires-clause-audit
-told_at-requires-clause-audit c =
+pub is_refused-refused-requires-clause-audit : goal.is_refused-refused-requires-clause-audit
+is_refused-refused-requires-clause-audit c =
     let g = c.args.graph.now in
     subst (λ a. IsAudit g a.horizon a) (sym c.weights.ensures) (audit_for g c.args.survey.now.horizon c.args.survey.now.weights c.requires.mapped.maps.weights)
 
-pub told_at-requires-clause-borders : goal.told_at-requires-clause-borders
-told_at-requires-clause-borders c =
+pub is_refused-refused-requires-clause-borders : goal.is_refused-refused-requires-clause-borders
+is_refused-refused-requires-clause-borders c =
     let first = outputs_first c.horizon.result c.first_of-output.result c.first_of-stop.result c.in-Outputs.near
     (sym c.outlook_of-outlook.ensures ∙ c.in-Outputs.is) in
     let within = first.1 in
@@ -57,11 +58,20 @@ returns-in-Is c = λ t stops from survey is.
     c.outlook_of-outlook.result (c.outlook_of-outlook.ensures ∙ ap
     (λ h. outlook_of h c.first_of-output.result c.first_of-stop.result) c.horizon.ensures) _ c.in-Is.is
 
-pub returns-in-Outputs : goal.returns-in-Outputs
-returns-in-Outputs c = λ t stops from survey is.
+pub returns-then-refused : goal.returns-then-refused
+returns-then-refused c = λ t stops from survey is.
     told_at_outputs c.args.graph.now t stops c.args.survey.now survey c.args.any from c.args.starts.now is c.outputs.result.now c.stops.result.now
     c.outputs.ensures c.stops.ensures c.first_of-output.result c.first_of-stop.result c.first_of-output.ensures c.first_of-stop.ensures
     c.outlook_of-outlook.result (c.outlook_of-outlook.ensures ∙ ap (λ h. outlook_of h c.first_of-output.result c.first_of-stop.result) c.horizon.ensures)
     c.in-Outputs.near c.in-Outputs.is (c.differences_are_superposed.ensures.unreached c.args.graph.now c.requires.graph)
     (c.words_split_in_one_way.ensures c.args.graph.now.profile) c.entries_keep_their_rules.ensures c.requires.graph.part c.number-first.result
-    c.number-first.ensures _ (c.told_at.ensures from is)
+    c.number-first.ensures (told.Refused c.in-Outputs.near.borders) (refl, c.is_refused-refused.ensures.yes from is c.if-refused.true)
+
+pub returns-else-refused : goal.returns-else-refused
+returns-else-refused c = λ t stops from survey is.
+    told_at_outputs c.args.graph.now t stops c.args.survey.now survey c.args.any from c.args.starts.now is c.outputs.result.now c.stops.result.now
+    c.outputs.ensures c.stops.ensures c.first_of-output.result c.first_of-stop.result c.first_of-output.ensures c.first_of-stop.ensures
+    c.outlook_of-outlook.result (c.outlook_of-outlook.ensures ∙ ap (λ h. outlook_of h c.first_of-output.result c.first_of-stop.result) c.horizon.ensures)
+    c.in-Outputs.near c.in-Outputs.is (c.differences_are_superposed.ensures.unreached c.args.graph.now c.requires.graph)
+    (c.words_split_in_one_way.ensures c.args.graph.now.profile) c.entries_keep_their_rules.ensures c.requires.graph.part c.number-first.result
+    c.number-first.ensures (told.Shows c.in-Outputs.near.borders c.number-first.result) (refl, refl, c.is_refused-refused.ensures.no from is c.if-refused.false)
