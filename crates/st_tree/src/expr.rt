@@ -7,7 +7,7 @@ ghost use Rattle.st_tree.specs.ExprViews.{expr_tree, expr_trees};
 
 use std::alloc::Global;
 use std::boxed::Box;
-use vcp_base::{Memory, Spot, Text, Ty};
+use vcp_base::{Memory, Spot, Text, Ty, append};
 
 /// An operator of one operand.
 #[derive(Clone, Copy, PartialEq, Eq, Drop)]
@@ -150,8 +150,7 @@ impl Exprs {
             ≡ exprs_and (expr_trees self.old.items.items) (expr_tree item)) }
         ensures unchanged { OnErr result (self.new.items.items ≡ self.old.items.items) }
     {
-        self.items.push(item)?;
-        Ok(())
+        append(&mut self.items, item)
     }
 
     /// How many expressions there are.

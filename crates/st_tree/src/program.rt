@@ -6,7 +6,7 @@ ghost use Rattle.st_tree.specs.ProgramViews.{declared_tree, decl_tree, block_tre
 use crate::expr::Expr;
 use crate::stmt::Stmts;
 use std::alloc::Global;
-use vcp_base::{Memory, Spot, Text, Ty};
+use vcp_base::{Memory, Spot, Text, Ty, append};
 
 /// What a block declares.
 #[derive(Clone, Copy, PartialEq, Eq, Drop)]
@@ -136,8 +136,7 @@ impl DeclaredNames {
             ≡ map declared_tree self.old.items.items ++ declared_tree item ∷ []) }
         ensures unchanged { OnErr result (self.new.items.items ≡ self.old.items.items) }
     {
-        self.items.push(item)?;
-        Ok(())
+        append(&mut self.items, item)
     }
 
     /// How many names there are.
@@ -177,8 +176,7 @@ impl Decls {
             ≡ map decl_tree self.old.items.items ++ decl_tree item ∷ []) }
         ensures unchanged { OnErr result (self.new.items.items ≡ self.old.items.items) }
     {
-        self.items.push(item)?;
-        Ok(())
+        append(&mut self.items, item)
     }
 
     /// How many declarations there are.
@@ -218,8 +216,7 @@ impl Blocks {
             ≡ map block_tree self.old.items.items ++ block_tree item ∷ []) }
         ensures unchanged { OnErr result (self.new.items.items ≡ self.old.items.items) }
     {
-        self.items.push(item)?;
-        Ok(())
+        append(&mut self.items, item)
     }
 
     /// How many blocks there are.

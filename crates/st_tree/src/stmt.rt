@@ -10,7 +10,7 @@ ghost use Rattle.st_tree.specs.Items.{arm_items, branch_items};
 
 use crate::expr::Expr;
 use std::alloc::Global;
-use vcp_base::{Memory, Spot, Text};
+use vcp_base::{Memory, Spot, Text, append};
 
 /// A label of a CASE: one value, or the range from the first to the last.
 pub struct Label {
@@ -189,8 +189,7 @@ impl Labels {
             ≡ label_trees self.old.items.items ++ label_tree item ∷ []) }
         ensures unchanged { OnErr result (self.new.items.items ≡ self.old.items.items) }
     {
-        self.items.push(item)?;
-        Ok(())
+        append(&mut self.items, item)
     }
 
     /// How many labels there are.
@@ -230,8 +229,7 @@ impl Stmts {
             ≡ stmts_and (stmt_trees self.old.items.items) (stmt_tree item)) }
         ensures unchanged { OnErr result (self.new.items.items ≡ self.old.items.items) }
     {
-        self.items.push(item)?;
-        Ok(())
+        append(&mut self.items, item)
     }
 
     /// How many statements there are.
@@ -271,8 +269,7 @@ impl Arms {
             ≡ arms_and (arm_trees (arm_items self.old)) (expr_tree item.cond) (stmt_trees item.body.items.items) item.spot) }
         ensures unchanged { OnErr result (arm_items self.new ≡ arm_items self.old) }
     {
-        self.items.push(item)?;
-        Ok(())
+        append(&mut self.items, item)
     }
 
     /// How many conditions there are.
@@ -312,8 +309,7 @@ impl Branches {
             ≡ branches_and (branch_trees (branch_items self.old)) (label_trees item.labels.items.items) (stmt_trees item.body.items.items)) }
         ensures unchanged { OnErr result (branch_items self.new ≡ branch_items self.old) }
     {
-        self.items.push(item)?;
-        Ok(())
+        append(&mut self.items, item)
     }
 
     /// How many branches there are.

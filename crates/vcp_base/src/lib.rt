@@ -4,6 +4,7 @@
 //! after `Memory` the list is unchanged.
 #![tactic(auto)]
 
+mod appending;
 mod blanks;
 mod code;
 mod columns;
@@ -25,6 +26,7 @@ mod turns;
 mod ty;
 mod words;
 
+pub use appending::append;
 pub use blanks::without_first_blanks;
 pub use code::{Profile, Residue, admits, modulus};
 pub use columns::{Column, Columns};

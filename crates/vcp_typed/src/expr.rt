@@ -6,11 +6,10 @@ ghost use Rattle.vcp_typed.specs.TExprTree.{literal as literal_tree, get as get_
 ghost use Rattle.vcp_typed.specs.TExprTree.{call as call_tree, no_texprs, and_texpr};
 ghost use Rattle.vcp_typed.specs.TExprViews.{texpr_tree, texpr_trees, texprs_and};
 
-use crate::list::append;
 use st_tree::{BinOp, UnOp};
 use std::alloc::Global;
 use std::boxed::Box;
-use vcp_base::{Memory, Spot, Ty};
+use vcp_base::{Memory, Spot, Ty, append};
 
 /// A function of the language.
 #[derive(Clone, Copy, Drop)]

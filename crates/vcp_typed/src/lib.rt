@@ -6,7 +6,6 @@
 
 mod expr;
 mod laws;
-mod list;
 mod measure;
 mod slot;
 mod stmt;

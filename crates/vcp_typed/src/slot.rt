@@ -2,10 +2,9 @@
 
 ghost use Rattle.std.specs.Prelude.{◌≡◌, ◌<◌, [], ◌∷◌, ◌++◌, Some, OnOk, OnErr, length, slice_get};
 
-use crate::list::append;
 use st_tree::Section;
 use std::alloc::Global;
-use vcp_base::{Memory, Spot, Text, Ty};
+use vcp_base::{Memory, Spot, Text, Ty, append};
 
 /// A variable: its declared name with the spot, its section, its type and its initial value.
 pub struct Slot {

@@ -9,9 +9,8 @@ ghost use Rattle.vcp_typed.specs.TStmtTree.{and_tarm, no_tbranches, and_tbranch}
 ghost use Rattle.vcp_typed.specs.TStmtViews.{tstmt_tree, tstmt_trees, tarm_trees, tbranch_trees, tother_tree, tstmts_and, tarms_and, tbranches_and};
 
 use crate::expr::TExpr;
-use crate::list::append;
 use std::alloc::Global;
-use vcp_base::{Memory, Spot};
+use vcp_base::{Memory, Spot, append};
 
 /// A label of a CASE: the values from `first` to `last`, written as a range or as one value.
 #[derive(Clone, Copy, Drop)]

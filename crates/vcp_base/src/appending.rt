@@ -1,11 +1,11 @@
-//! Lists that grow by one item.
+//! Items that are appended.
 
 ghost use Rattle.std.specs.Prelude.{◌≡◌, [], ◌∷◌, ◌++◌, OnOk, OnErr};
 
-use vcp_base::Memory;
+use crate::memory::Memory;
 
-/// Appends an item, or changes nothing.
-pub(crate) fn append<T: Drop>(items: &mut Vec<T>, item: T) -> Result<(), Memory>
+/// Appends an item. After `Memory` nothing is changed.
+pub fn append<T: Drop>(items: &mut Vec<T>, item: T) -> Result<(), Memory>
     ensures items { OnOk result (items.new.items ≡ items.old.items ++ item ∷ []) }
     ensures unchanged { OnErr result (items.new.items ≡ items.old.items) }
 {
