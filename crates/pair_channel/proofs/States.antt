@@ -14,6 +14,11 @@ use Rattle.pair_channel.specs.PairStates.{PairState, PairAwaits, PairFinished, a
 use Rattle.pair_channel.specs.SoundPair.{SoundPair, Together}
 use Rattle.pair_channel.proofs.Ends.{both_cause, both_first_row, both_second_row}
 
+-- what is said of an end that there isn't
+pub if_none : {X : Type 0} (o : Option X) (P : X → Type 0) → o ≡ None → IfSome o P
+if_none None P none = tt
+if_none (Some x) P none = absurd cc
+
 -- a release sets the row, and its cause is that both channels released theirs
 row_set : (m : State) (e : CycleEnd) (x : List ℤ) → e ≡ end.Released → row_after m e x ≡ outputs_of m.graph (given m)
 row_set m e x is = ap (λ z. row_after m z x) is

@@ -6,7 +6,7 @@ use Rattle.coded_machine.specs.State.{State, with_answers}
 use Rattle.pair_channel.specs.PairStates.{PairState}
 use Rattle.pair_channel.specs.PairTurns.{PairTurn}
 use Rattle.pair_channel.specs.SoundPair.{SoundPair, Together}
-use Rattle.pair_channel.proofs.States.{few_more, left_by, pair_left, unchanged_row, closed_between, counted}
+use Rattle.pair_channel.proofs.States.{few_more, left_by, pair_left, unchanged_row, closed_between, counted, if_none}
 use Rattle.pair_channel.proofs.pair.Pair.cycle.Goals as goal
 
 pub cycle-one-requires-clause-cycle : goal.cycle-one-requires-clause-cycle
@@ -25,19 +25,19 @@ cycle-two-requires-clause-cycle g c =
 pub cycle-two-requires-clause-out : goal.cycle-two-requires-clause-out
 cycle-two-requires-clause-out g c = c.self.invariant.theirs ∙ ap (λ (h : Lists). length h.outputs) (sym c.self.invariant.one_graph)
 
-pub both-end-requires-clause-few : goal.both-end-requires-clause-few
-both-end-requires-clause-few g c = subst (λ n. n < 2 ^ 32) (sym (c.cycle-one.ensures.width ∙ c.self.invariant.ours)) c.self.invariant.few
+pub both-end-requires : goal.both-end-requires
+both-end-requires g c = record {
+  few = subst (λ n. n < 2 ^ 32) (sym (c.cycle-one.ensures.width ∙ c.self.invariant.ours)) c.self.invariant.few;
+  width = c.cycle-two.ensures.width ∙ (c.self.invariant.theirs ∙ (sym c.self.invariant.ours ∙ sym c.cycle-one.ensures.width));
+}
 
-pub both-end-requires-clause-width : goal.both-end-requires-clause-width
-both-end-requires-clause-width g c =
-    c.cycle-two.ensures.width ∙ (c.self.invariant.theirs ∙ (sym c.self.invariant.ours ∙ sym c.cycle-one.ensures.width))
-
-pub settle-requires-clause-few : goal.settle-requires-clause-few
-settle-requires-clause-few g c = subst (λ n. n < most_cycles) (sym (ap (λ (q : PairState). q.cycles) c.self.view_is)) c.requires.cycle
-
-pub settle-requires-clause-width : goal.settle-requires-clause-width
-settle-requires-clause-width g c =
-    c.requires.out ∙ (ap (λ (q : PairState). length q.first.graph.outputs) (sym c.self.view_is) ∙ (sym c.self.invariant.ours ∙ sym c.cycle-one.ensures.width))
+pub settle-requires : goal.settle-requires
+settle-requires g c = record {
+  few = subst (λ n. n < most_cycles) (sym (ap (λ (q : PairState). q.cycles) c.self.view_is)) c.requires.cycle;
+  width = c.requires.out
+      ∙ (ap (λ (q : PairState). length q.first.graph.outputs) (sym c.self.view_is) ∙ (sym c.self.invariant.ours ∙ sym c.cycle-one.ensures.width));
+  going = c.in_default.is;
+}
 
 pub invariant_of-self : goal.invariant_of-self
 invariant_of-self g c =
@@ -56,8 +56,8 @@ invariant_of-self g c =
     c.cycle-one.ensures.width c.cycle-two.ensures.width c.both-end.ensures c.settle.ensures.row
     c.settle.ensures.out c.settle.ensures.cycles c.settle.ensures.ended).0
 
-pub returns-clause-turn : goal.returns-clause-turn
-returns-clause-turn g c =
+pub returns : goal.returns
+returns g c =
     let s = c.self.inside in
     let one = g.U.Unit in
     let unit = g.V.Unit in
@@ -79,35 +79,36 @@ returns-clause-turn g c =
     (c.cycle-one.ensures.out together.first_going) (c.cycle-two.ensures.out together.second_going)
     c.cycle-one.ensures.width c.cycle-two.ensures.width c.both-end.ensures c.settle.ensures.row
     c.settle.ensures.out c.settle.ensures.cycles c.settle.ensures.ended).1 in
-    subst (λ (q : PairState). q.ended ≡ None → PairTurn q now c.args.row.now c.both-end.result c.args.out.now c.settle.new.out
-    (one.seen c.args.first.now) (one.seen c.cycle-one.new.unit)
-    (unit.seen c.args.second.now) (unit.seen c.cycle-two.new.unit))
-    c.self.view_is
-    (λ going. record {
-      going = going;
-      first_end = e;
-      second_end = f;
-      first = c.cycle-one.ensures.turn together.first_going;
-      second = c.cycle-two.ensures.turn together.second_going;
-      first_cause = c.cycle-one.ensures.cause together.first_going;
-      second_cause = c.cycle-two.ensures.cause together.second_going;
-      end_is = done.end_is;
-      cause = done.cause;
-      out_is = done.out_is;
-      pair_is = sym (pair_left p c.cycle-one.new.self c.cycle-two.new.self c.both-end.result c.settle.new.cycles c.settle.new.ended
-          c.settle.ensures.cycles c.settle.ensures.ended);
-    })
-
-pub returns-clause-unchanged : goal.returns-clause-unchanged
-returns-clause-unchanged g c = λ apart. c.settle.ensures.out ∙ unchanged_row c.both-end.result c.cycle-one.new.out c.args.out.now apart
-
-pub returns-clause-cycles : goal.returns-clause-cycles
-returns-clause-cycles g c =
-    subst (λ n. c.settle.new.cycles ≤ n + 1) (ap (λ (q : PairState). q.cycles) c.self.view_is)
-    (subst (λ n. n ≤ c.self.inside.cycles + 1) (sym c.settle.ensures.cycles) (counted c.both-end.result c.self.inside.cycles))
-
-pub returns-clause-graph : goal.returns-clause-graph
-returns-clause-graph g c = c.cycle-one.ensures.graph ∙ ap (λ (q : PairState). q.first.graph) c.self.view_is
+    let none : c.args.self.now.ended ≡ None = sym (ap (λ (q : PairState). q.ended) c.self.view_is) ∙ c.in_default.is in
+    record {
+      turn =
+          subst (λ (q : PairState). q.ended ≡ None → PairTurn q now c.args.row.now c.both-end.result c.args.out.now c.settle.new.out
+          (one.seen c.args.first.now) (one.seen c.cycle-one.new.unit)
+          (unit.seen c.args.second.now) (unit.seen c.cycle-two.new.unit))
+          c.self.view_is
+          (λ going. record {
+            going = going;
+            first_end = e;
+            second_end = f;
+            first = c.cycle-one.ensures.turn together.first_going;
+            second = c.cycle-two.ensures.turn together.second_going;
+            first_cause = c.cycle-one.ensures.cause together.first_going;
+            second_cause = c.cycle-two.ensures.cause together.second_going;
+            end_is = done.end_is;
+            cause = done.cause;
+            out_is = done.out_is;
+            pair_is = sym (pair_left p c.cycle-one.new.self c.cycle-two.new.self c.both-end.result c.settle.new.cycles c.settle.new.ended
+                c.settle.ensures.cycles c.settle.ensures.ended);
+          });
+      repeats = if_none _ _ none;
+      unchanged = λ apart. c.settle.ensures.out ∙ unchanged_row c.both-end.result c.cycle-one.new.out c.args.out.now apart;
+      between = c.cycle-one.ensures.between;
+      graph = c.cycle-one.ensures.graph ∙ ap (λ (q : PairState). q.first.graph) c.self.view_is;
+      cycles =
+          subst (λ n. c.settle.new.cycles ≤ n + 1) (ap (λ (q : PairState). q.cycles) c.self.view_is)
+          (subst (λ n. n ≤ s.cycles + 1) (sym c.settle.ensures.cycles) (counted c.both-end.result s.cycles));
+      width = c.settle.ensures.width;
+    }
 
 pub returns-in-Some : goal.returns-in-Some
 returns-in-Some g c =

@@ -9,7 +9,7 @@ use Rattle.pair_channel.specs.PairEnds.{both, PairCause}
 use Rattle.pair_channel.specs.PairStates.{PairState, pair_row_after}
 use Rattle.pair_channel.specs.PairTurns.{PairConcluded}
 use Rattle.pair_channel.specs.SoundPair.{SoundPair, Together}
-use Rattle.pair_channel.proofs.States.{few_more, left_by, pair_left, first_finished, unchanged_row, closed_between, counted}
+use Rattle.pair_channel.proofs.States.{few_more, left_by, pair_left, first_finished, unchanged_row, closed_between, counted, if_none}
 use Rattle.pair_channel.proofs.pair.Pair.end.Goals as goal
 
 pub end-one-requires-clause-cycle : goal.end-one-requires-clause-cycle
@@ -31,19 +31,19 @@ cycle-two-requires-clause-cycle g c =
 pub cycle-two-requires-clause-out : goal.cycle-two-requires-clause-out
 cycle-two-requires-clause-out g c = c.self.invariant.theirs ∙ ap (λ (h : Lists). length h.outputs) (sym c.self.invariant.one_graph)
 
-pub both-end-requires-clause-few : goal.both-end-requires-clause-few
-both-end-requires-clause-few g c = subst (λ n. n < 2 ^ 32) (sym (c.end-one.ensures.width ∙ c.self.invariant.ours)) c.self.invariant.few
+pub both-end-requires : goal.both-end-requires
+both-end-requires g c = record {
+  few = subst (λ n. n < 2 ^ 32) (sym (c.end-one.ensures.width ∙ c.self.invariant.ours)) c.self.invariant.few;
+  width = c.cycle-two.ensures.width ∙ (c.self.invariant.theirs ∙ (sym c.self.invariant.ours ∙ sym c.end-one.ensures.width));
+}
 
-pub both-end-requires-clause-width : goal.both-end-requires-clause-width
-both-end-requires-clause-width g c =
-    c.cycle-two.ensures.width ∙ (c.self.invariant.theirs ∙ (sym c.self.invariant.ours ∙ sym c.end-one.ensures.width))
-
-pub settle-requires-clause-few : goal.settle-requires-clause-few
-settle-requires-clause-few g c = subst (λ n. n < most_cycles) (sym (ap (λ (q : PairState). q.cycles) c.self.view_is)) c.requires.cycle
-
-pub settle-requires-clause-width : goal.settle-requires-clause-width
-settle-requires-clause-width g c =
-    c.requires.out ∙ (ap (λ (q : PairState). length q.first.graph.outputs) (sym c.self.view_is) ∙ (sym c.self.invariant.ours ∙ sym c.end-one.ensures.width))
+pub settle-requires : goal.settle-requires
+settle-requires g c = record {
+  few = subst (λ n. n < most_cycles) (sym (ap (λ (q : PairState). q.cycles) c.self.view_is)) c.requires.cycle;
+  width = c.requires.out
+      ∙ (ap (λ (q : PairState). length q.first.graph.outputs) (sym c.self.view_is) ∙ (sym c.self.invariant.ours ∙ sym c.end-one.ensures.width));
+  going = c.in_default.is;
+}
 
 pub invariant_of-self : goal.invariant_of-self
 invariant_of-self g c =
@@ -59,8 +59,8 @@ invariant_of-self g c =
     c.cycle-two.ensures.between c.end-one.ensures.out (c.cycle-two.ensures.out together.second_going) c.end-one.ensures.width c.cycle-two.ensures.width
     c.both-end.ensures c.settle.ensures.row c.settle.ensures.out c.settle.ensures.cycles c.settle.ensures.ended).0
 
-pub returns-clause-concluded : goal.returns-clause-concluded
-returns-clause-concluded g c =
+pub returns : goal.returns
+returns g c =
     let s = c.self.inside in
     let unit = g.V.Unit in
     let p : PairState = record { first = s.first; second = s.second; cycles = s.cycles; ended = s.ended } in
@@ -80,40 +80,41 @@ returns-clause-concluded g c =
     c.both-end.ensures c.settle.ensures.row c.settle.ensures.out c.settle.ensures.cycles c.settle.ensures.ended).1 in
     let answers : c.end-one.new.self.answers ≡ given s.first = c.end-one.ensures.answers together.first_going in
     let other : List ℤ = outputs_of s.second.graph c.cycle-two.new.self.answers in
-    subst (λ (q : PairState). q.ended ≡ None → PairConcluded q now c.args.row.now c.both-end.result c.args.out.now c.settle.new.out
-    (unit.seen c.args.second.now) (unit.seen c.cycle-two.new.unit))
-    c.self.view_is
-    (λ going. record {
-      going = going;
-      first_going = together.first_going;
-      first_end = e;
-      second_end = f;
-      first_end_is = c.end-one.ensures.end
-          ∙ ap (λ o. end_or o (end_of s.first.graph s.first.table s.first.cycles (given s.first))) together.first_going;
-      first_machine = c.end-one.ensures.machine;
-      first_answers = answers;
-      second = c.cycle-two.ensures.turn together.second_going;
-      first_cause = subst (λ (xs : List Answer). Cause s.first.graph s.first.table s.first.cycles xs e) (sym answers)
-          (c.end-one.ensures.cause together.first_going);
-      second_cause = c.cycle-two.ensures.cause together.second_going;
-      end_is = subst (λ (xs : List Answer). c.both-end.result ≡ both e f (outputs_of s.first.graph xs) other) (sym answers) done.end_is;
-      cause = subst (λ (xs : List Answer). PairCause e f (outputs_of s.first.graph xs) other c.both-end.result) (sym answers) done.cause;
-      out_is = subst (λ (xs : List Answer). c.settle.new.out ≡ pair_row_after c.both-end.result (outputs_of s.first.graph xs) c.args.out.now) (sym answers)
-          done.out_is;
-      pair_is = sym (pair_left p c.end-one.new.self c.cycle-two.new.self c.both-end.result c.settle.new.cycles c.settle.new.ended c.settle.ensures.cycles
-          c.settle.ensures.ended);
-    })
-
-pub returns-clause-unchanged : goal.returns-clause-unchanged
-returns-clause-unchanged g c = λ apart. c.settle.ensures.out ∙ unchanged_row c.both-end.result c.end-one.new.out c.args.out.now apart
-
-pub returns-clause-cycles : goal.returns-clause-cycles
-returns-clause-cycles g c =
-    subst (λ n. c.settle.new.cycles ≤ n + 1) (ap (λ (q : PairState). q.cycles) c.self.view_is)
-    (subst (λ n. n ≤ c.self.inside.cycles + 1) (sym c.settle.ensures.cycles) (counted c.both-end.result c.self.inside.cycles))
-
-pub returns-clause-graph : goal.returns-clause-graph
-returns-clause-graph g c = c.end-one.ensures.graph ∙ ap (λ (q : PairState). q.first.graph) c.self.view_is
+    let none : c.args.self.now.ended ≡ None = sym (ap (λ (q : PairState). q.ended) c.self.view_is) ∙ c.in_default.is in
+    record {
+      concluded =
+          subst (λ (q : PairState). q.ended ≡ None → PairConcluded q now c.args.row.now c.both-end.result c.args.out.now c.settle.new.out
+          (unit.seen c.args.second.now) (unit.seen c.cycle-two.new.unit))
+          c.self.view_is
+          (λ going. record {
+            going = going;
+            first_going = together.first_going;
+            first_end = e;
+            second_end = f;
+            first_end_is = c.end-one.ensures.end
+                ∙ ap (λ o. end_or o (end_of s.first.graph s.first.table s.first.cycles (given s.first))) together.first_going;
+            first_machine = c.end-one.ensures.machine;
+            first_answers = answers;
+            second = c.cycle-two.ensures.turn together.second_going;
+            first_cause = subst (λ (xs : List Answer). Cause s.first.graph s.first.table s.first.cycles xs e) (sym answers)
+                (c.end-one.ensures.cause together.first_going);
+            second_cause = c.cycle-two.ensures.cause together.second_going;
+            end_is = subst (λ (xs : List Answer). c.both-end.result ≡ both e f (outputs_of s.first.graph xs) other) (sym answers) done.end_is;
+            cause = subst (λ (xs : List Answer). PairCause e f (outputs_of s.first.graph xs) other c.both-end.result) (sym answers) done.cause;
+            out_is = subst (λ (xs : List Answer). c.settle.new.out ≡ pair_row_after c.both-end.result (outputs_of s.first.graph xs) c.args.out.now) (sym answers)
+                done.out_is;
+            pair_is = sym (pair_left p c.end-one.new.self c.cycle-two.new.self c.both-end.result c.settle.new.cycles c.settle.new.ended c.settle.ensures.cycles
+                c.settle.ensures.ended);
+          });
+      repeats = if_none _ _ none;
+      unchanged = λ apart. c.settle.ensures.out ∙ unchanged_row c.both-end.result c.end-one.new.out c.args.out.now apart;
+      between = c.end-one.ensures.between;
+      graph = c.end-one.ensures.graph ∙ ap (λ (q : PairState). q.first.graph) c.self.view_is;
+      cycles =
+          subst (λ n. c.settle.new.cycles ≤ n + 1) (ap (λ (q : PairState). q.cycles) c.self.view_is)
+          (subst (λ n. n ≤ s.cycles + 1) (sym c.settle.ensures.cycles) (counted c.both-end.result s.cycles));
+      width = c.settle.ensures.width;
+    }
 
 pub returns-in-Some : goal.returns-in-Some
 returns-in-Some g c =
