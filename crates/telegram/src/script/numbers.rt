@@ -7,7 +7,7 @@ ghost use Rattle.telegram.specs.declared.script.wire_fault.WireFault.TheVariants
 
 use crate::script::wire_fault::WireFault;
 use std::alloc::Global;
-use vcp_base::{Row, WordsLeft, integer};
+use vcp_base::{Memory, Row, WordsLeft, integer};
 
 /// The numbers that the words that are left of a line write; the line is refused where one writes none.
 #[tactic(auto, using(crate::proofs::NumbersRead::one_more))]
@@ -21,7 +21,10 @@ pub fn numbers(alloc: Global, line: u32, words: &mut WordsLeft<'_>) -> Result<Ro
         let Some(number) = integer(word) else {
             return Err(WireFault::Form { line });
         };
-        row.push(number)?;
+        match row.push(number) {
+            Ok(()) => {}
+            Err(Memory) => return Err(WireFault::Memory),
+        }
     }
     Ok(row)
 }

@@ -1,10 +1,5 @@
 //! Why a script of a wire is refused.
 
-ghost use Rattle.std.specs.Prelude.{◌≡◌};
-ghost use Rattle.telegram.specs.declared.script.wire_fault.WireFault.TheVariants as refusal;
-
-use vcp_base::Memory;
-
 /// Why a script of a wire is refused, with the number of the refused line, counted from 1.
 #[derive(Clone, Copy)]
 pub enum WireFault {
@@ -25,12 +20,4 @@ pub enum WireFault {
     },
     /// There was no memory. It is merged with no other cause.
     Memory,
-}
-
-impl From<Memory> for WireFault {
-    ghost from_gives = { λ _ f. f ≡ refusal.Memory };
-
-    fn from(_: Memory) -> WireFault {
-        WireFault::Memory
-    }
 }

@@ -41,34 +41,25 @@ events-init g c =
 
 -- ---- a cycle begins
 
-pub send_all-requires-clause-cycle : goal.send_all-requires-clause-cycle
-send_all-requires-clause-cycle g c =
-    let there = c.at.ensures ∙ ap Some c.in-Cycle.is in
-    let below =
-    within c.args.script.now.wire c.args.script.now.events (g.U.Unit.seen c.args.unit.now) (g.U.Unit.seen c.events.unit) (g.O.Sink.seen c.args.out.now)
-    (g.O.Sink.seen c.events.out) c.events.i c.events.begun c.events.delivered c.events.receiver c.events.words.items c.events.invariant.so_far
-    c.in-Cycle.values there in
-    le_trans below c.requires.events.few
-
-pub send_all-requires-clause-values : goal.send_all-requires-clause-values
-send_all-requires-clause-values g c =
-    every_at (IsEvent c.args.script.now.wire) c.args.script.now.events c.events.i _ c.requires.events.each (c.at.ensures ∙ ap Some c.in-Cycle.is)
-
-pub send_all-requires-clause-room : goal.send_all-requires-clause-room
-send_all-requires-clause-room g c =
+pub send_all-requires : goal.send_all-requires
+send_all-requires g c =
     let w = c.args.script.now.wire in
     let es = c.args.script.now.events in
     let before = g.U.Unit.seen c.args.unit.now in
     let now = g.U.Unit.seen c.events.unit in
     let old = g.O.Sink.seen c.args.out.now in
     let new = g.O.Sink.seen c.events.out in
+    let so_far = c.events.invariant.so_far in
     let there = c.at.ensures ∙ ap Some c.in-Cycle.is in
     let below =
-    within w es before now old new c.events.i c.events.begun c.events.delivered c.events.receiver c.events.words.items c.events.invariant.so_far
-    c.in-Cycle.values there in
-    let kept =
-    kept_length w es before now old new c.events.i c.events.begun c.events.delivered c.events.receiver c.events.words.items c.events.invariant.so_far in
-    room_left _ _ c.events.begun _ w.senders (c.events.words.ok.0 ∙ kept) c.events.invariant.room below
+    within w es before now old new c.events.i c.events.begun c.events.delivered c.events.receiver c.events.words.items so_far c.in-Cycle.values there in
+    let kept = kept_length w es before now old new c.events.i c.events.begun c.events.delivered c.events.receiver c.events.words.items so_far in
+    record {
+      wire = c.requires.wire;
+      cycle = le_trans below c.requires.events.few;
+      values = every_at (IsEvent w) es c.events.i _ c.requires.events.each there;
+      room = room_left _ _ c.events.begun _ w.senders (c.events.words.ok.0 ∙ kept) c.events.invariant.room below;
+    }
 
 pub tick-requires : goal.tick-requires
 tick-requires g c =
@@ -112,42 +103,29 @@ returns-in-Ok-unsent_line g c =
 
 -- ---- a telegram is handed
 
-pub word_at-requires-clause-number : goal.word_at-requires-clause-number
-word_at-requires-clause-number g c =
+pub word_at-requires : goal.word_at-requires
+word_at-requires g c =
     let w = c.args.script.now.wire in
     let es = c.args.script.now.events in
     let before = g.U.Unit.seen c.args.unit.now in
     let now = g.U.Unit.seen c.events.unit in
     let old = g.O.Sink.seen c.args.out.now in
     let new = g.O.Sink.seen c.events.out in
-    let sent =
-    sent_before w es before now old new c.events.i c.events.begun c.events.delivered c.events.receiver c.events.words.items c.events.invariant.so_far
-    c.in-Deliver.line c.in-Deliver.id c.in-Deliver.number c.in-Deliver.alter (c.at.ensures ∙ ap Some c.in-Deliver.is) in
-    let few =
-    few_cycles w es before now old new c.events.i c.events.begun c.events.delivered c.events.receiver c.events.words.items c.events.invariant.so_far in
-    le_trans (le_trans sent few) c.requires.events.few
-
-pub word_at-requires-clause-id : goal.word_at-requires-clause-id
-word_at-requires-clause-id g c =
-    (every_at (IsEvent c.args.script.now.wire) c.args.script.now.events c.events.i _ c.requires.events.each (c.at.ensures ∙ ap Some c.in-Deliver.is)).0
-
-pub word_at-requires-clause-there : goal.word_at-requires-clause-there
-word_at-requires-clause-there g c =
-    let w = c.args.script.now.wire in
-    let es = c.args.script.now.events in
-    let before = g.U.Unit.seen c.args.unit.now in
-    let now = g.U.Unit.seen c.events.unit in
-    let old = g.O.Sink.seen c.args.out.now in
-    let new = g.O.Sink.seen c.events.out in
+    let so_far = c.events.invariant.so_far in
     let there = c.at.ensures ∙ ap Some c.in-Deliver.is in
     let sent =
-    sent_before w es before now old new c.events.i c.events.begun c.events.delivered c.events.receiver c.events.words.items c.events.invariant.so_far
-    c.in-Deliver.line c.in-Deliver.id c.in-Deliver.number c.in-Deliver.alter there in
-    let kept =
-    kept_length w es before now old new c.events.i c.events.begun c.events.delivered c.events.receiver c.events.words.items c.events.invariant.so_far in
+    sent_before w es before now old new c.events.i c.events.begun c.events.delivered c.events.receiver c.events.words.items so_far c.in-Deliver.line
+    c.in-Deliver.id c.in-Deliver.number c.in-Deliver.alter there in
+    let few = few_cycles w es before now old new c.events.i c.events.begun c.events.delivered c.events.receiver c.events.words.items so_far in
+    let kept = kept_length w es before now old new c.events.i c.events.begun c.events.delivered c.events.receiver c.events.words.items so_far in
     let sender = (every_at (IsEvent w) es c.events.i _ c.requires.events.each there).0 in
-    place_within (length c.deref.result.now) c.events.begun c.in-Deliver.number c.in-Deliver.id w.senders
-    (ap (λ (l : List ℤ). length l) c.deref.ensures.value ∙ kept) sent sender
+    record {
+      senders = c.requires.wire.senders;
+      number = le_trans (le_trans sent few) c.requires.events.few;
+      id = sender;
+      there = place_within (length c.deref.result.now) c.events.begun c.in-Deliver.number c.in-Deliver.id w.senders
+          (ap (λ (l : List ℤ). length l) c.deref.ensures.value ∙ kept) sent sender;
+    }
 
 pub take-receipt-requires : goal.take-receipt-requires
 take-receipt-requires g c =
