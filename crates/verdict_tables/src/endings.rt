@@ -1,6 +1,6 @@
 //! How the groups of a script end of which no output tells.
 
-ghost use Rattle.std.specs.Prelude.{◌≡◌, ◌<◌, ◌≤◌, ◌+◌, [], ◌∷◌, ◌++◌, Some, All, IfOk, OnOk, OnErr, length, slice_get};
+ghost use Rattle.std.specs.Prelude.{◌≡◌, ◌≤◌, ◌+◌, [], All, IfOk, length};
 ghost use Rattle.vcp_base.specs.Limits.{most_cycles};
 ghost use Rattle.signature_table.specs.Signatures.{IsTableOf};
 ghost use Rattle.fault_script.specs.Changes.{acts_of};
@@ -19,113 +19,13 @@ use input_rows::RowList;
 use op_graph::Graph;
 use signature_table::Table;
 use std::alloc::Global;
-use std::marker::Model;
-use vcp_base::Memory;
+use vcp_base::{CopyList, List, Memory};
 
 /// For each group of a script, in order, how its run ends where its verdict is `same`, and none where it is another. Seen as a list.
-#[derive(Drop)]
-pub struct Endings {
-    endings: Vec<Option<SameEnding>>,
-}
-
-impl Model for Endings {
-    ghost use Rattle.std.specs.Prelude.{List, Option};
-    ghost use Rattle.verdict_tables.specs.declared.endless.ending.SameEnding.{SameEnding};
-
-    ghost Value = { List (Option SameEnding) };
-
-    ghost view = { λ e. e.endings.items };
-}
-
-impl Endings {
-    /// Of no groups. It takes no memory.
-    pub fn new(alloc: Global) -> Endings
-        ensures { result ≡ [] }
-    {
-        Endings {
-            endings: Vec::new(alloc),
-        }
-    }
-
-    /// Appends that of one more group. After `Memory` the list is unchanged.
-    pub fn push(&mut self, ending: Option<SameEnding>) -> Result<(), Memory>
-        ensures ok { OnOk result (self.new ≡ self.old ++ ending ∷ []) }
-        ensures err { OnErr result (self.new ≡ self.old) }
-    {
-        self.endings.push(ending)?;
-        Ok(())
-    }
-
-    /// Of how many groups it tells.
-    pub fn len(&self) -> usize
-        ensures { result ≡ length self.now }
-    {
-        self.endings.len()
-    }
-
-    /// That of the group at place `i`, counted from 0, where `i` is less than `len`.
-    pub fn at(&self, i: usize) -> Option<SameEnding>
-        requires { i < length self.now }
-        ensures { slice_get self.now i ≡ Some result }
-    {
-        self.endings[i]
-    }
-}
+pub type Endings = CopyList<Option<SameEnding>>;
 
 /// The same for each part of a campaign, in order. Seen as a list.
-pub struct EndingsOfParts {
-    endings: Vec<Endings>,
-}
-
-impl Model for EndingsOfParts {
-    ghost use Rattle.std.specs.Prelude.{List, Option};
-    ghost use Rattle.verdict_tables.specs.declared.endless.ending.SameEnding.{SameEnding};
-
-    ghost Value = { List (List (Option SameEnding)) };
-
-    ghost view = { λ e. e.endings.items };
-}
-
-impl Drop for EndingsOfParts {
-    fn drop(self) {
-        let EndingsOfParts { endings: _ } = self;
-    }
-}
-
-impl EndingsOfParts {
-    /// Of no parts. It takes no memory.
-    pub fn new(alloc: Global) -> EndingsOfParts
-        ensures { result ≡ [] }
-    {
-        EndingsOfParts {
-            endings: Vec::new(alloc),
-        }
-    }
-
-    /// Appends those of one more part. After `Memory` the list is unchanged.
-    pub fn push(&mut self, endings: Endings) -> Result<(), Memory>
-        ensures ok { OnOk result (self.new ≡ self.old ++ endings ∷ []) }
-        ensures err { OnErr result (self.new ≡ self.old) }
-    {
-        self.endings.push(endings)?;
-        Ok(())
-    }
-
-    /// Of how many parts it tells.
-    pub fn len(&self) -> usize
-        ensures { result ≡ length self.now }
-    {
-        self.endings.len()
-    }
-
-    /// Those of the part at place `i`, counted from 0, where `i` is less than `len`.
-    pub fn at(&self, i: usize) -> &Endings
-        requires { i < length self.now }
-        ensures { slice_get self.now i ≡ Some result.now }
-    {
-        &self.endings[i]
-    }
-}
+pub type EndingsOfParts = List<Endings>;
 
 /// How the run with a group ends whose verdict is `same`; none of any other.
 fn ending_if(

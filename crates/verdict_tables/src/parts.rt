@@ -1,15 +1,13 @@
 //! A campaign in parts.
 
-ghost use Rattle.std.specs.Prelude.{◌≡◌, ◌<◌, [], ◌∷◌, ◌++◌, Some, OnOk, OnErr, decimal, length, slice_get};
+ghost use Rattle.std.specs.Prelude.{◌≡◌, ◌<◌, ◌++◌, decimal, length};
 ghost use Rattle.vcp_outside.specs.Gathering.{GathersTo};
 ghost use Rattle.fault_script.specs.Groups.{line_of};
 ghost use Rattle.verdict_tables.specs.Parts.{mark_of as mark_of_part, mark_text};
 
 use crate::verdicts::Verdicts;
 use fault_script::{Group, Script};
-use std::alloc::Global;
-use std::marker::Model;
-use vcp_base::Memory;
+use vcp_base::List;
 use vcp_outside::{Line, Sink};
 
 /// How many parts there may be.
@@ -33,59 +31,7 @@ impl Drop for Part {
 }
 
 /// The parts of a campaign, seen as a list.
-pub struct Parts {
-    parts: Vec<Part>,
-}
-
-impl Model for Parts {
-    ghost use Rattle.std.specs.Prelude.{List};
-    ghost use Rattle.verdict_tables.specs.declared.parts.Part.{Part};
-
-    ghost Value = { List Part };
-
-    ghost view = { λ p. p.parts.items };
-}
-
-impl Drop for Parts {
-    fn drop(self) {
-        let Parts { parts: _ } = self;
-    }
-}
-
-impl Parts {
-    /// No parts. It takes no memory.
-    pub fn new(alloc: Global) -> Parts
-        ensures { result ≡ [] }
-    {
-        Parts {
-            parts: Vec::new(alloc),
-        }
-    }
-
-    /// Appends a part. After `Memory` the list is unchanged.
-    pub fn push(&mut self, part: Part) -> Result<(), Memory>
-        ensures ok { OnOk result (self.new ≡ self.old ++ part ∷ []) }
-        ensures err { OnErr result (self.new ≡ self.old) }
-    {
-        self.parts.push(part)?;
-        Ok(())
-    }
-
-    /// How many parts there are.
-    pub fn len(&self) -> usize
-        ensures { result ≡ length self.now }
-    {
-        self.parts.len()
-    }
-
-    /// The part at place `i`, counted from 0, where `i` is less than `len`.
-    pub fn at(&self, i: usize) -> &Part
-        requires { i < length self.now }
-        ensures { slice_get self.now i ≡ Some result.now }
-    {
-        &self.parts[i]
-    }
-}
+pub type Parts = List<Part>;
 
 /// Of so many parts, the number of part `n`, counted from 0, by which a line that names one of its groups begins.
 pub(crate) fn mark_of(many: usize, n: usize) -> Option<u64>
