@@ -111,16 +111,6 @@ fn body_step(source: Source, parsed: &mut Parsed, t: Token) -> Result<Place, Syn
     }
 }
 
-// The first token of a program.
-fn program_at(t: Token) -> Result<Place, SyntaxFault>
-    ensures { (c : Context) → (p : ParsedOf) → Gives (view.program p) result (machine.program_step c machine.at_program t) }
-{
-    if has(t, Mark::Program) {
-        return Ok(Place::AtName);
-    }
-    refuse_program(t)
-}
-
 // The token behind PROGRAM.
 fn name_at(source: Source, parsed: &mut Parsed, t: Token) -> Result<Place, SyntaxFault>
     requires inside { IsInside source.text.now t }
@@ -200,19 +190,6 @@ fn comma_at(t: Token) -> Result<Place, SyntaxFault>
     refuse_program(t)
 }
 
-// The token behind the comma of a declared name.
-fn next_name_at(source: Source, parsed: &mut Parsed, t: Token) -> Result<Place, SyntaxFault>
-    requires inside { IsInside source.text.now t }
-    ensures { Gives (view.program parsed.new) result
-        (machine.program_step (record { bytes = bytes_in source.entry.text.now; most = source.entry.most })
-        (machine.at_next_name (view.opening parsed.old) (view.names parsed.old)) t) }
-{
-    if has(t, Mark::Name) {
-        return add_name(source, parsed, t);
-    }
-    refuse_program(t)
-}
-
 // The token behind the colon of a declaration.
 fn type_at(parsed: &mut Parsed, t: Token) -> Result<Place, SyntaxFault>
     ensures { Gives (view.program parsed.new) result (machine.type_at (view.opening parsed.old) (view.names parsed.old) (mark t.tok) t) }
@@ -288,13 +265,23 @@ pub fn program_step(
         (machine.program_step (record { bytes = bytes_in source.entry.text.now; most = source.entry.most }) (view.program parsed.old place) t) }
 {
     match place {
-        Place::AtProgram => program_at(t),
+        Place::AtProgram => {
+            if has(t, Mark::Program) {
+                return Ok(Place::AtName);
+            }
+            refuse_program(t)
+        }
         Place::AtName => name_at(source, parsed, t),
         Place::AtBlock => block_at(source, parsed, t),
         Place::AtVar => var_at(source, parsed, t),
         Place::AtDecl => decl_at(source, parsed, mark_of(t.tok), t),
         Place::AtComma => comma_at(t),
-        Place::AtNextName => next_name_at(source, parsed, t),
+        Place::AtNextName => {
+            if has(t, Mark::Name) {
+                return add_name(source, parsed, t);
+            }
+            refuse_program(t)
+        }
         Place::AtType => type_at(parsed, t),
         Place::AtInit => init_begins(source.alloc, parsed, t),
         Place::InInit => init_at(source, parsed, t),

@@ -2,11 +2,6 @@ use Rattle.st_tree.specs.Spelling.{bytes_in}
 use Rattle.st_parser.specs.ExprMachine.{Context}
 use Rattle.st_parser.proofs.declarations.program_step.Goals as goal
 
-pub returns-in-AtProgram : goal.returns-in-AtProgram
-returns-in-AtProgram c =
-    let k : Context = record { bytes = bytes_in c.args.source.text.now; most = c.args.source.most } in
-    rw c.in-AtProgram.is (c.program_at.ensures k c.args.parsed.now)
-
 pub returns-in-AtComma : goal.returns-in-AtComma
 returns-in-AtComma c =
     let k : Context = record { bytes = bytes_in c.args.source.text.now; most = c.args.source.most } in
@@ -31,9 +26,6 @@ returns-in-AtBlock c = rw c.in-AtBlock.is c.block_at.ensures
 
 pub returns-in-AtVar : goal.returns-in-AtVar
 returns-in-AtVar c = rw c.in-AtVar.is c.var_at.ensures
-
-pub returns-in-AtNextName : goal.returns-in-AtNextName
-returns-in-AtNextName c = rw c.in-AtNextName.is c.next_name_at.ensures
 
 pub returns-in-InInit : goal.returns-in-InInit
 returns-in-InInit c = rw c.in-InInit.is c.init_at.ensures
