@@ -1,17 +1,16 @@
 //! Declarations, read token by token.
 
-ghost use Rattle.std.specs.Prelude.{◌≡◌, [], ◌∷◌, ◌++◌, Ok, Some, cond};
+ghost use Rattle.std.specs.Prelude.{◌≡◌, [], ◌∷◌, ◌++◌, Ok};
 ghost use Rattle.st_lexer.specs.Reading.{IsInside};
-ghost use Rattle.st_tree.specs.ExprViews.{expr_tree, expr_tree_or_none};
+ghost use Rattle.st_tree.specs.ExprViews.{expr_tree_or_none};
 ghost use Rattle.st_tree.specs.StmtViews.{stmt_trees};
-ghost use Rattle.st_parser.specs.declared.state.Parsed.{Parsed as ParsedOf};
 ghost use Rattle.st_tree.specs.Spelling.{bytes_in};
-ghost use Rattle.st_parser.specs.Marks.{mark_of as mark, is as is_mark};
+ghost use Rattle.st_parser.specs.Marks.{mark_of as mark};
 ghost use Rattle.st_parser.specs.ExprMachine.{Context};
 ghost use Rattle.st_parser.specs.FormViews as form_view;
 ghost use Rattle.st_parser.specs.StateViews.{Gives, levels, phase as phase_of};
 ghost use Rattle.st_parser.specs.ProgramViews as view;
-ghost use Rattle.st_parser.specs.StmtMachine.{refused as refused_of, stmt_step as stmt_step_of};
+ghost use Rattle.st_parser.specs.StmtMachine.{stmt_step as stmt_step_of};
 ghost use Rattle.st_parser.specs.ProgramMachine as machine;
 
 use crate::expressions::{Progress, read};
@@ -175,21 +174,6 @@ fn var_at(source: Source, parsed: &mut Parsed, t: Token) -> Result<Place, Syntax
     }
 }
 
-// The token behind a declared name.
-fn comma_at(t: Token) -> Result<Place, SyntaxFault>
-    ensures { (c : Context) → (p : ParsedOf) → Gives (view.program p) result
-        (machine.program_step c (machine.at_comma (view.opening p) (view.names p)) t) }
-{
-    let mark = mark_of(t.tok);
-    if is(mark, Mark::Comma) {
-        return Ok(Place::AtNextName);
-    }
-    if is(mark, Mark::Colon) {
-        return Ok(Place::AtType);
-    }
-    refuse_program(t)
-}
-
 // The token behind the colon of a declaration.
 fn type_at(parsed: &mut Parsed, t: Token) -> Result<Place, SyntaxFault>
     ensures { Gives (view.program parsed.new) result (machine.type_at (view.opening parsed.old) (view.names parsed.old) (mark t.tok) t) }
@@ -220,20 +204,6 @@ fn init_begins(alloc: Global, parsed: &mut Parsed, t: Token) -> Result<Place, Sy
     refuse_program(t)
 }
 
-// The token behind an initial value.
-fn init_ends(alloc: Global, parsed: &mut Parsed, init: Expr, t: Token) -> Result<Place, SyntaxFault>
-    ensures { Gives (view.program parsed.new) result
-        (cond (is_mark (mark t.tok) Mark.Semi)
-        (Ok (machine.at_decl (machine.with_decl (view.opening parsed.old) (view.names parsed.old) parsed.old.ty (Some (expr_tree init)))))
-        (refused_of t)) }
-{
-    if has(t, Mark::Semi) {
-        return with_decl(alloc, parsed, Some(init));
-    }
-    discard(init);
-    refuse_program(t)
-}
-
 // A token of an initial value, or the one behind it.
 fn init_at(source: Source, parsed: &mut Parsed, t: Token) -> Result<Place, SyntaxFault>
     requires inside { IsInside source.text.now t }
@@ -248,7 +218,13 @@ fn init_at(source: Source, parsed: &mut Parsed, t: Token) -> Result<Place, Synta
             parsed.mode = mode;
             Ok(Place::InInit)
         }
-        Ok(Progress::Ended(e)) => init_ends(source.alloc, parsed, e, t),
+        Ok(Progress::Ended(e)) => {
+            if has(t, Mark::Semi) {
+                return with_decl(source.alloc, parsed, Some(e));
+            }
+            discard(e);
+            refuse_program(t)
+        }
         Err(fault) => Err(fault),
     }
 }
@@ -275,7 +251,16 @@ pub fn program_step(
         Place::AtBlock => block_at(source, parsed, t),
         Place::AtVar => var_at(source, parsed, t),
         Place::AtDecl => decl_at(source, parsed, mark_of(t.tok), t),
-        Place::AtComma => comma_at(t),
+        Place::AtComma => {
+            let mark = mark_of(t.tok);
+            if is(mark, Mark::Comma) {
+                return Ok(Place::AtNextName);
+            }
+            if is(mark, Mark::Colon) {
+                return Ok(Place::AtType);
+            }
+            refuse_program(t)
+        }
         Place::AtNextName => {
             if has(t, Mark::Name) {
                 return add_name(source, parsed, t);

@@ -2,11 +2,6 @@ use Rattle.st_tree.specs.Spelling.{bytes_in}
 use Rattle.st_parser.specs.ExprMachine.{Context}
 use Rattle.st_parser.proofs.declarations.program_step.Goals as goal
 
-pub returns-in-AtComma : goal.returns-in-AtComma
-returns-in-AtComma c =
-    let k : Context = record { bytes = bytes_in c.args.source.text.now; most = c.args.source.most } in
-    rw c.in-AtComma.is (c.comma_at.ensures k c.args.parsed.now)
-
 pub returns-in-AtType : goal.returns-in-AtType
 returns-in-AtType c = rw c.in-AtType.is c.type_at.ensures
 
