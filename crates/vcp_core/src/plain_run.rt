@@ -9,7 +9,6 @@ ghost use Rattle.vcp_typed.specs.Checked.{IsChecked};
 ghost use Rattle.vcp_typed.specs.Fitting.{AreFit, input_types, output_columns, output_types};
 ghost use Rattle.vcp_typed.specs.Meaning.{Stop as StopOf};
 ghost use Rattle.vcp_typed.specs.SourceRun.{cycle as cycle_of};
-ghost use Rattle.st_plain.specs.Evaluator.{started};
 ghost use Rattle.flat_expr.specs.Told.{names_of};
 ghost use Rattle.vcp_core.specs.PlainRun.{Prints, PrintsFrom, cycle_line};
 ghost use Rattle.coded_machine.specs.declared.rows.fault.RunFault.TheVariants as fault;
@@ -164,6 +163,7 @@ fn print_named<O: Sink>(
     ensures write { result ≡ Err fault.Write → Rose (O.seen out.old).faults (O.seen out.new).faults }
     ensures stayed { result ≢ Err fault.Write → (O.seen out.new).faults ≡ (O.seen out.old).faults }
 {
+    values_fit();
     let mut inputs = match Row::zeros(alloc, rows.width()) {
         Ok(row) => row,
         Err(Memory) => return Err(RunFault::Memory),
@@ -173,47 +173,18 @@ fn print_named<O: Sink>(
         Err(Memory) => return Err(RunFault::Memory),
     };
     match Plain::new(alloc, program) {
-        Ok(mut plain) => print_begun(
-            alloc,
-            &mut plain,
-            columns,
-            names,
-            rows,
-            &mut inputs,
-            &mut outputs,
-            out,
-        ),
+        Ok(mut plain) => match header_line(out, columns) {
+            Ok(()) => print_cycles(
+                alloc,
+                &mut plain,
+                names,
+                rows,
+                &mut inputs,
+                &mut outputs,
+                out,
+            ),
+            Err(Failed) => Err(RunFault::Write),
+        },
         Err(Memory) => Err(RunFault::Memory),
-    }
-}
-
-/// The same by an evaluator before its first cycle, with a row for the inputs of a cycle and one for its outputs.
-fn print_begun<O: Sink>(
-    alloc: Global,
-    plain: &mut Plain<'_>,
-    columns: &Columns,
-    names: &Words,
-    rows: &mut Rows<'_>,
-    inputs: &mut Row,
-    outputs: &mut Row,
-    out: &mut O,
-) -> Result<Ending, RunFault>
-    requires begun { plain.old ≡ started plain.old.program }
-    requires checked { IsChecked plain.old.program }
-    requires columns { columns.now ≡ output_columns plain.old.program.slots }
-    requires names { names.now ≡ names_of plain.old.program.slots }
-    requires types { rows.old.types ≡ input_types plain.old.program.slots }
-    requires typed { All (AreIn rows.old.types) rows.old.rows }
-    requires few { length rows.old.rows ≤ most_cycles }
-    requires inputs { length inputs.old ≡ length (input_types plain.old.program.slots) }
-    requires outputs { length outputs.old ≡ length (output_types plain.old.program.slots) }
-    ensures prints { Prints plain.old.program rows.old (O.seen out.old).written (O.seen out.new).written result }
-    ensures write { result ≡ Err fault.Write → Rose (O.seen out.old).faults (O.seen out.new).faults }
-    ensures stayed { result ≢ Err fault.Write → (O.seen out.new).faults ≡ (O.seen out.old).faults }
-{
-    values_fit();
-    match header_line(out, columns) {
-        Ok(()) => print_cycles(alloc, plain, names, rows, inputs, outputs, out),
-        Err(Failed) => Err(RunFault::Write),
     }
 }

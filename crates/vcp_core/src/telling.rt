@@ -2,22 +2,14 @@
 
 ghost use Rattle.std.specs.Prelude.{◌≡◌};
 ghost use Rattle.vcp_outside.specs.Written.{WritesTo};
-ghost use Rattle.vcp_inputs.specs.Forms.{usage_text};
 ghost use Rattle.vcp_core.specs.Reach.{fault_text, fault_status as status_of_fault};
 
 use crate::fault::Fault;
-use vcp_inputs::{input_status, tell_input, usage};
+use vcp_inputs::{input_status, tell_input};
 use vcp_outside::{Failed, Sink, write_all};
 
 /// The line where memory was wanted.
 const NO_MEMORY: &[u8] = b"no memory\n";
-
-/// Prints the usage line.
-pub fn tell_usage<E: Sink>(err: &mut E) -> Result<(), Failed>
-    ensures { WritesTo (E.seen err.old) (E.seen err.new) usage_text result }
-{
-    write_all(err, usage())
-}
 
 /// Prints the line of a fault.
 pub fn tell<E: Sink>(err: &mut E, fault: &Fault<'_>) -> Result<(), Failed>

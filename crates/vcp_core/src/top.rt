@@ -21,13 +21,13 @@ use crate::format::format_command;
 use crate::image::image_command;
 use crate::image_run::image_run_command;
 use crate::program_run::program_run_command;
-use crate::telling::{fault_status, tell, tell_usage};
+use crate::telling::{fault_status, tell};
 use crate::wire::wire_command;
 use coded_unit::Unit;
 use std::alloc::Global;
 use vcp_base::Words;
-use vcp_inputs::{Command, command_of};
-use vcp_outside::{Failed, Files, Sink};
+use vcp_inputs::{Command, command_of, usage};
+use vcp_outside::{Failed, Files, Sink, write_all};
 
 /// The status where a sink failed.
 const WRITE_FAULT: u8 = 6;
@@ -79,7 +79,7 @@ pub fn vcp<F: Files, U: Unit, O: Sink, E: Sink>(
 {
     match command_of(words) {
         Some(command) => serve(alloc, &command, files, unit, out, err),
-        None => match tell_usage(err) {
+        None => match write_all(err, usage()) {
             Ok(()) => 4,
             Err(Failed) => 6,
         },

@@ -1,22 +1,28 @@
-use Rattle.std.proofs.Common.{length, sym, ap, subst, ◌∙◌, refl}
+use Rattle.std.proofs.Common.{◌≡◌, List, map, length, sym, ap, subst, ◌∙◌, refl}
+use Rattle.vcp_base.specs.declared.columns.Column.{Column}
+use Rattle.vcp_outside.specs.Counts.{Rose}
+use Rattle.vcp_typed.specs.declared.slot.Slot.{Slot}
 use Rattle.vcp_typed.specs.Checked.{IsChecked}
-use Rattle.vcp_typed.specs.Fitting.{input_types, output_columns, output_types}
-use Rattle.st_plain.specs.Evaluator.{Evaluator, started}
+use Rattle.vcp_typed.specs.Fitting.{AreFit, input_types, output_columns, output_types}
+use Rattle.st_plain.specs.Evaluator.{Evaluator}
 use Rattle.flat_expr.specs.Told.{names_of}
-use Rattle.vcp_core.specs.PlainRun.{Prints}
 use Rattle.vcp_core.proofs.PlainNames.{outputs-count}
-use Rattle.vcp_core.proofs.PlainTurns.{nothing-printed}
+use Rattle.vcp_core.proofs.PlainTurns.{header-first, header-fails, nothing-printed}
 use Rattle.vcp_core.proofs.JobFacts.{memory_unwritten}
 use Rattle.std.proofs.lemmas.List.{length-replicate}
 use Rattle.vcp_core.proofs.plain_run.print_named.Goals as goal
 
-pub print_begun-requires : goal.print_begun-requires
-print_begun-requires g c =
+named : (slots : List Slot) (columns : List Column) → columns ≡ output_columns slots
+    → map (λ (c : Column). c.name) columns ≡ map (λ (c : Column). c.name) (output_columns slots)
+named slots columns is = ap (map (λ (c : Column). c.name)) is
+
+pub print_cycles-requires : goal.print_cycles-requires
+print_cycles-requires g c =
     let new = c.in-Ok-new.ensures in
     record {
-      begun = new ∙ ap (λ (e : Evaluator). started e.program) (sym new);
+      going = ap (λ (e : Evaluator). e.stop) new;
       checked = subst (λ (e : Evaluator). IsChecked e.program) (sym new) c.requires.checked;
-      columns = c.requires.columns ∙ ap (λ (e : Evaluator). output_columns e.program.slots) (sym new);
+      fit = subst (λ (e : Evaluator). AreFit e.program.slots e.values) (sym new) (c.values_fit.ensures.initial c.args.program.now c.requires.checked);
       names = c.requires.names ∙ ap (λ (e : Evaluator). names_of e.program.slots) (sym new);
       types = c.requires.types ∙ ap (λ (e : Evaluator). input_types e.program.slots) (sym new);
       typed = c.requires.typed;
@@ -28,12 +34,26 @@ print_begun-requires g c =
     }
 
 pub returns-in-Ok-new : goal.returns-in-Ok-new
-returns-in-Ok-new g c = record {
-  prints = subst (λ (e : Evaluator). Prints e.program c.args.rows.now (g.O.Sink.seen c.args.out.now).written (g.O.Sink.seen c.print_begun.new.out).written
-      c.print_begun.result) c.in-Ok-new.ensures c.print_begun.ensures.prints;
-  write = c.print_begun.ensures.write;
-  stayed = c.print_begun.ensures.stayed;
-}
+returns-in-Ok-new g c =
+    let names = named c.args.program.now.slots c.args.columns.now c.requires.columns in
+    record {
+      prints = header-fails c.args.program.now c.args.rows.now (g.O.Sink.seen c.args.out.now).written (g.O.Sink.seen c.header_line.new.out).written
+          (rw names at c.in-Err-header_line.ensures.part);
+      write = λ e. c.in-Err-header_line.ensures.cause.failed;
+      stayed = λ other. absurd (other refl);
+    }
+
+pub returns-in-Ok-header_line : goal.returns-in-Ok-header_line
+returns-in-Ok-header_line g c =
+    let names = named c.args.program.now.slots c.args.columns.now c.requires.columns in
+    let said = c.in-Ok-header_line.ensures in
+    record {
+      prints = header-first c.args.program.now c.args.rows.now (g.O.Sink.seen c.args.out.now).written (g.O.Sink.seen c.header_line.new.out).written
+          (g.O.Sink.seen c.print_cycles.new.out).written c.print_cycles.result (rw names at said.whole)
+          (rw c.in-Ok-new.ensures at c.print_cycles.ensures.prints);
+      write = λ e. subst (λ n. Rose n (g.O.Sink.seen c.print_cycles.new.out).faults) said.cause.stayed (c.print_cycles.ensures.write e);
+      stayed = λ other. c.print_cycles.ensures.stayed other ∙ said.cause.stayed;
+    }
 
 -- ---- memory is wanted
 
