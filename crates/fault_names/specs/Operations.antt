@@ -10,8 +10,6 @@ use Rattle.op_graph.specs.Rules.{is_load}
 use Rattle.run_report.specs.Variables.{variable_of}
 use Rattle.fault_names.specs.declared.refused.Why.{Why}
 use Rattle.fault_names.specs.declared.refused.Why.TheVariants as reason
-use Rattle.fault_names.specs.declared.operations.Found.{Found}
-use Rattle.fault_names.specs.declared.operations.Found.TheVariants as found
 use Rattle.fault_names.specs.Words.{spot_of}
 
 -- ---- what a name means
@@ -58,18 +56,11 @@ the_one [] = Err reason.Unknown
 the_one (k ∷ []) = Ok k
 the_one (k ∷ l ∷ more) = Err reason.Several
 
--- the same of the code's count of them: none, one or more
-abbrev pub found_of : List ℕ → Found
-found_of [] = found.Nothing
-found_of (k ∷ []) = found.One k
-found_of (k ∷ l ∷ more) = found.Several
-
--- with operation i, which has the name or hasn't
-abbrev pub found_next : Found → ℕ → Bool → Found
-found_next f i false = f
-found_next found.Nothing i true = found.One i
-found_next (found.One k) i true = found.Several
-found_next found.Several i true = found.Several
+-- the same with number i behind them, where it is so
+abbrev pub found_next : Result ℕ Why → ℕ → Bool → Result ℕ Why
+found_next r i false = r
+found_next (Err reason.Unknown) i true = Ok i
+found_next r i true = Err reason.Several
 
 -- the operation that has the name, of this kind where one is said
 abbrev pub operation_named : Lists → Option Kind → List ℕ → Result ℕ Why

@@ -1,8 +1,8 @@
 //! Which operation a name names.
 
-ghost use Rattle.std.specs.Prelude.{◌≡◌, ◌<◌, ℕ, List, IfOk, length};
+ghost use Rattle.std.specs.Prelude.{◌≡◌, ◌<◌, IfOk, length};
 ghost use Rattle.fault_names.specs.Operations.{is_kind as is_kind_of, may_be_alone as may_be_alone_of, is_variable as is_variable_of, is_at as is_at_of};
-ghost use Rattle.fault_names.specs.Operations.{is_named as is_named_of, found_of, found_next, the_one as the_one_of};
+ghost use Rattle.fault_names.specs.Operations.{is_named as is_named_of, found_next};
 ghost use Rattle.fault_names.specs.Operations.{operation_named as operation_named_of};
 ghost use Rattle.fault_names.specs.Words.{spot_of};
 
@@ -61,42 +61,16 @@ fn is_named(graph: &Graph, kind: Option<Kind>, name: &[u8], place: Option<Spot>,
     is_kind(kind, op.kind) && (is_variable(graph, kind, name, op) || is_at(place, op.spot))
 }
 
-/// Which of some operations have a name.
-#[derive(Clone, Copy)]
-pub enum Found {
-    /// None.
-    Nothing,
-    /// One.
-    One {
-        /// Its number.
-        k: u32,
-    },
-    /// More than one.
-    Several,
-}
-
-/// The same with operation `i`, which has the name or hasn't.
-fn with_next(found: Found, i: u32, is: bool) -> Found
+/// The one of some operations that has a name, with operation `i` behind them, which has the name or hasn't.
+fn with_next(found: Result<u32, Why>, i: u32, is: bool) -> Result<u32, Why>
     ensures { result ≡ found_next found i is }
 {
     if !is {
         return found;
     }
     match found {
-        Found::Nothing => Found::One { k: i },
-        Found::One { k: _ } | Found::Several => Found::Several,
-    }
-}
-
-/// The one that was found.
-fn the_one(found: Found) -> Result<u32, Why>
-    ensures value { (ks : List ℕ) → found_of ks ≡ found → the_one_of ks ≡ result }
-    ensures one { IfOk result (λ k. found ≡ Found.One k) }
-{
-    match found {
-        Found::Nothing => Err(Why::Unknown),
-        Found::One { k } => Ok(k),
-        Found::Several => Err(Why::Several),
+        Err(Why::Unknown) => Ok(i),
+        _ => Err(Why::Several),
     }
 }
 
@@ -107,10 +81,10 @@ pub fn operation_named(graph: &Graph, kind: Option<Kind>, name: &[u8]) -> Result
     ensures there { IfOk result (λ k. k < length graph.now.operations) }
 {
     let place = spot(name);
-    let mut found = Found::Nothing;
+    let mut found = Err(Why::Unknown);
     'operations: for i in 0..graph.len() {
         let op = graph.operation(i);
         found = with_next(found, i, is_named(graph, kind, name, place, &op));
     }
-    the_one(found)
+    found
 }

@@ -1,12 +1,12 @@
-use Rattle.std.proofs.Common.{◌≡◌, ◌++◌, Bool, length, add-one, arith, refl, sym, ap, ◌∙◌, Option}
+use Rattle.std.proofs.Common.{◌≡◌, ◌++◌, ◌+◌, ◌<◌, ℕ, Bool, Result, IfOk, length, add-one, arith, refl, sym, ap, subst, ◌∙◌, Option}
 use Rattle.op_graph.specs.declared.op.Op.{Op}
-use Rattle.fault_names.specs.declared.operations.Found.{Found}
-use Rattle.fault_names.specs.Operations.{named_below, number_if, found_of, found_next, is_named_there}
-use Rattle.fault_names.proofs.Found.{found_more, next_below, none_below, one_below}
+use Rattle.fault_names.specs.declared.refused.Why.{Why}
+use Rattle.fault_names.specs.Operations.{named_below, number_if, found_next, is_named_there, the_one}
+use Rattle.fault_names.proofs.Found.{found_more, next_below}
 use Rattle.fault_names.proofs.operations.operation_named.Goals as goal
 
 pub operations-init : goal.operations-init
-operations-init c = record { so_far = refl; there = none_below 0 }
+operations-init c = record { so_far = refl; there = tt }
 
 pub operations-preserved : goal.operations-preserved
 operations-preserved c =
@@ -18,10 +18,12 @@ operations-preserved c =
     record {
       so_far =
           rw (add-one i)
-          (ap (λ (b : Bool). found_of (named_below g c.args.kind c.args.name.now i ++ number_if b i)) is
+          (ap (λ (b : Bool). the_one (named_below g c.args.kind c.args.name.now i ++ number_if b i)) is
           ∙ (found_more (named_below g c.args.kind c.args.name.now i) i b
-          ∙ (ap (λ (f : Found). found_next f i b) c.operations.invariant.so_far ∙ sym c.with_next-found.ensures)));
-      there = λ k e. next_below c.operations.found i k b c.operations.invariant.there (sym c.with_next-found.ensures ∙ e);
+          ∙ (ap (λ (r : Result ℕ Why). found_next r i b) c.operations.invariant.so_far ∙ sym c.with_next-found.ensures)));
+      there =
+          subst (λ (r : Result ℕ Why). IfOk r (λ k. k < i + 1)) (sym c.with_next-found.ensures)
+          (next_below c.operations.found i b c.operations.invariant.there);
     }
 
 pub returns-clause-value : goal.returns-clause-value
@@ -29,11 +31,10 @@ returns-clause-value c =
     let all : c.operations.i ≡ length c.args.graph.now.operations =
     omega (arith, c.operations-test.false, c.operations.auto.i-end, c.len-i-end.ensures.count) in
     let found = rw all at c.operations.invariant.so_far in
-    sym (c.the_one.ensures.value _ found)
+    sym found
 
 pub returns-clause-there : goal.returns-clause-there
 returns-clause-there c =
     let all : c.operations.i ≡ length c.args.graph.now.operations =
     omega (arith, c.operations-test.false, c.operations.auto.i-end, c.len-i-end.ensures.count) in
-    let there = rw all at c.operations.invariant.there in
-    one_below c.the_one.result c.operations.found (length c.args.graph.now.operations) there c.the_one.ensures.one
+    rw all at c.operations.invariant.there
