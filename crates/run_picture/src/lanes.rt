@@ -67,13 +67,6 @@ fn then_number<O: Sink>(line: &mut Line, out: &mut O, layout: Layout, stretch: S
     );
 }
 
-// Whether the last value of a stretch is greater than the first one.
-fn rises(stretch: Stretch) -> bool
-    ensures { result ≡ rises_of stretch }
-{
-    stretch.first < stretch.last
-}
-
 // Whether the value holds.
 fn holds(stretch: Stretch) -> bool
     ensures { result ≡ holds_of stretch }
@@ -87,7 +80,7 @@ fn height_by(stretch: Stretch, rising: u64, other: u64) -> u64
     requires other { other ≤ 30 }
     ensures { result ≡ top_of stretch.column + cond (rises_of stretch) rising other }
 {
-    if rises(stretch) {
+    if stretch.first < stretch.last {
         top(stretch.column) + rising
     } else {
         top(stretch.column) + other

@@ -1,12 +1,12 @@
 //! The timing diagram of a run.
 
-ghost use Rattle.std.specs.Prelude.{◌≡◌, ◌<◌, ◌≤◌, ℕ, List};
+ghost use Rattle.std.specs.Prelude.{◌≡◌, ◌≤◌, ℕ, List};
 ghost use Rattle.vcp_outside.specs.Written.{WritesTo};
-ghost use Rattle.run_picture.specs.Elements.{waves_text, height_below as height_below_of, IsPictureOf};
+ghost use Rattle.run_picture.specs.Elements.{height_below as height_below_of, IsPictureOf};
 
 use crate::cycles::{then_bases, then_cycles, then_ending, then_names, then_style};
 use crate::lanes::then_lanes;
-use crate::layout::{Layout, layout_for, start, top};
+use crate::layout::{layout_for, start, top};
 use crate::run::Run;
 use crate::times::Period;
 use vcp_outside::{Failed, Sink, begin_picture, end_picture};
@@ -22,17 +22,16 @@ fn height_below(period: Option<Period>) -> u64
     }
 }
 
-// Writes the timing diagram of a run in a layout.
-fn write_in<O: Sink>(
-    out: &mut O,
-    layout: Layout,
-    run: &Run,
-    period: Option<Period>,
-) -> Result<(), Failed>
-    requires every { 0 < layout.every }
-    requires page { 0 < layout.page }
-    ensures { WritesTo (O.seen out.old) (O.seen out.new) (waves_text layout run.now period) result }
+/// Writes the timing diagram of a run: each value once, in its column and its cycle, columns of 0 and 1 as levels over
+/// a base line, a number as a box where it holds, and as a ramp where it changes by the same amount three times or more;
+/// the columns' names, at the left and again at each page's width; the cycles, as far as their numbers have room, and when they
+/// begin where it is known how long one takes; and the end, with the words of the last line. It takes no memory. After `Failed` a
+/// part of the picture is written. The layout is free; each cycle is as wide as the values need.
+pub fn write_waves<O: Sink>(out: &mut O, run: &Run, period: Option<Period>) -> Result<(), Failed>
+    ensures { (text : List ℕ) × IsPictureOf run.now period text
+        × WritesTo (O.seen out.old) (O.seen out.new) text result }
 {
+    let layout = layout_for(run, period);
     let width = start(layout, run.cycles()) + layout.room as u64;
     let height = top(run.columns()) + height_below(period);
     let mut line = begin_picture(out, width, height);
@@ -43,16 +42,4 @@ fn write_in<O: Sink>(
     then_lanes(&mut line, out, layout, run);
     then_ending(&mut line, out, layout, run);
     end_picture(line, out)
-}
-
-/// Writes the timing diagram of a run: each value once, in its column and its cycle, columns of 0 and 1 as levels over
-/// a base line, a number as a box where it holds, and as a ramp where it changes by the same amount three times or more;
-/// the columns' names, at the left and again at each page's width; the cycles, as far as their numbers have room, and when they
-/// begin where it is known how long one takes; and the end, with the words of the last line. It takes no memory. After `Failed` a part of the picture is written. The layout
-/// is free; each cycle is as wide as the values need.
-pub fn write_waves<O: Sink>(out: &mut O, run: &Run, period: Option<Period>) -> Result<(), Failed>
-    ensures { (text : List ℕ) × IsPictureOf run.now period text
-        × WritesTo (O.seen out.old) (O.seen out.new) text result }
-{
-    write_in(out, layout_for(run, period), run, period)
 }
