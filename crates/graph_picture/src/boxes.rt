@@ -5,8 +5,8 @@ ghost use Rattle.vcp_outside.specs.Gathering.{GathersTo};
 ghost use Rattle.vcp_outside.specs.Characters.{piece_bytes};
 ghost use Rattle.vcp_outside.specs.Elements.{element_text};
 ghost use Rattle.graph_picture.specs.Drawn.{box_of, boxes_below};
-ghost use Rattle.graph_picture.specs.Elements.{colour_class as colour_class_of, worst_class as worst_class_of, class_of, outline, words, head};
-ghost use Rattle.graph_picture.specs.Elements.{source, blindness, note, bar, cell_bar, body_elements, box_elements};
+ghost use Rattle.graph_picture.specs.Elements.{worst_class as worst_class_of, class_of, outline, words, head};
+ghost use Rattle.graph_picture.specs.Elements.{source, note, bar, cell_bar, body_elements, box_elements};
 
 use crate::colours::Colour;
 use crate::constants::then_constant_at;
@@ -17,17 +17,6 @@ use op_graph::{Graph, Op};
 use run_report::variable_name;
 use vcp_base::{Kind, Spot, kind_name};
 use vcp_outside::{Line, Name, Piece, Sink, Tag, then_element};
-
-/// The class of a colour.
-fn colour_class(colour: Colour) -> &'static [u8]
-    ensures { result.now ≡ colour_class_of colour }
-{
-    match colour {
-        Colour::Unreached => b"unreached",
-        Colour::Plain => b"plain",
-        Colour::Blind { .. } => b"blind",
-    }
-}
 
 /// The class of the worst that came of faults, which is its name too.
 fn worst_class(worst: Worst) -> &'static [u8]
@@ -47,7 +36,9 @@ pub(crate) fn class(look: Look) -> &'static [u8]
     ensures { result.now ≡ class_of look }
 {
     match look {
-        Look::Shown(colour) => colour_class(colour),
+        Look::Shown(Colour::Unreached) => b"unreached",
+        Look::Shown(Colour::Plain) => b"plain",
+        Look::Shown(Colour::Blind { .. }) => b"blind",
         Look::Untried => b"plain",
         Look::Tried { worst, .. } => worst_class(worst),
     }
@@ -135,20 +126,15 @@ fn then_source<O: Sink>(line: &mut Line, out: &mut O, spot: Spot, place: BoxPlac
     );
 }
 
-/// Draws for which output an operation is blind and after how many cycle borders, where it is.
-fn then_blindness<O: Sink>(
-    line: &mut Line,
-    out: &mut O,
-    graph: &Graph,
-    colour: Colour,
-    place: BoxPlace,
-)
+/// Draws what is noted in the last line of a box, where anything is: for which output the operation is blind and after how many cycle
+/// borders, or how many faults came to the worst, of how many.
+fn then_note<O: Sink>(line: &mut Line, out: &mut O, graph: &Graph, look: Look, place: BoxPlace)
     ensures { GathersTo (O.seen out.old) (O.seen out.new) line.old line.new
-        (flat_map element_text (blindness graph.now colour place)) }
+        (flat_map element_text (note graph.now look place)) }
 {
-    match colour {
-        Colour::Unreached | Colour::Plain => {}
-        Colour::Blind { output, after } => then_words(
+    match look {
+        Look::Shown(Colour::Unreached | Colour::Plain) | Look::Untried => {}
+        Look::Shown(Colour::Blind { output, after }) => then_words(
             line,
             out,
             place,
@@ -159,17 +145,6 @@ fn then_blindness<O: Sink>(
                 Piece::Count(after as u64),
             ],
         ),
-    }
-}
-
-/// Draws what is noted in the last line of a box, where anything is.
-fn then_note<O: Sink>(line: &mut Line, out: &mut O, graph: &Graph, look: Look, place: BoxPlace)
-    ensures { GathersTo (O.seen out.old) (O.seen out.new) line.old line.new
-        (flat_map element_text (note graph.now look place)) }
-{
-    match look {
-        Look::Shown(colour) => then_blindness(line, out, graph, colour, place),
-        Look::Untried => {}
         Look::Tried { worst, some, all } => then_words(
             line,
             out,
