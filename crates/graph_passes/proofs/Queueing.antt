@@ -1,14 +1,9 @@
 -- Queueing: marks, and the queue of those that are marked.
 use Rattle.std.proofs.Common.{◌≡◌, ◌⊎◌, ⊎_elim, inl, inr, ℕ, zero, suc, ◌+◌, ◌<◌, ◌≤◌, Bool, true, false, cond, List, [], ◌∷◌, ◌++◌, length, set, replicate, take}
-use Rattle.std.proofs.Common.{Result, Ok, Err, OnOk, slice_get, Some, refl, sym, ap, subst, ◌∙◌, length-append, arith}
+use Rattle.std.proofs.Common.{slice_get, Some, refl, sym, ap, subst, ◌∙◌, length-append, arith}
 use Rattle.std.proofs.lemmas.List.{length-set}
 use Rattle.graph_passes.specs.Tables.{marked}
 use Rattle.graph_passes.specs.Marking.{marks_in, Queues, Grows}
-
--- two facts of one good end
-pub both_ok : {T E : Type 0} (P Q : Type 0) (r : Result T E) → OnOk r P → OnOk r Q → OnOk r (P × Q)
-both_ok P Q (Ok x) p q = (p, q)
-both_ok P Q (Err e) p q = tt
 
 -- what was written in a slice that a list lent is the list
 front : (xs ys : List Bool) → take (length xs) (xs ++ ys) ≡ xs
