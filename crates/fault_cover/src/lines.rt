@@ -9,7 +9,6 @@ ghost use Rattle.fault_cover.specs.CoverText.{columns_text};
 ghost use Rattle.fault_cover.specs.CoverText.{front as front_of, heading_text, place_text, refused_only, remark, row_text, shows_text};
 ghost use Rattle.fault_cover.specs.CoverText.{single_text, sum_of, totals_line};
 ghost use Rattle.fault_cover.specs.Leftovers.{effect_text, line_text};
-ghost use Rattle.fault_cover.specs.declared.effect.Effect.TheVariants as told;
 
 use crate::class::{CoverClass, CoverClasses};
 use crate::disturbance::Disturbance;
@@ -221,23 +220,6 @@ fn then_fault<O: Sink>(
     line.text(out, b"\n");
 }
 
-/// Goes on with the line of a fault that shows.
-fn then_shows<O: Sink>(
-    line: &mut Line,
-    out: &mut O,
-    graph: &Graph,
-    k: u32,
-    disturbance: &Disturbance,
-    borders: u32,
-    output: u32,
-)
-    ensures { GathersTo (O.seen out.old) (O.seen out.new) line.old line.new (shows_text graph.now (fault_at k disturbance.now) (told.Shows borders output)) }
-{
-    line.numbered(out, b"shows ", borders as u64);
-    line.texts(out, b" ", variable_name(graph, Kind::Out, output as u64));
-    then_fault(line, out, graph, k, disturbance);
-}
-
 /// A line for each fault that shows.
 #[derive(Drop)]
 pub(crate) struct Showing {}
@@ -257,7 +239,9 @@ impl Listener for Showing {
         told: &Effect,
     ) {
         if let Effect::Shows { borders, output } = told {
-            then_shows(line, out, graph, k, disturbance, *borders, *output);
+            line.numbered(out, b"shows ", *borders as u64);
+            line.texts(out, b" ", variable_name(graph, Kind::Out, *output as u64));
+            then_fault(line, out, graph, k, disturbance);
         }
     }
 }

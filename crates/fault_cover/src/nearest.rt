@@ -196,20 +196,6 @@ fn itself(wanted: bool, k: u32) -> Option<Nearest>
     }
 }
 
-/// Each operation that is looked for is reached from itself across no border.
-fn begin(alloc: Global, graph: &Graph, wanted: &[bool]) -> Result<Vec<Option<Nearest>>, Memory>
-    requires { length wanted.now ≡ length graph.now.operations }
-    ensures begun { IfOk result (λ found. IsBegun wanted.now found.items) }
-    ensures many { IfOk result (λ found. length found.items ≡ length graph.now.operations) }
-    ensures within { IfOk result (λ found. AreWithin 0 found.items) }
-{
-    let mut found = Vec::new(alloc);
-    'operations: for k in 0..graph.len() {
-        found.push(itself(wanted[k as usize], k))?;
-    }
-    Ok(found)
-}
-
 /// From what is reached without a border to what is reached at all.
 fn walk(graph: &Graph, found: &mut [Option<Nearest>])
     requires graph { IsGraph graph.now }
@@ -237,7 +223,11 @@ pub(crate) fn find_nearest(
     requires many { length wanted.now ≡ length graph.now.operations }
     ensures { IfOk result (λ found. AreNearest graph.now wanted.now found.items) }
 {
-    let mut found = begin(alloc, graph, wanted)?;
+    // Each operation that is looked for is reached from itself across no border.
+    let mut found = Vec::new(alloc);
+    'operations: for k in 0..graph.len() {
+        found.push(itself(wanted[k as usize], k))?;
+    }
     walk(graph, &mut found);
     Ok(found)
 }

@@ -7,7 +7,7 @@ ghost use Rattle.signature_table.specs.Signatures.{IsTableOf};
 ghost use Rattle.fault_sites.specs.Sites.{each_below};
 ghost use Rattle.fault_cover.specs.Classes.{classes_of};
 ghost use Rattle.fault_cover.specs.Counts.{AreCounted};
-ghost use Rattle.fault_cover.specs.CoverText.{Covered, count_told, delay_row, heard_at, heard_of, is_shown, shows_text, tables_text};
+ghost use Rattle.fault_cover.specs.CoverText.{Covered, count_told, delay_row, heard_at, heard_of, is_shown, shows_text};
 ghost use Rattle.fault_cover.specs.CoverText.{tally as tally_of};
 ghost use Rattle.fault_cover.specs.Leftovers.{AreCovered, lines_at};
 ghost use Rattle.fault_cover.specs.Surveys.{IsMapped, IsSurvey};
@@ -120,17 +120,6 @@ fn left_of(
     lines_left(alloc, subject, classes)
 }
 
-/// Goes on with the tables.
-fn then_tables<O: Sink>(line: &mut Line, out: &mut O, counts: &[ClassCount])
-    ensures { (covered : List Covered) → AreCounted counts.now covered → length (heard_of covered) < 2 ^ 62
-        → GathersTo (O.seen out.old) (O.seen out.new) line.old line.new (tables_text covered) }
-{
-    then_heading(line, out, b"by what the fault does");
-    then_class_rows(line, out, counts);
-    then_heading(line, out, b"by how many cycles later it is refused");
-    then_delay_rows(line, out, counts);
-}
-
 /// What a cover is written of.
 struct Found {
     counts: Vec<ClassCount>,
@@ -163,7 +152,7 @@ fn find(alloc: Global, subject: &Subject<'_>, classes: &[CoverClass]) -> Result<
     Ok(Found { counts, all, lines })
 }
 
-/// Goes on with what is found.
+/// Goes on with what is found: the tables, the lines, and the totals.
 fn then_found<O: Sink>(
     line: &mut Line,
     out: &mut O,
@@ -180,7 +169,10 @@ fn then_found<O: Sink>(
         → (is : IsFound (subject_of subject.now.graph.now subject.now.table.now subject.now.survey.now.horizon stops) classes.now counts.now all.now lines.now)
         → GathersTo (O.seen out.old) (O.seen out.new) line.old line.new (body_text subject.now.graph.now subject.now.survey.now.horizon is.covered) }
 {
-    then_tables(line, out, counts);
+    then_heading(line, out, b"by what the fault does");
+    then_class_rows(line, out, counts);
+    then_heading(line, out, b"by how many cycles later it is refused");
+    then_delay_rows(line, out, counts);
     then_showing(line, out, subject, classes, all.shows);
     then_left(line, out, subject.graph, lines);
     then_totals(line, out, all);

@@ -14,3 +14,12 @@ returns c =
     let all : c.operations.k ≡ length c.args.subject.now.graph.now.operations =
     omega (arith, c.operations-test.false, c.operations.auto.k-end, c.len-k-end.ensures.count) in
     rw all at (c.operations.invariant c.if-lacked.false)
+
+pub add_lines_at-requires-clause-table : goal.add_lines_at-requires-clause-table
+add_lines_at-requires-clause-table c = c.requires.table
+
+pub add_lines_at-requires-clause-mapped : goal.add_lines_at-requires-clause-mapped
+add_lines_at-requires-clause-mapped c = c.requires.mapped
+
+pub returns-then-lacked : goal.returns-then-lacked
+returns-then-lacked c = tt

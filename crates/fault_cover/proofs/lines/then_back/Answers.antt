@@ -1,4 +1,4 @@
-use Rattle.std.proofs.Common.{ap}
+use Rattle.std.proofs.Common.{ap, inl, inr}
 use Rattle.fault_cover.specs.CoverText.{back}
 use Rattle.fault_cover.proofs.Going.{and_then, same}
 use Rattle.fault_cover.proofs.lines.then_back.Goals as goal
@@ -11,3 +11,8 @@ returns-in-Late g c = same (and_then c.numbered.ensures.gathers c.numbered-in-La
 
 pub returns-in-Does : goal.returns-in-Does
 returns-in-Does g c = same c.then_rest.ensures (ap back c.in-Does.is)
+
+pub returns-in-AddToOperand : goal.returns-in-AddToOperand
+returns-in-AddToOperand g c =
+    let told = and_then c.numbered-in-AddToOperand.ensures.gathers c.text-in-AddToOperand.ensures.gathers in
+    elim c.in-AddToOperand.is [ inl s ↦ same told (ap back s) | inr s ↦ same told (ap back s) ]

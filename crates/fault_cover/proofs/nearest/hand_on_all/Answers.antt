@@ -13,3 +13,15 @@ returns-clause-hands c =
     hands_both op c.args.near c.args.found.now c.hand_on-2.new.found c.hand_on-3.new.found
     (hands_both op c.args.near c.args.found.now c.hand_on.new.found c.hand_on-2.new.found c.hand_on.ensures.hands c.hand_on-2.ensures.hands)
     c.hand_on-3.ensures.hands
+
+pub hand_on-requires-clause-names : goal.hand_on-requires-clause-names
+hand_on-requires-clause-names c = refl
+
+pub hand_on-requires-2-clause-names : goal.hand_on-requires-2-clause-names
+hand_on-requires-2-clause-names c = refl
+
+pub hand_on-requires-3-clause-names : goal.hand_on-requires-3-clause-names
+hand_on-requires-3-clause-names c = refl
+
+pub hand_on-requires-clause-there : goal.hand_on-requires-clause-there
+hand_on-requires-clause-there c = λ reads. c.requires.there c.args.op.now.a (record { place = 0; operand = reads; names = refl })

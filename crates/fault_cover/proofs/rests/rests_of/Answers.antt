@@ -1,4 +1,5 @@
 use Rattle.std.proofs.Common.{◌≡◌, ◌+◌, ◌-◌, suc, length, drop, subst, arith}
+use Rattle.std.proofs.lemmas.Result.{IfOk-from_err}
 use Rattle.fault_cover.specs.Surveys.{IsRest}
 use Rattle.fault_cover.proofs.Resting.{none_rest, none_so_far, rests_more}
 use Rattle.fault_cover.proofs.rests.rests_of.Goals as goal
@@ -37,3 +38,15 @@ returns c =
     let so_far = c.readings.invariant.so_far in
     let many = so_far.many in
     record { many = omega (arith, many, c.readings-test.false, c.readings.auto.done-end); each = so_far.each }
+
+pub returns-in_err-push : goal.returns-in_err-push
+returns-in_err-push c = IfOk-from_err c.from_residual.result _ c.from_residual.ensures.0
+
+pub then_rest-rest-requires-clause-graph : goal.then_rest-rest-requires-clause-graph
+then_rest-rest-requires-clause-graph c = c.requires.graph
+
+pub then_rest-rest-requires-clause-maps : goal.then_rest-rest-requires-clause-maps
+then_rest-rest-requires-clause-maps c = c.requires.maps
+
+pub then_rest-rest-requires-clause-placed : goal.then_rest-rest-requires-clause-placed
+then_rest-rest-requires-clause-placed c = c.requires.placed

@@ -1,4 +1,5 @@
 use Rattle.std.proofs.Common.{◌+◌, ◌++◌, ◌∷◌, drop, sym, ap, ◌∙◌, refl}
+use Rattle.std.proofs.lemmas.Result.{IfOk-from_err}
 use Rattle.std.proofs.lemmas.Option.{slice_get-get_or}
 use Rattle.fault_cover.specs.Beginnings.{starts_of}
 use Rattle.fault_cover.proofs.Gathering.{made_all, made_more, made_none}
@@ -21,3 +22,6 @@ readings-preserved c =
 
 pub returns : goal.returns
 returns c = made_all (starts_of c.args.profile) c.args.readings.now c.readings.i c.readings.starts _ c.readings-test.false refl c.readings.invariant
+
+pub returns-in_err-push : goal.returns-in_err-push
+returns-in_err-push c = IfOk-from_err c.from_residual.result _ c.from_residual.ensures.0

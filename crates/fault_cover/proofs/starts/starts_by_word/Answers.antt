@@ -1,4 +1,5 @@
 use Rattle.std.proofs.Common.{◌+◌, ◌++◌, ◌∷◌, drop, map, Some, sym, ap, ◌∙◌, refl}
+use Rattle.std.proofs.lemmas.Result.{IfOk-from_err}
 use Rattle.std.proofs.lemmas.Option.{slice_get-get_or}
 use Rattle.fault_cover.specs.Beginnings.{starts_of}
 use Rattle.fault_cover.proofs.Gathering.{made_all, made_more, made_none}
@@ -22,3 +23,9 @@ words-preserved c =
 
 pub returns : goal.returns
 returns c = made_all (map (starts_of c.args.profile)) c.args.by_word.now c.words.k c.words.starts.items _ c.words-test.false refl c.words.invariant
+
+pub returns-in_err-starts_by : goal.returns-in_err-starts_by
+returns-in_err-starts_by c = IfOk-from_err c.from_residual.result _ c.from_residual.ensures.0
+
+pub returns-in_err-push : goal.returns-in_err-push
+returns-in_err-push c = IfOk-from_err c.from_residual-in_err-push.result _ c.from_residual-in_err-push.ensures.0

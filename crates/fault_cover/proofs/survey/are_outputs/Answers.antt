@@ -1,4 +1,5 @@
 use Rattle.std.proofs.Common.{refl, arith}
+use Rattle.std.proofs.lemmas.Result.{IfOk-from_err}
 use Rattle.fault_cover.proofs.Surveying.{all_outs, no_outs, one_out}
 use Rattle.fault_cover.proofs.survey.are_outputs.Goals as goal
 
@@ -13,3 +14,9 @@ outputs-preserved c =
 pub returns-clause-outs : goal.returns-clause-outs
 returns-clause-outs c =
     all_outs c.args.graph.now c.outputs.wanted.items c.outputs.i c.outputs.invariant (omega (arith, c.outputs-test.false, c.outputs-i-end.ensures))
+
+pub returns-in_err-wanted-clause-many : goal.returns-in_err-wanted-clause-many
+returns-in_err-wanted-clause-many c = IfOk-from_err c.from_residual.result _ c.from_residual.ensures.0
+
+pub returns-in_err-wanted-clause-outs : goal.returns-in_err-wanted-clause-outs
+returns-in_err-wanted-clause-outs c = IfOk-from_err c.from_residual.result _ c.from_residual.ensures.0

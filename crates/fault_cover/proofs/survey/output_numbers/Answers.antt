@@ -1,4 +1,5 @@
 use Rattle.std.proofs.Common.{refl, arith}
+use Rattle.std.proofs.lemmas.Result.{IfOk-from_err}
 use Rattle.fault_cover.proofs.Surveying.{all_numbers, no_numbers, one_number}
 use Rattle.fault_cover.proofs.survey.output_numbers.Goals as goal
 
@@ -15,3 +16,6 @@ outputs-preserved c =
 pub returns : goal.returns
 returns c =
     all_numbers c.args.graph.now c.outputs.numbers.items c.outputs.i c.outputs.invariant (omega (arith, c.outputs-test.false, c.outputs-i-end.ensures))
+
+pub returns-in_err-numbers : goal.returns-in_err-numbers
+returns-in_err-numbers c = IfOk-from_err c.from_residual.result _ c.from_residual.ensures.0

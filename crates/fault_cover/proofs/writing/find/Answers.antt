@@ -1,4 +1,5 @@
 use Rattle.std.proofs.Common.{subst, sym}
+use Rattle.std.proofs.lemmas.Result.{IfOk-from_err}
 use Rattle.fault_cover.specs.Counts.{AreCounted}
 use Rattle.fault_cover.specs.Leftovers.{AreCovered}
 use Rattle.fault_cover.specs.Telling.{subject}
@@ -19,3 +20,21 @@ returns c = λ stops survey.
       all_is = all_is;
       lines_are = c.in_ok-lines.ensures stops survey counted.covered are all_is;
     }
+
+pub returns-in_err-counts : goal.returns-in_err-counts
+returns-in_err-counts c = IfOk-from_err c.from_residual.result _ c.from_residual.ensures.0
+
+pub returns-in_err-lines : goal.returns-in_err-lines
+returns-in_err-lines c = IfOk-from_err c.from_residual-in_err-lines.result _ c.from_residual-in_err-lines.ensures.0
+
+pub count_classes-requires-clause-table : goal.count_classes-requires-clause-table
+count_classes-requires-clause-table c = c.requires.table
+
+pub count_classes-requires-clause-mapped : goal.count_classes-requires-clause-mapped
+count_classes-requires-clause-mapped c = c.requires.mapped
+
+pub left_of-requires-clause-table : goal.left_of-requires-clause-table
+left_of-requires-clause-table c = c.requires.table
+
+pub left_of-requires-clause-mapped : goal.left_of-requires-clause-mapped
+left_of-requires-clause-mapped c = c.requires.mapped

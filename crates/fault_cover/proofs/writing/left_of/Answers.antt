@@ -12,3 +12,9 @@ returns-then-all-eq0-2 c = λ stops survey covered are is.
 
 pub returns : goal.returns
 returns c = if_ok_weaker c.lines_left.result _ _ (λ lines are. λ stops survey covered cover is. are stops survey covered cover) c.lines_left.ensures
+
+pub lines_left-requires-clause-table : goal.lines_left-requires-clause-table
+lines_left-requires-clause-table c = c.requires.table
+
+pub lines_left-requires-clause-mapped : goal.lines_left-requires-clause-mapped
+lines_left-requires-clause-mapped c = c.requires.mapped

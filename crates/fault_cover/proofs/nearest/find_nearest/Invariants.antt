@@ -1,6 +1,6 @@
 use Rattle.std.proofs.Common.{◌≡◌, ℕ, ◌<◌, length}
 use Rattle.fault_cover.specs.Walks.{is_wanted, itself, kept}
-use Rattle.fault_cover.proofs.nearest.begin.Given as goal
+use Rattle.fault_cover.proofs.nearest.find_nearest.Given as goal
 
 abbrev pub invariant-operations : goal.invariant-operations
 invariant-operations l = record {
