@@ -5,9 +5,10 @@ ghost use Rattle.vcp_base.specs.Limits.{most_cycles};
 ghost use Rattle.vcp_base.specs.Types.{AreIn};
 ghost use Rattle.input_rows.specs.RowsOf.{IsOfRecord, rows_of, rows_of_cycles, through as through_of, types_of, ended_with, end_answer};
 
-use crate::all_rows::AllRows;
+use crate::all_rows::Source;
 use crate::fault::RowFault;
 use crate::row_reader::RowReader;
+use crate::twice::Twice;
 use crate::wanted::Wanted;
 use std::alloc::Global;
 use std::marker::Model;
@@ -17,26 +18,30 @@ use vcp_base::{Columns, Row};
 /// see also the types of a row's values, in the order of the columns, and whether the end or the
 /// refusal was given.
 pub struct Rows<'a> {
-    rows: AllRows<'a>,
+    source: Source<'a>,
     wanted: Wanted,
 }
 
 impl<'a> Model for Rows<'a> {
     ghost use Rattle.std.specs.Prelude.{◌≡◌, false};
     ghost use Rattle.input_rows.specs.RowsOf.{RowsLeft};
+    ghost use Rattle.input_rows.specs.Sources.{rows_left};
     ghost use Rattle.input_rows.specs.WantedRows.{wanted_rows};
 
     ghost Value = { RowsLeft };
 
-    ghost view = { λ r. wanted_rows r.wanted r.rows };
+    ghost view = { λ r. wanted_rows r.wanted (rows_left r.source) };
 
-    ghost invariant = { λ r. r.rows.ended ≡ false };
+    ghost invariant = { λ r. (rows_left r.source).ended ≡ false };
 }
 
 // Written out, so that the parts of both readers are given up here alone, and not wherever rows go out of scope.
 impl Drop for Rows<'_> {
     fn drop(self) {
-        let Rows { rows: _, wanted: _ } = self;
+        let Rows {
+            source: _,
+            wanted: _,
+        } = self;
     }
 }
 
@@ -56,9 +61,12 @@ impl<'a> Rows<'a> {
         ensures behind { IfOk result (λ left. IfSome left.refusal IsOfRecord) }
         ensures fresh { IfOk result (λ left. left.ended ≡ false) }
     {
-        match AllRows::new(alloc, bytes, columns) {
-            Ok(rows) => Ok(Rows {
-                rows,
+        if columns.len() == 0 {
+            return Err(RowFault::Form);
+        }
+        match Twice::new(alloc, bytes, columns) {
+            Ok(table) => Ok(Rows {
+                source: Source::File(table),
                 wanted: Wanted::All,
             }),
             Err(why) => Err(why),
@@ -76,13 +84,13 @@ impl<'a> Rows<'a> {
         ensures behind { IfOk result (λ left. left.refusal ≡ None) }
         ensures fresh { IfOk result (λ left. left.ended ≡ false) }
     {
-        match AllRows::cycles(number, columns) {
-            Ok(rows) => Ok(Rows {
-                rows,
-                wanted: Wanted::All,
-            }),
-            Err(why) => Err(why),
+        if columns.len() != 0 {
+            return Err(RowFault::Form);
         }
+        Ok(Rows {
+            source: Source::Cycles(number),
+            wanted: Wanted::All,
+        })
     }
 
     /// The rows through a cycle and no further, where cycles count from 0. Those behind it are not read.
@@ -95,9 +103,9 @@ impl<'a> Rows<'a> {
         ensures behind { IfSome self.entry.refusal IsOfRecord → IfSome result.refusal IsOfRecord }
         ensures fresh { result.ended ≡ self.entry.ended }
     {
-        let Rows { rows, wanted } = self;
+        let Rows { source, wanted } = self;
         Rows {
-            rows,
+            source,
             wanted: wanted.through(cycle),
         }
     }
@@ -116,7 +124,7 @@ impl RowReader for Rows<'_> {
     ghost left = { λ r. r };
 
     fn width(&self) -> u32 {
-        self.rows.width()
+        self.source.width()
     }
 
     /// At a record that is refused: `Cycles` at the record of cycle 1,000,000, then `Width` where it
@@ -124,13 +132,13 @@ impl RowReader for Rows<'_> {
     /// no value. `Cycle` where a row is wanted and there is none.
     fn next(&mut self, _alloc: Global, out: &mut Row) -> Result<bool, RowFault> {
         match self.wanted {
-            Wanted::All => match self.rows.next(out) {
+            Wanted::All => match self.source.next(out) {
                 Ok(true) => Ok(true),
                 Ok(false) => self.end(None),
                 Err(why) => self.end(Some(why)),
             },
             Wanted::First { rows: 0, behind } => self.end(behind),
-            Wanted::First { rows, behind } => match self.rows.next(out) {
+            Wanted::First { rows, behind } => match self.source.next(out) {
                 Ok(true) => {
                     self.wanted = Wanted::First {
                         rows: rows - 1,

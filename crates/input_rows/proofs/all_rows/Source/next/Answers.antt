@@ -3,8 +3,7 @@ use Rattle.input_rows.specs.RowsOf.{RowsLeft}
 use Rattle.input_rows.specs.Sources.{rows_left}
 use Rattle.input_rows.specs.declared.all_rows.Source.{Source}
 use Rattle.input_rows.specs.declared.all_rows.Source.TheVariants.{Cycles}
-use Rattle.input_rows.proofs.all_rows.AllRows.next.Goals as goal
-use Rattle.input_rows.proofs.all_rows.AllRows.next.Goals.{in-Cycles-eq0, in-Cycles, in-File}
+use Rattle.input_rows.proofs.all_rows.Source.next.Goals as goal
 
 no_values : (out : List ℤ) → length out ≡ 0 → out ≡ []
 no_values [] e = refl
@@ -22,13 +21,6 @@ cycles-row source left n out e is h l =
     let width : length out ≡ 0 = l ∙ ap (λ x. length x.types) seen in
     seen ∙ ap (λ rows. record { types = []; rows = rows; refusal = None; ended = false }) (one_less n out h (no_values out width))
 
-pub returns-clause-row : goal.returns-clause-row
-returns-clause-row c = elim c.match-self.branch [
-  | in-Cycles-eq0 w ↦ rw w.result-is (λ e. absurd cc)
-  | in-Cycles w ↦
-      let row = cycles-row c.self.inside.source c.args.self.now w.in-Cycles.left c.args.out.now c.self.view_is w.in-Cycles.is w.in-Cycles.left-test.1 c.requires in
-      rw (w.result-is, w.self-inside-is, w.out-is) (λ k. row)
-  | in-File w ↦
-      let seen : c.args.self.now ≡ w.in-File.table = sym c.self.view_is ∙ ap rows_left w.in-File.is in
-      rw (w.result-is, w.self-inside-is, w.out-is, seen) w.next.ensures.row
-]
+pub returns-in-Cycles-clause-row : goal.returns-in-Cycles-clause-row
+returns-in-Cycles-clause-row c = λ k.
+    cycles-row c.args.self.now (rows_left c.args.self.now) c.in-Cycles.left c.args.out.now refl c.in-Cycles.is c.in-Cycles.left-test.1 c.requires

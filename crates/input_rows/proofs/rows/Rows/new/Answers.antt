@@ -1,7 +1,7 @@
 use Rattle.std.proofs.Common.{rules}
 use Rattle.csv.specs.Reading.{records, default_config, strip_bom}
 use Rattle.input_rows.proofs.Sound.{of_records}
-use Rattle.input_rows.proofs.all_rows.AllRows.new.Goals as goal
+use Rattle.input_rows.proofs.rows.Rows.new.Goals as goal
 
 pub returns-in-Ok : goal.returns-in-Ok
 returns-in-Ok c =

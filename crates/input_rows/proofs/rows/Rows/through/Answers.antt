@@ -3,6 +3,7 @@ use Rattle.std.proofs.lemmas.Grind.{common_steps, elements}
 use Rattle.vcp_base.specs.Types.{AreIn}
 use Rattle.input_rows.specs.declared.fault.RowFault.{RowFault}
 use Rattle.input_rows.specs.RowsOf.{RowsLeft, IsOfRecord, through, behind_wanted}
+use Rattle.input_rows.specs.Sources.{rows_left}
 use Rattle.input_rows.specs.WantedRows.{wanted_rows}
 use Rattle.input_rows.proofs.rows.Rows.through.Goals as goal
 
@@ -21,7 +22,8 @@ pub returns : goal.returns
 returns c =
     let left = c.args.self in
     let n = c.args.cycle in
-    let is : wanted_rows c.through.result c.self.inside.rows ≡ through n left = c.through.ensures c.self.inside.rows ∙ ap (through n) c.self.view_is in
+    let is : wanted_rows c.through.result (rows_left c.self.inside.source) ≡ through n left = c.through.ensures (rows_left c.self.inside.source)
+    ∙ ap (through n) c.self.view_is in
     record {
       rows = is;
       types = ap (λ (l : RowsLeft). l.types) is;
