@@ -9,36 +9,48 @@ use Rattle.std.proofs.Math.Nat.{le_trans}
 use Rattle.vcp_core.proofs.program_rows.load_program_rows.Goals as goal
 
 -- memory is wanted
-pub returns-in-Err-clause-unread : goal.returns-in-Err-clause-unread
-returns-in-Err-clause-unread g c =
+pub returns-in-Err : goal.returns-in-Err
+returns-in-Err g c =
     let mid = g.F.Files.seen c.args.files.now in
-    λ l p files read f here reads.
-    files_wanted (about f) (TaskOf f) files mid (some_files p (rows_of c.args.rows) l f reads) read.held here read.faults
+    record {
+      fit = tt;
+      read = tt;
+      unread = λ l p files read f here reads.
+          files_wanted (about f) (TaskOf f) files mid (some_files p (rows_of c.args.rows) l f reads) read.held here read.faults;
+    }
 
 -- there is nothing of ROWS
-pub returns-clause-unread : goal.returns-clause-unread
-returns-clause-unread g c l p files read f here reads =
+pub returns : goal.returns
+returns g c =
     let mid = g.F.Files.seen c.args.files.now in
     let later = g.F.Files.seen c.load_rows.new.files in
-    rw c.rows_name.ensures
-    (rows_lost c.lists_are_told.ensures.columns p (rows_of c.args.rows) files mid later c.args.program c.in-Ok.columns c.in-Ok.ensures.columns
-    c.load_rows.ensures.held here c.in-Err-load_rows.input c.in-Err-load_rows.ensures.loads
-    (λ is. c.in-Err-load_rows.ensures.begun (ap Err is)) (λ is. c.in-Err-load_rows.ensures.unread (ap Err is)) (λ no. c.in-Err-load_rows.ensures.stayed (λ e. no (same_error e)))
-    (λ r is other. c.in-Err-load_rows.ensures.whole r (ap Err is) other) (λ is. c.in-Err-load_rows.ensures.long (ap Err is)) c.in-Err-load_rows.ensures.caused l f reads read)
+    let lost = c.in-Err-load_rows.ensures in
+    record {
+      fit = tt;
+      read = tt;
+      unread = λ l p files read f here reads.
+          rw c.rows_name.ensures
+          (rows_lost c.lists_are_told.ensures.columns p (rows_of c.args.rows) files mid later c.args.program c.in-Ok.columns c.in-Ok.ensures.columns
+          c.load_rows.ensures.held here c.in-Err-load_rows.input lost.loads (λ is. lost.begun (ap Err is)) (λ is. lost.unread (ap Err is))
+          (λ no. lost.stayed (λ e. no (same_error e))) (λ r is other. lost.whole r (ap Err is) other) (λ is. lost.long (ap Err is)) lost.caused
+          l f reads read);
+    }
 
 -- they were read
-pub returns-in-Ok-load_rows-clause-fit : goal.returns-in-Ok-load_rows-clause-fit
-returns-in-Ok-load_rows-clause-fit g c =
-    record { columns = c.in-Ok.ensures.columns; few = c.in-Ok-load_rows.ensures.few; narrow = c.in-Ok.ensures.few }
-
-pub returns-in-Ok-load_rows-clause-read : goal.returns-in-Ok-load_rows-clause-read
-returns-in-Ok-load_rows-clause-read g c l p files read = record {
-  file = record {
-    loads = read.loads;
-    ended = c.in-Ok-load_rows.ensures.ended read.ended;
-    faults = c.in-Ok-load_rows.ensures.stayed no_error ∙ read.faults;
-    broken = le_trans read.broken c.load_rows.ensures.broken_later;
-    held = c.load_rows.ensures.held ∙ read.held;
-  };
-  rows_are = if_some_same files.held (g.F.Files.seen c.args.files.now).held _ read.held c.in-Ok-load_rows.ensures.loads;
-}
+pub returns-in-Ok-load_rows : goal.returns-in-Ok-load_rows
+returns-in-Ok-load_rows g c =
+    let rows = c.in-Ok-load_rows.ensures in
+    record {
+      fit = record { columns = c.in-Ok.ensures.columns; few = rows.few; narrow = c.in-Ok.ensures.few };
+      read = λ l p files read. record {
+        file = record {
+          loads = read.loads;
+          ended = rows.ended read.ended;
+          faults = rows.stayed no_error ∙ read.faults;
+          broken = le_trans read.broken c.load_rows.ensures.broken_later;
+          held = c.load_rows.ensures.held ∙ read.held;
+        };
+        rows_are = if_some_same files.held (g.F.Files.seen c.args.files.now).held _ read.held rows.loads;
+      };
+      unread = tt;
+    }
