@@ -5,7 +5,7 @@ ghost use Rattle.std.specs.Str.Lines.{lines};
 ghost use Rattle.fault_script.specs.Groups.{GroupFits};
 ghost use Rattle.fault_script.specs.ScriptOf.{most_faults};
 ghost use Rattle.fault_injector.specs.Names.{Names};
-ghost use Rattle.fault_injector.specs.FaultLines.{totals_text, campaign_text};
+ghost use Rattle.fault_injector.specs.FaultLines.{campaign_text};
 ghost use Rattle.verdict_tables.specs.Outcome.{meant as meant_of};
 ghost use Rattle.verdict_tables.specs.Reading.{is_line, ended, confirmed, verdict_or, verdict_on as verdict_on_of, next_of, behind_totals, totals_then};
 ghost use Rattle.verdict_tables.specs.Reading.{verdicts_in};
@@ -30,17 +30,6 @@ fn is_text(line: &[u8], text: &[u8]) -> bool
     match text.strip_suffix(b"\n") {
         Some(front) => line == front,
         None => false,
-    }
-}
-
-/// Whether a line is that of these totals.
-fn tells_totals(alloc: Global, totals: &Totals, line: &[u8]) -> Result<bool, Memory>
-    ensures { IfOk result (λ is. is ≡ is_line line.now (totals_text totals.now)) }
-{
-    let mut told = TextSink::new(alloc);
-    match totals_line(&mut told, totals) {
-        Ok(()) => Ok(is_text(line, told.bytes())),
-        Err(Failed) => Err(Memory),
     }
 }
 
@@ -141,13 +130,14 @@ fn end(alloc: Global, totals: &Totals, number: u32, rest: &[u8]) -> Result<(), V
         return Err(VerdictsFault::End { line: number });
     }
     let (line, more) = first_line(rest);
-    match tells_totals(alloc, totals, line) {
-        Ok(same) => if same {
+    let mut told = TextSink::new(alloc);
+    match totals_line(&mut told, totals) {
+        Ok(()) => if is_text(line, told.bytes()) {
             behind(number + 1, more)
         } else {
             Err(VerdictsFault::Totals { line: number })
         },
-        Err(Memory) => Err(VerdictsFault::Memory),
+        Err(Failed) => Err(VerdictsFault::Memory),
     }
 }
 
