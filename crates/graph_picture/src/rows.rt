@@ -67,25 +67,6 @@ fn row_of(graph: &Graph, places: &[BoxPlace], n: u32, reads: bool, most: u32) ->
     Some(place_of(places, n).row)
 }
 
-/// The first of these, and 0 where there is none.
-fn first_row(first: Option<u32>, second: Option<u32>, third: Option<u32>, most: u32) -> u32
-    requires first { IfSome first (λ row. row ≤ most) }
-    requires second { IfSome second (λ row. row ≤ most) }
-    requires third { IfSome third (λ row. row ≤ most) }
-    ensures { result ≤ most }
-{
-    match first {
-        Some(row) => row,
-        None => match second {
-            Some(row) => row,
-            None => match third {
-                Some(row) => row,
-                None => 0,
-            },
-        },
-    }
-}
-
 /// The row that is best for operation `i`: that of its first operand that is no constant, whose place is among
 /// these, and the first one where it has none.
 fn wanted_row(graph: &Graph, places: &[BoxPlace], i: u32) -> u32
@@ -94,10 +75,16 @@ fn wanted_row(graph: &Graph, places: &[BoxPlace], i: u32) -> u32
     ensures { result ≤ i }
 {
     let op = graph.operation(i);
-    let first = row_of(graph, places, op.a, reads_operation(op.kind, 0), i);
-    let second = row_of(graph, places, op.b, reads_operation(op.kind, 1), i);
-    let third = row_of(graph, places, op.c, reads_operation(op.kind, 2), i);
-    first_row(first, second, third, i)
+    if let Some(row) = row_of(graph, places, op.a, reads_operation(op.kind, 0), i) {
+        return row;
+    }
+    if let Some(row) = row_of(graph, places, op.b, reads_operation(op.kind, 1), i) {
+        return row;
+    }
+    match row_of(graph, places, op.c, reads_operation(op.kind, 2), i) {
+        Some(row) => row,
+        None => 0,
+    }
 }
 
 /// The row below the boxes of each column, seen as a list.
