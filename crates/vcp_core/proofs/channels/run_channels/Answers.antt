@@ -17,41 +17,36 @@ run_beside-requires-clause-seeds g c = λ same. c.requires.apart (sym (same ∙ 
 
 -- ---- memory was wanted, or the run was given up
 
-pub returns-in-Err-clause-ran : goal.returns-in-Err-clause-ran
-returns-in-Err-clause-ran g c name = inl (still _)
+pub returns-in-Err : goal.returns-in-Err
+returns-in-Err g c = record { ran = λ name. inl (still _); causes = memory-causes _ }
 
-pub returns-clause-ran : goal.returns-clause-ran
-returns-clause-ran g c name =
+pub returns : goal.returns
+returns g c =
     let gone = c.in-Err-run_beside in
-    gave_up (pair_job name c.args.image.now c.args.rows.now) _ _ gone.fault c.requires.behind gone.ensures.ran
-
--- ---- causes
-
-pub returns-in-Err-clause-causes : goal.returns-in-Err-clause-causes
-returns-in-Err-clause-causes g c = memory-causes _
-
-pub returns-clause-causes : goal.returns-clause-causes
-returns-clause-causes g c =
-    let gone = c.in-Err-run_beside in
-    failed-causes _ _ gone.fault (wrote c.args.image.now.graph c.args.image.now.table c.args.rows.now _ _ gone.fault gone.ensures.ran)
-    (λ no. gone.ensures.stayed (λ e. no (same_error e)))
+    record {
+      ran = λ name. gave_up (pair_job name c.args.image.now c.args.rows.now) _ _ gone.fault c.requires.behind gone.ensures.ran;
+      causes =
+          failed-causes _ _ gone.fault (wrote c.args.image.now.graph c.args.image.now.table c.args.rows.now _ _ gone.fault gone.ensures.ran)
+          (λ no. gone.ensures.stayed (λ e. no (same_error e)));
+    }
 
 -- ---- it came to its end
 
-pub returns-in-Ok-run_beside-clause-ran : goal.returns-in-Ok-run_beside-clause-ran
-returns-in-Ok-run_beside-clause-ran g c name =
-    came_to_end (pair_job name c.args.image.now c.args.rows.now) _ _ c.in-Ok-run_beside.last c.ending_of.result
-    c.ending_of.ensures.status c.in-Ok-run_beside.ensures.ran
-
-pub returns-in-Ok-run_beside-clause-causes : goal.returns-in-Ok-run_beside-clause-causes
-returns-in-Ok-run_beside-clause-causes g c = record {
-  write = λ is. absurd (no_error is);
-  refused = λ is.
-      let same : c.ending_of.result ≡ ending.Refused = same_value is in
-      c.in-Ok-run_beside.ensures.ran.0.rose (c.ending_of.ensures.refused same);
-  stopped = λ is.
-      let same : c.ending_of.result ≡ ending.Stopped = same_value is in
-      let (op, why, last) = c.ending_of.ensures.stopped same in
-      (op, why, c.in-Ok-run_beside.ensures.stopped op why (ap Ok last));
-  stayed = λ no. c.in-Ok-run_beside.ensures.stayed no_error;
-}
+pub returns-in-Ok-run_beside : goal.returns-in-Ok-run_beside
+returns-in-Ok-run_beside g c =
+    let came = c.in-Ok-run_beside in
+    record {
+      ran = λ name.
+          came_to_end (pair_job name c.args.image.now c.args.rows.now) _ _ came.last c.ending_of.result c.ending_of.ensures.status came.ensures.ran;
+      causes = record {
+        write = λ is. absurd (no_error is);
+        refused = λ is.
+            let same : c.ending_of.result ≡ ending.Refused = same_value is in
+            came.ensures.ran.0.rose (c.ending_of.ensures.refused same);
+        stopped = λ is.
+            let same : c.ending_of.result ≡ ending.Stopped = same_value is in
+            let (op, why, last) = c.ending_of.ensures.stopped same in
+            (op, why, came.ensures.stopped op why (ap Ok last));
+        stayed = λ no. came.ensures.stayed no_error;
+      };
+    }

@@ -68,27 +68,31 @@ returns-in_err-next g c =
       stayed = λ other. c.cycles.invariant.stayed;
     }
 
-pub returns-in-Err-clause-prints : goal.returns-in-Err-clause-prints
-returns-in-Err-clause-prints g c =
+pub returns-in-Err : goal.returns-in-Err
+returns-in-Err g c =
     let part = rw c.cycles.invariant.program at c.in-Err.ensures.line.part in
-    (going-ends c.args.plain.now.program c.args.plain.now.values c.args.rows.now (g.O.Sink.seen c.args.out.now).written (g.O.Sink.seen c.cycles.out).written
-    (g.O.Sink.seen c.print_cycle.new.out).written c.cycles.count c.cycles.plain.values c.cycles.rows (Err fault.Write) c.cycles.invariant.going
-    (fails-here c.args.plain.now.program c.cycles.count c.cycles.plain.values c.next.new.out c.cycles.rows c.next.new.self (g.O.Sink.seen c.cycles.out).written
-    (g.O.Sink.seen c.print_cycle.new.out).written (c.in_ok-next.ensures.row c.if-branch.true) part))
+    record {
+      prints =
+          (going-ends c.args.plain.now.program c.args.plain.now.values c.args.rows.now (g.O.Sink.seen c.args.out.now).written (g.O.Sink.seen c.cycles.out).written
+          (g.O.Sink.seen c.print_cycle.new.out).written c.cycles.count c.cycles.plain.values c.cycles.rows (Err fault.Write) c.cycles.invariant.going
+          (fails-here c.args.plain.now.program c.cycles.count c.cycles.plain.values c.next.new.out c.cycles.rows c.next.new.self (g.O.Sink.seen c.cycles.out).written
+          (g.O.Sink.seen c.print_cycle.new.out).written (c.in_ok-next.ensures.row c.if-branch.true) part));
+      write = λ _. rose_later c.cycles.invariant.later c.in-Err.ensures.line.cause.failed;
+      stayed = λ other. absurd (other refl);
+    }
 
-pub returns-in-Err-clause-write : goal.returns-in-Err-clause-write
-returns-in-Err-clause-write g c = λ _. rose_later c.cycles.invariant.later c.in-Err.ensures.line.cause.failed
-
-pub returns-in-Err-end_line-clause-prints : goal.returns-in-Err-end_line-clause-prints
-returns-in-Err-end_line-clause-prints g c =
+pub returns-in-Err-end_line : goal.returns-in-Err-end_line
+returns-in-Err-end_line g c =
     let none = c.in_ok-next.ensures.end c.if-branch.false in
-    (going-ends c.args.plain.now.program c.args.plain.now.values c.args.rows.now (g.O.Sink.seen c.args.out.now).written (g.O.Sink.seen c.cycles.out).written
-    (g.O.Sink.seen c.end_line.new.out).written c.cycles.count c.cycles.plain.values c.cycles.rows (Err fault.Write) c.cycles.invariant.going
-    (end-fails c.args.plain.now.program c.cycles.count c.cycles.plain.values c.cycles.rows (g.O.Sink.seen c.cycles.out).written
-    (g.O.Sink.seen c.end_line.new.out).written (record { rows = none.0; refusal_is = none.1 }) c.in-Err-end_line.ensures.part))
-
-pub returns-in-Err-end_line-clause-write : goal.returns-in-Err-end_line-clause-write
-returns-in-Err-end_line-clause-write g c = λ _. rose_later c.cycles.invariant.later c.in-Err-end_line.ensures.cause.failed
+    record {
+      prints =
+          (going-ends c.args.plain.now.program c.args.plain.now.values c.args.rows.now (g.O.Sink.seen c.args.out.now).written (g.O.Sink.seen c.cycles.out).written
+          (g.O.Sink.seen c.end_line.new.out).written c.cycles.count c.cycles.plain.values c.cycles.rows (Err fault.Write) c.cycles.invariant.going
+          (end-fails c.args.plain.now.program c.cycles.count c.cycles.plain.values c.cycles.rows (g.O.Sink.seen c.cycles.out).written
+          (g.O.Sink.seen c.end_line.new.out).written (record { rows = none.0; refusal_is = none.1 }) c.in-Err-end_line.ensures.part));
+      write = λ _. rose_later c.cycles.invariant.later c.in-Err-end_line.ensures.cause.failed;
+      stayed = λ other. absurd (other refl);
+    }
 
 pub cycles-preserved : goal.cycles-preserved
 cycles-preserved g c =
@@ -112,43 +116,33 @@ cycles-preserved g c =
           (rw c.cycles.invariant.program at (here.values more)) (rw c.cycles.invariant.program at here.line.whole);
     }
 
-pub returns-in-Ok-false-clause-prints : goal.returns-in-Ok-false-clause-prints
-returns-in-Ok-false-clause-prints g c =
+pub returns-in-Ok-false : goal.returns-in-Ok-false
+returns-in-Ok-false g c =
     let p = c.args.plain.now.program in
     let here = c.in-Ok-false.ensures in
     let stopped = here.stopped c.in-Ok-false.field-0-test in
-    going-ends p c.args.plain.now.values c.args.rows.now (g.O.Sink.seen c.args.out.now).written (g.O.Sink.seen c.cycles.out).written
-    (g.O.Sink.seen c.print_cycle.new.out).written c.cycles.count c.cycles.plain.values c.cycles.rows (Ok end.Stopped) c.cycles.invariant.going
-    (stops-here p c.cycles.count c.cycles.plain.values c.next.new.out stopped.0 c.cycles.rows c.next.new.self (g.O.Sink.seen c.cycles.out).written
-    (g.O.Sink.seen c.print_cycle.new.out).written (c.in_ok-next.ensures.row c.if-branch.true) (rw c.cycles.invariant.program at stopped.1)
-    (rw c.cycles.invariant.program at here.line.whole))
+    record {
+      prints =
+          going-ends p c.args.plain.now.values c.args.rows.now (g.O.Sink.seen c.args.out.now).written (g.O.Sink.seen c.cycles.out).written
+          (g.O.Sink.seen c.print_cycle.new.out).written c.cycles.count c.cycles.plain.values c.cycles.rows (Ok end.Stopped) c.cycles.invariant.going
+          (stops-here p c.cycles.count c.cycles.plain.values c.next.new.out stopped.0 c.cycles.rows c.next.new.self (g.O.Sink.seen c.cycles.out).written
+          (g.O.Sink.seen c.print_cycle.new.out).written (c.in_ok-next.ensures.row c.if-branch.true) (rw c.cycles.invariant.program at stopped.1)
+          (rw c.cycles.invariant.program at here.line.whole));
+      write = λ e. absurd (no_error e);
+      stayed = λ other. c.in-Ok-false.ensures.line.cause.stayed ∙ c.cycles.invariant.stayed;
+    }
 
 -- ---- the last line is printed
 
-pub returns-in-Ok-clause-prints : goal.returns-in-Ok-clause-prints
-returns-in-Ok-clause-prints g c =
+pub returns-in-Ok : goal.returns-in-Ok
+returns-in-Ok g c =
     let none = c.in_ok-next.ensures.end c.if-branch.false in
-    going-ends c.args.plain.now.program c.args.plain.now.values c.args.rows.now (g.O.Sink.seen c.args.out.now).written (g.O.Sink.seen c.cycles.out).written
-    (g.O.Sink.seen c.end_line.new.out).written c.cycles.count c.cycles.plain.values c.cycles.rows (Ok end.Done) c.cycles.invariant.going
-    (ends-here c.args.plain.now.program c.cycles.count c.cycles.plain.values c.cycles.rows (g.O.Sink.seen c.cycles.out).written
-    (g.O.Sink.seen c.end_line.new.out).written (record { rows = none.0; refusal_is = none.1 }) c.in-Ok.ensures.whole)
-
--- ---- the sink's count of faults
-
-pub returns-in-Ok-false-clause-write : goal.returns-in-Ok-false-clause-write
-returns-in-Ok-false-clause-write g c = λ e. absurd (no_error e)
-
-pub returns-in-Ok-clause-write : goal.returns-in-Ok-clause-write
-returns-in-Ok-clause-write g c = λ e. absurd (no_error e)
-
-pub returns-in-Err-clause-stayed : goal.returns-in-Err-clause-stayed
-returns-in-Err-clause-stayed g c = λ other. absurd (other refl)
-
-pub returns-in-Ok-false-clause-stayed : goal.returns-in-Ok-false-clause-stayed
-returns-in-Ok-false-clause-stayed g c = λ other. c.in-Ok-false.ensures.line.cause.stayed ∙ c.cycles.invariant.stayed
-
-pub returns-in-Err-end_line-clause-stayed : goal.returns-in-Err-end_line-clause-stayed
-returns-in-Err-end_line-clause-stayed g c = λ other. absurd (other refl)
-
-pub returns-in-Ok-clause-stayed : goal.returns-in-Ok-clause-stayed
-returns-in-Ok-clause-stayed g c = λ other. c.in-Ok.ensures.cause.stayed ∙ c.cycles.invariant.stayed
+    record {
+      prints =
+          going-ends c.args.plain.now.program c.args.plain.now.values c.args.rows.now (g.O.Sink.seen c.args.out.now).written (g.O.Sink.seen c.cycles.out).written
+          (g.O.Sink.seen c.end_line.new.out).written c.cycles.count c.cycles.plain.values c.cycles.rows (Ok end.Done) c.cycles.invariant.going
+          (ends-here c.args.plain.now.program c.cycles.count c.cycles.plain.values c.cycles.rows (g.O.Sink.seen c.cycles.out).written
+          (g.O.Sink.seen c.end_line.new.out).written (record { rows = none.0; refusal_is = none.1 }) c.in-Ok.ensures.whole);
+      write = λ e. absurd (no_error e);
+      stayed = λ other. c.in-Ok.ensures.cause.stayed ∙ c.cycles.invariant.stayed;
+    }
