@@ -26,7 +26,21 @@ pub(crate) fn rough_text(alloc: Global, list: &[u8], program: &Typed) -> Result<
         bytes: Vec::new(alloc),
         is_given_up: false,
     };
-    text.program(alloc, list, program);
+    let slots = program.slots().items.as_slice();
+    text.put(b"PROGRAM ");
+    text.program_name(alloc, list);
+    text.put(b"\n");
+    text.blocks(slots);
+    for stmt in &program.body().items {
+        match stmt {
+            TStmt::If { arms, .. } => match arms.items.as_slice() {
+                [arm] => text.conditional(slots, arm),
+                _ => {}
+            },
+            _ => text.assignment(slots, stmt),
+        }
+    }
+    text.put(b"END_PROGRAM\n");
     if text.is_given_up {
         Err(Memory)
     } else {
@@ -64,27 +78,6 @@ impl Growing {
             Ok(()) => {}
             Err(_) => self.is_given_up = true,
         }
-    }
-
-    /// All of a program.
-    fn program(&mut self, alloc: Global, list: &[u8], program: &Typed)
-        requires { length list.now ≤ most_il_bytes }
-    {
-        let slots = program.slots().items.as_slice();
-        self.put(b"PROGRAM ");
-        self.program_name(alloc, list);
-        self.put(b"\n");
-        self.blocks(slots);
-        for stmt in &program.body().items {
-            match stmt {
-                TStmt::If { arms, .. } => match arms.items.as_slice() {
-                    [arm] => self.conditional(slots, arm),
-                    _ => {}
-                },
-                _ => self.assignment(slots, stmt),
-            }
-        }
-        self.put(b"END_PROGRAM\n");
     }
 
     /// The name of the program whose text this is: its second word.
