@@ -56,11 +56,7 @@ by_all E sound (x ∷ xs) (y ∷ ys) all =
     let (first, others) = and_both (E x y) (pointwise E xs ys) all in
     ap (λ v. v ∷ xs) (sound x y first) ∙ ap (λ l. y ∷ l) (by_all E sound xs ys others)
 
--- lists are the same of which `==` says so at each place
-pub pointwise_same : {X : Type 0} (E : X → X → Bool) → ((x y : X) → E x y ≡ true → x ≡ y) → (xs ys : List X) (r : Bool) → r ≡ pointwise E xs ys → r ≡ true → xs ≡ ys
-pointwise_same E sound xs ys r is same = by_all E sound xs ys (sym is ∙ same)
-
--- and those of which `!=` doesn't say that they differ
+-- lists are the same of which `!=` doesn't say that they differ
 pub pointwise_alike : {X : Type 0} (E : X → X → Bool) → ((x y : X) → E x y ≡ true → x ≡ y) → (xs ys : List X) (r : Bool)
     → r ≡ not (pointwise E xs ys) → r ≡ false → xs ≡ ys
 pointwise_alike E sound xs ys r is same = by_all E sound xs ys (not_false (pointwise E xs ys) r is same)
