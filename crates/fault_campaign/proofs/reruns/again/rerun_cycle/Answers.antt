@@ -1,4 +1,4 @@
-use Rattle.std.proofs.Common.{◌≡◌, ◌+◌, ℕ, ◌∷◌, ◌++◌, [], List, Option, sym, subst, ap, ◌∙◌, arith, length, slice_get, rules}
+use Rattle.std.proofs.Common.{◌≡◌, ◌+◌, ℕ, ◌∷◌, ◌++◌, [], List, Option, sym, subst, ap, ◌∙◌, arith, length, slice_get, rules, true≢false}
 use Rattle.std.proofs.Math.Nat.{le_trans}
 use Rattle.std.proofs.lemmas.List.{length-append}
 use Rattle.coded_unit.specs.declared.call.Answer.{Answer}
@@ -56,8 +56,8 @@ operations-preserved g c =
       all = i.all;
     }
 
-pub returns-then-not-is_word-clause-ran : goal.returns-then-not-is_word-clause-ran
-returns-then-not-is_word-clause-ran g c =
+pub returns-then-not-is_word : goal.returns-then-not-is_word
+returns-then-not-is_word g c =
     let i = c.operations.invariant in
     let b = begun c.args.b.now in
     let ops = b.setting.graph.operations in
@@ -71,20 +71,33 @@ returns-then-not-is_word-clause-ran g c =
     (subst (λ (xs : List Answer). Comes (source b xs there.0) c.answer_again.result before.log after.log before.wrong after.wrong) c.deref.ensures.value
     (c.answer_again.ensures there.0 (ap (λ (xs : List Answer). slice_get ops (length xs)) c.deref.ensures.value ∙ there.1))) in
     let no_word = sym c.is_word.ensures ∙ c.if-not-is_word.true in
-    subst (λ (us : List Answer). RanAgain b us first.log after.log first.wrong after.wrong) (sym c.append.ensures.items)
-    (stops b (length own) own there.0 c.in-Some.answer first.log before.log after.log first.wrong before.wrong after.wrong there.1 i.midway comes no_word)
+    let longer = ap length c.append.ensures.items ∙ length-append c.operations.own.items (c.in-Some.answer ∷ []) in
+    record {
+      ran =
+          subst (λ (us : List Answer). RanAgain b us first.log after.log first.wrong after.wrong) (sym c.append.ensures.items)
+          (stops b (length own) own there.0 c.in-Some.answer first.log before.log after.log first.wrong before.wrong after.wrong there.1 i.midway comes no_word);
+      words = λ on. absurd (true≢false on);
+      few = omega (arith, longer, c.operations.invariant.all, c.len.ensures, c.operations-test.true);
+      capacity = le_trans c.operations.invariant.room c.append.ensures.capacity;
+    }
 
-pub returns-clause-ran : goal.returns-clause-ran
-returns-clause-ran g c =
+pub returns : goal.returns
+returns g c =
     let i = c.operations.invariant in
     let b = begun c.args.b.now in
     let first = g.U.Unit.seen c.args.unit.now in
     let now = g.U.Unit.seen c.operations.unit in
-    completes b (length c.operations.own.items) c.operations.own.items first.log now.log first.wrong now.wrong
-    (omega (arith, c.operations-test.false, c.len.ensures, i.all)) i.midway
+    record {
+      ran =
+          completes b (length c.operations.own.items) c.operations.own.items first.log now.log first.wrong now.wrong
+          (omega (arith, c.operations-test.false, c.len.ensures, i.all)) i.midway;
+      words = λ _. i.words;
+      few = c.operations.invariant.few;
+      capacity = c.operations.invariant.room;
+    }
 
-pub returns-in_default-clause-ran : goal.returns-in_default-clause-ran
-returns-in_default-clause-ran g c =
+pub returns-in_default : goal.returns-in_default
+returns-in_default g c =
     let i = c.operations.invariant in
     let b = begun c.args.b.now in
     let ops = b.setting.graph.operations in
@@ -97,7 +110,13 @@ returns-in_default-clause-ran g c =
     subst (λ (o : Option Answer). Comes (source b own there.0) o before.log after.log before.wrong after.wrong) c.in_default.is
     (subst (λ (xs : List Answer). Comes (source b xs there.0) c.answer_again.result before.log after.log before.wrong after.wrong) c.deref.ensures.value
     (c.answer_again.ensures there.0 (ap (λ (xs : List Answer). slice_get ops (length xs)) c.deref.ensures.value ∙ there.1))) in
-    ends b (length own) own there.0 first.log before.log after.log first.wrong before.wrong after.wrong there.1 i.midway comes
+    record {
+      ran =
+          ends b (length own) own there.0 first.log before.log after.log first.wrong before.wrong after.wrong there.1 i.midway comes;
+      words = λ _. i.words;
+      few = c.operations.invariant.few;
+      capacity = c.operations.invariant.room;
+    }
 
 pub copy_untouched-requires-clause-few : goal.copy_untouched-requires-clause-few
 copy_untouched-requires-clause-few g c = omega (arith, ap length c.requires.empty)
@@ -106,20 +125,6 @@ pub append-requires : goal.append-requires
 append-requires g c =
     let i = c.operations.invariant in
     omega (arith, i.room, i.all, c.requires.room, c.len.ensures, c.operations-test.true)
-
-pub returns-in_default-clause-few : goal.returns-in_default-clause-few
-returns-in_default-clause-few g c = c.operations.invariant.few
-
-pub returns-in_default-clause-capacity : goal.returns-in_default-clause-capacity
-returns-in_default-clause-capacity g c = c.operations.invariant.room
-
-pub returns-then-not-is_word-clause-few : goal.returns-then-not-is_word-clause-few
-returns-then-not-is_word-clause-few g c =
-    let longer = ap length c.append.ensures.items ∙ length-append c.operations.own.items (c.in-Some.answer ∷ []) in
-    omega (arith, longer, c.operations.invariant.all, c.len.ensures, c.operations-test.true)
-
-pub returns-then-not-is_word-clause-capacity : goal.returns-then-not-is_word-clause-capacity
-returns-then-not-is_word-clause-capacity g c = le_trans c.operations.invariant.room c.append.ensures.capacity
 
 pub copy_untouched-requires-in-operations-clause-few : goal.copy_untouched-requires-in-operations-clause-few
 copy_untouched-requires-in-operations-clause-few g c =
@@ -133,15 +138,6 @@ pub operations-smaller : goal.operations-smaller
 operations-smaller g c =
     let longer = ap length c.append.ensures.items ∙ length-append c.operations.own.items (c.in-Some.answer ∷ []) in
     omega (arith, longer, c.copy_untouched-in-operations.ensures.longer, c.operations.invariant.all, c.len.ensures, c.operations-test.true)
-
-pub returns-clause-words : goal.returns-clause-words
-returns-clause-words g c = λ _. c.operations.invariant.words
-
-pub returns-clause-few : goal.returns-clause-few
-returns-clause-few g c = c.operations.invariant.few
-
-pub returns-clause-capacity : goal.returns-clause-capacity
-returns-clause-capacity g c = c.operations.invariant.room
 
 pub answer_again-requires : goal.answer_again-requires
 answer_again-requires g c = search rules
