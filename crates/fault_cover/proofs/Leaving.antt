@@ -1,6 +1,6 @@
 -- Leaving: the lines of operations whose faults run on or are beyond.
 use Rattle.std.proofs.Common.{◌≡◌, ◌≢◌, ◌⊎◌, ⊎_elim, inl, inr, ℕ, suc, ◌+◌, ◌*◌, ◌/◌, ◌%◌, ◌<◌, ◌≤◌, ◌==◌, ◌&&◌, Bool, true, false, cond, List, [], ◌∷◌}
-use Rattle.std.proofs.Common.{◌++◌, append_assoc, codes, decimal, length, flat_map, All}
+use Rattle.std.proofs.Common.{◌++◌, ◌^◌, append_assoc, codes, decimal, length, length-append, flat_map, All}
 use Rattle.std.proofs.Common.{slice_get, Option, Some, None, refl, sym, ap, ap₂, ◌∙◌, arith, add-zero}
 use Rattle.std.proofs.lemmas.Bool.{cases_lt}
 use Rattle.std.proofs.lemmas.Bool.Decides.{eqb_tells}
@@ -15,20 +15,21 @@ use Rattle.op_graph.specs.Lists.{Lists}
 use Rattle.range_walk.specs.Known.{is_any_named}
 use Rattle.fault_sites.specs.Sites.{each_below}
 use Rattle.fault_cover.specs.declared.disturbance.Disturbance.{Disturbance}
+use Rattle.fault_cover.specs.declared.left.Left.{Left}
 use Rattle.fault_cover.specs.declared.left.LeftLine.{LeftLine}
 use Rattle.fault_cover.specs.declared.nearest.Nearest.{Nearest}
 use Rattle.fault_cover.specs.declared.effect.Effect.{Effect}
 use Rattle.fault_cover.specs.declared.effect.Effect.TheVariants as told
 use Rattle.fault_cover.specs.Classes.{Single}
 use Rattle.fault_cover.specs.CoverText.{AreHeard, Heard, count_told, is_beyond, is_run_on, left_text, number_text, run_on_text}
-use Rattle.fault_cover.specs.Leftovers.{IsLeast, IsLeastKey, NoneFrom, beyond_line, count_key, key_if, key_line, keys_of, line_text, lines_at}
+use Rattle.fault_cover.specs.Leftovers.{IsLeast, IsLeastKey, Leaves, NoneFrom, beyond_line, count_key, key_if, key_line, keys_of, line_text, lines_at}
 use Rattle.fault_cover.specs.Leftovers.{beyond, runs_on}
 use Rattle.fault_cover.specs.Surveys.{IsSurvey, Surveyed}
 use Rattle.fault_cover.specs.Sources.{is_any, sources}
 use Rattle.fault_cover.specs.Telling.{Subject, Tells, TellsAt, TellsOf, UnlessSame, does_the_same}
 use Rattle.fault_cover.specs.Walks.{IsNearest, is_wanted, kept}
 use Rattle.fault_cover.proofs.Below.{flat_below, nothing_to, rows_below, same_below}
-use Rattle.fault_cover.proofs.Tallying.{one_for}
+use Rattle.fault_cover.proofs.Tallying.{count_few, count_next, one_for}
 
 -- ---- numbers in a list
 
@@ -266,3 +267,27 @@ pub heard_within : (s : Subject) (v : Surveyed) (faults : List Single) (heard : 
 heard_within s v faults heard survey are =
     All-weaker (λ (h : Heard). Tells s h.fault.op h.fault.does h.told) (λ (h : Heard). Within (length s.graph.operations) h.told)
     (λ h is. told_within s v survey h.fault.op h.fault.does h.told is) heard are.told
+
+-- ---- what is kept with one more fault
+
+keys_next : (w : ℕ) (past : List Heard) (h : Heard) → keys_of w (past ++ h ∷ []) ≡ keys_of w past ++ key_if w h.told
+keys_next w past h =
+    flat_map-append (λ (x : Heard). key_if w x.told) past (h ∷ []) ∙ ap (λ xs. keys_of w past ++ xs) (append-nil (key_if w h.told))
+
+-- n is 1 where the fault is beyond the horizon, else 0
+pub leaves_more : (g : Lists) (old new : Left) (past : List Heard) (h : Heard) (n : ℕ)
+    → (new.lacked ≡ false → (old.lacked ≡ false) × (new.keys.items ≡ old.keys.items ++ key_if (length g.operations) h.told))
+    → one_for (is_beyond h.told) ≡ n → n ≤ 1 → (old.beyond + n < 2 ^ 64 → new.beyond ≡ old.beyond + n) → Leaves g old past
+    → Leaves g new (past ++ h ∷ [])
+leaves_more g old new past h n keys one small beyond was = (
+  λ none.
+      let kept = keys none in
+      kept.1 ∙ ap (λ xs. xs ++ key_if (length g.operations) h.told) (was.0 kept.0) ∙ sym (keys_next (length g.operations) past h),
+  λ few.
+      let longer = length-append past (h ∷ []) in
+      let is = was.1 (omega (arith, few, longer)) in
+      let most = count_few is_beyond past in
+      let next = count_next is_beyond past h in
+      let made = beyond (omega (arith, few, longer, is, most, small)) in
+      omega (arith, made, is, next, one),
+)

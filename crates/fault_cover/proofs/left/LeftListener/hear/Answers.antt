@@ -1,4 +1,11 @@
+use Rattle.std.proofs.Common.{◌≡◌, ◌+◌, ◌*◌, ◌++◌, [], ◌∷◌, ◌∙◌, length, ap, sym, arith}
+use Rattle.std.proofs.lemmas.List.{append-nil}
+use Rattle.fault_cover.specs.declared.left.Left.{Left}
+use Rattle.fault_cover.specs.CoverText.{heard_as, is_beyond}
+use Rattle.fault_cover.specs.Leftovers.{key_if}
 use Rattle.fault_cover.proofs.Going.{unmoved}
+use Rattle.fault_cover.proofs.Leaving.{leaves_more}
+use Rattle.fault_cover.proofs.Tallying.{one_for}
 use Rattle.fault_cover.proofs.left.LeftListener.hear.Goals as goal
 
 pub returns-in-RunsOn-clause-gathers : goal.returns-in-RunsOn-clause-gathers
@@ -15,3 +22,23 @@ returns-2-clause-gathers g c = unmoved
 
 pub returns-3-clause-gathers : goal.returns-3-clause-gathers
 returns-3-clause-gathers g c = unmoved
+
+pub returns-in-RunsOn-clause-keeps : goal.returns-in-RunsOn-clause-keeps
+returns-in-RunsOn-clause-keeps g c = λ past.
+    let w = length c.args.graph.now.operations in
+    let borders = c.in-RunsOn.borders in
+    let op = c.in-RunsOn.op in
+    let key : c.key_of.result ∷ [] ≡ key_if w c.args.told.now =
+    ap (λ n. n ∷ []) (c.key_of.ensures ∙ ap (λ n. borders * n + op) c.len.ensures.count) ∙ sym (ap (key_if w) c.in-RunsOn.is) in
+    leaves_more c.args.graph.now c.args.self.now c.push.new.self past (heard_as c.args._k c.args._disturbance.now c.args.told.now) 0
+    (λ none. let pushed = c.push.ensures.pushed none in (pushed.0, pushed.1 ∙ ap (λ xs. c.args.self.now.keys.items ++ xs) key))
+    (ap (λ t. one_for (is_beyond t)) c.in-RunsOn.is) (omega arith) (λ room. omega (arith, c.push.ensures.beyond))
+
+pub returns-in-Beyond-clause-keeps : goal.returns-in-Beyond-clause-keeps
+returns-in-Beyond-clause-keeps g c = λ past.
+    let w = length c.args.graph.now.operations in
+    let items = c.args.self.now.keys.items in
+    let new : Left = record c.args.self.now { beyond = c.plus-self.result } in
+    leaves_more c.args.graph.now c.args.self.now new past (heard_as c.args._k c.args._disturbance.now c.args.told.now) 1
+    (λ none. (none, sym (append-nil items) ∙ ap (λ xs. items ++ xs) (sym (ap (key_if w) c.in-Beyond.is))))
+    (ap (λ t. one_for (is_beyond t)) c.in-Beyond.is) (omega arith) c.plus-self.ensures
