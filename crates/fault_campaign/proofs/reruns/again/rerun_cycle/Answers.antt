@@ -75,7 +75,8 @@ returns-then-not-is_word g c =
     record {
       ran =
           subst (λ (us : List Answer). RanAgain b us first.log after.log first.wrong after.wrong) (sym c.append.ensures.items)
-          (stops b (length own) own there.0 c.in-Some.answer first.log before.log after.log first.wrong before.wrong after.wrong there.1 i.midway comes no_word);
+          (stops b (length own) own there.0 c.in-Some.answer first.log before.log after.log first.wrong before.wrong after.wrong there.1 i.midway comes
+          no_word);
       words = λ on. absurd (true≢false on);
       few = omega (arith, longer, c.operations.invariant.all, c.len.ensures, c.operations-test.true);
       capacity = le_trans c.operations.invariant.room c.append.ensures.capacity;
