@@ -10,11 +10,11 @@ pub lines-preserved : goal.lines-preserved
 lines-preserved c = record {
   told = λ left begun. row_at c.args.width c.lines.cycle c.lines.rows c.push.new.self c.lines.records.left c.next.new.self.left (fields_of c.next.new.cells)
       c.in_ok-next.field-0 (told_from c.args.width 0 left) c.in-Ok-Row.row (c.lines.invariant.told left begun) c.in_ok-next.ensures.reads c.if-branch.true
-      (c.in-Ok-Row.ensures.line ∙ ap Ok c.in-Ok-Row.field-0-is) c.in-Ok.ensures;
+      (c.in-Ok-Row.ensures.line ∙ ap Ok c.in-Ok-Row.field-0-is) c.in-Ok.ensures.ok;
   width =
       wide_more c.args.width c.lines.cycle c.lines.rows c.push.new.self c.in-Ok-Row.row c.in-Ok-Row.field-0 c.lines.invariant.width c.in-Ok-Row.field-0-is
-      c.in-Ok-Row.ensures.width c.in-Ok.ensures;
-  count = count_more c.lines.cycle c.lines.rows c.push.new.self c.in-Ok-Row.row c.lines.invariant.count c.in-Ok.ensures;
+      c.in-Ok-Row.ensures.width c.in-Ok.ensures.ok;
+  count = count_more c.lines.cycle c.lines.rows c.push.new.self c.in-Ok-Row.row c.lines.invariant.count c.in-Ok.ensures.ok;
   few = few_more c.args.width c.lines.cycle c.in-Ok-Row.row c.in-Ok-Row.field-0 c.in-Ok-Row.field-0-is c.in-Ok-Row.ensures.width;
 }
 
