@@ -1,9 +1,9 @@
 //! Which verdict the words of a line may mean.
 
-ghost use Rattle.std.specs.Prelude.{◌≡◌, ◌<◌, IfSome, length, option_map};
+ghost use Rattle.std.specs.Prelude.{◌≡◌, ◌<◌, IfSome, length};
 ghost use Rattle.fault_script.specs.Forms.{number_below};
 ghost use Rattle.fault_injector.specs.Names.{Names};
-ghost use Rattle.verdict_tables.specs.Outcome.{numbers_of, named_then, output_named, shown_of, as_wrong, as_refused, stop_of};
+ghost use Rattle.verdict_tables.specs.Outcome.{numbers_of, named_then, output_named, shown_of, stop_of};
 ghost use Rattle.verdict_tables.specs.Outcome.{stopped_by, stopped_of, ran_on_of, meant as meant_of};
 
 use fault_injector::Verdict;
@@ -189,38 +189,6 @@ fn ran_on(words: &mut WordsLeft<'_>) -> Option<Verdict>
     }
 }
 
-/// The words behind `wrong`: an output is released with a wrong value.
-fn wrong(graph: &Graph, words: &mut WordsLeft<'_>) -> Option<Verdict>
-    ensures value { result ≡ option_map as_wrong (shown_of graph.now words.old) }
-    ensures names { IfSome result (Names (length graph.now.outputs) (length graph.now.operations)) }
-{
-    match shown_at(graph, words) {
-        Some(shown) => Some(Verdict::Wrong {
-            cycle: shown.cycle,
-            output: shown.output,
-            got: shown.numbers.first,
-            want: shown.numbers.second,
-        }),
-        None => None,
-    }
-}
-
-/// The words behind `refused`: an output is refused by its residue.
-fn refused(graph: &Graph, words: &mut WordsLeft<'_>) -> Option<Verdict>
-    ensures value { result ≡ option_map as_refused (shown_of graph.now words.old) }
-    ensures names { IfSome result (Names (length graph.now.outputs) (length graph.now.operations)) }
-{
-    match shown_at(graph, words) {
-        Some(shown) => Some(Verdict::Refused {
-            cycle: shown.cycle,
-            output: shown.output,
-            found: shown.numbers.first.unsigned_abs(),
-            expected: shown.numbers.second.unsigned_abs(),
-        }),
-        None => None,
-    }
-}
-
 /// The verdict that words may mean, by the first of them.
 pub(crate) fn meant(graph: &Graph, words: &mut WordsLeft<'_>) -> Option<Verdict>
     ensures value { result ≡ meant_of graph.now words.old }
@@ -233,13 +201,31 @@ pub(crate) fn meant(graph: &Graph, words: &mut WordsLeft<'_>) -> Option<Verdict>
         return Some(Verdict::Same);
     }
     if same_bytes(first, b"wrong") {
-        return wrong(graph, words);
+        // An output is released with a wrong value.
+        return match shown_at(graph, words) {
+            Some(shown) => Some(Verdict::Wrong {
+                cycle: shown.cycle,
+                output: shown.output,
+                got: shown.numbers.first,
+                want: shown.numbers.second,
+            }),
+            None => None,
+        };
     }
     if same_bytes(first, b"ran-on") {
         return ran_on(words);
     }
     if same_bytes(first, b"refused") {
-        return refused(graph, words);
+        // An output is refused by its residue.
+        return match shown_at(graph, words) {
+            Some(shown) => Some(Verdict::Refused {
+                cycle: shown.cycle,
+                output: shown.output,
+                found: shown.numbers.first.unsigned_abs(),
+                expected: shown.numbers.second.unsigned_abs(),
+            }),
+            None => None,
+        };
     }
     if same_bytes(first, b"stopped") {
         return stopped(graph, words);
