@@ -3,7 +3,7 @@
 ghost use Rattle.std.specs.Prelude.{[], ◌∷◌, codes, decimal};
 ghost use Rattle.vcp_outside.specs.Gathering.{GathersTo};
 ghost use Rattle.graph_picture.specs.Drawn.{own_of};
-ghost use Rattle.graph_picture.specs.DotText.{written, head, named, source, blindness, label, constant_label};
+ghost use Rattle.graph_picture.specs.DotText.{written, named, source, blindness, label, constant_label};
 
 use crate::dot::words::has_name;
 use crate::{Colour, own_piece};
@@ -11,22 +11,6 @@ use op_graph::{Graph, Op};
 use run_report::variable_name;
 use vcp_base::{Kind, Spot, kind_name};
 use vcp_outside::{Escaping, Line, Piece, Sink, then_pieces};
-
-/// Goes on with the number and the kind of operation `n`.
-fn then_head<O: Sink>(line: &mut Line, out: &mut O, n: u32, kind: Kind)
-    ensures { GathersTo (O.seen out.old) (O.seen out.new) line.old line.new (written (head n kind)) }
-{
-    then_pieces(
-        line,
-        out,
-        Escaping::Quoted,
-        &[
-            Piece::Count(n as u64),
-            Piece::Bytes(b" "),
-            Piece::Bytes(kind_name(kind)),
-        ],
-    );
-}
 
 /// Goes on with the name of an operation, in a line of its own, where it has one.
 fn then_named<O: Sink>(line: &mut Line, out: &mut O, graph: &Graph, op: &Op)
@@ -80,7 +64,7 @@ fn then_blindness<O: Sink>(line: &mut Line, out: &mut O, graph: &Graph, colour: 
     }
 }
 
-/// Goes on with what the node of operation `n` says.
+/// Goes on with what the node of operation `n` says: its number and its kind, its name, its place and what it is blind for.
 pub(crate) fn then_label<O: Sink>(
     line: &mut Line,
     out: &mut O,
@@ -91,7 +75,16 @@ pub(crate) fn then_label<O: Sink>(
 )
     ensures { GathersTo (O.seen out.old) (O.seen out.new) line.old line.new (written (label graph.now n colour op.now)) }
 {
-    then_head(line, out, n, op.kind);
+    then_pieces(
+        line,
+        out,
+        Escaping::Quoted,
+        &[
+            Piece::Count(n as u64),
+            Piece::Bytes(b" "),
+            Piece::Bytes(kind_name(op.kind)),
+        ],
+    );
     then_named(line, out, graph, op);
     then_source(line, out, b"\n", op.spot);
     then_blindness(line, out, graph, colour);

@@ -7,5 +7,6 @@ pub returns : goal.returns
 returns g c =
     let op = c.args.op.now in
     let graph = c.args.graph.now in
-    same (and_then c.then_head.ensures (and_then c.then_named.ensures (and_then c.then_source.ensures c.then_blindness.ensures)))
+    let first = rw c.kind_name.ensures at c.then_pieces.ensures in
+    same (and_then first (and_then c.then_named.ensures (and_then c.then_source.ensures c.then_blindness.ensures)))
     (in_four (head c.args.n op.kind) (named graph op) (source (codes "\n") op.spot) (blindness graph c.args.colour))
