@@ -6,7 +6,7 @@ ghost use Rattle.vcp_base.specs.Limits.{most_cycles, most_horizon};
 ghost use Rattle.vcp_study_core.specs.Forms.{form, form_of, named_form, waves, waves_form, last_name as last_name_of};
 ghost use Rattle.vcp_study_core.specs.Forms.{study, study_of, fault_study_of, last_horizon as last_horizon_of, ranges_form};
 ghost use Rattle.vcp_study_core.specs.Forms.{inputs_form, cover_form, IsSound, IsSoundStudy};
-ghost use Rattle.vcp_study_core.specs.Forms.{faults_form, behind_form, class_form, cycles_in as cycles_in_of};
+ghost use Rattle.vcp_study_core.specs.Forms.{behind_form, class_form, cycles_in as cycles_in_of};
 ghost use Rattle.vcp_study_core.specs.Forms.{next_by, next_of, behind_of, sum_form, chosen_of};
 ghost use Rattle.vcp_study_core.specs.SumSteps.{as_next, as_behind, ended_of, IsFew, FewBehind};
 ghost use Rattle.verdict_tables.specs.Parts.{most_parts};
@@ -146,7 +146,15 @@ fn fault_study_words<'a>(
         return sum_words(all, words);
     }
     if same_bytes(command, b"faults") {
-        return faults_words(words);
+        return match words.name() {
+            Some(script) => match last_name(words) {
+                Some(verdicts) => Some(ImageStudy::Faults {
+                    names: Named { script, verdicts },
+                }),
+                None => None,
+            },
+            None => None,
+        };
     }
     if same_bytes(command, b"script") {
         return match last_name(words) {
@@ -456,20 +464,4 @@ fn sum_words<'a>(all: &'a Words, words: &mut CommandWords<'a>) -> Option<ImageSt
         parts,
         rows: behind.rows,
     })
-}
-
-/// The words of `faults`: SCRIPT and VERDICTS.
-fn faults_words<'a>(words: &mut CommandWords<'a>) -> Option<ImageStudy<'a>>
-    ensures form { option_map study result ≡ faults_form words.old }
-    ensures sound { IfSome result (λ s. IsSoundStudy (study s)) }
-{
-    match words.name() {
-        Some(script) => match last_name(words) {
-            Some(verdicts) => Some(ImageStudy::Faults {
-                names: Named { script, verdicts },
-            }),
-            None => None,
-        },
-        None => None,
-    }
 }
