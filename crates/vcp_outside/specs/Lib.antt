@@ -10,6 +10,7 @@ pub mod Seen
 pub mod Written
 pub mod Gathering
 pub mod SameText
+pub mod Pens
 pub mod Characters
 pub mod Drawing
 pub mod Elements

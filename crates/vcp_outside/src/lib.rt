@@ -16,8 +16,10 @@ mod files;
 mod host_files;
 mod host_sink;
 mod line;
+mod line_pen;
 mod mem_files;
 mod mem_sink;
+mod pen;
 mod pending;
 mod reading;
 mod sink;
@@ -29,13 +31,14 @@ pub use failed::Failed;
 pub use files::Files;
 pub use host_files::HostFiles;
 pub use host_sink::HostSink;
-pub use line::{Line, ROOM, begin};
+pub use line::{Line, ROOM};
+pub use line_pen::{LinePen, begin};
 pub use mem_files::{Entry, MemFiles};
 pub use mem_sink::MemSink;
+pub use pen::Pen;
 pub use reading::{ReadAll, read_all, read_all_counting};
 pub use sink::Sink;
 pub use svg::{
     Escaping, Name, Piece, Tag, begin_picture, end_picture, pictures_are_well_formed, then_element,
-    then_pieces,
 };
 pub use writing::write_all;

@@ -246,13 +246,3 @@ impl Line {
         self.so_far
     }
 }
-
-/// A line that begins with a word and a number, by its first two pieces.
-pub fn begin<O: Sink>(out: &mut O, word: &[u8], number: u32) -> Line
-    ensures { IsGathered (O.seen out.old).written (O.seen out.new).written (O.seen out.old).faults (O.seen out.new).faults (word.now ++ decimal number) result }
-{
-    let mut line = Line::new();
-    line.text(out, word);
-    line.count(out, number as u64);
-    line
-}

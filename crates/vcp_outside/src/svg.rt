@@ -5,12 +5,12 @@
 //! written as a reference. Characters outside ASCII, and control characters, are shown as the one
 //! replacement character. Labels for Graphviz are written so, too, by the rules of its double quotes.
 
-mod characters;
+pub(crate) mod characters;
 mod elements;
 mod laws;
 mod names;
 
-pub use characters::{Escaping, Piece, then_pieces};
+pub use characters::{Escaping, Piece};
 pub use elements::{begin_picture, end_picture, then_element};
 pub use laws::pictures_are_well_formed;
 pub use names::{Name, Tag};

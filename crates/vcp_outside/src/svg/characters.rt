@@ -143,7 +143,12 @@ fn then_piece<O: Sink>(line: &mut Line, out: &mut O, escaping: Escaping, piece: 
 }
 
 /// Goes on with the pieces of a text, written so.
-pub fn then_pieces<O: Sink>(line: &mut Line, out: &mut O, escaping: Escaping, pieces: &[Piece<'_>])
+pub(crate) fn then_pieces<O: Sink>(
+    line: &mut Line,
+    out: &mut O,
+    escaping: Escaping,
+    pieces: &[Piece<'_>],
+)
     ensures { GathersTo (O.seen out.old) (O.seen out.new) line.old line.new
         (flat_map (λ piece. escaped_in escaping (piece_bytes piece)) pieces.now) }
 {

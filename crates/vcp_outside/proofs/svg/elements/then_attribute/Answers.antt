@@ -9,7 +9,7 @@ pieces : (text name value : List ℕ)
 pieces text name value = simp append_assoc
 
 pub returns : goal.returns
-returns g c start before text is =
-    let named = rw c.attribute_name.ensures at (c.texts.ensures.gathers start before text is) in
-    let value = c.then_pieces.ensures _ _ _ (c.text.ensures.gathers _ _ _ named) in
-    rw (flat_map-map escaped piece_bytes c.args.value.now, pieces text (attribute_name c.args.name) _) (c.text-2.ensures.gathers _ _ _ value)
+returns g c sink name text is =
+    let named = rw c.attribute_name.ensures at (c.texts.ensures sink name text is) in
+    let value = c.pieces.ensures _ _ _ (c.text.ensures _ _ _ named) in
+    rw (flat_map-map escaped piece_bytes c.args.value.now, pieces text (attribute_name c.args.name) _) (c.text-2.ensures _ _ _ value)

@@ -10,12 +10,12 @@ pieces : (text name attributes inside : List ℕ)
 pieces text name attributes inside = simp append_assoc
 
 pub returns : goal.returns
-returns g c start before text is =
-    let named = rw c.tag_name.ensures at (c.texts.ensures.gathers start before text is) in
-    let told = c.text.ensures.gathers _ _ _ (c.then_attributes.ensures _ _ _ named) in
-    let ended = rw c.tag_name-2.ensures at (c.texts-2.ensures.gathers _ _ _ (c.then_pieces.ensures _ _ _ told)) in
+returns g c sink name text is =
+    let named = rw c.tag_name.ensures at (c.texts.ensures sink name text is) in
+    let told = c.text.ensures _ _ _ (c.then_attributes.ensures _ _ _ named) in
+    let all = rw c.tag_name-2.ensures at (c.texts-2.ensures _ _ _ (c.pieces.ensures _ _ _ told)) in
     rw (
       flat_map-map attribute_text attribute_of c.args.attributes.now,
       flat_map-map escaped piece_bytes c.args.content.now,
       pieces text (tag_name c.args.tag) _ _,
-    ) (c.text-2.ensures.gathers _ _ _ ended)
+    ) (c.text-2.ensures _ _ _ all)

@@ -1,0 +1,5 @@
+use Rattle.vcp_outside.specs.Pens.{gathered, has_written}
+use Rattle.vcp_outside.proofs.line_pen.LinePenPen.count.Goals as goal
+
+pub returns : goal.returns
+returns g c sink name text is = has_written is.same (c.count.ensures.gathers _ _ _ (gathered is))
