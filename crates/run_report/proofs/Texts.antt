@@ -1,10 +1,9 @@
 -- Texts that go on.
-use Rattle.std.proofs.Common.{◌≡◌, ℕ, ◌+◌, ◌<◌, List, [], ◌∷◌, ◌++◌, length, take, Option, Some, All, slice_get, flat_map, add-one, append_assoc, subst, sym}
+use Rattle.std.proofs.Common.{◌≡◌, ℕ, ◌+◌, ◌<◌, List, [], ◌∷◌, ◌++◌, length, take, Some, All, slice_get, flat_map, add-one, subst, sym}
 use Rattle.std.proofs.Math.Seq.{take-suc}
 use Rattle.std.proofs.lemmas.List.{flat_map_more}
 use Rattle.std.proofs.lemmas.List.Elements.{All-get_or}
 use Rattle.std.proofs.lemmas.Option.{get_or_from_slice_get, slice_get_within}
-use Rattle.vcp_outside.specs.Gathering.{Gathered, Gathers}
 
 take-next : {X : Type 0} (xs : List X) (i : ℕ) (x : X) → slice_get xs i ≡ Some x → take (i + 1) xs ≡ take i xs ++ x ∷ []
 take-next xs i x is =
@@ -17,10 +16,6 @@ pub all_at : {X : Type 0} (P : X → Type 0) (xs : List X) (i : ℕ) (x : X) →
 all_at P xs i x is all = subst P (get_or_from_slice_get xs i x x is) (All-get_or P xs i x (slice_get_within xs i x is) all)
 
 -- a piece and another
-pub and_then : {a b c : Option (List ℕ)} {f g h : ℕ} {l m n : Gathered} {s t : List ℕ} → Gathers a b f g l m s → Gathers b c g h m n t
-    → Gathers a c f h l n (s ++ t)
-and_then {s = s} {t = t} first second start before text is = rw (← (append_assoc text s t)) (second start before _ (first start before text is))
-
 -- the text of one more element
 pub flat_map-next : {X : Type 0} (f : X → List ℕ) (front : List ℕ) (xs : List X) (i : ℕ) (x : X) → slice_get xs i ≡ Some x
     → front ++ flat_map f (take (i + 1) xs) ≡ (front ++ flat_map f (take i xs)) ++ f x

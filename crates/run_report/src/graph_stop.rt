@@ -4,26 +4,27 @@ ghost use Rattle.std.specs.Prelude.{◌<◌, IfSome, map, flat_map, length, slic
 ghost use Rattle.vcp_base.specs.Stops.{told_stop, told_turn};
 ghost use Rattle.vcp_outside.specs.Written.{WritesTo};
 ghost use Rattle.op_graph.specs.Lists.{turns_of};
-ghost use Rattle.vcp_outside.specs.Gathering.{GathersTo};
+ghost use Rattle.vcp_outside.specs.Pens.{Goes};
 ghost use Rattle.run_report.specs.Lines.{stop_text, turn_text};
 
 use crate::lines::{begin_stop, then_turn};
 use op_graph::Graph;
 use vcp_base::StopKind;
-use vcp_outside::{Failed, Line, Sink};
+use vcp_outside::{Failed, Pen, Sink};
 
 /// Goes on with the turns round operation `op`, outermost first: the name of each control variable, and its
 /// value.
-pub fn then_turns_round<O: Sink>(line: &mut Line, out: &mut O, graph: &Graph, op: u32)
+pub fn then_turns_round<P: Pen>(mut pen: P, graph: &Graph, op: u32) -> P
     requires { op < length graph.now.operations }
     ensures { IfSome (slice_get graph.now.operations op)
-        (λ o. GathersTo (O.seen out.old) (O.seen out.new) line.old line.new
+        (λ o. Goes (P.seen pen) (P.seen result)
         (flat_map turn_text (map (told_turn graph.now.names) (turns_of graph.now o.turn)))) }
 {
     let mut turns = graph.turns(op);
     'turns: while let Some(turn) = turns.next() {
-        then_turn(line, out, graph.name(turn.name), turn.value);
+        pen = then_turn(pen, graph.name(turn.name), turn.value);
     }
+    pen
 }
 
 /// Writes that operation `op` of a graph stopped in a cycle, which is counted from 0: why, its place
@@ -41,7 +42,6 @@ pub fn graph_stop_line<O: Sink>(
         (λ o. WritesTo (O.seen out.old) (O.seen out.new)
         (stop_text cycle (told_stop graph.now.names kind o.spot (turns_of graph.now o.turn))) result) }
 {
-    let mut line = begin_stop(out, cycle, kind, graph.operation(op).spot);
-    then_turns_round(&mut line, out, graph, op);
-    line.end(out)
+    let pen = begin_stop(out, cycle, kind, graph.operation(op).spot);
+    then_turns_round(pen, graph, op).end()
 }

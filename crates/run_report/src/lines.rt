@@ -5,12 +5,13 @@ ghost use Rattle.std.specs.Prelude.{◌≡◌, ◌<◌, ◌≤◌, ◌+◌, ℤ,
 ghost use Rattle.std.specs.Fmt.{signed_decimal};
 ghost use Rattle.vcp_base.specs.Stops.{told_stop, told_turn};
 ghost use Rattle.vcp_outside.specs.Written.{WritesTo};
-ghost use Rattle.vcp_outside.specs.Gathering.{IsGathered, GathersTo, EndsAt};
+ghost use Rattle.vcp_outside.specs.Gathering.{GathersTo, EndsAt};
+ghost use Rattle.vcp_outside.specs.Pens.{penned, HasWritten, Goes};
 ghost use Rattle.run_report.specs.Lines.{header_text, row_text, end_text, cause_text, stop_front, stop_text, refused_front, refused_text, place_text};
-ghost use Rattle.run_report.specs.Lines.{turn_text, value_cell, AreNamed};
+ghost use Rattle.run_report.specs.Lines.{turn_text, name_cell, value_cell, AreNamed};
 
 use vcp_base::{Columns, Residue, Row, Spot, StopKind, Text, Turns, Words, stop_name};
-use vcp_outside::{Failed, Line, ROOM, Sink, begin};
+use vcp_outside::{Failed, Line, LinePen, Pen, ROOM, Sink, begin};
 
 /// Writes the header of a run: `cycle`, and the outputs' names as declared. After `Failed` a part of the line
 /// is written. So is every other line of this crate: exactly that line is written, or, where the sink's count
@@ -18,12 +19,17 @@ use vcp_outside::{Failed, Line, ROOM, Sink, begin};
 pub fn header_line<O: Sink>(out: &mut O, names: &Columns) -> Result<(), Failed>
     ensures { WritesTo (O.seen out.old) (O.seen out.new) (header_text (map (λ c. c.name) names.now)) result }
 {
-    let mut line = Line::new();
-    line.text(out, b"cycle");
+    then_names(LinePen::new(out).text(b"cycle"), names).end()
+}
+
+// Goes on with names, each after a comma.
+fn then_names<P: Pen>(mut pen: P, names: &Columns) -> P
+    ensures { Goes (P.seen pen) (P.seen result) (flat_map name_cell (map (λ c. c.name) names.now)) }
+{
     'names: for i in 0..names.len() {
-        line.texts(out, b",", names.at(i).name.bytes());
+        pen = pen.texts(b",", names.at(i).name.bytes());
     }
-    line.end(out)
+    pen
 }
 
 /// Writes the values of the outputs in a cycle, which is counted from 0. After `Failed` a part of the
@@ -104,55 +110,57 @@ fn are_all(row: &Row, told: usize) -> bool
 pub fn end_line<O: Sink>(out: &mut O, cycles: u32) -> Result<(), Failed>
     ensures { WritesTo (O.seen out.old) (O.seen out.new) (end_text cycles) result }
 {
-    begin(out, b"end ", cycles).end(out)
+    begin(out, b"end ", cycles).end()
 }
 
 // Goes on with a place in a source.
-pub(crate) fn then_place<O: Sink>(line: &mut Line, out: &mut O, spot: Spot)
-    ensures { GathersTo (O.seen out.old) (O.seen out.new) line.old line.new (place_text spot) }
+pub(crate) fn then_place<P: Pen>(pen: P, spot: Spot) -> P
+    ensures { Goes (P.seen pen) (P.seen result) (place_text spot) }
 {
-    line.count(out, spot.line as u64);
-    line.numbered(out, b":", spot.col as u64);
+    pen.count(spot.line as u64).numbered(b":", spot.col as u64)
 }
 
 /// Goes on with why a run stopped, and the place in the source.
-pub fn then_cause<O: Sink>(line: &mut Line, out: &mut O, kind: StopKind, spot: Spot)
-    ensures { GathersTo (O.seen out.old) (O.seen out.new) line.old line.new (cause_text kind spot) }
+pub fn then_cause<P: Pen>(pen: P, kind: StopKind, spot: Spot) -> P
+    ensures { Goes (P.seen pen) (P.seen result) (cause_text kind spot) }
 {
-    line.texts(out, stop_name(kind), b" ");
-    then_place(line, out, spot);
+    let pen = pen.texts(stop_name(kind), b" ");
+    then_place(pen, spot)
 }
 
 // A line that tells a stop up to its turns.
-pub(crate) fn begin_stop<O: Sink>(out: &mut O, cycle: u32, kind: StopKind, spot: Spot) -> Line
-    ensures { IsGathered (O.seen out.old).written (O.seen out.new).written (O.seen out.old).faults (O.seen out.new).faults (stop_front cycle kind spot) result }
+pub(crate) fn begin_stop<'o, O: Sink>(
+    out: &'o mut O,
+    cycle: u32,
+    kind: StopKind,
+    spot: Spot,
+) -> LinePen<'o, O>
+    ensures { HasWritten (O.seen out.old) out.entry.ghost_name (stop_front cycle kind spot)
+        (penned (O.seen result.out.now) result.line result.out.ghost_name) }
 {
-    let mut line = begin(out, b"stop ", cycle);
-    line.text(out, b" ");
-    then_cause(&mut line, out, kind, spot);
-    line
+    let pen = begin(out, b"stop ", cycle).text(b" ");
+    then_cause(pen, kind, spot)
 }
 
 // Goes on with a turn: the name of its control variable, and that variable's value.
-pub(crate) fn then_turn<O: Sink>(line: &mut Line, out: &mut O, name: &Text, value: i64)
-    ensures { GathersTo (O.seen out.old) (O.seen out.new) line.old line.new
+pub(crate) fn then_turn<P: Pen>(pen: P, name: &Text, value: i64) -> P
+    ensures { Goes (P.seen pen) (P.seen result)
         (turn_text (record { name = name.now; value = value })) }
 {
-    line.texts(out, b" ", name.bytes());
-    line.text(out, b"=");
-    line.value(out, value);
+    pen.texts(b" ", name.bytes()).text(b"=").value(value)
 }
 
 // Goes on with the turns round a place, outermost first.
-fn then_turns<O: Sink>(line: &mut Line, out: &mut O, turns: &Turns, names: &Words)
+fn then_turns<P: Pen>(mut pen: P, turns: &Turns, names: &Words) -> P
     requires { AreNamed turns.now names.now }
-    ensures { GathersTo (O.seen out.old) (O.seen out.new) line.old line.new
+    ensures { Goes (P.seen pen) (P.seen result)
         (flat_map turn_text (map (told_turn names.now) turns.now)) }
 {
     'turns: for i in 0..turns.len() {
         let turn = turns.at(i);
-        then_turn(line, out, names.at(turn.name as usize), turn.value);
+        pen = then_turn(pen, names.at(turn.name as usize), turn.value);
     }
+    pen
 }
 
 /// Writes a stop in a cycle, which is counted from 0: its kind, its place in the source and the turns
@@ -170,28 +178,20 @@ pub fn stop_line<O: Sink>(
     ensures { WritesTo (O.seen out.old) (O.seen out.new)
         (stop_text cycle (told_stop names.now kind spot turns.now)) result }
 {
-    let mut line = begin_stop(out, cycle, kind, spot);
-    then_turns(&mut line, out, turns, names);
-    line.end(out)
+    let pen = begin_stop(out, cycle, kind, spot);
+    then_turns(pen, turns, names).end()
 }
 
 /// Goes on with an output that is refused in a cycle, which is counted from 0, the residue that was found
 /// and the expected one.
-pub fn then_refused<O: Sink>(
-    line: &mut Line,
-    out: &mut O,
-    cycle: u32,
-    name: &Text,
-    found: Residue,
-    expected: Residue,
-)
-    ensures { GathersTo (O.seen out.old) (O.seen out.new) line.old line.new
+pub fn then_refused<P: Pen>(pen: P, cycle: u32, name: &Text, found: Residue, expected: Residue) -> P
+    ensures { Goes (P.seen pen) (P.seen result)
         (refused_front cycle name.now found expected) }
 {
-    line.numbered(out, b"refused ", cycle as u64);
-    line.texts(out, b" ", name.bytes());
-    line.numbered(out, b" found ", found);
-    line.numbered(out, b" expected ", expected);
+    pen.numbered(b"refused ", cycle as u64)
+        .texts(b" ", name.bytes())
+        .numbered(b" found ", found)
+        .numbered(b" expected ", expected)
 }
 
 /// Writes that an output is refused in a cycle, which is counted from 0, with the residue that was
@@ -205,7 +205,6 @@ pub fn refused_line<O: Sink>(
 ) -> Result<(), Failed>
     ensures { WritesTo (O.seen out.old) (O.seen out.new) (refused_text cycle name.now found expected) result }
 {
-    let mut line = Line::new();
-    then_refused(&mut line, out, cycle, name, found, expected);
-    line.end(out)
+    let pen = LinePen::new(out);
+    then_refused(pen, cycle, name, found, expected).end()
 }

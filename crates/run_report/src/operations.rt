@@ -5,7 +5,7 @@ ghost use Rattle.std.specs.Prelude.{◌≡◌, ◌<◌, ◌≤◌, ◌++◌, IfS
 ghost use Rattle.std.specs.Fmt.{signed_decimal};
 ghost use Rattle.vcp_base.specs.Limits.{most_cycles};
 ghost use Rattle.vcp_outside.specs.Written.{WritesTo};
-ghost use Rattle.vcp_outside.specs.Gathering.{IsGathered, GathersTo};
+ghost use Rattle.vcp_outside.specs.Pens.{penned, HasWritten, Goes};
 ghost use Rattle.run_report.specs.OperationLines.{shown_operands as shown_operands_of, number_cell, operands_text, own_text, operation_front, code_text};
 ghost use Rattle.run_report.specs.OperationLines.{source_text, list_text, parts_text, trace_text};
 
@@ -15,17 +15,17 @@ use coded_unit::Word;
 use op_graph::{Graph, Op};
 use signature_table::Table;
 use vcp_base::{Kind, Profile, kind_name, operands, ty_name};
-use vcp_outside::{Failed, Line, Sink, begin};
+use vcp_outside::{Failed, LinePen, Pen, Sink, begin};
 
 // A line that begins with an operation's number and kind, and the types of its operands and its result.
-fn begin_operation<O: Sink>(out: &mut O, i: u32, op: &Op) -> Line
-    ensures { IsGathered (O.seen out.old).written (O.seen out.new).written (O.seen out.old).faults (O.seen out.new).faults (operation_front i op.now) result }
+fn begin_operation<'o, O: Sink>(out: &'o mut O, i: u32, op: &Op) -> LinePen<'o, O>
+    ensures { HasWritten (O.seen out.old) out.entry.ghost_name (operation_front i op.now)
+        (penned (O.seen result.out.now) result.line result.out.ghost_name) }
 {
-    let mut line = begin(out, b"", i);
-    line.texts(out, b" ", kind_name(op.kind));
-    line.texts(out, b" ", ty_name(op.from));
-    line.texts(out, b" ", ty_name(op.ty));
-    line
+    begin(out, b"", i)
+        .texts(b" ", kind_name(op.kind))
+        .texts(b" ", ty_name(op.from))
+        .texts(b" ", ty_name(op.ty))
 }
 
 // How many operands a listing shows.
@@ -40,61 +40,61 @@ fn shown_operands(kind: Kind) -> u32
 }
 
 // Goes on with numbers, each after a space.
-fn then_numbers<O: Sink>(line: &mut Line, out: &mut O, numbers: &[u32])
-    ensures { GathersTo (O.seen out.old) (O.seen out.new) line.old line.new (flat_map number_cell numbers.now) }
+fn then_numbers<P: Pen>(mut pen: P, numbers: &[u32]) -> P
+    ensures { Goes (P.seen pen) (P.seen result) (flat_map number_cell numbers.now) }
 {
     'numbers: for i in 0..numbers.len() {
-        line.numbered(out, b" ", numbers[i] as u64);
+        pen = pen.numbered(b" ", numbers[i] as u64);
     }
+    pen
 }
 
 // Goes on with the operations that the operands read.
-fn then_operands<O: Sink>(line: &mut Line, out: &mut O, op: &Op)
-    ensures { GathersTo (O.seen out.old) (O.seen out.new) line.old line.new (operands_text op.now) }
+fn then_operands<P: Pen>(pen: P, op: &Op) -> P
+    ensures { Goes (P.seen pen) (P.seen result) (operands_text op.now) }
 {
     let read = [op.a, op.b, op.c];
-    then_numbers(line, out, &read[..shown_operands(op.kind) as usize]);
+    then_numbers(pen, &read[..shown_operands(op.kind) as usize])
 }
 
 // Goes on with a word and a number.
-fn then_own<O: Sink>(line: &mut Line, out: &mut O, word: &[u8], number: i64)
-    ensures { GathersTo (O.seen out.old) (O.seen out.new) line.old line.new (word.now ++ signed_decimal number) }
+fn then_own<P: Pen>(pen: P, word: &[u8], number: i64) -> P
+    ensures { Goes (P.seen pen) (P.seen result) (word.now ++ signed_decimal number) }
 {
-    line.text(out, word);
-    line.value(out, number);
+    pen.text(word).value(number)
 }
 
 // Goes on with the operation's own number, where its kind has one.
-fn then_own_number<O: Sink>(line: &mut Line, out: &mut O, kind: Kind, imm: i64)
-    ensures { GathersTo (O.seen out.old) (O.seen out.new) line.old line.new (own_text kind imm) }
+fn then_own_number<P: Pen>(pen: P, kind: Kind, imm: i64) -> P
+    ensures { Goes (P.seen pen) (P.seen result) (own_text kind imm) }
 {
     match kind {
-        Kind::Input => then_own(line, out, b" in ", imm),
-        Kind::Const => then_own(line, out, b" val ", imm),
-        Kind::Load | Kind::Store => then_own(line, out, b" cell ", imm),
-        Kind::Out => then_own(line, out, b" out ", imm),
-        _ => {}
+        Kind::Input => then_own(pen, b" in ", imm),
+        Kind::Const => then_own(pen, b" val ", imm),
+        Kind::Load | Kind::Store => then_own(pen, b" cell ", imm),
+        Kind::Out => then_own(pen, b" out ", imm),
+        _ => pen,
     }
 }
 
 // Goes on with the signature and the correction of operation `i`.
-fn then_code<O: Sink>(line: &mut Line, out: &mut O, table: &Table, i: u32)
+fn then_code<P: Pen>(pen: P, table: &Table, i: u32) -> P
     requires { i < length table.now.corrections }
-    ensures { GathersTo (O.seen out.old) (O.seen out.new) line.old line.new (code_text table.now i) }
+    ensures { Goes (P.seen pen) (P.seen result) (code_text table.now i) }
 {
-    line.numbered(out, b" sig ", table.signature(i));
-    line.numbered(out, b" cor ", table.correction(i));
+    pen.numbered(b" sig ", table.signature(i))
+        .numbered(b" cor ", table.correction(i))
 }
 
 /// Goes on with the place of operation `i` in the source, and the turns round it, outermost first.
-pub fn then_source<O: Sink>(line: &mut Line, out: &mut O, graph: &Graph, i: u32)
+pub fn then_source<P: Pen>(pen: P, graph: &Graph, i: u32) -> P
     requires { i < length graph.now.operations }
     ensures { IfSome (slice_get graph.now.operations i)
-        (λ op. GathersTo (O.seen out.old) (O.seen out.new) line.old line.new (source_text graph.now op)) }
+        (λ op. Goes (P.seen pen) (P.seen result) (source_text graph.now op)) }
 {
-    line.text(out, b" at ");
-    then_place(line, out, graph.operation(i).spot);
-    then_turns_round(line, out, graph, i);
+    let pen = pen.text(b" at ");
+    let pen = then_place(pen, graph.operation(i).spot);
+    then_turns_round(pen, graph, i)
 }
 
 /// Writes operation `i` of a graph and its table: its kind and types, the operations that it reads,
@@ -107,21 +107,19 @@ pub fn list_line<O: Sink>(out: &mut O, graph: &Graph, table: &Table, i: u32) -> 
         (λ op. WritesTo (O.seen out.old) (O.seen out.new) (list_text graph.now table.now i op) result) }
 {
     let op = graph.operation(i);
-    let mut line = begin_operation(out, i, &op);
-    then_operands(&mut line, out, &op);
-    then_own_number(&mut line, out, op.kind, op.imm);
-    then_code(&mut line, out, table, i);
-    then_source(&mut line, out, graph, i);
-    line.end(out)
+    let pen = begin_operation(out, i, &op);
+    let pen = then_operands(pen, &op);
+    let pen = then_own_number(pen, op.kind, op.imm);
+    let pen = then_code(pen, table, i);
+    then_source(pen, graph, i).end()
 }
 
 // Goes on with the value and the residue of a word in a code.
-fn then_parts<O: Sink>(line: &mut Line, out: &mut O, profile: Profile, word: Word)
-    ensures { GathersTo (O.seen out.old) (O.seen out.new) line.old line.new (parts_text profile word) }
+fn then_parts<P: Pen>(pen: P, profile: Profile, word: Word) -> P
+    ensures { Goes (P.seen pen) (P.seen result) (parts_text profile word) }
 {
     let (value, residue) = word.split(profile);
-    line.long_value(out, value);
-    line.numbered(out, b" ", residue);
+    pen.long_value(value).numbered(b" ", residue)
 }
 
 /// Writes the word that operation `i` of a graph and its table gave in a cycle, which is counted from
@@ -142,12 +140,12 @@ pub fn trace_line<O: Sink>(
         (λ op. WritesTo (O.seen out.old) (O.seen out.new)
         (trace_text graph.now.profile table.now i cycle op.kind word) result) }
 {
-    let mut line = begin(out, b"", i);
-    line.texts(out, b" ", kind_name(graph.operation(i).kind));
-    line.text(out, b" ");
-    line.long_value(out, word.get());
-    line.text(out, b" ");
-    then_parts(&mut line, out, graph.profile(), word);
-    line.numbered(out, b" ", table.expected(i, cycle));
-    line.end(out)
+    let pen = begin(out, b"", i)
+        .texts(b" ", kind_name(graph.operation(i).kind))
+        .text(b" ")
+        .long_value(word.get())
+        .text(b" ");
+    then_parts(pen, graph.profile(), word)
+        .numbered(b" ", table.expected(i, cycle))
+        .end()
 }

@@ -4,6 +4,7 @@ ghost use Rattle.vcp_outside.specs.Written.{WritesTo};
 ghost use Rattle.run_report.specs.SummaryLine.{summary_text};
 
 use vcp_outside::{Failed, Sink, begin};
+use vcp_outside::Pen;
 
 /// Writes, for the made program of a number, the cycles of its run, the last value of its output, and
 /// the sum of all values of that. After `Failed` a part of the line is written.
@@ -16,11 +17,11 @@ pub fn summary_line<O: Sink>(
 ) -> Result<(), Failed>
     ensures { WritesTo (O.seen out.old) (O.seen out.new) (summary_text number cycles last sum) result }
 {
-    let mut line = begin(out, b"demo ", number);
-    line.numbered(out, b" cycles ", cycles as u64);
-    line.text(out, b" last ");
-    line.value(out, last);
-    line.text(out, b" sum ");
-    line.long_value(out, sum);
-    line.end(out)
+    begin(out, b"demo ", number)
+        .numbered(b" cycles ", cycles as u64)
+        .text(b" last ")
+        .value(last)
+        .text(b" sum ")
+        .long_value(sum)
+        .end()
 }

@@ -1,13 +1,13 @@
 use Rattle.std.proofs.Common.{length}
-use Rattle.vcp_outside.specs.Gathering.{GathersTo}
 use Rattle.run_report.specs.Lines.{AreNamed}
 use Rattle.run_report.proofs.Turns.{Told}
+use Rattle.vcp_outside.specs.Pens.{Goes}
 use Rattle.run_report.proofs.graph_stop.then_turns_round.Given as goal
 
 abbrev pub invariant-turns : goal.invariant-turns
 invariant-turns g l = record {
   told : Told l.graph.names l.initial.turns l.turns
-      (λ text. GathersTo (g.O.Sink.seen l.fn.out) (g.O.Sink.seen l.out) l.fn.line l.line text);
+      (λ text. Goes (g.P.Pen.seen l.fn.pen) (g.P.Pen.seen l.pen) text);
   named : AreNamed l.turns l.graph.names;
 }
 

@@ -6,17 +6,17 @@ use Rattle.run_report.proofs.Texts.{flat_map-next}
 use Rattle.run_report.proofs.operations.then_numbers.Goals as goal
 
 pub numbers-init : goal.numbers-init
-numbers-init g c start before text is = rw append-nil is
+numbers-init g c sink name text is = rw append-nil is
 
 pub numbers-preserved : goal.numbers-preserved
-numbers-preserved g c start before text is =
+numbers-preserved g c sink name text is =
     let numbers = c.args.numbers.now in
     let inside : c.numbers.i < length numbers = omega arith in
     let next = get_or numbers c.numbers.i 0 in
     rw (flat_map-next number_cell text numbers c.numbers.i next (slice_get-get_or numbers c.numbers.i 0 inside))
-    (c.numbered.ensures.gathers _ _ _ (c.numbers.invariant start before text is))
+    (c.numbered-pen.ensures _ _ _ (c.numbers.invariant sink name text is))
 
 pub returns : goal.returns
-returns g c start before text is =
+returns g c sink name text is =
     let whole : take c.numbers.i c.args.numbers.now ≡ c.args.numbers.now = take_all c.numbers.i c.args.numbers.now (omega arith) in
-    rw whole at (c.numbers.invariant start before text is)
+    rw whole at (c.numbers.invariant sink name text is)

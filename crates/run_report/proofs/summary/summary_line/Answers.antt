@@ -1,7 +1,8 @@
-use Rattle.std.proofs.Common.{◌≡◌, ℕ, List, ◌++◌, codes, append_assoc, rules, w64}
+use Rattle.std.proofs.Common.{◌≡◌, ℕ, List, ◌++◌, codes, append_assoc, rules, w64, refl}
 use Rattle.std.specs.Int.{w128}
 use mir.Val.{SFits}
 use Rattle.std.proofs.Math.Facts.{to_z-of_z}
+use Rattle.vcp_outside.specs.Pens.{ended}
 use Rattle.run_report.proofs.summary.summary_line.Goals as goal
 
 pieces : (number cycles last sum : List ℕ)
@@ -13,7 +14,7 @@ pub returns : goal.returns
 returns g c =
     let last_fits : SFits w64 c.args.last = search rules in
     let sum_fits : SFits w128 c.args.sum = search rules in
-    let cycles = c.numbered.ensures.gathers _ _ _ c.begin-line.ensures in
-    let last = rw (to_z-of_z {w = w64} {z = c.args.last} last_fits) at (c.value.ensures.gathers _ _ _ (c.text.ensures.gathers _ _ _ cycles)) in
-    let sum = rw (to_z-of_z {w = w128} {z = c.args.sum} sum_fits) at (c.long_value.ensures.gathers _ _ _ (c.text-2.ensures.gathers _ _ _ last)) in
-    rw pieces (c.end.ensures.writes _ _ _ sum)
+    let cycles = c.numbered.ensures _ _ _ c.begin.ensures in
+    let last = rw (to_z-of_z {w = w64} {z = c.args.last} last_fits) at (c.value.ensures _ _ _ (c.text.ensures _ _ _ cycles)) in
+    let sum = rw (to_z-of_z {w = w128} {z = c.args.sum} sum_fits) at (c.long_value.ensures _ _ _ (c.text-2.ensures _ _ _ last)) in
+    ended g.O.Sink.seen (search rules) sum c.end.ensures (rw pieces refl)
