@@ -5,7 +5,7 @@ ghost use Rattle.vcp_outside.specs.Written.{WritesTo};
 ghost use Rattle.weight_audit.specs.AuditLines.{reached_text, blind_text};
 
 use vcp_base::{Kind, Text, kind_name};
-use vcp_outside::{Failed, Line, Sink, begin};
+use vcp_outside::{Failed, LinePen, Pen, Sink, begin};
 
 /// Writes, for an output and a number of cycle borders, from how many operations a data path leads to the
 /// output across exactly these borders, and how many of these operations are blind: the differences that are
@@ -20,12 +20,12 @@ pub fn reached_line<O: Sink>(
 ) -> Result<(), Failed>
     ensures { WritesTo (O.seen out.old) (O.seen out.new) (reached_text name.now after reached blind) result }
 {
-    let mut line = Line::new();
-    line.text(out, name.bytes());
-    line.numbered(out, b" ", after as u64);
-    line.numbered(out, b" reached ", reached as u64);
-    line.numbered(out, b" blind ", blind as u64);
-    line.end(out)
+    LinePen::new(out)
+        .text(name.bytes())
+        .numbered(b" ", after as u64)
+        .numbered(b" reached ", reached as u64)
+        .numbered(b" blind ", blind as u64)
+        .end()
 }
 
 /// Writes an operation that is blind, with its kind. After `Failed` a part of the line is written. That comes
@@ -33,7 +33,5 @@ pub fn reached_line<O: Sink>(
 pub fn blind_line<O: Sink>(out: &mut O, op: u32, kind: Kind) -> Result<(), Failed>
     ensures { WritesTo (O.seen out.old) (O.seen out.new) (blind_text op kind) result }
 {
-    let mut line = begin(out, b"blind ", op);
-    line.texts(out, b" ", kind_name(kind));
-    line.end(out)
+    begin(out, b"blind ", op).texts(b" ", kind_name(kind)).end()
 }

@@ -1,5 +1,5 @@
-use Rattle.std.proofs.Common.{◌≡◌, ℕ, List, ◌++◌, codes, decimal, append_assoc}
-use Rattle.vcp_outside.specs.SameText.{written_same}
+use Rattle.std.proofs.Common.{◌≡◌, ℕ, List, ◌++◌, codes, decimal, append_assoc, rules}
+use Rattle.vcp_outside.specs.Pens.{ended}
 use Rattle.weight_audit.proofs.report.lines.blind_line.Goals as goal
 
 pieces : (op kind : List ℕ) → codes "blind " ++ (op ++ (codes " " ++ (kind ++ codes "\n"))) ≡ codes "blind " ++ op ++ (codes " " ++ kind) ++ codes "\n"
@@ -7,5 +7,5 @@ pieces op kind = simp append_assoc
 
 pub returns : goal.returns
 returns g c =
-    let all = rw c.kind_name.ensures at (c.texts.ensures.gathers _ _ _ c.begin-line.ensures) in
-    written_same (c.end.ensures.writes _ _ _ all) (pieces (decimal c.args.op) _)
+    let all = rw c.kind_name.ensures at (c.texts.ensures _ _ _ c.begin.ensures) in
+    ended g.O.Sink.seen (search rules) all c.end.ensures (pieces (decimal c.args.op) _)

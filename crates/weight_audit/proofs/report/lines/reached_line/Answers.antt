@@ -1,5 +1,5 @@
-use Rattle.std.proofs.Common.{◌≡◌, ℕ, List, ◌++◌, codes, decimal, append_assoc}
-use Rattle.vcp_outside.specs.SameText.{written_same}
+use Rattle.std.proofs.Common.{◌≡◌, ℕ, List, ◌++◌, codes, decimal, append_assoc, rules}
+use Rattle.vcp_outside.specs.Pens.{ended}
 use Rattle.weight_audit.proofs.report.lines.reached_line.Goals as goal
 
 pieces : (name after reached blind : List ℕ)
@@ -9,6 +9,6 @@ pieces name after reached blind = simp append_assoc
 
 pub returns : goal.returns
 returns g c =
-    let named = rw c.bytes.ensures at (c.text.ensures.gathers _ _ _ (c.new-line.ensures.begun _ _)) in
-    let all = c.numbered-3.ensures.gathers _ _ _ (c.numbered-2.ensures.gathers _ _ _ (c.numbered.ensures.gathers _ _ _ named)) in
-    written_same (c.end.ensures.writes _ _ _ all) (pieces c.args.name.now (decimal c.args.after) (decimal c.args.reached) (decimal c.args.blind))
+    let named = rw c.bytes.ensures at (c.text.ensures _ _ _ c.new.ensures) in
+    let all = c.numbered-3.ensures _ _ _ (c.numbered-2.ensures _ _ _ (c.numbered.ensures _ _ _ named)) in
+    ended g.O.Sink.seen (search rules) all c.end.ensures (pieces c.args.name.now (decimal c.args.after) (decimal c.args.reached) (decimal c.args.blind))
