@@ -1,7 +1,6 @@
 mod Boxed
 mod Closer
 mod Cycles
-mod Going
 mod Joined
 mod NoneNamed
 mod Steps

@@ -2,7 +2,7 @@
 
 ghost use Rattle.std.specs.Prelude.{◌≡◌, ◌<◌, length, slice_get};
 ghost use Rattle.vcp_outside.specs.Written.{WritesTo};
-ghost use Rattle.vcp_outside.specs.Gathering.{GathersTo};
+ghost use Rattle.vcp_outside.specs.Pens.{Goes};
 ghost use Rattle.range_audit.specs.Audit.{named_below};
 ghost use Rattle.range_audit.specs.RangeText.{able_below, counts_text, lines_of, lines_below, search_text, ranges_text};
 
@@ -13,75 +13,53 @@ use crate::report::variables::then_variables;
 use op_graph::Graph;
 use range_walk::Ranges;
 use vcp_base::StopKind;
-use vcp_outside::{Failed, Line, Sink};
+use vcp_outside::{Failed, LinePen, Pen, Sink};
 
 /// Goes on with the lines of operation `i`.
-fn then_operation<O: Sink>(
-    line: &mut Line,
-    out: &mut O,
-    graph: &Graph,
-    ranges: &Ranges,
-    i: u32,
-    all: bool,
-)
+fn then_operation<P: Pen>(pen: P, graph: &Graph, ranges: &Ranges, i: u32, all: bool) -> P
     requires there { i < length graph.now.operations }
     requires stops { length ranges.now.stops ≡ length graph.now.operations }
-    ensures { GathersTo (O.seen out.old) (O.seen out.new) line.old line.new
+    ensures { Goes (P.seen pen) (P.seen result)
         (lines_of all graph.now ranges.now.known i (slice_get graph.now.operations i) (slice_get ranges.now.stops i)) }
 {
     let op = graph.operation(i);
     let stops = ranges.stops_at(i as usize);
     let known = ranges.known();
-    then_known(line, out, graph, known, i, &op, all);
-    then_named(
-        line,
-        out,
-        graph,
-        known,
-        i,
-        &op,
-        StopKind::Range,
-        stops.range,
-    );
-    then_named(
-        line,
-        out,
-        graph,
-        known,
-        i,
-        &op,
-        StopKind::DivZero,
-        stops.div_zero,
-    );
+    let pen = then_known(pen, graph, known, i, &op, all);
+    let pen = then_named(pen, graph, known, i, &op, StopKind::Range, stops.range);
+    then_named(pen, graph, known, i, &op, StopKind::DivZero, stops.div_zero)
 }
 
 /// Goes on with the lines of the operations.
-fn then_operations<O: Sink>(line: &mut Line, out: &mut O, graph: &Graph, ranges: &Ranges, all: bool)
+fn then_operations<P: Pen>(mut pen: P, graph: &Graph, ranges: &Ranges, all: bool) -> P
     requires { length ranges.now.stops ≡ length graph.now.operations }
-    ensures { GathersTo (O.seen out.old) (O.seen out.new) line.old line.new (lines_below all graph.now ranges.now (length graph.now.operations)) }
+    ensures { Goes (P.seen pen) (P.seen result) (lines_below all graph.now ranges.now (length graph.now.operations)) }
 {
     'operations: for i in 0..graph.len() {
-        then_operation(line, out, graph, ranges, i, all);
+        pen = then_operation(pen, graph, ranges, i, all);
     }
+    pen
 }
 
 /// Goes on with the line that it wasn't searched closer, where a graph has too many operations.
-fn then_search<O: Sink>(line: &mut Line, out: &mut O, graph: &Graph)
-    ensures { GathersTo (O.seen out.old) (O.seen out.new) line.old line.new (search_text (length graph.now.operations)) }
+fn then_search<P: Pen>(pen: P, graph: &Graph) -> P
+    ensures { Goes (P.seen pen) (P.seen result) (search_text (length graph.now.operations)) }
 {
     if graph.len() > MOST_SEARCHED {
-        line.text(out, b"no search: more than 8192 operations\n");
+        pen.text(b"no search: more than 8192 operations\n")
+    } else {
+        pen
     }
 }
 
 /// Goes on with how many operations may stop, of how many that can by their kinds and types.
-fn then_counts<O: Sink>(line: &mut Line, out: &mut O, graph: &Graph, ranges: &Ranges)
+fn then_counts<P: Pen>(pen: P, graph: &Graph, ranges: &Ranges) -> P
     requires { length ranges.now.stops ≡ length graph.now.operations }
-    ensures { GathersTo (O.seen out.old) (O.seen out.new) line.old line.new
+    ensures { Goes (P.seen pen) (P.seen result)
         (counts_text (named_below ranges.now.stops (length graph.now.operations)) (able_below graph.now (length graph.now.operations))) }
 {
-    line.numbered(out, b"may stop ", count_named(graph, ranges) as u64);
-    line.numbered(out, b" of ", count_able(graph) as u64);
+    pen.numbered(b"may stop ", count_named(graph, ranges) as u64)
+        .numbered(b" of ", count_able(graph) as u64)
 }
 
 /// Writes a line for each way in which an operation may stop, in order, and before these, where `all` are wanted, one with the range of
@@ -100,11 +78,10 @@ pub fn write_ranges<O: Sink>(
     requires { length ranges.now.stops ≡ length graph.now.operations }
     ensures { WritesTo (O.seen out.old) (O.seen out.new) (ranges_text all graph.now ranges.now) result }
 {
-    let mut line = Line::new();
     let known = ranges.known();
-    then_variables(&mut line, out, graph, known, all);
-    then_operations(&mut line, out, graph, ranges, all);
-    then_search(&mut line, out, graph);
-    then_counts(&mut line, out, graph, ranges);
-    line.end(out)
+    let pen = LinePen::new(out);
+    let pen = then_variables(pen, graph, known, all);
+    let pen = then_operations(pen, graph, ranges, all);
+    let pen = then_search(pen, graph);
+    then_counts(pen, graph, ranges).end()
 }

@@ -1,7 +1,7 @@
 use Rattle.std.proofs.Common.{◌≤◌, length, pos, false, arith}
 use Rattle.std.proofs.lemmas.Option.{slice_get_past, slice_get-get_or}
 use Rattle.range_walk.specs.declared.range.Range.{Range}
-use Rattle.range_audit.proofs.Going.{unmoved}
+use Rattle.vcp_outside.specs.Pens.{unmoved}
 use Rattle.range_audit.proofs.report.lines.then_there.Goals as goal
 
 pub returns-then-place-known : goal.returns-then-place-known

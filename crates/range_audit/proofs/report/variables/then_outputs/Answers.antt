@@ -1,5 +1,5 @@
 use Rattle.std.proofs.Common.{◌≡◌, length, add-one, arith}
-use Rattle.range_audit.proofs.Going.{and_then, unmoved}
+use Rattle.vcp_outside.specs.Pens.{unmoved, and_then}
 use Rattle.range_audit.proofs.report.variables.then_outputs.Goals as goal
 
 pub lines-init : goal.lines-init
@@ -7,7 +7,7 @@ lines-init g c = unmoved
 
 pub lines-preserved : goal.lines-preserved
 lines-preserved g c =
-    rw (add-one c.lines.i, c.output-output.ensures) (and_then c.lines.invariant (rw c.variable_name-name.ensures at c.then_variable.ensures))
+    rw (add-one c.lines.i, c.output-output.ensures) (and_then c.lines.invariant (rw c.variable_name-name.ensures at c.then_variable-pen.ensures))
 
 pub returns : goal.returns
 returns g c =
