@@ -1,7 +1,6 @@
 pub mod WorkedGroups
 pub mod WorkedVerdicts
 mod FaultRows
-mod Going
 pub mod AcceptedShown
 pub mod AloneRun
 pub mod Carrying

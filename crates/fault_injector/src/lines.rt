@@ -5,7 +5,7 @@
 ghost use Rattle.std.specs.Prelude.{◌≡◌, ◌<◌, length};
 ghost use Rattle.vcp_outside.specs.Written.{WritesTo};
 ghost use Rattle.fault_injector.specs.Names.{Names};
-ghost use Rattle.vcp_outside.specs.Gathering.{GathersTo};
+ghost use Rattle.vcp_outside.specs.Pens.{Goes};
 ghost use Rattle.fault_injector.specs.FaultLines.{wrong_text, stopped_text, what_shows, verdict_text, faults as faults_of};
 ghost use Rattle.fault_injector.specs.FaultLines.{counted, no_verdicts, totals_front, totals_text};
 
@@ -13,7 +13,7 @@ use crate::Verdict;
 use op_graph::Graph;
 use run_report::{output_name, then_cause, then_refused, then_turns_round};
 use vcp_base::{StopKind, Text};
-use vcp_outside::{Failed, Line, Sink, begin};
+use vcp_outside::{Failed, LinePen, Pen, Sink, begin};
 
 /// How many faults of a script have which verdict.
 #[derive(Clone, Copy)]
@@ -71,63 +71,50 @@ impl Totals {
 }
 
 // Goes on with a cycle, an output's name and the values with and without the fault.
-fn then_wrong<O: Sink>(line: &mut Line, out: &mut O, cycle: u32, name: &Text, got: i64, want: i64)
-    ensures { GathersTo (O.seen out.old) (O.seen out.new) line.old line.new (wrong_text cycle name.now got want) }
+fn then_wrong<P: Pen>(pen: P, cycle: u32, name: &Text, got: i64, want: i64) -> P
+    ensures { Goes (P.seen pen) (P.seen result) (wrong_text cycle name.now got want) }
 {
-    line.numbered(out, b"wrong ", cycle as u64);
-    line.texts(out, b" ", name.bytes());
-    line.signed(out, b" got ", got);
-    line.signed(out, b" want ", want);
+    pen.numbered(b"wrong ", cycle as u64)
+        .texts(b" ", name.bytes())
+        .signed(b" got ", got)
+        .signed(b" want ", want)
 }
 
 // Goes on with the cycle and the operation of a stop, why it stopped, its place in the source, and the turns round it.
-fn then_stopped<O: Sink>(
-    line: &mut Line,
-    out: &mut O,
-    cycle: u32,
-    graph: &Graph,
-    op: u32,
-    kind: StopKind,
-)
+fn then_stopped<P: Pen>(pen: P, cycle: u32, graph: &Graph, op: u32, kind: StopKind) -> P
     requires { op < length graph.now.operations }
-    ensures { GathersTo (O.seen out.old) (O.seen out.new) line.old line.new (stopped_text graph.now cycle op kind) }
+    ensures { Goes (P.seen pen) (P.seen result) (stopped_text graph.now cycle op kind) }
 {
-    line.numbered(out, b"stopped ", cycle as u64);
-    line.numbered(out, b" ", op as u64);
-    line.text(out, b" ");
-    then_cause(line, out, kind, graph.operation(op).spot);
-    then_turns_round(line, out, graph, op);
+    let pen = pen
+        .numbered(b"stopped ", cycle as u64)
+        .numbered(b" ", op as u64)
+        .text(b" ");
+    let pen = then_cause(pen, kind, graph.operation(op).spot);
+    then_turns_round(pen, graph, op)
 }
 
 /// Goes on with a verdict: in which cycle it shows, at which output or operation of the graph, and by what.
-pub fn then_verdict<O: Sink>(line: &mut Line, out: &mut O, graph: &Graph, verdict: &Verdict)
+pub fn then_verdict<P: Pen>(pen: P, graph: &Graph, verdict: &Verdict) -> P
     requires { Names (length graph.now.outputs) (length graph.now.operations) verdict.now }
-    ensures { GathersTo (O.seen out.old) (O.seen out.new) line.old line.new (what_shows graph.now verdict.now) }
+    ensures { Goes (P.seen pen) (P.seen result) (what_shows graph.now verdict.now) }
 {
     match *verdict {
-        Verdict::Same => line.text(out, b"same"),
+        Verdict::Same => pen.text(b"same"),
         Verdict::Wrong {
             cycle,
             output,
             got,
             want,
-        } => then_wrong(line, out, cycle, output_name(graph, output), got, want),
+        } => then_wrong(pen, cycle, output_name(graph, output), got, want),
         // Up to that cycle no output was refused.
-        Verdict::RanOn { cycle } => line.numbered(out, b"ran-on ", cycle as u64),
+        Verdict::RanOn { cycle } => pen.numbered(b"ran-on ", cycle as u64),
         Verdict::Refused {
             cycle,
             output,
             found,
             expected,
-        } => then_refused(
-            line,
-            out,
-            cycle,
-            output_name(graph, output),
-            found,
-            expected,
-        ),
-        Verdict::Stopped { cycle, op, kind } => then_stopped(line, out, cycle, graph, op, kind),
+        } => then_refused(pen, cycle, output_name(graph, output), found, expected),
+        Verdict::Stopped { cycle, op, kind } => then_stopped(pen, cycle, graph, op, kind),
     }
 }
 
@@ -144,22 +131,20 @@ pub fn verdict_line<O: Sink>(
     requires { Names (length graph.now.outputs) (length graph.now.operations) verdict.now }
     ensures { WritesTo (O.seen out.old) (O.seen out.new) (verdict_text graph.now line verdict.now) result }
 {
-    let mut text = begin(out, b"", line);
-    text.text(out, b" ");
-    then_verdict(&mut text, out, graph, verdict);
-    text.end(out)
+    let pen = begin(out, b"", line).text(b" ");
+    then_verdict(pen, graph, verdict).end()
 }
 
 /// Goes on with totals: how many faults a script has, and how many of each verdict.
-pub fn then_totals<O: Sink>(line: &mut Line, out: &mut O, totals: &Totals)
-    ensures { GathersTo (O.seen out.old) (O.seen out.new) line.old line.new (totals_front totals.now) }
+pub fn then_totals<P: Pen>(pen: P, totals: &Totals) -> P
+    ensures { Goes (P.seen pen) (P.seen result) (totals_front totals.now) }
 {
-    line.numbered(out, b"faults ", totals.faults());
-    line.numbered(out, b" same ", totals.same as u64);
-    line.numbered(out, b" wrong ", totals.wrong as u64);
-    line.numbered(out, b" ran-on ", totals.ran_on as u64);
-    line.numbered(out, b" refused ", totals.refused as u64);
-    line.numbered(out, b" stopped ", totals.stopped as u64);
+    pen.numbered(b"faults ", totals.faults())
+        .numbered(b" same ", totals.same as u64)
+        .numbered(b" wrong ", totals.wrong as u64)
+        .numbered(b" ran-on ", totals.ran_on as u64)
+        .numbered(b" refused ", totals.refused as u64)
+        .numbered(b" stopped ", totals.stopped as u64)
 }
 
 /// Writes the line of totals. After `Failed` a part of the line is written. The line has their sum and each
@@ -167,7 +152,6 @@ pub fn then_totals<O: Sink>(line: &mut Line, out: &mut O, totals: &Totals)
 pub fn totals_line<O: Sink>(out: &mut O, totals: &Totals) -> Result<(), Failed>
     ensures { WritesTo (O.seen out.old) (O.seen out.new) (totals_text totals.now) result }
 {
-    let mut line = Line::new();
-    then_totals(&mut line, out, totals);
-    line.end(out)
+    let pen = LinePen::new(out);
+    then_totals(pen, totals).end()
 }

@@ -13,7 +13,7 @@ pub then_stopped-requires : goal.then_stopped-requires
 then_stopped-requires g c = rw c.in-Stopped.is at c.requires
 
 pub returns-in-Same : goal.returns-in-Same
-returns-in-Same g c = rw c.in-Same.is c.text.ensures.gathers
+returns-in-Same g c = rw c.in-Same.is c.text.ensures
 
 pub returns-in-Wrong : goal.returns-in-Wrong
 returns-in-Wrong g c =
@@ -23,7 +23,7 @@ returns-in-Wrong g c =
     rw c.in-Wrong.is told
 
 pub returns-in-RanOn : goal.returns-in-RanOn
-returns-in-RanOn g c = rw c.in-RanOn.is c.numbered.ensures.gathers
+returns-in-RanOn g c = rw c.in-RanOn.is c.numbered.ensures
 
 pub returns-in-Refused : goal.returns-in-Refused
 returns-in-Refused g c = rw c.in-Refused.is (rw c.output_name-in-Refused.ensures at c.then_refused.ensures)

@@ -1,4 +1,6 @@
+use Rattle.std.proofs.Common.{rules, refl}
+use Rattle.vcp_outside.specs.Pens.{ended}
 use Rattle.fault_injector.proofs.lines.totals_line.Goals as goal
 
 pub returns : goal.returns
-returns g c = c.end.ensures.writes _ _ _ (c.then_totals.ensures _ _ _ (c.new-line.ensures.begun _ _))
+returns g c = ended g.O.Sink.seen (search rules) (c.then_totals.ensures _ _ _ (c.new-pen.ensures)) c.end.ensures refl
