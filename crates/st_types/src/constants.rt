@@ -1,6 +1,6 @@
 //! Constants: the bounds and steps of FORs, and the ends of labels.
 
-ghost use Rattle.std.specs.Prelude.{◌≡◌, ◌≢◌, pos, IfSome, None, Some, option_map, option_and_then};
+ghost use Rattle.std.specs.Prelude.{◌≡◌, ◌≢◌, pos, IfSome, None, Some, option_and_then};
 ghost use Rattle.st_tree.specs.ExprViews.{expr_tree, expr_tree_or_none};
 ghost use Rattle.st_types.specs.declared.fault.Rule.TheVariants as rule_;
 ghost use Rattle.st_types.specs.ExprTyping.{both};
@@ -8,14 +8,14 @@ ghost use Rattle.st_types.specs.Faults.{fault};
 ghost use Rattle.st_types.specs.Notes.{Notes};
 ghost use Rattle.st_types.specs.Full.{UnlessFull};
 ghost use Rattle.st_types.specs.Scope.{find};
-ghost use Rattle.st_types.specs.StmtTyping.{spot_of as spot_of_tree, form_of_entry as entry_form, form_of_negated as negated_form, form as form_of_tree};
+ghost use Rattle.st_types.specs.StmtTyping.{spot_of as spot_of_tree, form_of_entry, form as form_of_tree};
 ghost use Rattle.st_types.specs.StmtTyping.{is_form_bool as is_form_bool_of, form_number as form_number_of, not_zero as not_zero_of};
 ghost use Rattle.st_types.specs.StmtSteps.{Numbers, Bounds, Steps};
 
 use crate::environment::Environment;
 use crate::fault::{Fault, Rule};
-use crate::literal::{Untyped, negated};
-use crate::names::{Entry, Names};
+use crate::literal::negated;
+use crate::names::Names;
 use crate::note::{Noted, note};
 use crate::operator::type_of;
 use crate::refusals::discard_some;
@@ -58,37 +58,19 @@ pub(crate) fn spot_of(e: &Expr) -> Spot
     }
 }
 
-// The form of a declared constant; a variable has none.
-fn form_of_entry(e: &Entry) -> Option<Form>
-    ensures { result ≡ entry_form e.now }
+// The form of a name that is a declared constant; a variable has none.
+fn form_of_name(names: &Names, name: &[u8]) -> Option<Form>
+    ensures { result ≡ option_and_then form_of_entry (find names.now name.now) }
 {
+    let Some(e) = names.find(name) else {
+        return None;
+    };
     if !is_constant(e.section) {
         return None;
     }
     Some(Form {
         ty: Some(e.ty),
         value: i128::from(e.value),
-    })
-}
-
-// The form of a name.
-fn form_of_name(names: &Names, name: &[u8]) -> Option<Form>
-    ensures { result ≡ option_and_then entry_form (find names.now name.now) }
-{
-    match names.find(name) {
-        None => None,
-        Some(e) => form_of_entry(e),
-    }
-}
-
-// The form of a `-`: only a literal without a type may stand behind it.
-fn form_of_negated(l: Option<Untyped>) -> Option<Form>
-    ensures { result ≡ option_map negated_form l }
-{
-    let l = l?;
-    Some(Form {
-        ty: None,
-        value: -i128::from(l.value),
     })
 }
 
@@ -102,7 +84,13 @@ fn form_of(names: &Names, e: &Expr) -> Option<Form>
             value: i128::from(*value),
         }),
         Expr::Name { name, .. } => form_of_name(names, name.bytes()),
-        Expr::Unary { op, arg, .. } => form_of_negated(negated(*op, arg)),
+        Expr::Unary { op, arg, .. } => match negated(*op, arg) {
+            None => None,
+            Some(l) => Some(Form {
+                ty: None,
+                value: -i128::from(l.value),
+            }),
+        },
         Expr::Binary { .. } | Expr::Call { .. } => None,
     }
 }

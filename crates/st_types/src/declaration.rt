@@ -216,23 +216,16 @@ fn add_blocks(alloc: Global, made: &mut Declarations, blocks: &[Block], noted: &
     }
 }
 
-// Before the first declaration.
-fn nothing(alloc: Global) -> Declarations
-    ensures { made_by result ≡ nothing_made }
-{
-    Declarations {
-        names: Names::new(alloc),
-        slots: Slots::new(alloc),
-    }
-}
-
 /// What the blocks of a program declare: their faults are noted, those inside initial values as well. There is no room
 /// for more than 2^32 slots.
 pub(crate) fn declared(alloc: Global, blocks: &[Block], noted: &mut Noted) -> Declarations
     ensures { UnlessFull noted.old.full noted.new.full
         (MakesAll (map block_tree blocks.now) nothing_made (made_by result) noted.old.first noted.new.first) }
 {
-    let mut made = nothing(alloc);
+    let mut made = Declarations {
+        names: Names::new(alloc),
+        slots: Slots::new(alloc),
+    };
     add_blocks(alloc, &mut made, blocks, noted);
     let whole = Environment {
         alloc,

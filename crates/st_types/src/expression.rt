@@ -4,41 +4,27 @@ ghost use Rattle.std.specs.Prelude.{◌≡◌, IfOk, List, ℕ, ◌++◌, ◌∷
 ghost use Rattle.st_tree.specs.ExprTree.{literal as literal_tree, name as name_tree, call as call_tree};
 ghost use Rattle.st_tree.specs.ExprViews.{expr_tree, expr_trees};
 ghost use Rattle.vcp_typed.specs.Checked.{ty_of as type_of_value};
-ghost use Rattle.vcp_typed.specs.Rules.{arguments as arguments_of};
-ghost use Rattle.vcp_typed.specs.TExprTree.{literal as literal_of, binary as binary_of, call as call_of};
+ghost use Rattle.vcp_typed.specs.TExprTree.{literal as literal_of, binary as binary_of};
 ghost use Rattle.vcp_typed.specs.TExprViews.{texpr_tree, texpr_trees};
 ghost use Rattle.st_types.specs.declared.fault.Rule.TheVariants as rule_;
 ghost use Rattle.st_types.specs.Faults.{fault};
 ghost use Rattle.st_types.specs.Scope.{Entry};
 ghost use Rattle.st_types.specs.Notes.{Notes};
 ghost use Rattle.st_types.specs.Full.{UnlessFull};
-ghost use Rattle.st_types.specs.ExprTyping.{both, sized as sized_of, got as got_of, widened as widened_of, widened_all as widened_all_of};
-ghost use Rattle.st_types.specs.ExprSteps.{Types, TypesAll, Signs, Operates, Applies};
+ghost use Rattle.st_types.specs.ExprTyping.{both, sized as sized_of, widened as widened_of};
+ghost use Rattle.st_types.specs.ExprSteps.{Types, TypesAll, Signs, Operates, Applies, widened_to};
 
 use crate::environment::Environment;
 use crate::fault::{Fault, Rule};
-use crate::function::{arguments, called, function_type};
-use crate::literal::{Untyped, literal_type, minus, negated};
-use crate::names::Entry;
+use crate::function::{called, first_wanted, function_type};
+use crate::literal::{Untyped, literal_type, negated, sized};
 use crate::note::{Noted, note};
 use crate::operator::{common, signed, widened};
-use crate::refusals::{discard, discard_all, discard_arguments, discard_some};
+use crate::refusals::{discard, discard_all, discard_some};
 use st_tree::{BinOp, Expr, Section, UnOp, trees_of_nodes};
 use std::alloc::Global;
 use vcp_base::{Memory, Spot, Ty};
 use vcp_typed::{Fun, TExpr, TExprs, ty_of};
-
-// What a name stands for.
-fn got(spot: Spot, e: &Entry) -> TExpr
-    ensures { texpr_tree result ≡ got_of spot e.now e.now.section }
-{
-    match e.section {
-        Section::Constant => TExpr::literal(e.ty, e.value, spot),
-        Section::Input | Section::Output | Section::Local | Section::Retain => {
-            TExpr::get(e.slot, e.ty)
-        }
-    }
-}
 
 // A literal that is no operand of a `-`.
 fn literal(ty: Option<Ty>, value: i64, spot: Spot, first: &mut Option<Fault>) -> Option<TExpr>
@@ -58,12 +44,16 @@ fn negative(l: Untyped, first: &mut Option<Fault>) -> Option<TExpr>
     ensures notes { Notes first.old first.new (λ f. (f ≡ fault rule_.Literal l.spot) × (sized_of (neg_ℤ l.value) ≡ None)) }
     ensures gives { option_map texpr_tree result ≡ option_map (λ t. literal_of t (neg_ℤ l.value) l.spot) (sized_of (neg_ℤ l.value)) }
 {
-    match minus(l) {
+    match l.value.checked_neg() {
         None => {
             note(first, Rule::Literal, l.spot);
             None
         }
-        Some(e) => Some(e),
+        Some(value) => Some(TExpr::Lit {
+            ty: sized(value),
+            value,
+            spot: l.spot,
+        }),
     }
 }
 
@@ -169,63 +159,30 @@ fn push(list: Option<Vec<TExpr>>, e: Option<TExpr>, full: &mut bool) -> Option<V
         return None;
     };
     let Some(e) = e else {
-        discard_all(list);
+        discard_all(Some(list));
         return None;
     };
     match list.push(e) {
         Ok(()) => Some(list),
         Err(_) => {
-            discard_all(list);
+            discard_all(Some(list));
             *full = true;
             None
         }
     }
 }
 
-// Each argument where one of the type beside it is wanted.
-fn widened_all(alloc: Global, wanted: &[Ty], list: Vec<TExpr>) -> Result<TExprs, Memory>
-    ensures { IfOk result (λ r. texpr_trees r.items.items ≡ widened_all_of wanted.now (map texpr_tree list.items)) }
+// The arguments widened: the first one to the type `first`, and those behind it to the type `rest`.
+fn widened_all(alloc: Global, first: Ty, rest: Ty, list: Vec<TExpr>) -> Result<TExprs, Memory>
+    ensures { IfOk result (λ r. texpr_trees r.items.items ≡ widened_to first rest (map texpr_tree list.items)) }
 {
     let mut out = TExprs::new(alloc);
-    let mut i: usize = 0;
+    let mut ty = first;
     'each: for e in list {
-        match wanted.get(i) {
-            None => {
-                discard(e);
-                return Ok(out);
-            }
-            Some(ty) => out.push(widened(alloc, *ty, e)?)?,
-        }
-        i += 1;
+        out.push(widened(alloc, ty, e)?)?;
+        ty = rest;
     }
     Ok(out)
-}
-
-// A function of arguments whose value has this type; none where it hasn't such a value.
-fn applied(
-    alloc: Global,
-    fun: Fun,
-    ty: Ty,
-    list: Vec<TExpr>,
-    spot: Spot,
-) -> Result<Option<TExpr>, Memory>
-    ensures { IfOk result
-        (λ r. option_map texpr_tree r ≡ option_map (λ ts. call_of fun ty (widened_all_of ts (map texpr_tree list.items)) spot) (arguments_of fun ty)) }
-{
-    match arguments(alloc, fun, ty) {
-        Ok(Some(wanted)) => match widened_all(alloc, &wanted, list) {
-            Ok(args) => Ok(Some(TExpr::call(fun, ty, args, spot))),
-            Err(Memory) => Err(Memory),
-        },
-        Ok(None) => {
-            discard_all(list);
-            Ok(None)
-        }
-        Err(Memory) => {
-            discard_all(list);
-            Err(Memory)
-        }
-    }
 }
 
 // A function of as many arguments as it has. Arguments with a fault are told alone.
@@ -244,12 +201,12 @@ fn apply(
     };
     match function_type(fun, &list) {
         None => {
-            discard_all(list);
+            discard_all(Some(list));
             note(&mut noted.first, Rule::Mismatch, spot);
             None
         }
-        Some(ty) => match applied(alloc, fun, ty, list, spot) {
-            Ok(e) => e,
+        Some(ty) => match widened_all(alloc, first_wanted(fun, ty), ty, list) {
+            Ok(args) => Some(TExpr::call(fun, ty, args, spot)),
             Err(Memory) => {
                 noted.full = true;
                 None
@@ -268,7 +225,12 @@ impl Environment<'_> {
                 note(first, Rule::Unknown, spot);
                 None
             }
-            Some(e) => Some(got(spot, e)),
+            Some(e) => match e.section {
+                Section::Constant => Some(TExpr::literal(e.ty, e.value, spot)),
+                Section::Input | Section::Output | Section::Local | Section::Retain => {
+                    Some(TExpr::get(e.slot, e.ty))
+                }
+            },
         }
     }
 
@@ -314,7 +276,7 @@ impl Environment<'_> {
         let list = self.type_all(args, noted);
         match called(name, args.len()) {
             None => {
-                discard_arguments(list);
+                discard_all(list);
                 note(&mut noted.first, Rule::Call, spot);
                 None
             }

@@ -1,8 +1,6 @@
 //! Faults of typing.
 
-ghost use Rattle.std.specs.Prelude.{◌≡◌};
-
-use vcp_base::{Memory, Spot};
+use vcp_base::Spot;
 
 /// A rule that a program may break. At one spot the earlier rule is reported.
 #[derive(Clone, Copy, Drop)]
@@ -59,14 +57,4 @@ pub enum TypeFault {
     Size,
     /// Want of memory. It is merged with no other cause.
     Memory,
-}
-
-impl From<Memory> for TypeFault {
-    ghost use Rattle.st_types.specs.declared.fault.TypeFault.TheVariants.{Memory};
-
-    ghost from_gives = { λ _ e. e ≡ Memory };
-
-    fn from(_: Memory) -> Self {
-        TypeFault::Memory
-    }
 }

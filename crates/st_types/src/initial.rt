@@ -1,6 +1,6 @@
 //! Initial values: literals, `-` before a literal without a type, and names of constants that are declared before.
 
-ghost use Rattle.std.specs.Prelude.{◌≡◌, IfOk, None, Some, neg_ℤ, option_and_then};
+ghost use Rattle.std.specs.Prelude.{◌≡◌, None, Some, neg_ℤ, option_and_then};
 ghost use Rattle.st_tree.specs.ExprTree.{name as name_tree};
 ghost use Rattle.st_tree.specs.ExprViews.{expr_tree};
 ghost use Rattle.st_types.specs.declared.fault.Rule.TheVariants as rule_;
@@ -14,21 +14,11 @@ ghost use Rattle.st_types.specs.StmtTyping.{form_of_entry, form_of_negated, know
 use crate::constants::Known;
 use crate::fault::{Fault, Rule};
 use crate::literal::{Untyped, literal_type, negated, sized};
-use crate::names::{Entry, Names};
+use crate::names::Names;
 use crate::note::note;
 use crate::variable::is_constant;
 use st_tree::Expr;
-use vcp_base::{Memory, Spot, Ty};
-
-// Notes that there is no constant form, where there is no constant.
-fn note_unless(known: Option<Known>, spot: Spot, first: &mut Option<Fault>)
-    ensures { Notes first.old first.new (λ f. (f ≡ fault rule_.Bound spot) × (known ≡ None)) }
-{
-    match known {
-        None => note(first, Rule::Bound, spot),
-        Some(_) => {}
-    }
-}
+use vcp_base::{Spot, Ty};
 
 // The constant that a literal is.
 fn of_literal(ty: Option<Ty>, value: i64) -> Option<Known>
@@ -38,21 +28,13 @@ fn of_literal(ty: Option<Ty>, value: i64) -> Option<Known>
     Some(Known { ty, value })
 }
 
-// The constant that a literal is with the `-` before it.
-fn of_negated(l: Untyped) -> Option<Known>
-    ensures { result ≡ both known_form (Some (form_of_negated l)) (sized_of (neg_ℤ l.value)) }
+// The constant that a name is, by what was declared before; a variable is none.
+fn of_name(names: &Names, name: &[u8]) -> Option<Known>
+    ensures { result ≡ option_and_then (λ e. both known_form (form_of_entry e) (Some e.ty)) (find names.now name.now) }
 {
-    let value = l.value.checked_neg()?;
-    Some(Known {
-        ty: sized(value),
-        value,
-    })
-}
-
-// The constant that a name stands for; a variable is none.
-fn of_entry(e: &Entry) -> Option<Known>
-    ensures { result ≡ both known_form (form_of_entry e.now) (Some e.now.ty) }
-{
+    let Some(e) = names.find(name) else {
+        return None;
+    };
     if !is_constant(e.section) {
         return None;
     }
@@ -60,16 +42,6 @@ fn of_entry(e: &Entry) -> Option<Known>
         ty: e.ty,
         value: e.value,
     })
-}
-
-// The constant that a name is, by what was declared before.
-fn of_name(names: &Names, name: &[u8]) -> Option<Known>
-    ensures { result ≡ option_and_then (λ e. both known_form (form_of_entry e) (Some e.ty)) (find names.now name.now) }
-{
-    match names.find(name) {
-        None => None,
-        Some(e) => of_entry(e),
-    }
 }
 
 // A `-` as an initial value: only a literal without a type may stand behind it.
@@ -82,7 +54,13 @@ fn negative(l: Option<Untyped>, spot: Spot, first: &mut Option<Fault>) -> Option
             note(first, Rule::Bound, spot);
             None
         }
-        Some(l) => of_negated(l),
+        Some(l) => {
+            let value = l.value.checked_neg()?;
+            Some(Known {
+                ty: sized(value),
+                value,
+            })
+        }
     }
 }
 
@@ -90,9 +68,13 @@ fn negative(l: Option<Untyped>, spot: Spot, first: &mut Option<Fault>) -> Option
 fn name(names: &Names, name: &[u8], spot: Spot, first: &mut Option<Fault>) -> Option<Known>
     ensures { Judges names.now (name_tree name.now spot) first.old first.new result }
 {
-    let known = of_name(names, name);
-    note_unless(known, spot, first);
-    known
+    match of_name(names, name) {
+        None => {
+            note(first, Rule::Bound, spot);
+            None
+        }
+        Some(known) => Some(known),
+    }
 }
 
 /// Judges an initial value by the names declared before it: notes that it is no constant form, and gives the constant

@@ -9,7 +9,7 @@ ghost use Rattle.st_types.specs.Faults.{fault};
 ghost use Rattle.st_types.specs.Notes.{Notes};
 ghost use Rattle.st_types.specs.Full.{UnlessFull};
 ghost use Rattle.st_types.specs.ExprTyping.{both};
-ghost use Rattle.st_types.specs.StmtTyping.{range_of as range_of_ends, label_ends as label_ends_of};
+ghost use Rattle.st_types.specs.StmtTyping.{label_ends as label_ends_of};
 ghost use Rattle.st_types.specs.StmtSteps.{TypesLast, TypesLabel, TypesLabels, label_after};
 
 use crate::constants::{Number, spot_of};
@@ -20,25 +20,9 @@ use st_tree::{Expr, Label};
 use vcp_base::{Memory, Spot, Ty};
 use vcp_typed::{TLabel, TLabels};
 
-// The label of a range, where its ends are in order.
-fn range_of(spot: Spot, first: i64, last: i64) -> Option<TLabel>
-    ensures { result ≡ range_of_ends spot first last }
-{
-    if first <= last {
-        Some(TLabel {
-            first,
-            last,
-            range: true,
-            spot,
-        })
-    } else {
-        None
-    }
-}
-
 // The label of these ends, where they are numbers in order.
-fn label_ends(spot: Spot, first: Option<i64>, last: Option<Option<i64>>) -> Option<TLabel>
-    ensures { result ≡ label_ends_of spot first last }
+fn label_ends(spot: Spot, first: Option<i64>, last: Option<Number>) -> Option<TLabel>
+    ensures { result ≡ label_ends_of spot first (option_map (λ n. n.value) last) }
 {
     let first = first?;
     match last {
@@ -48,43 +32,35 @@ fn label_ends(spot: Spot, first: Option<i64>, last: Option<Option<i64>>) -> Opti
             range: false,
             spot,
         }),
-        Some(last) => range_of(spot, first, last?),
+        Some(last) => {
+            let last = last.value?;
+            if first <= last {
+                Some(TLabel {
+                    first,
+                    last,
+                    range: true,
+                    spot,
+                })
+            } else {
+                None
+            }
+        }
     }
 }
 
-// Whether there is a label of these ends.
-fn is_label(first: Option<i128>, last: Option<Option<i128>>) -> bool
-    ensures { (spot : Spot_) → result ≡ is_some (label_ends_of spot first last) }
+// Whether the forms of these ends are numbers in order.
+fn is_label(first: Option<i128>, last: Option<Number>) -> bool
+    ensures { (spot : Spot_) → result ≡ is_some (label_ends_of spot first (option_map (λ n. n.form) last)) }
 {
     let Some(first) = first else {
         return false;
     };
     match last {
         None => true,
-        Some(last) => match last {
+        Some(last) => match last.form {
             None => false,
             Some(last) => first <= last,
         },
-    }
-}
-
-// The values of the last end of a range; none of one value.
-fn last_value(last: Option<Number>) -> Option<Option<i64>>
-    ensures { result ≡ option_map (λ n. n.value) last }
-{
-    match last {
-        None => None,
-        Some(last) => Some(last.value),
-    }
-}
-
-// The same of its form.
-fn last_form(last: Option<Number>) -> Option<Option<i128>>
-    ensures { result ≡ option_map (λ n. n.form) last }
-{
-    match last {
-        None => None,
-        Some(last) => Some(last.form),
     }
 }
 
@@ -138,8 +114,8 @@ impl Environment<'_> {
         let low = self.read_number(ty, &label.first, noted);
         let high = self.last_end(ty, &label.last, noted);
         let spot = spot_of(&label.first);
-        label_fault(is_label(low.form, last_form(high)), spot, &mut noted.first);
-        label_ends(spot, low.value, last_value(high))
+        label_fault(is_label(low.form, high), spot, &mut noted.first);
+        label_ends(spot, low.value, high)
     }
 
     /// Types the labels of a branch, for a selector of the type: notes their faults, and gives the checked

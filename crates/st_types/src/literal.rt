@@ -1,14 +1,11 @@
 //! The types of literals.
 
-ghost use Rattle.std.specs.Prelude.{◌≡◌, Some, neg_ℤ, option_map};
+ghost use Rattle.std.specs.Prelude.{◌≡◌, Some};
 ghost use Rattle.st_tree.specs.ExprViews.{expr_tree};
-ghost use Rattle.vcp_typed.specs.TExprTree.{literal as literal_tree};
-ghost use Rattle.vcp_typed.specs.TExprViews.{texpr_tree};
 ghost use Rattle.st_types.specs.ExprTyping.{sized as sized_of, literal_type as type_of_literal, negated as negated_of};
 
 use st_tree::{Expr, UnOp};
 use vcp_base::{Spot, Ty, fits};
-use vcp_typed::TExpr;
 
 /// A literal without a type, and its spot.
 #[derive(Clone, Copy, Drop)]
@@ -64,16 +61,4 @@ pub(crate) fn negated(op: UnOp, arg: &Expr) -> Option<Untyped>
                 None,
         },
     }
-}
-
-/// A literal with `-` before it, as one literal; none where it is outside all types, as 2^63 is.
-pub(crate) fn minus(l: Untyped) -> Option<TExpr>
-    ensures { option_map texpr_tree result ≡ option_map (λ t. literal_tree t (neg_ℤ l.value) l.spot) (sized_of (neg_ℤ l.value)) }
-{
-    let value = l.value.checked_neg()?;
-    Some(TExpr::Lit {
-        ty: sized(value),
-        value,
-        spot: l.spot,
-    })
 }

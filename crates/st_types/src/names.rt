@@ -1,6 +1,6 @@
 //! The table of declared names.
 
-ghost use Rattle.std.specs.Prelude.{◌≡◌, [], ◌∷◌, ◌++◌, length, is_none, cond, option_map, IfOk, OnOk, OnErr};
+ghost use Rattle.std.specs.Prelude.{◌≡◌, [], ◌∷◌, ◌++◌, is_none, cond, option_map, IfOk, OnOk, OnErr};
 ghost use Rattle.st_types.specs.Scope.{find};
 
 use st_tree::Section;
@@ -71,13 +71,6 @@ impl Names {
         Names {
             entries: Vec::new(alloc),
         }
-    }
-
-    /// How many names there are.
-    pub fn len(&self) -> usize
-        ensures { result ≡ length self.now }
-    {
-        self.entries.len()
     }
 
     /// What was declared by a name, without regard to case.

@@ -15,24 +15,14 @@ pub(crate) fn discard_some(e: Option<TExpr>) {
     drop(e);
 }
 
-/// Expressions are given up.
-pub(crate) fn discard_all(list: Vec<TExpr>) {
-    drop(list);
-}
-
 /// The arguments of a call are given up, where there are some.
-pub(crate) fn discard_arguments(list: Option<Vec<TExpr>>) {
+pub(crate) fn discard_all(list: Option<Vec<TExpr>>) {
     drop(list);
 }
 
 /// A statement is given up, where there is one.
 pub(crate) fn discard_stmt(s: Option<TStmt>) {
     drop(s);
-}
-
-/// Statements are given up.
-pub(crate) fn discard_stmts(list: TStmts) {
-    drop(list);
 }
 
 /// Statements are given up, where there are some.

@@ -7,13 +7,12 @@ ghost use Rattle.st_tree.specs.StmtViews.{stmt_tree, stmt_trees, arm_trees, bran
 ghost use Rattle.vcp_typed.specs.Checked.{ty_of as type_of_value};
 ghost use Rattle.vcp_typed.specs.Items.{tarm_items, tbranch_items};
 ghost use Rattle.vcp_typed.specs.TExprViews.{texpr_tree};
-ghost use Rattle.vcp_typed.specs.TStmtTree.{tother};
 ghost use Rattle.vcp_typed.specs.TStmtViews.{tstmt_tree, tstmt_trees, tarm_trees, tbranch_trees, tother_tree};
 ghost use Rattle.st_types.specs.declared.fault.Rule.TheVariants as rule_;
 ghost use Rattle.st_types.specs.Faults.{fault};
 ghost use Rattle.st_types.specs.Full.{UnlessFull};
 ghost use Rattle.st_types.specs.ExprTyping.{both};
-ghost use Rattle.st_types.specs.StmtTyping.{entry_type as entry_type_of, Narrows, NoTest, IsBool, assign_of, test_of, selector_of, begins as begins_of};
+ghost use Rattle.st_types.specs.StmtTyping.{entry_type as entry_type_of, Narrows, NoTest, IsBool, assign_of, test_of, selector_of};
 ghost use Rattle.st_types.specs.StmtTyping.{turns_of as turns_of_bounds, case_of};
 ghost use Rattle.st_types.specs.StmtSteps.{Gives, TypesStmt, TypesStmts, TypesArms, TypesBranches, TypesOther, stmt_after, arm_after, branch_after, if_of};
 ghost use Rattle.st_types.specs.StmtSteps.{turning_of, for_with};
@@ -25,7 +24,6 @@ use crate::note::{Noted, note};
 use crate::operator::{type_of, widened};
 use crate::refusals::{
     discard, discard_arms, discard_body, discard_branches, discard_some, discard_stmt,
-    discard_stmts,
 };
 use crate::variable::{bool_fault, entry_type, held_in, is_free, name_fault};
 use st_tree::{Arm, Branch, Expr, Stmt, Stmts, trees_of_nodes};
@@ -117,19 +115,13 @@ fn selector(e: Option<TExpr>, spot: Spot, first: &mut Option<Fault>) -> Option<T
     Some(e)
 }
 
-// Whether a FOR with these bounds has a first turn.
-fn begins(first: i64, last: i64, by: i64) -> bool
-    ensures { result ≡ begins_of first last by }
-{
-    if 0 < by { first <= last } else { last <= first }
-}
-
 // How many values a FOR takes.
 fn turns_of(first: i64, last: i64, by: i64) -> u128
     requires some { by ≢ pos 0 }
     ensures { result ≡ turns_of_bounds first last by }
 {
-    if begins(first, last, by) {
+    let begins = if 0 < by { first <= last } else { last <= first };
+    if begins {
         u128::from(last.abs_diff(first) / by.unsigned_abs()) + 1
     } else {
         0
@@ -240,13 +232,13 @@ fn with_stmt(list: Option<TStmts>, s: Option<TStmt>, full: &mut bool) -> Option<
         return None;
     };
     let Some(s) = s else {
-        discard_stmts(list);
+        discard_body(Some(list));
         return None;
     };
     match list.push(s) {
         Ok(()) => Some(list),
         Err(Memory) => {
-            discard_stmts(list);
+            discard_body(Some(list));
             *full = true;
             None
         }
@@ -328,16 +320,6 @@ fn with_branch(
 }
 
 // ---- statements
-
-// The body of an ELSE that is there.
-fn with_else(body: Option<TStmts>) -> Option<Option<TStmts>>
-    ensures { option_map tother_tree result ≡ option_map (λ x. tother x) (option_map (λ b. tstmt_trees b.items.items) body) }
-{
-    match body {
-        None => None,
-        Some(body) => Some(Some(body)),
-    }
-}
 
 impl Environment<'_> {
     // An assignment.
@@ -541,7 +523,10 @@ impl Environment<'_> {
     {
         match other {
             None => Some(None),
-            Some(body) => with_else(self.type_stmts(&body.items, noted)),
+            Some(body) => match self.type_stmts(&body.items, noted) {
+                None => None,
+                Some(made) => Some(Some(made)),
+            },
         }
     }
 }

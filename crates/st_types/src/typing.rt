@@ -57,21 +57,6 @@ fn limited(program: &Program, slots: Slots, body: TStmts) -> Result<Typed, TypeF
     Ok(Typed::new(slots, body))
 }
 
-// A program without a fault has a body.
-fn faultless(program: &Program, slots: Slots, body: Option<TStmts>) -> Result<Typed, TypeFault>
-    requires names { HasNames (program_tree program.now) }
-    requires faultless { IsFaultless (program_tree program.now) }
-    requires is { typed_of (program_tree program.now)
-        ≡ option_map (λ b. record { slots = slots.items.items; body = b }) (option_map (λ b. tstmt_trees b.items.items) body) }
-    ensures ok { IfOk result (λ t. IsTyped (program_tree program.now) t) }
-    ensures err { IfErr result (Refuses (program_tree program.now)) }
-{
-    match body {
-        None => unreachable!(),
-        Some(body) => limited(program, slots, body),
-    }
-}
-
 // The least fault that was noted; else the checked program.
 fn answered(
     program: &Program,
@@ -95,7 +80,11 @@ fn answered(
             discard_body(body);
             Err(told(fault))
         }
-        None => faultless(program, slots, body),
+        None => match body {
+            // a program without a fault has a body
+            None => unreachable!(),
+            Some(body) => limited(program, slots, body),
+        },
     }
 }
 

@@ -1,11 +1,11 @@
-use Rattle.std.proofs.Common.{◌≡◌, [], ◌∷◌, ◌+◌, option_map, Some, sym, ap, ◌∙◌, subst, arith, drop}
+use Rattle.std.proofs.Common.{◌≡◌, [], ◌∷◌, ◌+◌, option_map, Some, None, sym, ap, ◌∙◌, subst, arith, drop}
 use Rattle.std.proofs.lemmas.List.{drop_all}
 use Rattle.st_tree.specs.StmtTree.{assign, if_, case, for_}
 use Rattle.st_tree.specs.ExprViews.{expr_tree, expr_tree_or_none}
 use Rattle.st_tree.specs.StmtViews.{label_trees, stmt_tree, stmt_trees, arm_trees, branch_trees, other_tree}
 use Rattle.vcp_typed.specs.TExprViews.{texpr_tree}
-use Rattle.vcp_typed.specs.TStmtTree.{no_tstmts, no_tarms, no_tbranches, no_tother}
-use Rattle.vcp_typed.specs.TStmtViews.{tstmt_tree, tstmt_trees, tother_tree}
+use Rattle.vcp_typed.specs.TStmtTree.{no_tstmts, no_tarms, no_tbranches, no_tother, tother}
+use Rattle.vcp_typed.specs.TStmtViews.{tstmt_tree, tstmt_trees}
 use Rattle.st_types.specs.ExprTyping.{both}
 use Rattle.st_types.specs.StmtTyping.{arm_of, branch_of}
 use Rattle.st_types.specs.StmtSteps.{TypesLabels, TypesStmt, TypesStmts, TypesArms, TypesBranches, TypesOther}
@@ -219,12 +219,24 @@ pub type_other-type_stmts-requires : goal.type_other-type_stmts-requires
 type_other-type_stmts-requires t c =
     omega (arith, ap (λ o. other_weight (other_tree o)) c.in-Some.is, ap (λ xs. stmts_weight (stmt_trees xs)) c.deref.ensures.value)
 
-pub type_other-returns-in-Some : goal.type_other-returns-in-Some
-type_other-returns-in-Some t c =
+pub type_other-returns-in-Some-type_stmts : goal.type_other-returns-in-Some-type_stmts
+type_other-returns-in-Some-type_stmts t c =
     so c.type_stmts.ensures (λ h.
     let body = subst
     (λ xs. TypesStmts c.args.self.now.names.now c.args.self.now.held.now (stmt_trees xs) c.args.noted.now.first c.type_stmts.new.noted.first
     (option_map (λ b. tstmt_trees b.items.items) c.type_stmts.result)) c.deref.ensures.value h in
     subst (λ o. TypesOther c.args.self.now.names.now c.args.self.now.held.now o c.args.noted.now.first c.type_stmts.new.noted.first
-    (option_map tother_tree c.with_else.result)) (sym (ap other_tree c.in-Some.is))
-    (some-else _ _ _ _ _ _ _ body c.with_else.ensures))
+    (Some (tother (tstmt_trees c.in-Some-type_stmts.made.items.items)))) (sym (ap other_tree c.in-Some.is))
+    (some-else _ _ _ _ _ _ _ body
+    (sym (ap (λ o. option_map (λ x. tother x) (option_map (λ b. tstmt_trees b.items.items) o)) c.in-Some-type_stmts.is))))
+
+pub type_other-returns-in-None-type_stmts : goal.type_other-returns-in-None-type_stmts
+type_other-returns-in-None-type_stmts t c =
+    so c.type_stmts.ensures (λ h.
+    let body = subst
+    (λ xs. TypesStmts c.args.self.now.names.now c.args.self.now.held.now (stmt_trees xs) c.args.noted.now.first c.type_stmts.new.noted.first
+    (option_map (λ b. tstmt_trees b.items.items) c.type_stmts.result)) c.deref.ensures.value h in
+    subst (λ o. TypesOther c.args.self.now.names.now c.args.self.now.held.now o c.args.noted.now.first c.type_stmts.new.noted.first None)
+    (sym (ap other_tree c.in-Some.is))
+    (some-else _ _ _ _ _ _ _ body
+    (sym (ap (λ o. option_map (λ x. tother x) (option_map (λ b. tstmt_trees b.items.items) o)) c.in-None-type_stmts.is))))
