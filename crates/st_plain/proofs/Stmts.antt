@@ -1,6 +1,6 @@
 -- What statements do, part by part.
 use Rattle.std.proofs.Common.{Bool, ◌≤◌, ◌*◌, ◌≡◌, ℕ, zero, suc, ◌+◌, ◌<◌, add-one, drop-cons, w64, SFits, of_z, ℤ, pos, negsuc, ◌+ℤ◌, true, false, cond, List, [], ◌∷◌, ◌++◌}
-use Rattle.std.proofs.Common.{length, drop, get_or, slice_get, slice_set, Some, Result, Ok, Err, refl, sym, ap, ◌∙◌, subst, arith}
+use Rattle.std.proofs.Common.{◌||◌, length, drop, get_or, slice_get, slice_set, Some, Result, Ok, Err, refl, sym, ap, ◌∙◌, subst, arith}
 use Rattle.std.specs.Prelude.{IfOk}
 use Rattle.vcp_base.specs.declared.spot.Spot.{Spot}
 use Rattle.vcp_base.specs.declared.turns.Turn.{Turn}
@@ -535,3 +535,15 @@ sound-at slot v w by to n b m h e f = subst (λ x. SoundTurns slot x to n b m) (
 pub turns-at : (slot : ℕ) (v w by to : ℤ) (n : ℕ) (f : ℤ → Doing) (m : List ℤ) (r : Result (List ℤ) Stop) → w ≡ v → to ≡ by → r ≡ all_turns slot w to n f m
     → r ≡ all_turns slot v by n f m
 turns-at slot v w by to n f m r e g h = h ∙ λ i. all_turns slot (e i) (g i) n f m
+
+-- ---- labels
+
+-- the first of the labels that are left is the value, or has it in its range
+pub label-found : (v : ℤ) (l : TLabel) (left rest all : List TLabel) → left ≡ l ∷ rest → true ≡ is_labelled v l
+    → list_any (is_labelled v) left ≡ list_any (is_labelled v) all → true ≡ list_any (is_labelled v) all
+label-found v l left rest all e here left_all = ap (λ b. b || list_any (is_labelled v) rest) here ∙ sym (ap (list_any (is_labelled v)) e) ∙ left_all
+
+-- it isn't
+pub label-passed : (v : ℤ) (l : TLabel) (left rest all : List TLabel) → left ≡ l ∷ rest → false ≡ is_labelled v l
+    → list_any (is_labelled v) left ≡ list_any (is_labelled v) all → list_any (is_labelled v) rest ≡ list_any (is_labelled v) all
+label-passed v l left rest all e here left_all = ap (λ b. b || list_any (is_labelled v) rest) here ∙ sym (ap (list_any (is_labelled v)) e) ∙ left_all

@@ -4,7 +4,7 @@ ghost use Rattle.std.specs.Prelude.{◌≡◌, ◌<◌, ◌≤◌, ◌+◌, true
 ghost use Rattle.vcp_base.specs.Limits.{most_names};
 ghost use Rattle.vcp_base.specs.Types.{AreIn};
 ghost use Rattle.vcp_typed.specs.Fitting.{input_types, output_types};
-ghost use Rattle.vcp_typed.specs.SourceRun.{is_input as is_input_of, is_output as is_output_of, initial, with_inputs, outputs};
+ghost use Rattle.vcp_typed.specs.SourceRun.{is_input, is_output, initial, with_inputs, outputs};
 
 use st_tree::Section;
 use std::alloc::Global;
@@ -22,28 +22,16 @@ pub fn initial_values(alloc: Global, slots: &[Slot]) -> Result<Row, Memory>
     Ok(values)
 }
 
-fn is_input(section: Section) -> bool
-    ensures { result ≡ is_input_of section }
-{
-    matches!(section, Section::Input)
-}
-
-fn is_output(section: Section) -> bool
-    ensures { result ≡ is_output_of section }
-{
-    matches!(section, Section::Output)
-}
-
 /// The next value of the row for an input, and else the value that is kept.
 fn input_or_kept(section: Section, row: &Row, next: &mut usize, kept: i64) -> i64
     requires few { next.old ≤ most_names }
-    requires there { is_input_of section ≡ true → next.old < length row.now }
-    ensures input { is_input_of section ≡ true → slice_get row.now next.old ≡ Some result }
-    ensures taken { is_input_of section ≡ true → next.new ≡ next.old + 1 }
-    ensures kept { is_input_of section ≡ false → result ≡ kept }
-    ensures same { is_input_of section ≡ false → next.new ≡ next.old }
+    requires there { is_input section ≡ true → next.old < length row.now }
+    ensures input { is_input section ≡ true → slice_get row.now next.old ≡ Some result }
+    ensures taken { is_input section ≡ true → next.new ≡ next.old + 1 }
+    ensures kept { is_input section ≡ false → result ≡ kept }
+    ensures same { is_input section ≡ false → next.new ≡ next.old }
 {
-    if is_input(section) {
+    if matches!(section, Section::Input) {
         let value = row.at(*next);
         *next += 1;
         value
@@ -70,14 +58,14 @@ pub fn set_inputs(slots: &[Slot], row: &Row, before: &Row, values: &mut Row)
 /// Sets the next cell of the row, where the section is that of an output.
 fn put_output(section: Section, value: i64, out: &mut Row, next: &mut u32)
     requires few { next.old < most_names }
-    requires cell { is_output_of section ≡ true → next.old < length out.old }
-    ensures put { is_output_of section ≡ true → out.new ≡ slice_set out.old next.old value }
-    ensures counted { is_output_of section ≡ true → next.new ≡ next.old + 1 }
-    ensures left { is_output_of section ≡ false → out.new ≡ out.old }
-    ensures same { is_output_of section ≡ false → next.new ≡ next.old }
+    requires cell { is_output section ≡ true → next.old < length out.old }
+    ensures put { is_output section ≡ true → out.new ≡ slice_set out.old next.old value }
+    ensures counted { is_output section ≡ true → next.new ≡ next.old + 1 }
+    ensures left { is_output section ≡ false → out.new ≡ out.old }
+    ensures same { is_output section ≡ false → next.new ≡ next.old }
     ensures cells { length out.new ≡ length out.old }
 {
-    if is_output(section) {
+    if matches!(section, Section::Output) {
         out.set(*next, value);
         *next += 1;
     }

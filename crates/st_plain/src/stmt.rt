@@ -5,7 +5,7 @@ ghost use Rattle.std.specs.Prelude.{vec_capacity};
 ghost use Rattle.std.specs.Int.{w64};
 ghost use Rattle.std.specs.List.{list_any};
 ghost use Rattle.vcp_base.specs.declared.turns.Turn.{Turn};
-ghost use Rattle.vcp_typed.specs.Meaning.{is_labelled, all_turns, do_stmt as do_stmt_of, do_stmts as do_stmts_of, do_arms, do_branches, do_other};
+ghost use Rattle.vcp_typed.specs.Meaning.{is_labelled as is_labelled_of, all_turns, do_stmt as do_stmt_of, do_stmts as do_stmts_of, do_arms, do_branches, do_other};
 ghost use Rattle.vcp_typed.specs.Size.{stmt_size, stmts_size, arms_size, branches_size, other_size};
 ghost use Rattle.vcp_typed.specs.TStmtViews.{tstmt_tree, tstmt_trees, tarm_trees, tbranch_trees, tother_tree};
 ghost use Rattle.st_plain.specs.Bodies.{IsBody, statements_of};
@@ -95,13 +95,23 @@ fn body_of_if<'p>(
     Ok(body_of_else(other))
 }
 
-/// Whether a label is the value, or has it in its range.
-fn has_label(labels: &[TLabel], v: i64) -> bool
-    ensures { result ≡ list_any (is_labelled v) labels.now }
+/// Whether the label is the value, or has it in its range.
+fn is_labelled(label: &TLabel, v: i64) -> bool
+    ensures { result ≡ is_labelled_of v label.now }
 {
-    labels
-        .iter()
-        .any(|label| label.first <= v && v <= label.last)
+    label.first <= v && v <= label.last
+}
+
+/// Whether one of the labels is the value, or has it in its range.
+fn has_label(labels: &[TLabel], v: i64) -> bool
+    ensures { result ≡ list_any (is_labelled_of v) labels.now }
+{
+    'each: for label in labels {
+        if is_labelled(label, v) {
+            return true;
+        }
+    }
+    false
 }
 
 /// The body of the first branch of a CASE with a label for the value, else that of ELSE.
