@@ -45,6 +45,21 @@ notes-as a b F H x back forth = record {
 }
 
 -- the same fault, where the same is so
+first-two : {A B C : Type 0} → A ⊎ (B ⊎ C) → (A ⊎ B) ⊎ C
+first-two (inl x) = inl (inl x)
+first-two (inr (inl y)) = inl (inr y)
+first-two (inr (inr z)) = inr z
+
+last-two : {A B C : Type 0} → (A ⊎ B) ⊎ C → A ⊎ (B ⊎ C)
+last-two (inl (inl x)) = inl x
+last-two (inl (inr y)) = inr (inl y)
+last-two (inr z) = inr (inr z)
+
+-- two kinds of faults were met at once, and then a third
+pub third : (a b c : Option Fault) (F G H : Fault → Type 0) → Notes a b (λ f. F f ⊎ G f) → Notes b c H → Notes a c (λ f. F f ⊎ (G f ⊎ H f))
+third a b c F G H m n = notes-as a c (λ f. (F f ⊎ G f) ⊎ H f) (λ f. F f ⊎ (G f ⊎ H f)) (pair a b c (λ f. F f ⊎ G f) H m n)
+    (λ f h. first-two h) (λ f h. last-two h)
+
 pub note-where : (a b : Option Fault) (g : Fault) (P Q : Type 0) → Notes a b (λ f. (f ≡ g) × P) → (Q → P) → (P → Q) → Notes a b (λ f. (f ≡ g) × Q)
 note-where a b g P Q x back forth = notes-as a b (λ f. (f ≡ g) × P) (λ f. (f ≡ g) × Q) x (λ f h. (h.0, back h.1)) (λ f h. (h.0, forth h.1))
 

@@ -130,6 +130,10 @@ assigned f held p x y e v u a w s is_x is_e is_u fits free wide made =
 same-type : (t u : Ty) → Some t ≡ Some u → t ≡ u
 same-type t u e = cc
 
+-- what has another type isn't BOOL
+pub not-bool : (t u : Ty) → false ≡ is_bool t → Some t ≡ Some u → is_bool u ≡ true → ⊥
+not-bool t u other same is = true-false (sym is ∙ sym (ap is_bool (same-type t u same)) ∙ sym other)
+
 -- the type of the value itself
 own-type : (v : TExpr) (u : Ty) (b : Bool) → u ≡ ty_of (texpr_tree v) → b ≡ is_bool u → is_bool (ty_of (texpr_tree v)) ≡ b
 own-type v u b is_u w = sym (w ∙ ap is_bool is_u)

@@ -30,7 +30,7 @@ use Rattle.st_types.specs.StmtSteps.{Gives, Numbers, Bounds, Steps, TypesLast, T
 use Rattle.st_types.specs.StmtSteps.{TypesBranches, TypesOther, stmt_after, label_after, arm_after, branch_after, if_of, turning_of, for_with}
 use Rattle.st_types.proofs.ExprLaws.{typed-is}
 use Rattle.st_types.proofs.MadeChecked.{not-zero-made}
-use Rattle.st_types.proofs.NoteLaws.{quiet, pair, note-where}
+use Rattle.st_types.proofs.NoteLaws.{quiet, pair, third, note-where}
 
 own-type : (s : List Entry) (e : ExprTree) (x : Option typed.TExprTree) → x ≡ expr_of s e → option_map ty_of x ≡ type_of s e
 own-type s e x is = ap (option_map ty_of) is ∙ typed-is s e
@@ -187,16 +187,16 @@ for_is held spot (Some e) (Some first) (Some last) (Some by) (Some body) =
     some false t = refl
 
 pub for-types : (s : List Entry) (held : List ℕ) (n : List ℕ) (p q : Spot) (e f : ExprTree) (by : Option ExprTree) (body : StmtTrees)
-    (a b c d g h k : Option Fault) (o : Option Entry) (t : Option Ty) (inner : List ℕ) (v w u : Option ℤ) (y : Option checked.TStmtTrees)
+    (a c d g h k : Option Fault) (o : Option Entry) (t : Option Ty) (inner : List ℕ) (v w u : Option ℤ) (y : Option checked.TStmtTrees)
     (x : Option Turning) (r : Option checked.TStmtTree)
     → o ≡ find s n → t ≡ entry_type o → inner ≡ held_in held o
-    → Notes a b (NameFault held o p) → Notes b c (λ m. (m ≡ fault rule.Mismatch p) × IsBool t)
+    → Notes a c (λ m. NameFault held o p m ⊎ ((m ≡ fault rule.Mismatch p) × IsBool t))
     → Bounds s t e c d v → Bounds s t f d g w → Steps s t by g h u
     → TypesStmts s inner body h k y → x ≡ turning_of held o v w u → r ≡ for_with p x y
     → TypesStmt s held (for_ n p e f by body q) a k r
-for-types s held n p q e f by body a b c d g h k o t inner v w u y x r is ty1 in1 n1 n2 x1 x2 x3 x4 turning made =
+for-types s held n p q e f by body a c d g h k o t inner v w u y x r is ty1 in1 n1 x1 x2 x3 x4 turning made =
     let gives : r ≡ for_of held p o v w u y = made ∙ ap (λ z. for_with p z y) turning ∙ for_is held p o v w u y in
-    let all = pair a b k _ _ n1 (pair b c k _ _ n2 (pair c d k _ _ x1.notes (pair d g k _ _ x2.notes (pair g h k _ _ x3.notes x4.notes)))) in
+    let all = third a c k _ _ _ n1 (pair c d k _ _ x1.notes (pair d g k _ _ x2.notes (pair g h k _ _ x3.notes x4.notes))) in
     let ty2 : t ≡ entry_type (find s n) = ty1 ∙ ap entry_type is in
     let in2 : inner ≡ held_in held (find s n) = in1 ∙ ap (held_in held) is in
     record {

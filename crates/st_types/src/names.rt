@@ -50,19 +50,6 @@ impl Model for Names {
     ghost view = { λ t. t.entries.items };
 }
 
-// The first of these entries with a name.
-fn first_of<'a>(entries: &'a [Entry], name: &[u8]) -> Option<&'a Entry>
-    ensures { option_map (λ e. e.now) result ≡ find entries.now name.now }
-{
-    'entries: for i in 0..entries.len() {
-        let entry = &entries[i];
-        if is_same_name(entry.name.bytes(), name) {
-            return Some(entry);
-        }
-    }
-    None
-}
-
 impl Names {
     /// A table of no names. It takes no memory.
     pub fn new(alloc: Global) -> Names
@@ -77,7 +64,14 @@ impl Names {
     pub fn find(&self, name: &[u8]) -> Option<&Entry>
         ensures { option_map (λ e. e.now) result ≡ find self.now name.now }
     {
-        first_of(&self.entries, name)
+        let entries: &[Entry] = &self.entries;
+        'entries: for i in 0..entries.len() {
+            let entry = &entries[i];
+            if is_same_name(entry.name.bytes(), name) {
+                return Some(entry);
+            }
+        }
+        None
     }
 
     /// Appends a name, unless it is there, and says whether it did. After `Memory` nothing is changed.

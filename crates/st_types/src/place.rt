@@ -4,7 +4,7 @@ ghost use Rattle.std.specs.Prelude.{◌≤◌, IfErr, IfNone, IfOk, IfSome, leng
 ghost use Rattle.st_tree.specs.ProgramViews.{block_tree, decl_tree, declared_tree};
 ghost use Rattle.st_types.specs.Places.{IsAfter, IsAmong, IsAt, block_names, decl_names};
 
-use st_tree::{Block, Blocks, Decl, DeclaredNames};
+use st_tree::{Block, Decl, DeclaredNames};
 use vcp_base::Spot;
 
 // The spot of the name at place `n`, or the place after these names.
@@ -34,28 +34,17 @@ fn in_declarations(decls: &[Decl], n: usize) -> Result<Spot, usize>
     Err(left)
 }
 
-// The spot of the name at place `n`, or the place after the names of these blocks.
-fn in_blocks(blocks: &[Block], n: usize) -> Result<Spot, usize>
-    ensures ok { IfOk result (IsAmong (block_names (map block_tree blocks.now)) n) }
-    ensures err { IfErr result (IsAfter (block_names (map block_tree blocks.now)) n) }
+/// The spot of the name at place `n`, counted from 0; none where so many aren't declared.
+pub(crate) fn name_at(blocks: &[Block], n: usize) -> Option<Spot>
+    ensures some { IfSome result (IsAt (block_names (map block_tree blocks.now)) n) }
+    ensures none { IfNone result (length (block_names (map block_tree blocks.now)) ≤ n) }
 {
     let mut left = n;
     'each: for b in blocks {
         match in_declarations(&b.decls.items, left) {
-            Ok(spot) => return Ok(spot),
+            Ok(spot) => return Some(spot),
             Err(rest) => left = rest,
         }
     }
-    Err(left)
-}
-
-/// The spot of the name at place `n`, counted from 0; none where so many aren't declared.
-pub(crate) fn name_at(blocks: &Blocks, n: usize) -> Option<Spot>
-    ensures some { IfSome result (IsAt (block_names (map block_tree blocks.now.items.items)) n) }
-    ensures none { IfNone result (length (block_names (map block_tree blocks.now.items.items)) ≤ n) }
-{
-    match in_blocks(&blocks.items, n) {
-        Ok(spot) => Some(spot),
-        Err(_) => None,
-    }
+    None
 }

@@ -12,7 +12,7 @@ ghost use Rattle.st_types.specs.declared.fault.Rule.TheVariants as rule_;
 ghost use Rattle.st_types.specs.Faults.{fault};
 ghost use Rattle.st_types.specs.Full.{UnlessFull};
 ghost use Rattle.st_types.specs.ExprTyping.{both};
-ghost use Rattle.st_types.specs.StmtTyping.{entry_type as entry_type_of, Narrows, NoTest, IsBool, assign_of, test_of, selector_of};
+ghost use Rattle.st_types.specs.StmtTyping.{entry_type, Narrows, NoTest, IsBool, assign_of, test_of, selector_of};
 ghost use Rattle.st_types.specs.StmtTyping.{turns_of as turns_of_bounds, case_of};
 ghost use Rattle.st_types.specs.StmtSteps.{Gives, TypesStmt, TypesStmts, TypesArms, TypesBranches, TypesOther, stmt_after, arm_after, branch_after, if_of};
 ghost use Rattle.st_types.specs.StmtSteps.{turning_of, for_with};
@@ -25,7 +25,7 @@ use crate::operator::{type_of, widened};
 use crate::refusals::{
     discard, discard_arms, discard_body, discard_branches, discard_some, discard_stmt,
 };
-use crate::variable::{bool_fault, entry_type, held_in, is_free, name_fault};
+use crate::variable::{control_type, held_in, is_free, name_fault};
 use st_tree::{Arm, Branch, Expr, Stmt, Stmts, trees_of_nodes};
 use std::alloc::Global;
 use vcp_base::{Memory, Spot, Ty, is_bool, within};
@@ -44,7 +44,7 @@ fn assign_of(
 ) -> Option<TStmt>
     ensures { UnlessFull noted.old.full noted.new.full
         (Gives
-        (λ f. (f ≡ fault rule_.Mismatch spot) × Narrows (entry_type_of (option_map (λ y. y.now) x.entry)) (option_map type_of_value (option_map texpr_tree e)))
+        (λ f. (f ≡ fault rule_.Mismatch spot) × Narrows (entry_type (option_map (λ y. y.now) x.entry)) (option_map type_of_value (option_map texpr_tree e)))
         (both (assign_of held.now spot) (option_map (λ y. y.now) x.entry) (option_map texpr_tree e))
         noted.old.first
         noted.new.first
@@ -438,9 +438,7 @@ impl Environment<'_> {
             noted.old.first noted.new.first (option_map tstmt_tree result)) }
     {
         let x = self.names.find(name);
-        let ty = entry_type(x);
-        name_fault(self.held, x, name_spot, &mut noted.first);
-        bool_fault(ty, name_spot, &mut noted.first);
+        let ty = control_type(self.held, x, name_spot, &mut noted.first);
         let low = self.bound(ty, first, noted);
         let high = self.bound(ty, last, noted);
         let step_by = self.step(ty, by, noted);

@@ -47,7 +47,7 @@ fn limited(program: &Program, slots: Slots, body: TStmts) -> Result<Typed, TypeF
     ensures ok { IfOk result (λ t. IsTyped (program_tree program.now) t) }
     ensures err { IfErr result (Refuses (program_tree program.now)) }
 {
-    if let Some(spot) = name_at(&program.blocks, MOST_NAMES as usize) {
+    if let Some(spot) = name_at(&program.blocks.items, MOST_NAMES as usize) {
         return Err(TypeFault::Names { spot });
     }
     let size = size_of(&slots, &body);

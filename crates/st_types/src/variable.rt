@@ -1,11 +1,11 @@
 //! The variables that statements set.
 
-ghost use Rattle.std.specs.Prelude.{◌≡◌, IfOk, option_map};
+ghost use Rattle.std.specs.Prelude.{◌≡◌, ◌⊎◌, IfOk, option_map};
 ghost use Rattle.vcp_typed.specs.Checked.{is_set as is_set_of};
 ghost use Rattle.st_types.specs.declared.fault.Rule.TheVariants as rule_;
 ghost use Rattle.st_types.specs.Faults.{fault};
 ghost use Rattle.st_types.specs.Notes.{Notes};
-ghost use Rattle.st_types.specs.StmtTyping.{is_free as is_free_of, is_constant as is_constant_of, entry_type as entry_type_of, held_in as held_in_of};
+ghost use Rattle.st_types.specs.StmtTyping.{is_free as is_free_of, is_constant as is_constant_of, entry_type, held_in as held_in_of};
 ghost use Rattle.st_types.specs.StmtTyping.{NameFault, IsBool};
 
 use crate::fault::{Fault, Rule};
@@ -42,13 +42,6 @@ pub(crate) fn is_free(held: &[u32], x: &Entry) -> bool
     is_set(x.section) && !held.contains(&x.slot)
 }
 
-/// The type of what was found.
-pub(crate) fn entry_type(x: Option<&Entry>) -> Option<Ty>
-    ensures { result ≡ entry_type_of (option_map (λ e. e.now) x.entry) }
-{
-    Some(x?.ty)
-}
-
 /// Notes what speaks against setting what was found.
 pub(crate) fn name_fault(held: &[u32], x: Option<&Entry>, spot: Spot, first: &mut Option<Fault>)
     ensures { Notes first.old first.new (NameFault held.now (option_map (λ e. e.now) x.entry) spot) }
@@ -63,18 +56,26 @@ pub(crate) fn name_fault(held: &[u32], x: Option<&Entry>, spot: Spot, first: &mu
     }
 }
 
-/// Notes that the type, where there is one, is BOOL.
-pub(crate) fn bool_fault(ty: Option<Ty>, spot: Spot, first: &mut Option<Fault>)
-    ensures { Notes first.old first.new (λ f. (f ≡ fault rule_.Mismatch spot) × IsBool ty) }
+/// The type of what was found as a control variable: notes what speaks against setting it, and that it is BOOL.
+pub(crate) fn control_type(
+    held: &[u32],
+    x: Option<&Entry>,
+    spot: Spot,
+    first: &mut Option<Fault>,
+) -> Option<Ty>
+    ensures notes { Notes first.old first.new
+        (λ f. NameFault held.now (option_map (λ e. e.now) x.entry) spot f ⊎ ((f ≡ fault rule_.Mismatch spot) × IsBool result)) }
+    ensures ty { result ≡ entry_type (option_map (λ e. e.now) x.entry) }
 {
-    match ty {
-        None => {}
-        Some(ty) => {
-            if is_bool(ty) {
-                note(first, Rule::Mismatch, spot);
-            }
-        }
+    name_fault(held, x, spot, first);
+    let Some(x) = x else {
+        return None;
+    };
+    if !is_bool(x.ty) {
+        return Some(x.ty);
     }
+    note(first, Rule::Mismatch, spot);
+    Some(x.ty)
 }
 
 /// The slots of the FORs round the body of one over what was found.

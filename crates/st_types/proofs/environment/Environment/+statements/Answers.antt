@@ -104,8 +104,8 @@ type_for-returns-in-Ok t c = λ spot.
     let body = subst
     (λ h. TypesStmts c.args.self.now.names.now h (stmt_trees c.args.body.now) c.step-step_by.new.noted.first c.type_stmts.new.noted.first
     (option_map (λ b. tstmt_trees b.items.items) c.type_stmts.result)) c.deref.ensures.value x4 in
-    for-types _ _ _ _ spot _ _ _ _ _ _ _ _ _ _ _ _ _ _ _ _ _ _ _ _ c.find-x.ensures c.entry_type-ty.ensures c.in-Ok.ensures c.name_fault.ensures
-    c.bool_fault.ensures x1 x2 x3 body c.turning_of-turning.ensures c.for_of.ensures)
+    for-types _ _ _ _ spot _ _ _ _ _ _ _ _ _ _ _ _ _ _ _ _ _ _ _ c.find-x.ensures c.control_type-ty.ensures.ty c.in-Ok.ensures
+    c.control_type-ty.ensures.notes x1 x2 x3 body c.turning_of-turning.ensures c.for_of.ensures)
 
 pub type_for-returns-in-Err : goal.type_for-returns-in-Err
 type_for-returns-in-Err t c = λ spot. is-full
