@@ -105,33 +105,22 @@ fn add_slot(alloc: Global, slots: &mut Slots, kind: Kind, d: &Declared) -> Resul
     }
 }
 
-// Adds a name, unless it is declared before, and says whether it did: the first declaration counts.
-fn add_new(alloc: Global, made: &mut Declarations, kind: Kind, d: &Declared) -> Result<bool, Memory>
-    ensures said { IfOk result (λ r. r ≡ is_new (made_by made.old) d.now.name) }
-    ensures gives { OnOk result (made_by made.new ≡ after_name (made_by made.old) kind.section kind.ty (zero_or kind.init) (declared_tree d.now)) }
-{
-    match entry_of(alloc, &made.slots, kind, d) {
-        Ok(entry) => match made.names.declare(entry) {
-            Ok(true) => match add_slot(alloc, &mut made.slots, kind, d) {
-                Ok(()) => Ok(true),
-                Err(Memory) => Err(Memory),
-            },
-            Ok(false) => Ok(false),
-            Err(Memory) => Err(Memory),
-        },
-        Err(Memory) => Err(Memory),
-    }
-}
-
-// Adds a name; one that is declared before is noted.
+// Adds a name; of one that is declared before the first declaration counts, and it is noted.
 fn add_name(alloc: Global, made: &mut Declarations, kind: Kind, d: &Declared, noted: &mut Noted)
     ensures { UnlessFull noted.old.full noted.new.full
         (Makes noted.old.first noted.new.first (made_by made.new)
         (after_name (made_by made.old) kind.section kind.ty (zero_or kind.init) (declared_tree d.now))
         (λ f. (f ≡ fault rule_.Duplicate d.now.spot) × (is_new (made_by made.old) d.now.name ≡ false))) }
 {
-    match add_new(alloc, made, kind, d) {
-        Ok(true) => {}
+    let Ok(entry) = entry_of(alloc, &made.slots, kind, d) else {
+        noted.full = true;
+        return;
+    };
+    match made.names.declare(entry) {
+        Ok(true) => match add_slot(alloc, &mut made.slots, kind, d) {
+            Ok(()) => {}
+            Err(Memory) => noted.full = true,
+        },
         Ok(false) => note(&mut noted.first, Rule::Duplicate, d.spot),
         Err(Memory) => noted.full = true,
     }
