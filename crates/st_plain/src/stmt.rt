@@ -1,8 +1,7 @@
 //! What statements do to the values of the slots.
 
-ghost use Rattle.std.specs.Prelude.{◌≡◌, ◌<◌, ◌≤◌, ◌+◌, ◌+ℤ◌, FitsSigned, true, List, ℤ, [], ◌∷◌, ◌++◌, Err, OnOk, IfOk, IfErr, length, slice_set};
+ghost use Rattle.std.specs.Prelude.{◌≡◌, ◌<◌, ◌≤◌, ◌+◌, true, List, ℤ, [], ◌∷◌, ◌++◌, Err, OnOk, IfOk, IfErr, length, slice_set};
 ghost use Rattle.std.specs.Prelude.{vec_capacity};
-ghost use Rattle.std.specs.Int.{w64};
 ghost use Rattle.std.specs.List.{list_any};
 ghost use Rattle.vcp_base.specs.declared.turns.Turn.{Turn};
 ghost use Rattle.vcp_typed.specs.Meaning.{is_labelled as is_labelled_of, all_turns, do_stmt as do_stmt_of, do_stmts as do_stmts_of, do_arms, do_branches, do_other};

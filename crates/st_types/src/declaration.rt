@@ -1,6 +1,6 @@
 //! The typing of declarations.
 
-ghost use Rattle.std.specs.Prelude.{◌≡◌, IfOk, List, OnOk, false, length, map};
+ghost use Rattle.std.specs.Prelude.{◌≡◌, IfOk, OnOk, false, length, map};
 ghost use Rattle.st_tree.specs.ExprViews.{expr_tree_or_none};
 ghost use Rattle.st_tree.specs.ProgramViews.{block_tree, decl_tree, declared_tree};
 ghost use Rattle.st_types.specs.declared.fault.Rule.TheVariants as rule_;

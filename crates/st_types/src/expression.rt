@@ -1,6 +1,6 @@
 //! The typing of expressions.
 
-ghost use Rattle.std.specs.Prelude.{◌≡◌, IfOk, List, ℕ, ◌++◌, ◌∷◌, [], Some, None, neg_ℤ, map, option_map};
+ghost use Rattle.std.specs.Prelude.{◌≡◌, IfOk, List, ◌++◌, ◌∷◌, [], Some, None, neg_ℤ, map, option_map};
 ghost use Rattle.st_tree.specs.ExprTree.{literal as literal_tree, name as name_tree, call as call_tree};
 ghost use Rattle.st_tree.specs.ExprViews.{expr_tree, expr_trees};
 ghost use Rattle.vcp_typed.specs.Checked.{ty_of as type_of_value};

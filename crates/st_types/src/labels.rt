@@ -2,7 +2,7 @@
 
 ghost use Rattle.std.specs.Prelude.{◌≡◌, false, is_some, option_map};
 ghost use Rattle.vcp_base.specs.declared.spot.Spot.{Spot as Spot_};
-ghost use Rattle.st_tree.specs.ExprViews.{expr_tree, expr_tree_or_none};
+ghost use Rattle.st_tree.specs.ExprViews.{expr_tree_or_none};
 ghost use Rattle.st_tree.specs.StmtViews.{label_tree, label_trees};
 ghost use Rattle.st_types.specs.declared.fault.Rule.TheVariants as rule_;
 ghost use Rattle.st_types.specs.Faults.{fault};
