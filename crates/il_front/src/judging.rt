@@ -1,7 +1,7 @@
 //! The judging of lines.
 
 ghost use Rattle.std.specs.Prelude.{◌≡◌, ◌⊎◌, ◌≤◌, [], IfErr, IfOk, List, Ok, Err, All, drop, length};
-ghost use Rattle.std.specs.Prelude.{◌∷◌, ◌++◌, OnOk};
+ghost use Rattle.std.specs.Prelude.{OnOk};
 ghost use Rattle.vcp_base.specs.Limits.{most_names};
 ghost use Rattle.st_lexer.specs.declared.token.Token.{Token as TokenOf};
 ghost use Rattle.st_lexer.specs.Reading.{IsInside};
@@ -108,14 +108,6 @@ fn judged(
     }
 }
 
-// Appends an instruction.
-fn append(code: &mut Vec<Instruction>, instruction: Instruction) -> Result<(), Memory>
-    ensures { OnOk result (code.new.items ≡ code.old.items ++ instruction ∷ []) }
-{
-    code.push(instruction)?;
-    Ok(())
-}
-
 // Appends the instructions of the lines of the tokens from place `from` on.
 fn append_lines(
     text: &[u8],
@@ -145,12 +137,12 @@ fn append_lines(
             return Ok(());
         }
         match judged(text, names, before, line, spot) {
-            Ok(taken) => match append(code, taken.instruction) {
+            Ok(taken) => match code.push(taken.instruction) {
                 Ok(()) => {
                     before = Some(taken.ty);
                     at = to;
                 }
-                Err(Memory) => return Err(IlFault::Memory),
+                Err(_) => return Err(IlFault::Memory),
             },
             Err(fault) => return Err(fault),
         }

@@ -1,6 +1,6 @@
 //! Where results are kept.
 
-ghost use Rattle.std.specs.Prelude.{◌≡◌, ◌+◌, ◌≤◌, [], ◌∷◌, ◌++◌, cond, IfOk, length, drop};
+ghost use Rattle.std.specs.Prelude.{◌≡◌, ◌+◌, ◌≤◌, [], ◌∷◌, ◌++◌, cond};
 ghost use Rattle.vcp_base.specs.Limits.{most_names};
 ghost use Rattle.vcp_base.specs.declared.ty.Ty.TheVariants as ty_;
 ghost use Rattle.il_front.specs.TypedForm.{hidden_name as hidden_name_of, hidden_slot as hidden_slot_of, hidden_slots, all_types, uses as uses_of, used_by};
@@ -97,22 +97,6 @@ fn hidden_name(ty: Ty) -> &'static [u8]
     }
 }
 
-// The variable that keeps a result of the type.
-fn hidden(alloc: Global, ty: Ty) -> Result<Slot, Memory>
-    ensures { IfOk result (λ s. s ≡ hidden_slot_of ty) }
-{
-    match Text::copy_of(alloc, hidden_name(ty)) {
-        Ok(name) => Ok(Slot {
-            name,
-            spot: Spot { line: 0, col: 0 },
-            section: Section::Local,
-            ty,
-            init: 0,
-        }),
-        Err(Memory) => Err(Memory),
-    }
-}
-
 // Appends the variable that keeps a result of the type, where it is used.
 fn add_hidden(alloc: Global, slots: &mut Slots, used: bool, ty: Ty, full: &mut bool)
     ensures { UnlessFull full.old full.new
@@ -121,8 +105,14 @@ fn add_hidden(alloc: Global, slots: &mut Slots, used: bool, ty: Ty, full: &mut b
     if !used {
         return;
     }
-    match hidden(alloc, ty) {
-        Ok(slot) => match slots.push(slot) {
+    match Text::copy_of(alloc, hidden_name(ty)) {
+        Ok(name) => match slots.push(Slot {
+            name,
+            spot: Spot { line: 0, col: 0 },
+            section: Section::Local,
+            ty,
+            init: 0,
+        }) {
             Ok(()) => {}
             Err(Memory) => *full = true,
         },

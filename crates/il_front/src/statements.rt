@@ -1,6 +1,6 @@
 //! The statements of instructions.
 
-ghost use Rattle.std.specs.Prelude.{◌≡◌, ◌<◌, ◌≤◌, IfOk, Some, length, slice_get};
+ghost use Rattle.std.specs.Prelude.{◌≡◌, ◌<◌, ◌≤◌, IfOk, Some};
 ghost use Rattle.vcp_base.specs.Limits.{most_names};
 ghost use Rattle.vcp_base.specs.declared.ty.Ty.TheVariants as ty_;
 ghost use Rattle.vcp_typed.specs.TExprViews.{texpr_tree};
@@ -204,14 +204,6 @@ fn statement(
     }
 }
 
-// The instruction at place `k`.
-fn instruction_at(code: &[Instruction], k: usize) -> Instruction
-    requires { k < length code.now }
-    ensures { slice_get code.now k ≡ Some result }
-{
-    code[k]
-}
-
 /// The statements of instructions. The flag is set where memory runs out, and then they are any.
 pub fn statements(alloc: Global, places: Places, code: &[Instruction], full: &mut bool) -> TStmts
     requires { places.declared ≤ most_names }
@@ -220,7 +212,7 @@ pub fn statements(alloc: Global, places: Places, code: &[Instruction], full: &mu
     let mut body = TStmts::new(alloc);
     let mut ty = Ty::Bool;
     'each: for k in 0..code.len() {
-        let i = instruction_at(code, k);
+        let i = code[k];
         append(&mut body, statement(alloc, places, i, ty, full), full);
         ty = next_type(ty, i.action);
     }

@@ -1,7 +1,6 @@
 //! The types of results and operands.
 
-ghost use Rattle.std.specs.Prelude.{◌≡◌, cond, option_map, Some, None};
-ghost use Rattle.vcp_base.specs.Types.{within as within_of};
+ghost use Rattle.std.specs.Prelude.{◌≡◌, option_map, Some, None};
 ghost use Rattle.vcp_typed.specs.Rules.{common as common_of, result as result_of};
 ghost use Rattle.il_front.specs.Accumulator.{operand_type as type_of_operand};
 ghost use Rattle.il_front.specs.Judging.{if_bool as if_bool_of, type_behind as type_behind_of, loads as loads_of};
@@ -77,13 +76,6 @@ fn combined(op: BinOp, a: Ty, b: Ty) -> Option<Ty>
     }
 }
 
-// The type, where it is within the other.
-fn if_within(ty: Ty, to: Ty) -> Option<Ty>
-    ensures { result ≡ cond (within_of ty to) (Some ty) None }
-{
-    if within(ty, to) { Some(ty) } else { None }
-}
-
 /// The type of the result behind an action; none where the action doesn't take the types.
 pub fn type_behind(ty: Ty, action: Action) -> Option<Ty>
     ensures { result ≡ type_behind_of ty action }
@@ -96,7 +88,10 @@ pub fn type_behind(ty: Ty, action: Action) -> Option<Ty>
             negated,
             ty: to,
             ..
-        } => if_bool(negated, ty, if_within(ty, to)),
+        } => {
+            let kept = if within(ty, to) { Some(ty) } else { None };
+            if_bool(negated, ty, kept)
+        }
         Action::Put { ty: to, .. } => if_bool(true, ty, if_bool(true, to, Some(ty))),
         Action::Complement => if_bool(true, ty, Some(ty)),
         Action::Combine {

@@ -49,7 +49,7 @@ lines-preserved c =
           (first-spot ts at (to - at) c.at.result end c.at.ensures (omega (arith, c.line_end-to.ensures.more)))
           (sym (c.is_last_word.ensures l c.line_words-line.ensures.are) ∙ c.if-is_last_word.false)
           (c.in-Ok.ensures slots l tells c.line_words-line.ensures.are)
-          c.in-Ok-append.ensures (c.lines.invariant.so_far slots tells);
+          c.in-Ok-push.ensures.items (c.lines.invariant.so_far slots tells);
     }
 
 pub returns-then-is_last_word-clause-ok : goal.returns-then-is_last_word-clause-ok
