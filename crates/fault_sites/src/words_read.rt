@@ -10,49 +10,10 @@ ghost use Rattle.fault_sites.specs.Readings.{Adds, AreReadings, reading_as, read
 use crate::reading::Reading;
 use op_graph::{Cell, Graph, Op, entries_keep_their_rules, operands_are_there, reads_operation};
 use std::alloc::Global;
-use std::marker::Model;
-use vcp_base::{Memory, multiplier};
+use vcp_base::{CopyList, Memory, multiplier};
 
-/// The readings of a word, in order.
-#[derive(Drop)]
-pub struct WordReadings {
-    list: Vec<Reading>,
-}
-
-impl Model for WordReadings {
-    ghost use Rattle.std.specs.Prelude.{List};
-    ghost use Rattle.fault_sites.specs.declared.reading.Reading.{Reading};
-
-    ghost Value = { List Reading };
-
-    ghost view = { λ s. s.list.items };
-}
-
-impl WordReadings {
-    /// None.
-    fn new(alloc: Global) -> WordReadings
-        ensures { result ≡ [] }
-    {
-        WordReadings {
-            list: Vec::new(alloc),
-        }
-    }
-
-    /// One more.
-    fn push(&mut self, reading: Reading) -> Result<(), Memory>
-        ensures { OnOk result (self.new ≡ self.old ++ reading ∷ []) }
-    {
-        self.list.push(reading)?;
-        Ok(())
-    }
-
-    /// All, in order.
-    pub fn all(&self) -> &[Reading]
-        ensures { result.now ≡ self.now }
-    {
-        &self.list
-    }
-}
+/// The readings of a word, in order, seen as a list.
+pub type WordReadings = CopyList<Reading>;
 
 /// One more reading of operation `n`'s word.
 fn add(by_word: &mut [WordReadings], n: u32, reading: Reading) -> Result<(), Memory>
