@@ -1,7 +1,7 @@
 //! Where what is amiss begins to spread.
 
-ghost use Rattle.std.specs.Prelude.{◌≡◌, ◌<◌, ◌≤◌, ◌^◌, ◌++◌, ◌∷◌, [], None, pos, negsuc, neg_ℤ, ◌+ℤ◌, ◌-ℤ◌, ◌*ℤ◌, ◌≤ℤ◌, length, map};
-ghost use Rattle.std.specs.Prelude.{IfOk, OnOk};
+ghost use Rattle.std.specs.Prelude.{◌≡◌, ◌<◌, ◌≤◌, ◌^◌, None, pos, negsuc, neg_ℤ, ◌+ℤ◌, ◌-ℤ◌, ◌*ℤ◌, ◌≤ℤ◌, length, map};
+ghost use Rattle.std.specs.Prelude.{IfOk};
 ghost use Rattle.vcp_base.specs.Code.{modulus as modulus_of};
 ghost use Rattle.vcp_base.specs.Kinds.{multiplier as multiplier_of};
 ghost use Rattle.coded_unit.specs.Words.{Small as Moderate};
@@ -18,8 +18,7 @@ use fault_sites::{Reading, WordReadings, readings as readings_of};
 use op_graph::{Graph, Op, named};
 use signature_table::{Table, read_signature, signature_of, store_of};
 use std::alloc::Global;
-use std::marker::Model;
-use vcp_base::{Kind, Memory, Profile, Residue, multiplier};
+use vcp_base::{CopyList, Kind, Memory, Profile, Residue, multiplier};
 
 /// Words of an operation differ, so many cycle borders behind the fault: by this residue, or by it for each 1 of a number of which nothing is known.
 #[derive(Clone, Copy)]
@@ -29,46 +28,8 @@ pub(crate) struct Start {
     pub(crate) amount: Residue,
 }
 
-/// The readings of a word, in order.
-#[derive(Drop)]
-pub(crate) struct Starts {
-    list: Vec<Start>,
-}
-
-impl Model for Starts {
-    ghost use Rattle.std.specs.Prelude.{List};
-    ghost use Rattle.fault_cover.specs.declared.starts.Start.{Start};
-
-    ghost Value = { List Start };
-
-    ghost view = { λ s. s.list.items };
-}
-
-impl Starts {
-    /// None.
-    fn new(alloc: Global) -> Starts
-        ensures { result ≡ [] }
-    {
-        Starts {
-            list: Vec::new(alloc),
-        }
-    }
-
-    /// One more.
-    fn push(&mut self, start: Start) -> Result<(), Memory>
-        ensures { OnOk result (self.new ≡ self.old ++ start ∷ []) }
-    {
-        self.list.push(start)?;
-        Ok(())
-    }
-
-    /// All, in order.
-    pub(crate) fn all(&self) -> &[Start]
-        ensures { result.now ≡ self.now }
-    {
-        &self.list
-    }
-}
+/// The readings of a word, in order, seen as a list.
+pub(crate) type Starts = CopyList<Start>;
 
 /// Where what is added to a word begins to spread from a reading of it.
 fn start_by(profile: Profile, reading: &Reading) -> Start

@@ -16,7 +16,7 @@ readings-preserved c =
     let p = c.args.profile in
     let rs = c.args.readings.now in
     let i = c.readings.i in
-    ap (λ xs. xs ++ starts_of p (drop (i + 1) rs)) c.in_ok-push.ensures
+    ap (λ xs. xs ++ starts_of p (drop (i + 1) rs)) c.in_ok-push.ensures.ok
     ∙ made_more (starts_of p) rs i _ c.start_by.result c.readings.starts _ (slice_get-get_or rs i _ c.readings-test.true)
     (λ more. ap (λ s. s ∷ starts_of p more) (sym c.start_by.ensures)) c.readings.invariant
 
