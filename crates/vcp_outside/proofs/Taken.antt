@@ -6,7 +6,10 @@ use Rattle.std.proofs.KnownBytes.{Consumes-trans, Consumes-kept}
 use Rattle.std.specs.Io.KnownBytes.{Consumes, Keeps, IsAtEnd}
 use Rattle.vcp_outside.specs.Counts.{Rose}
 use Rattle.vcp_outside.specs.Held.{Held}
+use Rattle.std.proofs.Common.{Result, Ok, Err}
 use Rattle.vcp_outside.specs.ReadAll.{TakesBetween}
+use Rattle.vcp_outside.specs.declared.reading.ReadAll.{ReadAll}
+use Rattle.vcp_outside.specs.declared.reading.ReadAll.TheVariants as cause
 
 -- a front that was read was taken
 takes_front : (least most : ℕ) (held : Held) (name : List ℕ) (bytes rest : Option (List ℕ)) (front : List ℕ)
@@ -114,3 +117,13 @@ read_too_much limit len None name rest front reads is more within = (tt, tt)
 read_too_much limit len (Some held) name rest front reads is more within =
     let takes = takes_front (limit + 1) (limit + 1) held name (held name) rest front refl reads.0 reads.1 (omega arith) (omega arith) in
     ((takes.0 ++ takes.1, takes.2, omega (arith, length-append takes.0 takes.1, takes.4)), takes)
+
+-- what is answered isn't that the files failed
+pub memory_is_no_failure : {T : Type 0} (r : Result T ReadAll) → r ≡ Err cause.Memory → r ≡ Err cause.Failed → ⊥
+memory_is_no_failure r is other = absurd cc
+
+pub length_is_no_failure : {T : Type 0} (r : Result T ReadAll) → r ≡ Err cause.TooLong → r ≡ Err cause.Failed → ⊥
+length_is_no_failure r is other = absurd cc
+
+pub text_is_no_failure : {T : Type 0} (r : Result T ReadAll) (text : T) → r ≡ Ok text → r ≡ Err cause.Failed → ⊥
+text_is_no_failure r text is other = absurd cc

@@ -1,6 +1,7 @@
 use Rattle.std.proofs.Common.{le_trans, le_of_eq, take, ◌+◌, ◌∙◌, arith, inr, refl, sym}
 use Rattle.std.proofs.lemmas.Grind.{common_steps}
 use Rattle.vcp_outside.proofs.Taken.{takes_more, takes_no_more, whatever_held, broke_later, later_on, capped_on, rose_on}
+use Rattle.vcp_outside.proofs.Taken.{memory_is_no_failure, length_is_no_failure, text_is_no_failure}
 use Rattle.vcp_outside.proofs.Taken.{no_reads, few_reads, one_more_read, within_test, piece_within, read_whole, read_too_much}
 use Rattle.vcp_outside.proofs.reading.read_all_counting.Goals as goal
 
@@ -56,13 +57,13 @@ returns-in-Err-extend_from_slice g c =
     record {
       reads = whatever_held _ (λ h. tt);
       within = tt;
-      failed = λ is. absurd cc;
+      failed = λ is. absurd (memory_is_no_failure _ refl is);
       stayed = λ differs. r.cause.stayed ∙ s.stayed;
       ended = tt;
       taken =
           takes_more 1 (c.args.limit + 1) _ _ _ _ c.reading.content.items (take count c.read_counted.new.buf) s.bytes r.bytes.0 fits.0 fits.1;
       counted = one_more_read _ _ _ c.args.limit _ _ s.counted c.read_counted.ensures.counted c.len.ensures c.reading-test.true;
-      failed_taken = λ is. absurd cc;
+      failed_taken = λ is. absurd (memory_is_no_failure _ refl is);
       held = c.read_counted.ensures.held ∙ s.held;
       later = later_on s.stayed r.cause.later;
       capped = capped_on s.stayed r.cause.capped;
@@ -79,12 +80,12 @@ returns g c =
     record {
       reads = more.0;
       within = tt;
-      failed = λ is. absurd cc;
+      failed = λ is. absurd (length_is_no_failure _ refl is);
       stayed = λ differs. s.stayed;
       ended = tt;
       taken = more.1;
       counted = few_reads _ _ c.args.limit _ s.counted s.within;
-      failed_taken = λ is. absurd cc;
+      failed_taken = λ is. absurd (length_is_no_failure _ refl is);
       held = s.held;
       later = le_of_eq (sym s.stayed);
       capped = λ within. rw (sym s.stayed) at within;
@@ -104,12 +105,12 @@ returns-in-Ok-eq0 g c =
     record {
       reads = whole.0;
       within = rw c.from_vec.ensures within;
-      failed = λ is. absurd cc;
+      failed = λ is. absurd (text_is_no_failure _ _ refl is);
       stayed = λ differs. r.cause.stayed ∙ s.stayed;
       ended = end;
       taken = whole.1;
       counted = one_more_read _ _ _ c.args.limit _ _ s.counted c.read_counted.ensures.counted c.len.ensures c.reading-test.true;
-      failed_taken = λ is. absurd cc;
+      failed_taken = λ is. absurd (text_is_no_failure _ _ refl is);
       held = c.read_counted.ensures.held ∙ s.held;
       later = later_on s.stayed r.cause.later;
       capped = capped_on s.stayed r.cause.capped;
