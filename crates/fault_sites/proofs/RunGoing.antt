@@ -3,8 +3,7 @@ use Rattle.std.proofs.Common.{◌≡◌, ℕ, ℤ, zero, suc, ◌+◌, ◌-◌, 
 use Rattle.std.proofs.lemmas.List.{append-nil}
 use Rattle.std.proofs.lemmas.List.Elements.{All-head, All-tail}
 use Rattle.vcp_base.specs.declared.kind.StopKind.{StopKind}
-use Rattle.vcp_outside.specs.Seen.{SinkSeen}
-use Rattle.vcp_outside.specs.Gathering.{Gathered}
+use Rattle.vcp_outside.specs.Pens.{Penned}
 use Rattle.op_graph.specs.Lists.{Lists}
 use Rattle.op_graph.specs.GraphRun.{Cycle, cycle}
 use Rattle.signature_table.specs.Signatures.{Numbers}
@@ -42,8 +41,8 @@ pub row_is : (class : RunClass) (t : Numbers) (n : ℕ) (past now next : Moment)
 row_is class t n past now next row same is = rw (same, is) refl
 
 -- so many sites that all stand before the part
-pub passed_by : {a : SinkSeen} {l : Gathered} {p : Part} (xs : List Site) (n : ℕ) → n ≡ length xs → 0 < p.left → n ≤ p.skip
-    → Tells a a l l p (record { skip = p.skip - n; left = p.left }) xs
+pub passed_by : {l : Penned} {p : Part} (xs : List Site) (n : ℕ) → n ≡ length xs → 0 < p.left → n ≤ p.skip
+    → Tells l l p (record { skip = p.skip - n; left = p.left }) xs
 passed_by xs n is going some = passed_over xs going (omega (arith, is, some)) (omega (arith, is)) refl
 
 -- those of a cycle without a stop, and the rest
@@ -72,21 +71,21 @@ left_end class t now n rows few = ap (λ (rs : List (List ℤ)). run_sites_from 
 -- ---- writing
 
 -- so far: some sites were told, and these are left
-pub record SoFar (a b : SinkSeen) (l m : Gathered) (p q : Part) (class : RunClass) (t : Numbers) (g : Lists) (rows : List (List ℤ)) (n : ℕ) (now : Moment) : Type 0
+pub record SoFar (l m : Penned) (p q : Part) (class : RunClass) (t : Numbers) (g : Lists) (rows : List (List ℤ)) (n : ℕ) (now : Moment) : Type 0
   where
     pub done : List Site
-    pub tells : Tells a b l m p q done
+    pub tells : Tells l m p q done
     pub graph : now.graph ≡ g
     pub whole : run_sites class t g rows ≡ done ++ left_at class t now n rows
 
-pub so_far_none : {a : SinkSeen} {l : Gathered} {p : Part} (class : RunClass) (t : Numbers) (g : Lists) (rows : List (List ℤ)) (now : Moment) → now ≡ begun g
-    → SoFar a a l l p p class t g rows 0 now
+pub so_far_none : {l : Penned} {p : Part} (class : RunClass) (t : Numbers) (g : Lists) (rows : List (List ℤ)) (now : Moment) → now ≡ begun g
+    → SoFar l l p p class t g rows 0 now
 so_far_none class t g rows now is = rw is record { done = []; tells = tells_none; graph = refl; whole = refl }
 
-pub so_far_more : {a b c : SinkSeen} {l m o : Gathered} {p q r : Part} (class : RunClass) (t : Numbers) (g : Lists) (rows : List (List ℤ)) (n : ℕ)
+pub so_far_more : {l m o : Penned} {p q r : Part} (class : RunClass) (t : Numbers) (g : Lists) (rows : List (List ℤ)) (n : ℕ)
     (now next : Moment) (row : List ℤ)
-    → SoFar a b l m p q class t g rows n now → slice_get rows n ≡ Some row → (cycle now.graph now.cells row).stop ≡ None
-    → next ≡ after now (cycle now.graph now.cells row) → Tells b c m o q r (of_row class t now n row) → SoFar a c l o p r class t g rows (n + 1) next
+    → SoFar l m p q class t g rows n now → slice_get rows n ≡ Some row → (cycle now.graph now.cells row).stop ≡ None
+    → next ≡ after now (cycle now.graph now.cells row) → Tells m o q r (of_row class t now n row) → SoFar l o p r class t g rows (n + 1) next
 so_far_more class t g rows n now next row so there on is tells =
     let these : List Site = of_row class t now n row in
     rw is record {
@@ -98,12 +97,12 @@ so_far_more class t g rows n now next row so there on is tells =
     }
 
 -- nothing is left
-pub so_far_all : {a b : SinkSeen} {l m : Gathered} {p q : Part} (class : RunClass) (t : Numbers) (g : Lists) (rows : List (List ℤ)) (n : ℕ) (now : Moment)
-    → SoFar a b l m p q class t g rows n now → left_at class t now n rows ≡ [] → Tells a b l m p q (run_sites class t g rows)
+pub so_far_all : {l m : Penned} {p q : Part} (class : RunClass) (t : Numbers) (g : Lists) (rows : List (List ℤ)) (n : ℕ) (now : Moment)
+    → SoFar l m p q class t g rows n now → left_at class t now n rows ≡ [] → Tells l m p q (run_sites class t g rows)
 so_far_all class t g rows n now so none =
     tells_same so.tells (so.whole ∙ (ap (λ (xs : List Site). so.done ++ xs) none ∙ append-nil so.done))
 
 -- the part is over
-pub so_far_over : {a b : SinkSeen} {l m : Gathered} {p q : Part} (class : RunClass) (t : Numbers) (g : Lists) (rows : List (List ℤ)) (n : ℕ) (now : Moment)
-    → SoFar a b l m p q class t g rows n now → q.left ≡ 0 → Tells a b l m p q (run_sites class t g rows)
+pub so_far_over : {l m : Penned} {p q : Part} (class : RunClass) (t : Numbers) (g : Lists) (rows : List (List ℤ)) (n : ℕ) (now : Moment)
+    → SoFar l m p q class t g rows n now → q.left ≡ 0 → Tells l m p q (run_sites class t g rows)
 so_far_over class t g rows n now so over = tells_same (tells_both so.tells (tells_over (left_at class t now n rows) over)) so.whole

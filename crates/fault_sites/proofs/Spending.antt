@@ -2,15 +2,13 @@
 use Rattle.std.proofs.Common.{◌≡◌, ℕ, zero, suc, ◌+◌, ◌-◌, ◌<◌, ◌≤◌, ◌==◌, ◌||◌, Bool, true, false, nat_lt, nat_le, cond, List, [], ◌∷◌, ◌++◌, length, take, drop, All, codes, add-one, append_assoc, refl, sym, ap, ◌∙◌, arith}
 use Rattle.std.proofs.lemmas.Bool.Decides.{nat_tests}
 use Rattle.std.proofs.lemmas.List.Elements.{All-head, All-tail}
-use Rattle.vcp_outside.specs.Seen.{SinkSeen}
-use Rattle.vcp_outside.specs.Gathering.{Gathered, GathersTo}
 use Rattle.fault_sites.specs.declared.budget.Budget.{Budget}
 use Rattle.fault_sites.specs.declared.site.Site.{Site}
 use Rattle.fault_sites.specs.Rests.{first_fits, fitting}
 use Rattle.fault_sites.specs.Sites.{each_below}
 use Rattle.fault_sites.specs.Spending.{behind, fed_groups, has_begun, is_begun, one_behind, one_within, Spends, within}
 use Rattle.fault_sites.specs.Telling.{fed_lines}
-use Rattle.fault_sites.proofs.Going.{and_then, same, unmoved}
+use Rattle.vcp_outside.specs.Pens.{Penned, Goes, unmoved, and_then, same}
 
 abbrev pub budget : ℕ → ℕ → ℕ → Budget
 budget skip left room = record { skip = skip; left = left; room = room }
@@ -38,12 +36,12 @@ fed_append (x ∷ xs) ys =
 -- ---- calls
 
 -- no groups
-pub spends_none : {a : SinkSeen} {l : Gathered} {b : Budget} → Spends a a l l b b []
+pub spends_none : {l : Penned} {b : Budget} → Spends l l b b []
 spends_none = record { gathers = unmoved; left = refl }
 
 -- some groups and others
-pub spends_both : {a b c : SinkSeen} {l m n : Gathered} {p q r : Budget} {xs ys : List (List Site)} → Spends a b l m p q xs → Spends b c m n q r ys
-    → Spends a c l n p r (xs ++ ys)
+pub spends_both : {l m n : Penned} {p q r : Budget} {xs ys : List (List Site)} → Spends l m p q xs → Spends m n q r ys
+    → Spends l n p r (xs ++ ys)
 spends_both {p = p} {q = q} {xs = xs} {ys = ys} first second = record {
   gathers = same (and_then first.gathers second.gathers)
       (ap fed_groups (within_append p xs ys) ∙ (fed_append (within p xs) (within (behind p xs) ys)
@@ -52,12 +50,12 @@ spends_both {p = p} {q = q} {xs = xs} {ys = ys} first second = record {
 }
 
 -- the same groups, listed otherwise
-pub spends_same : {a b : SinkSeen} {l m : Gathered} {p q : Budget} {xs ys : List (List Site)} → Spends a b l m p q xs → ys ≡ xs → Spends a b l m p q ys
+pub spends_same : {l m : Penned} {p q : Budget} {xs ys : List (List Site)} → Spends l m p q xs → ys ≡ xs → Spends l m p q ys
 spends_same spends e = rw e spends
 
 -- those of one number more
-pub spends_more : {a b c : SinkSeen} {l m o : Gathered} {p q r : Budget} (f : ℕ → List (List Site)) (i : ℕ) → Spends a b l m p q (each_below f i)
-    → Spends b c m o q r (f i) → Spends a c l o p r (each_below f (i + 1))
+pub spends_more : {l m o : Penned} {p q r : Budget} (f : ℕ → List (List Site)) (i : ℕ) → Spends l m p q (each_below f i)
+    → Spends m o q r (f i) → Spends l o p r (each_below f (i + 1))
 spends_more f i first second = rw (add-one i) (spends_both first second)
 
 -- ---- the part is over, or is still to come
@@ -74,7 +72,7 @@ over_behind b [] over = refl
 over_behind b (g ∷ gs) over =
     let still : one_behind b g ≡ b = rw over refl in ap (λ (c : Budget). behind c gs) still ∙ over_behind b gs over
 
-pub spends_over : {a : SinkSeen} {l : Gathered} {b : Budget} (gs : List (List Site)) → b.left ≡ 0 → Spends a a l l b b gs
+pub spends_over : {l : Penned} {b : Budget} (gs : List (List Site)) → b.left ≡ 0 → Spends l l b b gs
 spends_over {b = b} gs over = record { gathers = same unmoved (ap fed_groups (over_within b gs over)); left = sym (over_behind b gs over) }
 
 abbrev skipped : Budget → ℕ → Budget
@@ -111,16 +109,16 @@ past_behind b (g ∷ gs) some far =
     ∙ (past_behind (skipped b 1) gs some (omega (arith, far))
     ∙ budget_same (b.skip - 1 - length gs) (b.skip - suc (length gs)) b.left b.room (omega arith))
 
-pub spends_past : {a : SinkSeen} {l : Gathered} {b next : Budget} (gs : List (List Site)) → 0 < b.left → length gs ≤ b.skip → next ≡ skipped b (length gs)
-    → Spends a a l l b next gs
+pub spends_past : {l : Penned} {b next : Budget} (gs : List (List Site)) → 0 < b.left → length gs ≤ b.skip → next ≡ skipped b (length gs)
+    → Spends l l b next gs
 spends_past {b = b} gs some far is = record { gathers = same unmoved (ap fed_groups (past_within b gs some far)); left = is ∙ sym (past_behind b gs some far) }
 
 -- ---- one group
 
 -- it is the first of the part
-pub spends_one : {a c : SinkSeen} {l m : Gathered} {p q : Budget} (xs : List Site) → 0 < p.left → p.skip ≡ 0 → length xs ≤ p.room
-    → GathersTo a c l m (codes "\nbegin" ++ (fed_lines xs ++ codes "\nend")) → q ≡ budget 0 (p.left - 1) (p.room - length xs)
-    → Spends a c l m p q (xs ∷ [])
+pub spends_one : {l m : Penned} {p q : Budget} (xs : List Site) → 0 < p.left → p.skip ≡ 0 → length xs ≤ p.room
+    → Goes l m (codes "\nbegin" ++ (fed_lines xs ++ codes "\nend")) → q ≡ budget 0 (p.left - 1) (p.room - length xs)
+    → Spends l m p q (xs ∷ [])
 spends_one {p = p} xs some first fits gathers is =
     let on : (p.left == 0) ≡ false = going p some in
     let none : nat_lt 0 p.skip ≡ false = grind (arith, nat_tests) in
@@ -130,8 +128,8 @@ spends_one {p = p} xs some first fits gathers is =
     record { gathers = same gathers (ap fed_groups one); left = is ∙ sym next }
 
 -- there is no room for it
-pub spends_full : {a : SinkSeen} {l : Gathered} {p q : Budget} (xs : List Site) → 0 < p.left → p.skip ≡ 0 → p.room < length xs
-    → q ≡ budget 0 0 p.room → Spends a a l l p q (xs ∷ [])
+pub spends_full : {l : Penned} {p q : Budget} (xs : List Site) → 0 < p.left → p.skip ≡ 0 → p.room < length xs
+    → q ≡ budget 0 0 p.room → Spends l l p q (xs ∷ [])
 spends_full {p = p} xs some first full is =
     let on : (p.left == 0) ≡ false = going p some in
     let none : nat_lt 0 p.skip ≡ false = grind (arith, nat_tests) in

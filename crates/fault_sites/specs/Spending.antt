@@ -1,10 +1,9 @@
 -- Spending: what the calls that write a part of the groups do, one after another.
 use Rattle.std.specs.Prelude.{◌≡◌, ℕ, ◌-◌, ◌==◌, ◌||◌, Bool, cond, nat_lt, nat_le, List, [], ◌∷◌, ◌++◌, length, codes}
-use Rattle.vcp_outside.specs.Seen.{SinkSeen}
-use Rattle.vcp_outside.specs.Gathering.{Gathered, GathersTo}
 use Rattle.fault_sites.specs.declared.budget.Budget.{Budget}
 use Rattle.fault_sites.specs.declared.site.Site.{Site}
 use Rattle.fault_sites.specs.Telling.{fed_lines}
+use Rattle.vcp_outside.specs.Pens.{Penned, Goes}
 
 -- what of a group is written within a budget, and what is left of it then
 abbrev pub one_within : Budget → List Site → List (List Site)
@@ -31,8 +30,8 @@ fed_groups [] = []
 fed_groups (xs ∷ more) = codes "\nbegin" ++ (fed_lines xs ++ (codes "\nend" ++ fed_groups more))
 
 -- a call goes on with those of these groups that are within the budget, and gives what is left of it
-pub record Spends (old new : SinkSeen) (line_old line_new : Gathered) (b next : Budget) (gs : List (List Site)) : Type 0 where
-  pub gathers : GathersTo old new line_old line_new (fed_groups (within b gs))
+pub record Spends (old new : Penned) (b next : Budget) (gs : List (List Site)) : Type 0 where
+  pub gathers : Goes old new (fed_groups (within b gs))
   pub left : next ≡ behind b gs
 
 -- a part with so much room has begun with its first group, where this is left of its budget, or it has none

@@ -7,10 +7,10 @@ ghost use Rattle.fault_sites.specs.Sites.{has_acts, sites, sites_in};
 use crate::class::{Class, Classes};
 use crate::nowhere::Nowhere;
 use crate::part::Part;
-use crate::telling::then_acts;
+use crate::telling::{Telling, then_acts};
 use crate::writing::then_sites;
 use op_graph::Graph;
-use vcp_outside::Line;
+use vcp_outside::LinePen;
 
 /// A part behind all sites: what is left of it tells how many there are.
 pub(crate) const BEHIND_ALL: Part = Part {
@@ -24,10 +24,11 @@ pub(crate) fn count_in(graph: &Graph, class: Class) -> u64
 {
     // A graph has at most 65,536 operations.
     let _operations = graph.len();
-    let mut line = Line::new();
     let mut nowhere = Nowhere {};
-    let behind = then_acts(&mut line, &mut nowhere, BEHIND_ALL, &class, graph, 1);
-    u64::MAX - behind.skip
+    let pen = LinePen::new(&mut nowhere);
+    let part = BEHIND_ALL;
+    let Telling { pen: _, part } = then_acts(Telling { pen, part }, &class, graph, 1);
+    u64::MAX - part.skip
 }
 
 /// How many sites a class has in cycle `n`, where it has so many in the second one: none in the first, where it takes a word of the cycle before.
@@ -48,8 +49,9 @@ pub fn count_sites(graph: &Graph, classes: Classes, cycles: u32) -> u64
 {
     // A graph has at most 65,536 operations.
     let _operations = graph.len();
-    let mut line = Line::new();
     let mut nowhere = Nowhere {};
-    let behind = then_sites(&mut line, &mut nowhere, BEHIND_ALL, graph, classes, cycles);
-    u64::MAX - behind.skip
+    let pen = LinePen::new(&mut nowhere);
+    let part = BEHIND_ALL;
+    let Telling { pen: _, part } = then_sites(Telling { pen, part }, graph, classes, cycles);
+    u64::MAX - part.skip
 }

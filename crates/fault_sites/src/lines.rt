@@ -1,7 +1,7 @@
 //! The line of a site.
 
 ghost use Rattle.std.specs.Prelude.{◌≡◌};
-ghost use Rattle.vcp_outside.specs.Gathering.{GathersTo};
+ghost use Rattle.vcp_outside.specs.Pens.{Goes};
 ghost use Rattle.fault_sites.specs.SiteText.{class_name as class_name_of, classes_name as classes_name_of, classes_of, verb as verb_of, rest as rest_of};
 ghost use Rattle.fault_sites.specs.SiteText.{site_line};
 
@@ -9,7 +9,7 @@ use crate::class::{Class, Classes};
 use crate::site::Site;
 use fault_script::Act;
 use vcp_base::{kind_name, same_bytes};
-use vcp_outside::{Line, Sink};
+use vcp_outside::Pen;
 
 /// The word that names a class.
 fn class_name(class: Class) -> &'static [u8]
@@ -74,33 +74,25 @@ pub fn verb(act: &Act) -> &'static [u8]
 }
 
 /// Goes on with what is behind the cycle and the operation in the line of a fault that does this.
-pub fn then_rest<O: Sink>(line: &mut Line, out: &mut O, act: &Act)
-    ensures { GathersTo (O.seen out.old) (O.seen out.new) line.old line.new (rest_of act.now) }
+pub fn then_rest<P: Pen>(pen: P, act: &Act) -> P
+    ensures { Goes (P.seen pen) (P.seen result) (rest_of act.now) }
 {
     match *act {
-        Act::OperandAdd { j, e } => {
-            line.numbered(out, b" ", j as u64);
-            line.signed(out, b" add ", e);
-        }
-        Act::OperandFrom { j, r } => {
-            line.numbered(out, b" ", j as u64);
-            line.numbered(out, b" from ", r as u64);
-        }
-        Act::OperandStale { j } => {
-            line.numbered(out, b" ", j as u64);
-            line.text(out, b" stale");
-        }
-        Act::ResultAdd { e } => line.signed(out, b" add ", e),
-        Act::Operator { kind } => line.texts(out, b" ", kind_name(kind)),
-        Act::Skip => {}
+        Act::OperandAdd { j, e } => pen.numbered(b" ", j as u64).signed(b" add ", e),
+        Act::OperandFrom { j, r } => pen.numbered(b" ", j as u64).numbered(b" from ", r as u64),
+        Act::OperandStale { j } => pen.numbered(b" ", j as u64).text(b" stale"),
+        Act::ResultAdd { e } => pen.signed(b" add ", e),
+        Act::Operator { kind } => pen.texts(b" ", kind_name(kind)),
+        Act::Skip => pen,
     }
 }
 
 /// Goes on with the line of a site, without its LF.
-pub fn then_site<O: Sink>(line: &mut Line, out: &mut O, site: &Site)
-    ensures { GathersTo (O.seen out.old) (O.seen out.new) line.old line.new (site_line site.now) }
+pub fn then_site<P: Pen>(pen: P, site: &Site) -> P
+    ensures { Goes (P.seen pen) (P.seen result) (site_line site.now) }
 {
-    line.numbered(out, verb(&site.act), site.cycle as u64);
-    line.numbered(out, b" ", site.op as u64);
-    then_rest(line, out, &site.act);
+    let pen = pen
+        .numbered(verb(&site.act), site.cycle as u64)
+        .numbered(b" ", site.op as u64);
+    then_rest(pen, &site.act)
 }

@@ -2,14 +2,14 @@
 
 ghost use Rattle.std.specs.Prelude.{◌≡◌, ◌<◌, ◌≤◌, ◌+◌, ◌*◌, ◌∷◌, [], ℕ, true, false, nat_lt, nat_le, drop, length, slice_get, Some, IfOk};
 ghost use Rattle.vcp_base.specs.Limits.{most_cycles};
-ghost use Rattle.vcp_outside.specs.Gathering.{GathersTo};
+ghost use Rattle.vcp_outside.specs.Pens.{Goes};
 ghost use Rattle.op_graph.specs.Lists.{Lists};
 ghost use Rattle.op_graph.specs.Rules.{is_out as is_out_of};
 ghost use Rattle.fault_sites.specs.Readings.{AreReadings};
 ghost use Rattle.fault_sites.specs.Counted.{AreCounted, IsCounted};
 ghost use Rattle.fault_sites.specs.Rests.{changed, groups as groups_of_run, groups_at, groups_by, groups_in, groups_of, place as place_of, rises};
 ghost use Rattle.fault_sites.specs.Sites.{addend as addend_of};
-ghost use Rattle.fault_sites.specs.Spending.{Spends};
+ghost use Rattle.fault_sites.specs.Spending.{fed_groups, within, Spends};
 ghost use Rattle.fault_sites.specs.Telling.{fed_lines};
 
 use crate::budget::Budget;
@@ -22,7 +22,7 @@ use fault_script::Act;
 use op_graph::Graph;
 use std::alloc::Global;
 use vcp_base::{Kind, Memory};
-use vcp_outside::{Line, Sink};
+use vcp_outside::Pen;
 
 /// A number that is greater in a later cycle, and in a cycle at a later operation.
 fn place(r: &Reading) -> u64
@@ -45,9 +45,9 @@ fn first_rising(rs: &[Reading]) -> usize
 }
 
 /// Goes on with a number that is added in a reading of a word of cycle `n`.
-fn then_change<O: Sink>(line: &mut Line, out: &mut O, n: u32, reading: &Reading, e: i64)
+fn then_change<P: Pen>(pen: P, n: u32, reading: &Reading, e: i64) -> P
     requires { n < most_cycles }
-    ensures { GathersTo (O.seen out.old) (O.seen out.new) line.old line.new (fed_lines (changed n e (reading.now ∷ []))) }
+    ensures { Goes (P.seen pen) (P.seen result) (fed_lines (changed n e (reading.now ∷ []))) }
 {
     let site = Site {
         cycle: n + reading.borders as u32,
@@ -57,99 +57,93 @@ fn then_change<O: Sink>(line: &mut Line, out: &mut O, n: u32, reading: &Reading,
             e,
         },
     };
-    line.text(out, b"\n");
-    then_site(line, out, &site);
+    let pen = pen.text(b"\n");
+    then_site(pen, &site)
 }
 
 /// Goes on with a number that is added in each of these readings of a word of cycle `n`.
-fn then_changed<O: Sink>(line: &mut Line, out: &mut O, n: u32, rs: &[Reading], e: i64)
+fn then_changed<P: Pen>(mut pen: P, n: u32, rs: &[Reading], e: i64) -> P
     requires { n < most_cycles }
-    ensures { GathersTo (O.seen out.old) (O.seen out.new) line.old line.new (fed_lines (changed n e rs.now)) }
+    ensures { Goes (P.seen pen) (P.seen result) (fed_lines (changed n e rs.now)) }
 {
     'readings: for i in 0..rs.len() {
-        then_change(line, out, n, &rs[i], e);
+        pen = then_change(pen, n, &rs[i], e);
     }
+    pen
 }
 
-/// Goes on with the group, where it is within the budget, and gives what is left of it.
-fn then_group<O: Sink>(
-    line: &mut Line,
-    out: &mut O,
-    budget: Budget,
-    n: u32,
-    rs: &[Reading],
-    e: i64,
-) -> Budget
+/// A pen, and the budget of the groups that are still to be written with it.
+pub(crate) struct Spending<P> {
+    pub(crate) pen: P,
+    pub(crate) budget: Budget,
+}
+
+/// Goes on with the group, where it is within the budget.
+fn then_group<P: Pen>(spent: Spending<P>, n: u32, rs: &[Reading], e: i64) -> Spending<P>
     requires { n < most_cycles }
-    ensures { Spends (O.seen out.old) (O.seen out.new) line.old line.new budget result (changed n e rs.now ∷ []) }
+    ensures { Spends (P.seen spent.pen) (P.seen result.pen) spent.budget result.budget (changed n e rs.now ∷ []) }
 {
+    let Spending { pen, budget } = spent;
     if budget.left == 0 {
-        return budget;
+        return Spending { pen, budget };
     }
     if 0 < budget.skip {
-        return Budget {
+        let budget = Budget {
             skip: budget.skip - 1,
             left: budget.left,
             room: budget.room,
         };
+        return Spending { pen, budget };
     }
     let count = rs.len() as u64;
     if budget.room < count {
-        return Budget {
+        let budget = Budget {
             skip: 0,
             left: 0,
             room: budget.room,
         };
+        return Spending { pen, budget };
     }
-    line.text(out, b"\nbegin");
-    then_changed(line, out, n, rs, e);
-    line.text(out, b"\nend");
-    Budget {
+    let pen = then_changed(pen.text(b"\nbegin"), n, rs, e).text(b"\nend");
+    let budget = Budget {
         skip: 0,
         left: budget.left - 1,
         room: budget.room - count,
-    }
+    };
+    Spending { pen, budget }
 }
 
 /// Goes on with each number that is added in these readings, where each of them stands behind the one before it, which is known; with none, where they
 /// don't.
-fn then_groups_of<O: Sink>(
-    line: &mut Line,
-    out: &mut O,
-    mut budget: Budget,
+fn then_groups_of<P: Pen>(
+    mut spent: Spending<P>,
     n: u32,
     rs: &[Reading],
     rising: bool,
-) -> Budget
+) -> Spending<P>
     requires few { n < most_cycles }
     requires rises { rises rs.now ≡ rising }
-    ensures { Spends (O.seen out.old) (O.seen out.new) line.old line.new budget result (groups_of n rs.now) }
+    ensures { Spends (P.seen spent.pen) (P.seen result.pen) spent.budget result.budget (groups_of n rs.now) }
 {
     if !rising {
-        return budget;
+        return spent;
     }
     'values: for v in 0..ADDENDS {
-        budget = then_group(line, out, budget, n, rs, addend(v));
+        spent = then_group(spent, n, rs, addend(v));
     }
-    budget
+    spent
 }
 
 /// Goes on with the groups of a word with these readings.
-fn then_groups_by<O: Sink>(
-    line: &mut Line,
-    out: &mut O,
-    mut budget: Budget,
-    n: u32,
-    rs: &[Reading],
-) -> Budget
+fn then_groups_by<P: Pen>(mut spent: Spending<P>, n: u32, rs: &[Reading]) -> Spending<P>
     requires { n < most_cycles }
-    ensures { Spends (O.seen out.old) (O.seen out.new) line.old line.new budget result (groups_by n rs.now) }
+    ensures { Spends (P.seen spent.pen) (P.seen result.pen) spent.budget result.budget (groups_by n rs.now) }
 {
     let first = first_rising(rs);
     'readings: for i in 0..rs.len().saturating_sub(2) {
-        budget = then_groups_of(line, out, budget, n, &rs[i + 1..], first <= i + 1);
+        spent = then_groups_of(spent, n, &rs[i + 1..], first <= i + 1);
     }
-    budget
+    spent
 }
 
 /// How many groups a word with these readings has.
@@ -184,27 +178,25 @@ fn word_at(by_word: &[WordReadings], k: u32) -> &[Reading]
 }
 
 /// Goes on with the groups of the word of operation `k`; none of an OUT's.
-fn then_operation<O: Sink>(
-    line: &mut Line,
-    out: &mut O,
-    budget: Budget,
+fn then_operation<P: Pen>(
+    spent: Spending<P>,
     n: u32,
     graph: &Graph,
     more: bool,
     by_word: &[WordReadings],
     k: u32,
-) -> Budget
+) -> Spending<P>
     requires few { n < most_cycles }
     requires there { k < length graph.now.operations }
     requires readings { AreReadings graph.now more by_word.now }
-    ensures { Spends (O.seen out.old) (O.seen out.new) line.old line.new budget result
+    ensures { Spends (P.seen spent.pen) (P.seen result.pen) spent.budget result.budget
         (groups_at graph.now more n k (slice_get graph.now.operations k)) }
 {
     let op = graph.operation(k);
     if is_out(op.kind) {
-        return budget;
+        return spent;
     }
-    then_groups_by(line, out, budget, n, word_at(by_word, k))
+    then_groups_by(spent, n, word_at(by_word, k))
 }
 
 /// How many groups the word of operation `k` has.
@@ -223,23 +215,21 @@ fn count_at(graph: &Graph, more: bool, by_word: &[WordReadings], k: u32) -> u64
 }
 
 /// Goes on with the groups of cycle `n`, behind which there is another one or none.
-fn then_cycle<O: Sink>(
-    line: &mut Line,
-    out: &mut O,
-    mut budget: Budget,
+fn then_cycle<P: Pen>(
+    mut spent: Spending<P>,
     n: u32,
     graph: &Graph,
     more: bool,
     by_word: &[WordReadings],
-) -> Budget
+) -> Spending<P>
     requires few { n < most_cycles }
     requires readings { AreReadings graph.now more by_word.now }
-    ensures { Spends (O.seen out.old) (O.seen out.new) line.old line.new budget result (groups_in graph.now more n) }
+    ensures { Spends (P.seen spent.pen) (P.seen result.pen) spent.budget result.budget (groups_in graph.now more n) }
 {
     'operations: for k in 0..graph.len() {
-        budget = then_operation(line, out, budget, n, graph, more, by_word, k);
+        spent = then_operation(spent, n, graph, more, by_word, k);
     }
-    budget
+    spent
 }
 
 /// How many groups there are in a cycle behind which there is another one or none.
@@ -272,30 +262,31 @@ fn cycle_readings(alloc: Global, graph: &Graph, more: bool) -> Result<CycleReadi
 }
 
 /// Goes on with the groups of cycle `n`, and passes over them at once where they all stand before the part.
-fn then_cycle_or_pass<O: Sink>(
-    line: &mut Line,
-    out: &mut O,
-    budget: Budget,
+fn then_cycle_or_pass<P: Pen>(
+    spent: Spending<P>,
     n: u32,
     graph: &Graph,
     more: bool,
     readings: &CycleReadings,
-) -> Budget
+) -> Spending<P>
     requires few { n < most_cycles }
     requires readings { IsCounted graph.now more readings.now }
-    ensures { Spends (O.seen out.old) (O.seen out.new) line.old line.new budget result (groups_in graph.now more n) }
+    ensures { Spends (P.seen spent.pen) (P.seen result.pen) spent.budget result.budget (groups_in graph.now more n) }
 {
+    let Spending { pen, budget } = spent;
     if budget.left == 0 {
-        return budget;
+        return Spending { pen, budget };
     }
     if readings.groups <= budget.skip {
-        return Budget {
+        let budget = Budget {
             skip: budget.skip - readings.groups,
             left: budget.left,
             room: budget.room,
         };
+        return Spending { pen, budget };
     }
-    then_cycle(line, out, budget, n, graph, more, &readings.by_word)
+    let spent = Spending { pen, budget };
+    then_cycle(spent, n, graph, more, &readings.by_word)
 }
 
 /// The readings of a cycle behind which there is another one, and of the last one.
@@ -331,24 +322,39 @@ fn readings_of(readings: &RunReadings, more: bool) -> &CycleReadings
 }
 
 /// Goes on with the groups of the first cycles.
-pub(crate) fn then_rests<O: Sink>(
-    line: &mut Line,
-    out: &mut O,
-    mut budget: Budget,
+pub(crate) fn then_rests<P: Pen>(
+    mut spent: Spending<P>,
     graph: &Graph,
     readings: &RunReadings,
     cycles: u32,
-) -> Budget
+) -> Spending<P>
     requires few { cycles ≤ most_cycles }
     requires readings { AreCounted graph.now readings.now }
-    ensures { Spends (O.seen out.old) (O.seen out.new) line.old line.new budget result (groups_of_run graph.now cycles) }
+    ensures { Spends (P.seen spent.pen) (P.seen result.pen) spent.budget result.budget (groups_of_run graph.now cycles) }
 {
     'cycles: for n in 0..cycles {
         let more = n + 1 < cycles;
         let here = readings_of(readings, more);
-        budget = then_cycle_or_pass(line, out, budget, n, graph, more, here);
+        spent = then_cycle_or_pass(spent, n, graph, more, here);
     }
-    budget
+    spent
+}
+
+/// Goes on with those of these groups that are within a budget.
+pub(crate) fn then_within<P: Pen>(
+    pen: P,
+    budget: Budget,
+    graph: &Graph,
+    readings: &RunReadings,
+    cycles: u32,
+) -> P
+    requires few { cycles ≤ most_cycles }
+    requires readings { AreCounted graph.now readings.now }
+    ensures { Goes (P.seen pen) (P.seen result) (fed_groups (within budget (groups_of_run graph.now cycles))) }
+{
+    let spent = Spending { pen, budget };
+    let Spending { pen, budget: _ } = then_rests(spent, graph, readings, cycles);
+    pen
 }
 
 /// How many groups there are in the first cycles.

@@ -8,7 +8,9 @@ ghost use Rattle.fault_sites.specs.Run.{begun};
 ghost use Rattle.fault_sites.specs.RunCycle.{as_cycle};
 ghost use Rattle.fault_sites.specs.RunSites.{cycle_of, in_cycle, run_class_name as run_class_name_of, run_class_of, run_sites};
 ghost use Rattle.fault_sites.specs.Running.{Room, before, moment};
-ghost use Rattle.fault_sites.specs.Telling.{Tells};
+ghost use Rattle.fault_sites.specs.Part.{kept};
+ghost use Rattle.fault_sites.specs.Telling.{fed_lines, Tells};
+ghost use Rattle.vcp_outside.specs.Pens.{Goes};
 
 use crate::counts::BEHIND_ALL;
 use crate::cycle_values::CycleValues;
@@ -17,13 +19,13 @@ use crate::graph_values::GraphValues;
 use crate::nowhere::Nowhere;
 use crate::part::Part;
 use crate::run_class::RunClass;
-use crate::telling::then_acts;
+use crate::telling::{Telling, then_acts};
 use input_rows::RowList;
 use op_graph::Graph;
 use signature_table::Table;
 use std::alloc::Global;
 use vcp_base::{Memory, same_bytes};
-use vcp_outside::{Line, Sink};
+use vcp_outside::{LinePen, Pen};
 
 /// The word that names a class.
 pub(crate) fn run_class_name(class: RunClass) -> &'static [u8]
@@ -49,48 +51,48 @@ pub fn run_class_named(word: &[u8]) -> Option<RunClass>
 }
 
 /// Goes on with the flips of a cycle, and passes over them at once where they all stand before the part.
-fn then_flips<O: Sink>(line: &mut Line, out: &mut O, part: Part, c: &CycleValues<'_>) -> Part
+fn then_flips<P: Pen>(told: Telling<P>, c: &CycleValues<'_>) -> Telling<P>
     requires flips { c.now.class ≡ RunClass.Flips }
     requires few { c.now.cycle < most_cycles }
-    requires going { 0 < part.left }
-    ensures { Tells (O.seen out.old) (O.seen out.new) line.old line.new part result (flips_in (as_cycle c.now)) }
+    requires going { 0 < told.part.left }
+    ensures { Tells (P.seen told.pen) (P.seen result.pen) told.part result.part (flips_in (as_cycle c.now)) }
 {
+    let Telling { pen, part } = told;
     let count = count_flips_in(c);
     if count <= part.skip {
-        return Part {
+        let part = Part {
             skip: part.skip - count,
             left: part.left,
         };
+        return Telling { pen, part };
     }
-    then_acts(line, out, part, c, c.graph, c.cycle)
+    then_acts(Telling { pen, part }, c, c.graph, c.cycle)
 }
 
 /// Goes on with the words of the cycle before in a cycle.
-fn then_lates<O: Sink>(line: &mut Line, out: &mut O, part: Part, c: &CycleValues<'_>) -> Part
+fn then_lates<P: Pen>(told: Telling<P>, c: &CycleValues<'_>) -> Telling<P>
     requires late { c.now.class ≡ RunClass.Late }
     requires few { c.now.cycle < most_cycles }
-    ensures { Tells (O.seen out.old) (O.seen out.new) line.old line.new part result (lates_in (as_cycle c.now)) }
+    ensures { Tells (P.seen told.pen) (P.seen result.pen) told.part result.part (lates_in (as_cycle c.now)) }
 {
     if c.cycle == 0 {
-        return part;
+        return told;
     }
-    then_acts(line, out, part, c, c.graph, c.cycle)
+    then_acts(told, c, c.graph, c.cycle)
 }
 
 /// Goes on with the sites of a class in cycle `n`, which is the last one of a run.
-fn then_cycle<O: Sink>(
-    line: &mut Line,
-    out: &mut O,
-    part: Part,
+fn then_cycle<P: Pen>(
+    told: Telling<P>,
     class: RunClass,
     n: u32,
     graph: &Graph,
     run: &GraphValues,
     table: &Table,
-) -> Part
+) -> Telling<P>
     requires few { n < most_cycles }
-    requires going { 0 < part.left }
-    ensures { Tells (O.seen out.old) (O.seen out.new) line.old line.new part result
+    requires going { 0 < told.part.left }
+    ensures { Tells (P.seen told.pen) (P.seen result.pen) told.part result.part
         (in_cycle class (cycle_of table.now n (before graph.now run.now) run.now.values.items)) }
 {
     let cycle = CycleValues {
@@ -103,40 +105,59 @@ fn then_cycle<O: Sink>(
         values: &run.values,
     };
     match class {
-        RunClass::Flips => then_flips(line, out, part, &cycle),
-        RunClass::Late => then_lates(line, out, part, &cycle),
+        RunClass::Flips => then_flips(told, &cycle),
+        RunClass::Late => then_lates(told, &cycle),
     }
 }
 
 /// Goes on with the sites of a class in the run over all rows, or up to its stop.
-pub(crate) fn then_run<O: Sink>(
-    line: &mut Line,
-    out: &mut O,
-    mut part: Part,
+fn then_run<P: Pen>(
+    mut told: Telling<P>,
     class: RunClass,
     graph: &Graph,
     run: &mut GraphValues,
     table: &Table,
     rows: &RowList,
-) -> Part
+) -> Telling<P>
     requires room { Room graph.now run.old }
     requires begun { moment graph.now run.old ≡ begun graph.now }
     requires few { length rows.now ≤ most_cycles }
     requires width { All (λ r. length r ≡ length graph.now.inputs) rows.now }
-    ensures { Tells (O.seen out.old) (O.seen out.new) line.old line.new part result (run_sites class table.now graph.now rows.now) }
+    ensures { Tells (P.seen told.pen) (P.seen result.pen) told.part result.part (run_sites class table.now graph.now rows.now) }
 {
     let count = rows.len() as u32;
     'cycles: for n in 0..count {
-        if part.left == 0 {
-            return part;
+        if told.part.left == 0 {
+            return told;
         }
         rows.get(n, &mut run.row);
         match run.cycle(graph) {
-            Some(_) => return part,
-            None => part = then_cycle(line, out, part, class, n, graph, run, table),
+            Some(_) => return told,
+            None => told = then_cycle(told, class, n, graph, run, table),
         }
     }
-    part
+    told
+}
+
+/// Goes on with a part of these sites.
+pub(crate) fn then_part_of_run<P: Pen>(
+    pen: P,
+    part: Part,
+    class: RunClass,
+    graph: &Graph,
+    run: &mut GraphValues,
+    table: &Table,
+    rows: &RowList,
+) -> P
+    requires room { Room graph.now run.old }
+    requires begun { moment graph.now run.old ≡ begun graph.now }
+    requires few { length rows.now ≤ most_cycles }
+    requires width { All (λ r. length r ≡ length graph.now.inputs) rows.now }
+    ensures { Goes (P.seen pen) (P.seen result) (fed_lines (kept part (run_sites class table.now graph.now rows.now))) }
+{
+    let told = Telling { pen, part };
+    let Telling { pen, part: _ } = then_run(told, class, graph, run, table, rows);
+    pen
 }
 
 /// How many sites a class has in the run over all rows, or up to its stop.
@@ -154,17 +175,16 @@ pub(crate) fn count_run_sites(
     // A graph has at most 65,536 operations.
     let _operations = graph.len();
     let mut run = GraphValues::new(alloc, graph)?;
-    let mut line = Line::new();
     let mut nowhere = Nowhere {};
-    let behind = then_run(
-        &mut line,
-        &mut nowhere,
-        BEHIND_ALL,
+    let pen = LinePen::new(&mut nowhere);
+    let part = BEHIND_ALL;
+    let Telling { pen: _, part } = then_run(
+        Telling { pen, part },
         class,
         graph,
         &mut run,
         table,
         rows,
     );
-    Ok(u64::MAX - behind.skip)
+    Ok(u64::MAX - part.skip)
 }

@@ -14,7 +14,7 @@ use crate::part::Part;
 use crate::site::Site;
 use fault_script::Act;
 use op_graph::{Graph, Op};
-use vcp_outside::{Line, Sink};
+use vcp_outside::Pen;
 
 /// The acts that may be at the operations of a graph in a cycle: at each of them in rows, mostly one for each operand, and columns, one for each value.
 pub(crate) trait Acts {
@@ -48,106 +48,101 @@ pub(crate) trait Acts {
         ensures { act_of self.now graph.now k op.now j i ≡ option_to_list result };
 }
 
-/// Goes on with the line of an act at operation `k` in cycle `n`, if there is one, where it is in the part, and gives what is left of the part.
-fn then_act<O: Sink>(
-    line: &mut Line,
-    out: &mut O,
-    part: Part,
-    n: u32,
-    k: u32,
-    act: Option<Act>,
-) -> Part
-    ensures { Tells (O.seen out.old) (O.seen out.new) line.old line.new part result (sited n k (option_to_list act)) }
+/// A pen, and the part of the sites that is still to be told with it.
+pub(crate) struct Telling<P> {
+    pub(crate) pen: P,
+    pub(crate) part: Part,
+}
+
+/// Goes on with the line of an act at operation `k` in cycle `n`, if there is one, where it is in the part.
+fn then_act<P: Pen>(told: Telling<P>, n: u32, k: u32, act: Option<Act>) -> Telling<P>
+    ensures { Tells (P.seen told.pen) (P.seen result.pen) told.part result.part (sited n k (option_to_list act)) }
 {
     let Some(act) = act else {
-        return part;
+        return told;
     };
+    let Telling { pen, part } = told;
     if part.left == 0 {
-        return part;
+        return Telling { pen, part };
     }
     if 0 < part.skip {
-        return Part {
+        let part = Part {
             skip: part.skip - 1,
             left: part.left,
         };
+        return Telling { pen, part };
     }
     let site = Site {
         cycle: n,
         op: k,
         act,
     };
-    line.text(out, b"\n");
-    then_site(line, out, &site);
-    Part {
+    let pen = then_site(pen.text(b"\n"), &site);
+    let part = Part {
         skip: 0,
         left: part.left - 1,
-    }
+    };
+    Telling { pen, part }
 }
 
 /// Goes on with the acts of row `j` at operation `k` in cycle `n`.
-fn then_row<O: Sink, A: Acts>(
-    line: &mut Line,
-    out: &mut O,
-    mut part: Part,
+fn then_row<P: Pen, A: Acts>(
+    mut told: Telling<P>,
     acts: &A,
     graph: &Graph,
     n: u32,
     k: u32,
     op: &Op,
     j: u32,
-) -> Part
+) -> Telling<P>
     requires acts { A.AreIn graph.now acts.now }
     requires there { k < length graph.now.operations }
-    ensures { Tells (O.seen out.old) (O.seen out.new) line.old line.new part result
+    ensures { Tells (P.seen told.pen) (P.seen result.pen) told.part result.part
         (sited n k (row_at (A.act_of acts.now graph.now k op.now) (A.columns_of acts.now graph.now k) j)) }
 {
     'columns: for i in 0..acts.columns(graph, k) {
         let act = acts.act(graph, k, op, j, i);
-        part = then_act(line, out, part, n, k, act);
+        told = then_act(told, n, k, act);
     }
-    part
+    told
 }
 
 /// Goes on with the acts at operation `k` in cycle `n`.
-fn then_operation<O: Sink, A: Acts>(
-    line: &mut Line,
-    out: &mut O,
-    mut part: Part,
+fn then_operation<P: Pen, A: Acts>(
+    mut told: Telling<P>,
     acts: &A,
     graph: &Graph,
     n: u32,
     k: u32,
-) -> Part
+) -> Telling<P>
     requires acts { A.AreIn graph.now acts.now }
     requires there { k < length graph.now.operations }
-    ensures { Tells (O.seen out.old) (O.seen out.new) line.old line.new part result
+    ensures { Tells (P.seen told.pen) (P.seen result.pen) told.part result.part
         (sited n k (acts_in (A.rows_of acts.now) (A.columns_of acts.now graph.now) (A.act_of acts.now graph.now) graph.now k)) }
 {
-    if part.left == 0 {
-        return part;
+    if told.part.left == 0 {
+        return told;
     }
     let op = graph.operation(k);
     'rows: for j in 0..acts.rows(&op) {
-        part = then_row(line, out, part, acts, graph, n, k, &op, j);
+        told = then_row(told, acts, graph, n, k, &op, j);
     }
-    part
+    told
 }
 
 /// Goes on with the acts at all operations in cycle `n`.
-pub(crate) fn then_acts<O: Sink, A: Acts>(
-    line: &mut Line,
-    out: &mut O,
-    mut part: Part,
+pub(crate) fn then_acts<P: Pen, A: Acts>(
+    mut told: Telling<P>,
     acts: &A,
     graph: &Graph,
     n: u32,
-) -> Part
+) -> Telling<P>
     requires { A.AreIn graph.now acts.now }
-    ensures { Tells (O.seen out.old) (O.seen out.new) line.old line.new part result
+    ensures { Tells (P.seen told.pen) (P.seen result.pen) told.part result.part
         (sites_by (A.rows_of acts.now) (A.columns_of acts.now graph.now) (A.act_of acts.now graph.now) graph.now n) }
 {
     'operations: for k in 0..graph.len() {
-        part = then_operation(line, out, part, acts, graph, n, k);
+        told = then_operation(told, acts, graph, n, k);
     }
-    part
+    told
 }

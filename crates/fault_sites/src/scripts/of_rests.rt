@@ -14,7 +14,7 @@ ghost use Rattle.fault_sites.specs.declared.scripts.unwritten.Unwritten.TheVaria
 
 use crate::budget::Budget;
 use crate::nowhere::Nowhere;
-use crate::rests::{RunReadings, count_rests, run_readings, then_rests};
+use crate::rests::{RunReadings, Spending, count_rests, run_readings, then_rests, then_within};
 use crate::scripts::chosen::{Chosen, part_of};
 use crate::scripts::number::write_number;
 use crate::scripts::unwritten::{Unwritten, outcome};
@@ -24,7 +24,7 @@ use fault_script::MOST_FAULTS;
 use op_graph::{Graph, entries_keep_their_rules};
 use signature_table::Table;
 use std::alloc::Global;
-use vcp_outside::{Failed, Line, Sink};
+use vcp_outside::{Failed, LinePen, Sink};
 
 /// The budget of a part.
 fn budget_of(part: Part) -> Budget
@@ -59,17 +59,12 @@ fn fits(graph: &Graph, readings: &RunReadings, cycles: u32, part: Part) -> bool
     // Each group has a fault.
     entries_keep_their_rules();
     let _operations = graph.len();
-    let mut line = Line::new();
     let mut nowhere = Nowhere {};
-    let next = then_rests(
-        &mut line,
-        &mut nowhere,
-        budget_of(part),
-        graph,
-        readings,
-        cycles,
-    );
-    has_begun(part, next)
+    let pen = LinePen::new(&mut nowhere);
+    let budget = budget_of(part);
+    let spent = Spending { pen, budget };
+    let Spending { pen: _, budget } = then_rests(spent, graph, readings, cycles);
+    has_begun(part, budget)
 }
 
 /// Writes the script of the first groups of a part, up to the one with which it would have more than 10,000 faults.
@@ -86,10 +81,8 @@ fn write_rests<O: Sink>(
     ensures { WritesTo (O.seen out.old) (O.seen out.new)
         (rest_text digest.now (fitting most_faults (kept_groups part (groups graph.now cycles)))) result }
 {
-    let mut line = Line::new();
-    then_remark(&mut line, out, b"rest", digest);
-    then_rests(&mut line, out, budget_of(part), graph, readings, cycles);
-    line.end(out)
+    let pen = then_remark(LinePen::new(out), b"rest", digest);
+    then_within(pen, budget_of(part), graph, readings, cycles).end()
 }
 
 /// The same for an image, unless the first group alone would have more.

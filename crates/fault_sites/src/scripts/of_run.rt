@@ -10,7 +10,7 @@ ghost use Rattle.fault_sites.specs.Script.{IsScript, WritesScript, WritesChosen}
 ghost use Rattle.fault_sites.specs.declared.scripts.unwritten.Unwritten.TheVariants as unwritten;
 
 use crate::graph_values::GraphValues;
-use crate::run_sites::{count_run_sites, run_class_name, then_run};
+use crate::run_sites::{count_run_sites, run_class_name, then_part_of_run};
 use crate::scripts::chosen::{Chosen, part_of, size_of};
 use crate::scripts::number::write_number;
 use crate::scripts::unwritten::{Unwritten, outcome};
@@ -21,7 +21,7 @@ use input_rows::RowList;
 use op_graph::Graph;
 use signature_table::Table;
 use std::alloc::Global;
-use vcp_outside::{Line, Sink};
+use vcp_outside::{LinePen, Sink};
 
 /// Writes the script of a part of the sites of a class in the run over all rows: a remark with the digits of the image's digest, and a line for each
 /// site, in the order of cycle, operation, operand, and bit or operation.
@@ -45,10 +45,9 @@ fn write_by<O: Sink>(
 {
     match GraphValues::new(alloc, graph) {
         Ok(mut run) => {
-            let mut line = Line::new();
-            then_remark(&mut line, out, run_class_name(class), digest);
-            then_run(&mut line, out, part, class, graph, &mut run, table, rows);
-            outcome(line.end(out))
+            let pen = then_remark(LinePen::new(out), run_class_name(class), digest);
+            let pen = then_part_of_run(pen, part, class, graph, &mut run, table, rows);
+            outcome(pen.end())
         }
         Err(_) => Err(Unwritten::Memory),
     }

@@ -10,6 +10,6 @@ pub returns : goal.returns
 returns c =
     let a = c.args in
     let xs = sites_in a.class a.graph.now 1 in
-    let left : c.then_acts-behind.result.skip ≡ 18446744073709551615 - length xs =
-    ap (λ (p : Part). p.skip) (tells_same c.then_acts-behind.ensures (class_sites a.class a.graph.now 1 refl)).left in
-    counted xs c.then_acts-behind.result.skip (cycle_few a.class a.graph.now 1 c.len-operations.ensures.rules.part.few_operations) left
+    let left : c.then_acts.result.part.skip ≡ 18446744073709551615 - length xs =
+    ap (λ (p : Part). p.skip) (tells_same c.then_acts.ensures (class_sites a.class a.graph.now 1 refl)).left in
+    counted xs c.then_acts.result.part.skip (cycle_few a.class a.graph.now 1 c.len-operations.ensures.rules.part.few_operations) left

@@ -9,7 +9,7 @@ operations-init g c = spends_none
 pub operations-preserved : goal.operations-preserved
 operations-preserved g c =
     spends_more (λ k. groups_at c.args.graph.now c.args.more c.args.n k (slice_get c.args.graph.now.operations k)) c.operations.k c.operations.invariant
-    c.then_operation-budget.ensures
+    c.then_operation-spent.ensures
 
 pub returns : goal.returns
 returns g c =

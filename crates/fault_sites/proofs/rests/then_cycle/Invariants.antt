@@ -6,5 +6,5 @@ use Rattle.fault_sites.proofs.rests.then_cycle.Given as goal
 
 abbrev pub invariant-operations : goal.invariant-operations
 invariant-operations g l =
-    Spends (g.O.Sink.seen l.fn.out) (g.O.Sink.seen l.out) l.fn.line l.line l.fn.budget l.budget
+    Spends (g.P.Pen.seen l.fn.spent.pen) (g.P.Pen.seen l.spent.pen) l.fn.spent.budget l.spent.budget
     (each_below (λ k. groups_at l.graph l.more l.n k (slice_get l.graph.operations k)) l.k)

@@ -8,7 +8,7 @@ returns-then-budget-eq0 g c = spends_over (groups_in c.args.graph.now c.args.mor
 
 pub returns-then-readings-budget : goal.returns-then-readings-budget
 returns-then-readings-budget g c =
-    let b = c.args.budget in
+    let b = c.args.spent.budget in
     let many = c.requires.readings.groups c.args.n in
     spends_past (groups_in c.args.graph.now c.args.more c.args.n) (omega (arith, c.if-budget-eq0.false)) (omega (arith, c.if-readings-budget.true, many))
     (ap (λ (m : ℕ). budget (b.skip - m) b.left b.room) many)

@@ -13,7 +13,7 @@ readings-preserved g c =
     let n = c.args.n in
     let rs = c.args.rs.now in
     spends_more (λ i. groups_of n (drop (i + 1) rs)) c.readings.i c.readings.invariant
-    (spends_same c.then_groups_of-budget.ensures (ap (λ (d : List Reading). groups_of n d) (sym (tail_is rs (c.readings.i + 1)))))
+    (spends_same c.then_groups_of-spent.ensures (ap (λ (d : List Reading). groups_of n d) (sym (tail_is rs (c.readings.i + 1)))))
 
 pub returns : goal.returns
 returns g c =

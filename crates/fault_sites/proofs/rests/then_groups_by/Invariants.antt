@@ -6,4 +6,4 @@ use Rattle.fault_sites.proofs.rests.then_groups_by.Given as goal
 
 abbrev pub invariant-readings : goal.invariant-readings
 invariant-readings g l =
-    Spends (g.O.Sink.seen l.fn.out) (g.O.Sink.seen l.out) l.fn.line l.line l.fn.budget l.budget (each_below (λ i. groups_of l.n (drop (i + 1) l.rs)) l.i)
+    Spends (g.P.Pen.seen l.fn.spent.pen) (g.P.Pen.seen l.spent.pen) l.fn.spent.budget l.spent.budget (each_below (λ i. groups_of l.n (drop (i + 1) l.rs)) l.i)

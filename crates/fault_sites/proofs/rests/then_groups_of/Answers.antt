@@ -15,7 +15,7 @@ values-preserved g c =
     let fits : SFits w64 c.addend.result = search rules in
     let passed = to_z-of_z w64 c.addend.result fits ∙ c.addend.ensures in
     spends_more (λ v. changed n (addend v) rs ∷ []) c.values.v c.values.invariant
-    (spends_same c.then_group-budget.ensures (ap (λ (e : ℤ). changed n e rs ∷ []) (sym passed)))
+    (spends_same c.then_group-spent.ensures (ap (λ (e : ℤ). changed n e rs ∷ []) (sym passed)))
 
 pub returns : goal.returns
 returns g c = let all : c.values.v ≡ 124 = omega arith in rw (c.requires.rises ∙ c.if-not-rising.false) (rw all at c.values.invariant)

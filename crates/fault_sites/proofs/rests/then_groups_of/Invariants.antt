@@ -6,4 +6,4 @@ use Rattle.fault_sites.proofs.rests.then_groups_of.Given as goal
 
 abbrev pub invariant-values : goal.invariant-values
 invariant-values g l =
-    Spends (g.O.Sink.seen l.fn.out) (g.O.Sink.seen l.out) l.fn.line l.line l.fn.budget l.budget (each_below (λ v. changed l.n (addend v) l.rs ∷ []) l.v)
+    Spends (g.P.Pen.seen l.fn.spent.pen) (g.P.Pen.seen l.spent.pen) l.fn.spent.budget l.spent.budget (each_below (λ v. changed l.n (addend v) l.rs ∷ []) l.v)

@@ -6,5 +6,5 @@ use Rattle.fault_sites.proofs.rests.then_rests.Given as goal
 
 abbrev pub invariant-cycles : goal.invariant-cycles
 invariant-cycles g l =
-    Spends (g.O.Sink.seen l.fn.out) (g.O.Sink.seen l.out) l.fn.line l.line l.fn.budget l.budget
+    Spends (g.P.Pen.seen l.fn.spent.pen) (g.P.Pen.seen l.spent.pen) l.fn.spent.budget l.spent.budget
     (each_below (λ n. groups_in l.graph (nat_lt (n + 1) l.cycles) n) l.n)

@@ -11,10 +11,10 @@ cycles-init g c = record {
   count = search rules;
 }
 
-pub returns-then-part-eq0 : goal.returns-then-part-eq0
-returns-then-part-eq0 g c =
+pub returns-then-told-eq0 : goal.returns-then-told-eq0
+returns-then-told-eq0 g c =
     so_far_over c.args.class c.args.table.now c.args.graph.now c.args.rows.now c.cycles.n (moment c.args.graph.now c.cycles.run) c.cycles.invariant.so_far
-    c.if-part-eq0.true
+    c.if-told-eq0.true
 
 pub returns : goal.returns
 returns g c =
@@ -50,7 +50,7 @@ cycles-preserved g c =
       so_far =
           so_far_more c.args.class c.args.table.now c.args.graph.now c.args.rows.now c.cycles.n now next c.get.new.out i.so_far c.get.ensures
           (sym c.cycle.ensures.stop ∙ c.in-None.is) on
-          (tells_same c.then_cycle-part.ensures
+          (tells_same c.then_cycle-told.ensures
           (row_is c.args.class c.args.table.now c.cycles.n (before c.args.graph.now c.cycle.new.self) now next c.get.new.out c.cycle.ensures.before on));
       room = c.cycle.ensures.room;
       count = i.count;

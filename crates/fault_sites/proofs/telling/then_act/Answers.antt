@@ -1,6 +1,7 @@
 use Rattle.std.proofs.Common.{[], ◌∷◌, refl, arith}
 use Rattle.fault_sites.specs.Sites.{site}
-use Rattle.fault_sites.proofs.Going.{and_then, one_passed, one_told, tells_none, tells_over}
+use Rattle.fault_sites.proofs.Going.{one_passed, one_told, tells_none, tells_over}
+use Rattle.vcp_outside.specs.Pens.{and_then}
 use Rattle.fault_sites.proofs.telling.then_act.Goals as goal
 
 pub returns-in_default : goal.returns-in_default
@@ -15,4 +16,4 @@ returns-then-part-gt0 g c = rw c.in-Some.is (one_passed (site c.args.n c.args.k 
 pub returns : goal.returns
 returns g c =
     rw c.in-Some.is
-    (one_told (site c.args.n c.args.k c.in-Some.act) (omega arith) (omega arith) refl refl (and_then c.text.ensures.gathers c.then_site.ensures))
+    (one_told (site c.args.n c.args.k c.in-Some.act) (omega arith) (omega arith) refl refl (and_then c.text.ensures c.then_site-pen.ensures))

@@ -12,7 +12,7 @@ operations-preserved g c =
     let acts = c.args.acts.now in
     let graph = c.args.graph.now in
     sites_more (λ k. sited c.args.n k (acts_in (g.A.Acts.rows_of acts) (g.A.Acts.columns_of acts graph) (g.A.Acts.act_of acts graph) graph k))
-    c.operations.k c.operations.invariant c.then_operation-part.ensures
+    c.operations.k c.operations.invariant c.then_operation-told.ensures
 
 pub returns : goal.returns
 returns g c =

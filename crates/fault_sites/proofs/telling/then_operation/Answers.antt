@@ -4,12 +4,12 @@ use Rattle.fault_sites.specs.Sites.{sited}
 use Rattle.fault_sites.proofs.Going.{acts_more, tells_none, tells_over}
 use Rattle.fault_sites.proofs.telling.then_operation.Goals as goal
 
-pub returns-then-part-eq0 : goal.returns-then-part-eq0
-returns-then-part-eq0 g c =
+pub returns-then-told-eq0 : goal.returns-then-told-eq0
+returns-then-told-eq0 g c =
     let acts = c.args.acts.now in
     let graph = c.args.graph.now in
     tells_over (sited c.args.n c.args.k (acts_in (g.A.Acts.rows_of acts) (g.A.Acts.columns_of acts graph) (g.A.Acts.act_of acts graph) graph c.args.k))
-    c.if-part-eq0.true
+    c.if-told-eq0.true
 
 pub rows-init : goal.rows-init
 rows-init g c = tells_none
@@ -19,7 +19,7 @@ rows-preserved g c =
     let acts = c.args.acts.now in
     let graph = c.args.graph.now in
     acts_more _ _ (row_at (g.A.Acts.act_of acts graph c.args.k c.operation-op.result) (g.A.Acts.columns_of acts graph c.args.k)) c.rows.j c.rows.invariant
-    c.then_row-part.ensures
+    c.then_row-told.ensures
 
 pub returns : goal.returns
 returns g c =

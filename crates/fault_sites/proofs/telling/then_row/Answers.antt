@@ -8,7 +8,7 @@ columns-init g c = tells_none
 pub columns-preserved : goal.columns-preserved
 columns-preserved g c =
     acts_more _ _ (g.A.Acts.act_of c.args.acts.now c.args.graph.now c.args.k c.args.op.now c.args.j) c.columns.i c.columns.invariant
-    (rw (← c.act-act.ensures) at c.then_act-part.ensures)
+    (rw (← c.act-act.ensures) at c.then_act-told.ensures)
 
 pub returns : goal.returns
 returns g c =

@@ -8,7 +8,7 @@ cycles-init g c = tells_none
 
 pub cycles-preserved : goal.cycles-preserved
 cycles-preserved g c =
-    sites_more (λ n. sites_in c.args.class c.args.graph.now n) c.cycles.n c.cycles.invariant c.then_cycle_or_pass-part.ensures
+    sites_more (λ n. sites_in c.args.class c.args.graph.now n) c.cycles.n c.cycles.invariant c.then_cycle_or_pass-told.ensures
 
 pub returns : goal.returns
 returns g c =
