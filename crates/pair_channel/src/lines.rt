@@ -2,7 +2,7 @@
 //! only where the sink's count of faults rose, and then a part of the line is written.
 
 ghost use Rattle.vcp_outside.specs.Written.{WritesTo};
-ghost use Rattle.vcp_outside.specs.Gathering.{GathersTo};
+ghost use Rattle.vcp_outside.specs.Pens.{Goes};
 ghost use Rattle.pair_channel.specs.PairDone.{IsNumbered};
 ghost use Rattle.pair_channel.specs.PairLines.{channel_text, differ_text, parted_text};
 
@@ -10,27 +10,24 @@ use coded_machine::CycleEnd;
 use op_graph::Graph;
 use run_report::output_name;
 use vcp_base::{Text, stop_name};
-use vcp_outside::{Failed, Line, Sink, begin};
+use vcp_outside::{Failed, Pen, Sink, begin};
 
 // Goes on with how a channel ended a cycle.
-fn then_channel<O: Sink>(line: &mut Line, out: &mut O, graph: &Graph, end: &CycleEnd)
+fn then_channel<P: Pen>(pen: P, graph: &Graph, end: &CycleEnd) -> P
     requires { IsNumbered graph.now end.now }
-    ensures { GathersTo (O.seen out.old) (O.seen out.new) line.old line.new (channel_text graph.now end.now) }
+    ensures { Goes (P.seen pen) (P.seen result) (channel_text graph.now end.now) }
 {
     match *end {
-        CycleEnd::Released => line.text(out, b"released"),
-        CycleEnd::Stopped { op, kind } => {
-            line.count(out, op as u64);
-            line.texts(out, b" ", stop_name(kind));
-        }
+        CycleEnd::Released => pen.text(b"released"),
+        CycleEnd::Stopped { op, kind } => { pen.count(op as u64).texts(b" ", stop_name(kind)) }
         CycleEnd::Refused {
             output,
             found,
             expected,
         } => {
-            line.texts(out, b"refused ", output_name(graph, output).bytes());
-            line.numbered(out, b" found ", found);
-            line.numbered(out, b" expected ", expected);
+            pen.texts(b"refused ", output_name(graph, output).bytes())
+                .numbered(b" found ", found)
+                .numbered(b" expected ", expected)
         }
     }
 }
@@ -49,12 +46,9 @@ pub fn parted_line<O: Sink>(
     requires second { IsNumbered graph.now second.now }
     ensures { WritesTo (O.seen out.old) (O.seen out.new) (parted_text graph.now cycle first.now second.now) result }
 {
-    let mut line = begin(out, b"parted ", cycle);
-    line.text(out, b" first ");
-    then_channel(&mut line, out, graph, first);
-    line.text(out, b" second ");
-    then_channel(&mut line, out, graph, second);
-    line.end(out)
+    let pen = begin(out, b"parted ", cycle).text(b" first ");
+    let pen = then_channel(pen, graph, first).text(b" second ");
+    then_channel(pen, graph, second).end()
 }
 
 /// Writes that the output of this name has these values in a cycle, which is counted from 0. After `Failed` a
@@ -68,9 +62,9 @@ pub fn differ_line<O: Sink>(
 ) -> Result<(), Failed>
     ensures { WritesTo (O.seen out.old) (O.seen out.new) (differ_text name.now cycle first second) result }
 {
-    let mut line = begin(out, b"differ ", cycle);
-    line.texts(out, b" ", name.bytes());
-    line.signed(out, b" first ", first);
-    line.signed(out, b" second ", second);
-    line.end(out)
+    begin(out, b"differ ", cycle)
+        .texts(b" ", name.bytes())
+        .signed(b" first ", first)
+        .signed(b" second ", second)
+        .end()
 }
