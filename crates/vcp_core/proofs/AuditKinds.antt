@@ -1,5 +1,5 @@
 -- What `audit` comes to where M was loaded.
-use Rattle.std.proofs.Common.{ℕ, ◌≡◌, ◌≤◌, ◌<◌, ◌⊎◌, inl, inr, refl, sym, subst, List, [], length, Some}
+use Rattle.std.proofs.Common.{ℕ, ◌≡◌, ◌≤◌, inl, inr, refl, sym, subst, List, [], length, Some}
 use Rattle.vcp_base.specs.Limits.{most_image_bytes}
 use Rattle.vcp_outside.specs.Held.{Held}
 use Rattle.weight_audit.specs.Audit.{Audit, most_weights, weights_up_to, IsAudit}
@@ -12,6 +12,7 @@ use Rattle.vcp_inputs.specs.declared.refusal.NoInput.TheVariants as input
 use Rattle.vcp_inputs.specs.Images.{ImageOf, NotImage}
 use Rattle.vcp_inputs.specs.Lines.{input_status, input_text, refusal_text}
 use Rattle.vcp_inputs.specs.Refusals.{IsCaused}
+use Rattle.vcp_inputs.specs.Weights.{NoWeights}
 use Rattle.vcp_inputs.specs.Abouts.{about}
 use Rattle.vcp_inputs.specs.Kinds.{prints, refusal_task}
 use Rattle.vcp_inputs.specs.Performing.{Reaches, done, unmade}
@@ -29,11 +30,7 @@ audit_told m horizon held i loads a few kept =
     file_takes ImageOf NotImage most_image_bytes (Audited horizon m) m held i (prints (audit_text i.graph a horizon)) loads
     (tasks.printed few (audit_text i.graph a horizon) (record { audit = a; is = kept; told = refl }))
 
--- why there are no weights of a graph up to a horizon: memory was wanted, or they are too many
-abbrev pub NoWeights : Image → ℕ → NoInput → Type 0
-NoWeights i horizon e = (e ≡ input.Memory) ⊎ ((e ≡ input.Refused refusal.Audit) × (most_weights < weights_up_to i.graph horizon))
-
--- then nothing was done
+-- where there are no weights, nothing was done
 pub too_large_audit : (m : List ℕ) (horizon : ℕ) (held : Held) (i : Image) (files later : FilesSeen) (at : Moment) (e : NoInput)
     → ((text : List ℕ) × (held m ≡ Some text) × (length text ≤ most_image_bytes) × ImageOf text i) → NoWeights i horizon e →
     Reaches (about (audit m horizon)) (TaskOf (audit m horizon) held) files later at at (input_text m e) (input_status e)

@@ -1,14 +1,11 @@
 //! The command `audit`, up to the line of its fault.
 
-ghost use Rattle.std.specs.Prelude.{◌≡◌, ◌⊎◌, ◌<◌, ◌≤◌, IfOk, IfErr, OnOk, List, Option, ℕ};
+ghost use Rattle.std.specs.Prelude.{◌≡◌, ◌≤◌};
 ghost use Rattle.signature_table.specs.Signatures.{table_of};
 ghost use Rattle.vcp_base.specs.Limits.{most_horizon, most_image_bytes};
 ghost use Rattle.vcp_outside.specs.Seen.{FilesSeen};
-ghost use Rattle.weight_audit.specs.Audit.{most_weights, weights_up_to, IsAudit};
 ghost use Rattle.vcp_inputs.specs.Forms.{audit};
 ghost use Rattle.vcp_inputs.specs.Images.{ImageOf, NotImage};
-ghost use Rattle.vcp_inputs.specs.declared.refusal.NoInput.TheVariants as input;
-ghost use Rattle.vcp_inputs.specs.declared.refusal.Refusal.TheVariants as refusal;
 ghost use Rattle.vcp_inputs.specs.Abouts.{about};
 ghost use Rattle.vcp_inputs.specs.Performing.{Performs};
 ghost use Rattle.coded_unit.specs.Seen.{UnitSeen};
@@ -21,26 +18,9 @@ use crate::ending::{Ending, text_ended};
 use crate::fault::Fault;
 use std::alloc::Global;
 use vcp_base::Text;
-use vcp_inputs::{Image, NoInput, Refusal};
+use vcp_inputs::{Image, weights_of};
 use vcp_outside::Sink;
-use weight_audit::weigh::weights;
-use weight_audit::{AuditFault, Weights, write_audit};
-
-/// The weights of an image's graph up to a horizon, unless there are too many.
-fn weights_of(alloc: Global, image: &Image, horizon: u32) -> Result<Weights, NoInput>
-    requires table { image.now.table ≡ table_of image.now.table.seed image.now.table.step image.now.graph }
-    requires horizon { horizon ≤ most_horizon }
-    ensures weights { IfOk result (λ w. IsAudit image.now.graph horizon w) }
-    ensures few { OnOk result (weights_up_to image.now.graph horizon ≤ most_weights) }
-    ensures fault { IfErr result (λ e. (e ≡ input.Memory)
-        ⊎ ((e ≡ input.Refused refusal.Audit) × (most_weights < weights_up_to image.now.graph horizon))) }
-{
-    match weights(alloc, &image.graph, &image.table, horizon) {
-        Ok(weights) => Ok(weights),
-        Err(AuditFault::TooLarge { .. }) => Err(NoInput::Refused(Refusal::Audit)),
-        Err(AuditFault::Memory) => Err(NoInput::Memory),
-    }
-}
+use weight_audit::write_audit;
 
 /// Writes the audit of the graph of an image, once its file, which has this name, was read.
 pub fn audit_image<'a, O: Sink>(

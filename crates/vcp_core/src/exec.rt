@@ -10,12 +10,11 @@ use crate::ending::{Ending, run_ended};
 use crate::every_row::{EveryRow, RowLines};
 use crate::fault::Fault;
 use crate::image_rows::ImageRows;
-use crate::loading::rows_name;
 use crate::opening::open;
 use crate::printed::run_printed;
 use coded_unit::Unit;
 use std::alloc::Global;
-use vcp_inputs::RowsWord;
+use vcp_inputs::{RowsWord, rows_name};
 use vcp_outside::Sink;
 
 /// Runs the operations of an image on its rows, once both were read, on the unit, and prints each row.

@@ -6,12 +6,13 @@ ghost use Rattle.vcp_core.specs.ImagesRead.{AreImageRows, ImageRowsRead, ReadsIm
 ghost use Rattle.vcp_core.specs.Loading.{EndsUnread};
 
 use crate::fault::Fault;
-use crate::loading::rows_name;
 use input_rows::RowsSource;
 use signature_table::Table;
 use std::alloc::Global;
 use vcp_base::{Columns, Memory, Text};
-use vcp_inputs::{Image, NoInput, Refusal, RowsWord, graph_columns, load_image, load_rows};
+use vcp_inputs::{
+    Image, NoInput, Refusal, RowsWord, graph_columns, load_image, load_rows, rows_name,
+};
 use vcp_outside::Files;
 
 /// An image, and the rows that it is run on.

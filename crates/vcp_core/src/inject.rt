@@ -14,14 +14,13 @@ ghost use Rattle.vcp_core.specs.Reach.{told_line, told_status};
 use crate::ending::{Ending, campaign_ended};
 use crate::fault::Fault;
 use crate::image_rows::ImageRows;
-use crate::loading::rows_name;
 use coded_unit::Unit;
 use fault_campaign::run_campaign;
 use input_rows::{RowList, RowsSource};
 use op_graph::Graph;
 use std::alloc::Global;
 use vcp_base::{Columns, Text};
-use vcp_inputs::{NoInput, Refusal, RowsWord, load_script, whole_rows};
+use vcp_inputs::{NoInput, Refusal, RowsWord, load_script, rows_name, whole_rows};
 use vcp_outside::{Files, Sink};
 
 /// The most cycles times operations of a run under faults.

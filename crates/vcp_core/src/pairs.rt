@@ -16,7 +16,6 @@ ghost use Rattle.vcp_core.specs.Reach.{told_line, told_status};
 use crate::ending::{Ending, campaign_ended};
 use crate::fault::Fault;
 use crate::image_rows::ImageRows;
-use crate::loading::rows_name;
 use coded_unit::Unit;
 use fault_campaign::{CampaignFault, run_pairs};
 use fault_script::Script;
@@ -24,7 +23,7 @@ use input_rows::RowList;
 use signature_table::Table;
 use std::alloc::Global;
 use vcp_base::{Memory, Text};
-use vcp_inputs::{Image, RowsWord, load_script, whole_rows};
+use vcp_inputs::{Image, RowsWord, load_script, rows_name, whole_rows};
 use vcp_outside::{Files, Sink};
 
 /// Reads all rows of an image, once its file and ROWS were read, and then the script F, and runs each of its groups on two channels, of

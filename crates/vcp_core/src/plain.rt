@@ -13,12 +13,11 @@ ghost use Rattle.vcp_core.specs.Reach.{told_line, told_status};
 
 use crate::ending::{Ending, run_ended};
 use crate::fault::Fault;
-use crate::loading::rows_name;
 use crate::opening::open;
 use crate::plain_run::print_run;
 use crate::program_rows::ProgramRows;
 use std::alloc::Global;
-use vcp_inputs::RowsWord;
+use vcp_inputs::{RowsWord, rows_name};
 use vcp_outside::Sink;
 
 /// Writes a program's own run on its rows, once both were read.

@@ -6,11 +6,13 @@ ghost use Rattle.vcp_core.specs.Loading.{EndsUnread};
 ghost use Rattle.vcp_core.specs.ProgramsRead.{instruction_list, language_of, structured_text, AreProgramRows, EndsOn, ProgramRead, ReadsOn, ReadsProgramRows};
 
 use crate::fault::Fault;
-use crate::loading::{input_columns, rows_name};
+use crate::loading::input_columns;
 use input_rows::RowsSource;
 use std::alloc::Global;
 use vcp_base::{Columns, Memory, Text};
-use vcp_inputs::{HowOften, ProgramRun, RowsWord, lists_are_told, load_il, load_rows, load_typed};
+use vcp_inputs::{
+    HowOften, ProgramRun, RowsWord, lists_are_told, load_il, load_rows, load_typed, rows_name,
+};
 use vcp_outside::Files;
 use vcp_typed::Typed;
 

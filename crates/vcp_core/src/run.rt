@@ -13,13 +13,12 @@ ghost use Rattle.vcp_core.specs.Reach.{told_line, told_status};
 use crate::ending::{Ending, run_ended};
 use crate::every_row::{EveryRow, RowLines};
 use crate::fault::Fault;
-use crate::loading::rows_name;
 use crate::opening::open;
 use crate::printed::run_program;
 use crate::program_rows::ProgramRows;
 use coded_unit::Unit;
 use std::alloc::Global;
-use vcp_inputs::{Code, RowsWord, lists_are_told};
+use vcp_inputs::{Code, RowsWord, lists_are_told, rows_name};
 use vcp_outside::Sink;
 
 /// Runs a program's operations on its rows, once both were read, on the unit, and prints each row.

@@ -11,12 +11,11 @@ ghost use Rattle.vcp_core.specs.Reach.{told_line, told_status};
 use crate::ending::{Ending, run_ended};
 use crate::fault::Fault;
 use crate::image_rows::ImageRows;
-use crate::loading::rows_name;
 use crate::opening::open;
 use crate::tracing::run_words;
 use coded_unit::Unit;
 use std::alloc::Global;
-use vcp_inputs::RowsWord;
+use vcp_inputs::{RowsWord, rows_name};
 use vcp_outside::Sink;
 
 /// Runs the operations of an image on its rows through the cycle, once both were read, on the unit, and

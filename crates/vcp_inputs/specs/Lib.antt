@@ -28,4 +28,5 @@ pub mod Printing
 pub mod Reports
 pub mod RunKind
 pub mod Seen
+pub mod Weights
 pub mod WireKind

@@ -9,6 +9,7 @@ ghost use Rattle.vcp_outside.specs.Held.{Held};
 ghost use Rattle.input_rows.specs.RowsOf.{IsOfRecord, types_of};
 ghost use Rattle.vcp_inputs.specs.Forms.{rows_of, file, AreFew};
 ghost use Rattle.input_rows.specs.Opening.{HasFewCycles};
+ghost use Rattle.vcp_inputs.specs.Tables.{rows_name as rows_name_of};
 ghost use Rattle.vcp_inputs.specs.RowsOutcome.{rows_outcome, LoadsRows, begins, HasLongFile};
 ghost use Rattle.vcp_inputs.specs.Refusals.{IsCaused};
 ghost use Rattle.vcp_inputs.specs.declared.refusal.NoInput.TheVariants as input;
@@ -95,5 +96,15 @@ pub fn load_rows<F: Files>(
     match rows {
         RowsWord::File(name) => load_file(alloc, files, name, columns),
         RowsWord::Cycles(number) => Ok(RowsSource::Cycles(number)),
+    }
+}
+
+/// The name by which lines tell ROWS.
+pub fn rows_name<'a>(rows: RowsWord<'a>) -> &'a [u8]
+    ensures { result.now ≡ rows_name_of (rows_of rows.entry) }
+{
+    match rows {
+        RowsWord::File(name) => name.bytes(),
+        RowsWord::Cycles(_) => b"--cycles",
     }
 }

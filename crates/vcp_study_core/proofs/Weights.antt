@@ -1,5 +1,5 @@
 -- Weights: an image whose graph has too many weights.
-use Rattle.std.proofs.Common.{◌≡◌, ◌⊎◌, ◌<◌, ◌≤◌, inl, inr, ℕ, Bool, List, refl}
+use Rattle.std.proofs.Common.{◌≤◌, inl, inr, ℕ, Bool, List, refl}
 use Rattle.vcp_outside.specs.Seen.{SinkSeen}
 use Rattle.op_graph.specs.Lists.{Lists}
 use Rattle.weight_audit.specs.Audit.{Audit, IsAudit, most_weights, weights_up_to}
@@ -11,6 +11,7 @@ use Rattle.vcp_inputs.specs.declared.refusal.NoInput.{NoInput}
 use Rattle.vcp_inputs.specs.declared.refusal.NoInput.TheVariants as input
 use Rattle.vcp_inputs.specs.declared.refusal.Refusal.TheVariants as refusal
 use Rattle.vcp_inputs.specs.Lines.{input_text, input_status}
+use Rattle.vcp_inputs.specs.Weights.{NoWeights}
 use Rattle.vcp_study_core.specs.CarriedOut.{WritesSo, CarriedOut, done, cut, unmade}
 use Rattle.vcp_study_core.specs.FromFiles.{input_answer}
 use Rattle.vcp_study_core.specs.Texts.{WritesOne, Weighed, too_large, few}
@@ -19,8 +20,7 @@ use Rattle.vcp_study_core.proofs.Facts.{appends-nothing}
 
 -- there are no weights of its graph: memory was wanted, or they are too many
 pub unweighed : (horizon : ℕ) (m : List ℕ) (i : Image) (Is : List ℕ → Bool → Type 0) (old : SinkSeen) (e : NoInput)
-    → (e ≡ input.Memory) ⊎ ((e ≡ input.Refused refusal.Audit) × (most_weights < weights_up_to i.graph horizon))
-    → WritesSo (Weighed horizon m i Is) old old (input_text m e) (input_status e)
+    → NoWeights i horizon e → WritesSo (Weighed horizon m i Is) old old (input_text m e) (input_status e)
 unweighed horizon m i Is old e (inl memory) = rw memory (no_memory (Weighed horizon m i Is) old old (appends-nothing old.written))
 unweighed horizon m i Is old e (inr (audit, more)) =
     rw audit (refused (Weighed horizon m i Is) old old (input_answer m (input.Refused refusal.Audit)) (too_large more refl) refl refl (appends-nothing old.written))

@@ -1,13 +1,10 @@
 //! The commands `graph` and `dot`, behind their image.
 
-ghost use Rattle.std.specs.Prelude.{◌≡◌, ◌⊎◌, ◌<◌, ◌≤◌, IfOk, IfErr, OnOk};
+ghost use Rattle.std.specs.Prelude.{◌≡◌, ◌≤◌};
 ghost use Rattle.vcp_base.specs.Limits.{most_horizon};
 ghost use Rattle.signature_table.specs.Signatures.{table_of};
-ghost use Rattle.weight_audit.specs.Audit.{most_weights, weights_up_to, IsAudit};
 ghost use Rattle.graph_picture.specs.DotText.{IsDotOf};
 ghost use Rattle.graph_picture.specs.Elements.{IsGraphPicture};
-ghost use Rattle.vcp_inputs.specs.declared.refusal.NoInput.TheVariants as input;
-ghost use Rattle.vcp_inputs.specs.declared.refusal.Refusal.TheVariants as refusal;
 ghost use Rattle.vcp_study_core.specs.CarriedOut.{WritesSo, told_line, told_status};
 ghost use Rattle.vcp_study_core.specs.Texts.{Draws, Weighed};
 
@@ -15,26 +12,8 @@ use crate::fault::{Fault, told};
 use graph_picture::{layout_of, write_dot as write_dot_text, write_picture};
 use std::alloc::Global;
 use vcp_base::{Memory, Text};
-use vcp_inputs::{Image, NoInput, Refusal};
+use vcp_inputs::{Image, weights_of};
 use vcp_outside::Sink;
-use weight_audit::weigh::weights;
-use weight_audit::{AuditFault, Weights};
-
-/// The weights of an image's graph up to a horizon, unless there are too many.
-fn weights_of(alloc: Global, image: &Image, horizon: u32) -> Result<Weights, NoInput>
-    requires table { image.now.table ≡ table_of image.now.table.seed image.now.table.step image.now.graph }
-    requires horizon { horizon ≤ most_horizon }
-    ensures weights { IfOk result (λ w. IsAudit image.now.graph horizon w) }
-    ensures few { OnOk result (weights_up_to image.now.graph horizon ≤ most_weights) }
-    ensures fault { IfErr result (λ e. (e ≡ input.Memory)
-        ⊎ ((e ≡ input.Refused refusal.Audit) × (most_weights < weights_up_to image.now.graph horizon))) }
-{
-    match weights(alloc, &image.graph, &image.table, horizon) {
-        Ok(weights) => Ok(weights),
-        Err(AuditFault::TooLarge { .. }) => Err(NoInput::Refused(Refusal::Audit)),
-        Err(AuditFault::Memory) => Err(NoInput::Memory),
-    }
-}
 
 /// Writes the picture of an image's graph up to a horizon; the image has this name. It looks for nothing: `false`.
 pub(crate) fn write_graph<'a, O: Sink>(

@@ -5,7 +5,6 @@ ghost use Rattle.std.specs.Io.KnownBytes.{IsAtEnd};
 ghost use Rattle.vcp_base.specs.Limits.{most_cycles, most_names};
 ghost use Rattle.vcp_outside.specs.Counts.{Rose};
 ghost use Rattle.vcp_inputs.specs.Forms.{rows_of, AreFew};
-ghost use Rattle.vcp_inputs.specs.Tables.{rows_name as rows_name_of};
 ghost use Rattle.vcp_inputs.specs.RowsOutcome.{rows_outcome};
 ghost use Rattle.vcp_inputs.specs.declared.refusal.NoInput.TheVariants as input;
 ghost use Rattle.vcp_study_core.specs.CarriedOut.{Fetches};
@@ -17,7 +16,9 @@ use crate::fault::Fault;
 use input_rows::RowList;
 use std::alloc::Global;
 use vcp_base::{Columns, Text};
-use vcp_inputs::{Image, NoInput, RowsWord, graph_columns, load_rows, read_file, whole_rows};
+use vcp_inputs::{
+    Image, NoInput, RowsWord, graph_columns, load_rows, read_file, rows_name, whole_rows,
+};
 use vcp_outside::Files;
 
 /// The bytes of the file under a name, which has at most so many.
@@ -37,16 +38,6 @@ pub(crate) fn bytes_under<'a, F: Files>(
             name: name.bytes(),
             input,
         }),
-    }
-}
-
-/// The name by which lines name ROWS.
-fn rows_name<'a>(rows: RowsWord<'a>) -> &'a [u8]
-    ensures { result.now ≡ rows_name_of (rows_of rows.entry) }
-{
-    match rows {
-        RowsWord::File(name) => name.bytes(),
-        RowsWord::Cycles(_) => b"--cycles",
     }
 }
 
