@@ -1,26 +1,16 @@
 -- Going: one piece of a text behind another.
-use Rattle.std.proofs.Common.{◌≡◌, ℕ, suc, ◌+◌, Bool, true, false, cond, List, [], ◌∷◌, ◌++◌, Option, refl, append_assoc, flat_map, ◌∙◌, ap, add-one}
+use Rattle.std.proofs.Common.{◌≡◌, ℕ, suc, ◌+◌, Bool, true, false, cond, List, [], ◌∷◌, ◌++◌, refl, append_assoc, flat_map, ◌∙◌, ap, add-one}
 use Rattle.std.proofs.lemmas.Grind.{flat_map-append}
 use Rattle.std.proofs.lemmas.List.{append-nil}
-use Rattle.vcp_outside.specs.Gathering.{Gathered, Gathers}
 use Rattle.vcp_outside.specs.Elements.{Element, element_text}
 use Rattle.vcp_outside.specs.Drawing.{each_below}
+use Rattle.vcp_outside.specs.Pens.{Penned, Goes, unmoved, same}
 
 -- ---- pieces
 
 -- nothing
-pub unmoved : {a : Option (List ℕ)} {f : ℕ} {l : Gathered} → Gathers a a f f l l []
-unmoved start before text is = rw (append-nil text) is
-
 -- a piece and another
-pub and_then : {a b c : Option (List ℕ)} {f g h : ℕ} {l m n : Gathered} {s t : List ℕ} → Gathers a b f g l m s → Gathers b c g h m n t
-    → Gathers a c f h l n (s ++ t)
-and_then {s = s} {t = t} first second start before text is = rw (← (append_assoc text s t)) (second start before _ (first start before text is))
-
 -- the same piece, written otherwise
-pub same : {a b : Option (List ℕ)} {f g : ℕ} {l m : Gathered} {s t : List ℕ} → Gathers a b f g l m s → t ≡ s → Gathers a b f g l m t
-same gathers e start before text is = rw e (gathers start before text is)
-
 -- ---- things in order
 
 pub each_suc : {X : Type 0} (f : ℕ → List X) (n : ℕ) → each_below f (suc n) ≡ each_below f n ++ f n
@@ -38,29 +28,29 @@ pub two_texts : (d e : Element) → flat_map element_text (d ∷ e ∷ []) ≡ e
 two_texts d e = ap (λ t. element_text d ++ t) (append-nil (element_text e))
 
 -- one of two elements, as a test says
-pub first_text : {a b : Option (List ℕ)} {f g : ℕ} {l m : Gathered} (d e : Element) (test : Bool) → test ≡ true
-    → Gathers a b f g l m (element_text d) → Gathers a b f g l m (element_text (cond test d e))
+pub first_text : {l m : Penned} (d e : Element) (test : Bool) → test ≡ true
+    → Goes l m (element_text d) → Goes l m (element_text (cond test d e))
 first_text d e test is gathers = same gathers (ap (λ t. element_text (cond t d e)) is)
 
-pub second_text : {a b : Option (List ℕ)} {f g : ℕ} {l m : Gathered} (d e : Element) (test : Bool) → test ≡ false
-    → Gathers a b f g l m (element_text e) → Gathers a b f g l m (element_text (cond test d e))
+pub second_text : {l m : Penned} (d e : Element) (test : Bool) → test ≡ false
+    → Goes l m (element_text e) → Goes l m (element_text (cond test d e))
 second_text d e test is gathers = same gathers (ap (λ t. element_text (cond t d e)) is)
 
 -- elements that are drawn where a test says so
-pub drawn_if : {a b : Option (List ℕ)} {f g : ℕ} {l m : Gathered} (es : List Element) (test : Bool) → test ≡ true
-    → Gathers a b f g l m (flat_map element_text es) → Gathers a b f g l m (flat_map element_text (cond test es []))
+pub drawn_if : {l m : Penned} (es : List Element) (test : Bool) → test ≡ true
+    → Goes l m (flat_map element_text es) → Goes l m (flat_map element_text (cond test es []))
 drawn_if es test is gathers = same gathers (ap (λ t. flat_map element_text (cond t es [])) is)
 
-pub drawn_unless : {a b : Option (List ℕ)} {f g : ℕ} {l m : Gathered} (es : List Element) (test : Bool) → test ≡ false
-    → Gathers a b f g l m (flat_map element_text es) → Gathers a b f g l m (flat_map element_text (cond test [] es))
+pub drawn_unless : {l m : Penned} (es : List Element) (test : Bool) → test ≡ false
+    → Goes l m (flat_map element_text es) → Goes l m (flat_map element_text (cond test [] es))
 drawn_unless es test is gathers = same gathers (ap (λ t. flat_map element_text (cond t [] es)) is)
 
-pub not_drawn : {a : Option (List ℕ)} {f : ℕ} {l : Gathered} (es : List Element) (test : Bool) → test ≡ false
-    → Gathers a a f f l l (flat_map element_text (cond test es []))
+pub not_drawn : {l : Penned} (es : List Element) (test : Bool) → test ≡ false
+    → Goes l l (flat_map element_text (cond test es []))
 not_drawn es test is = same unmoved (ap (λ t. flat_map element_text (cond t es [])) is)
 
-pub one_drawn : {a b : Option (List ℕ)} {f g : ℕ} {l m : Gathered} (e : Element) → Gathers a b f g l m (element_text e)
-    → Gathers a b f g l m (flat_map element_text (e ∷ []))
+pub one_drawn : {l m : Penned} (e : Element) → Goes l m (element_text e)
+    → Goes l m (flat_map element_text (e ∷ []))
 one_drawn e gathers = same gathers (one_text e)
 
 pub text_more : (f : ℕ → List Element) (n : ℕ)

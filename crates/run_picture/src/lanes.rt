@@ -1,7 +1,7 @@
 //! The values of a run, drawn in lanes, stretch by stretch.
 
 ghost use Rattle.std.specs.Prelude.{◌≡◌, ◌<◌, ◌≤◌, ◌+◌, [], ◌∷◌, length, flat_map, cond};
-ghost use Rattle.vcp_outside.specs.Gathering.{GathersTo};
+ghost use Rattle.vcp_outside.specs.Pens.{Goes};
 ghost use Rattle.vcp_outside.specs.Elements.{element_text};
 ghost use Rattle.vcp_base.specs.Limits.{most_cycles};
 ghost use Rattle.run_picture.specs.Drawn.{lane, lanes};
@@ -12,7 +12,7 @@ use crate::layout::{Layout, start, top};
 use crate::run::Run;
 use crate::shapes::{then_line, then_slope, then_text};
 use crate::stretches::{Stretch, is_level, stretch_from};
-use vcp_outside::{Line, Name, Piece, Sink, Tag, then_element};
+use vcp_outside::{Name, Pen, Piece, Tag, then_element};
 
 // The height at which a level is drawn.
 fn level(value: i64) -> u64
@@ -23,36 +23,34 @@ fn level(value: i64) -> u64
 }
 
 // Draws a level.
-fn then_level<O: Sink>(line: &mut Line, out: &mut O, layout: Layout, stretch: Stretch)
+fn then_level<P: Pen>(pen: P, layout: Layout, stretch: Stretch) -> P
     requires some { stretch.start < stretch.end }
     requires within { stretch.end ≤ most_cycles }
-    ensures { GathersTo (O.seen out.old) (O.seen out.new) line.old line.new
+    ensures { Goes (P.seen pen) (P.seen result)
         (element_text (level_element layout stretch)) }
 {
     let height = top(stretch.column) + level(stretch.first);
     then_slope(
-        line,
-        out,
+        pen,
         layout,
         stretch,
         b"level",
         height,
         height,
         &[Piece::Value(stretch.first)],
-    );
+    )
 }
 
 // Draws a number that holds.
-fn then_number<O: Sink>(line: &mut Line, out: &mut O, layout: Layout, stretch: Stretch)
+fn then_number<P: Pen>(pen: P, layout: Layout, stretch: Stretch) -> P
     requires some { stretch.start < stretch.end }
     requires within { stretch.end ≤ most_cycles }
-    ensures { GathersTo (O.seen out.old) (O.seen out.new) line.old line.new
+    ensures { Goes (P.seen pen) (P.seen result)
         (element_text (number_element layout stretch)) }
 {
     let width = (stretch.end - stretch.start) as u64 * layout.cell as u64;
     then_element(
-        line,
-        out,
+        pen,
         Tag::Rect,
         &[
             (Name::Column, Piece::Count(stretch.column as u64)),
@@ -64,7 +62,7 @@ fn then_number<O: Sink>(line: &mut Line, out: &mut O, layout: Layout, stretch: S
             (Name::Height, Piece::Count(22)),
         ],
         &[Piece::Value(stretch.first)],
-    );
+    )
 }
 
 // Whether the value holds.
@@ -88,17 +86,16 @@ fn height_by(stretch: Stretch, rising: u64, other: u64) -> u64
 }
 
 // Draws a ramp.
-fn then_ramp<O: Sink>(line: &mut Line, out: &mut O, layout: Layout, stretch: Stretch)
+fn then_ramp<P: Pen>(pen: P, layout: Layout, stretch: Stretch) -> P
     requires some { stretch.start < stretch.end }
     requires within { stretch.end ≤ most_cycles }
-    ensures { GathersTo (O.seen out.old) (O.seen out.new) line.old line.new
+    ensures { Goes (P.seen pen) (P.seen result)
         (element_text (ramp_element layout stretch)) }
 {
     let from = height_by(stretch, 30, 8);
     let to = height_by(stretch, 8, 30);
     then_slope(
-        line,
-        out,
+        pen,
         layout,
         stretch,
         b"ramp",
@@ -109,36 +106,38 @@ fn then_ramp<O: Sink>(line: &mut Line, out: &mut O, layout: Layout, stretch: Str
             Piece::Bytes(b" to "),
             Piece::Value(stretch.last),
         ],
-    );
+    )
 }
 
 // Draws the values of a stretch.
-fn then_value<O: Sink>(line: &mut Line, out: &mut O, layout: Layout, stretch: Stretch)
+fn then_value<P: Pen>(pen: P, layout: Layout, stretch: Stretch) -> P
     requires some { stretch.start < stretch.end }
     requires within { stretch.end ≤ most_cycles }
-    ensures { GathersTo (O.seen out.old) (O.seen out.new) line.old line.new
+    ensures { Goes (P.seen pen) (P.seen result)
         (element_text (value_element layout stretch)) }
 {
     if stretch.is_level {
-        then_level(line, out, layout, stretch);
+        then_level(pen, layout, stretch)
     } else if holds(stretch) {
-        then_number(line, out, layout, stretch);
+        then_number(pen, layout, stretch)
     } else {
-        then_ramp(line, out, layout, stretch);
+        then_ramp(pen, layout, stretch)
     }
 }
 
 // Draws the edge before a stretch, where it stands behind another one.
-fn then_edge<O: Sink>(line: &mut Line, out: &mut O, layout: Layout, stretch: Stretch)
+fn then_edge<P: Pen>(pen: P, layout: Layout, stretch: Stretch) -> P
     requires some { stretch.start < stretch.end }
     requires within { stretch.end ≤ most_cycles }
-    ensures { GathersTo (O.seen out.old) (O.seen out.new) line.old line.new
+    ensures { Goes (P.seen pen) (P.seen result)
         (flat_map element_text (edge_elements layout stretch)) }
 {
     if 0 < stretch.start {
         let x = start(layout, stretch.start);
         let y = top(stretch.column);
-        then_line(line, out, b"edge", x, y + 8, x, y + 30);
+        then_line(pen, b"edge", x, y + 8, x, y + 30)
+    } else {
+        pen
     }
 }
 
@@ -154,57 +153,63 @@ fn first_height(stretch: Stretch) -> u64
 }
 
 // Writes the last value of a stretch, where the value doesn't hold.
-fn then_last<O: Sink>(line: &mut Line, out: &mut O, layout: Layout, stretch: Stretch)
+fn then_last<P: Pen>(pen: P, layout: Layout, stretch: Stretch) -> P
     requires some { stretch.start < stretch.end }
     requires within { stretch.end ≤ most_cycles }
-    ensures { GathersTo (O.seen out.old) (O.seen out.new) line.old line.new
+    ensures { Goes (P.seen pen) (P.seen result)
         (flat_map element_text (cond (holds_of stretch) [] (last_element layout stretch ∷ []))) }
 {
     if !holds(stretch) {
         let x = start(layout, stretch.end).saturating_sub(4);
         let y = height_by(stretch, 30, 17);
-        then_text(line, out, b"last", x, y, &[Piece::Value(stretch.last)]);
+        then_text(pen, b"last", x, y, &[Piece::Value(stretch.last)])
+    } else {
+        pen
     }
 }
 
 // Writes the values at the ends of a stretch that is no level.
-fn then_labels<O: Sink>(line: &mut Line, out: &mut O, layout: Layout, stretch: Stretch)
+fn then_labels<P: Pen>(pen: P, layout: Layout, stretch: Stretch) -> P
     requires some { stretch.start < stretch.end }
     requires within { stretch.end ≤ most_cycles }
-    ensures { GathersTo (O.seen out.old) (O.seen out.new) line.old line.new
+    ensures { Goes (P.seen pen) (P.seen result)
         (flat_map element_text (label_elements layout stretch)) }
 {
     if !stretch.is_level {
         let x = start(layout, stretch.start) + 4;
         let y = first_height(stretch);
-        then_text(line, out, b"first", x, y, &[Piece::Value(stretch.first)]);
-        then_last(line, out, layout, stretch);
+        let pen = then_text(pen, b"first", x, y, &[Piece::Value(stretch.first)]);
+        then_last(pen, layout, stretch)
+    } else {
+        pen
     }
 }
 
 // Draws the stretches of a column, each with its values and its edge.
-fn then_lane<O: Sink>(line: &mut Line, out: &mut O, layout: Layout, run: &Run, column: u32)
+fn then_lane<P: Pen>(mut pen: P, layout: Layout, run: &Run, column: u32) -> P
     requires { column < length run.now.names }
-    ensures { GathersTo (O.seen out.old) (O.seen out.new) line.old line.new
+    ensures { Goes (P.seen pen) (P.seen result)
         (flat_map element_text (flat_map (stretch_elements layout) (lane run.now column))) }
 {
     let is_level = is_level(run, column);
     let mut at = 0;
     'stretches: while at < run.cycles() {
         let stretch = stretch_from(run, column, at, is_level);
-        then_value(line, out, layout, stretch);
-        then_edge(line, out, layout, stretch);
-        then_labels(line, out, layout, stretch);
+        pen = then_value(pen, layout, stretch);
+        pen = then_edge(pen, layout, stretch);
+        pen = then_labels(pen, layout, stretch);
         at = stretch.end;
     }
+    pen
 }
 
 /// Draws the values of a run, column by column.
-pub(crate) fn then_lanes<O: Sink>(line: &mut Line, out: &mut O, layout: Layout, run: &Run)
-    ensures { GathersTo (O.seen out.old) (O.seen out.new) line.old line.new
+pub(crate) fn then_lanes<P: Pen>(mut pen: P, layout: Layout, run: &Run) -> P
+    ensures { Goes (P.seen pen) (P.seen result)
         (flat_map element_text (flat_map (stretch_elements layout) (lanes run.now))) }
 {
     'columns: for column in 0..run.columns() {
-        then_lane(line, out, layout, run, column);
+        pen = then_lane(pen, layout, run, column);
     }
+    pen
 }

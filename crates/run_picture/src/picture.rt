@@ -34,12 +34,12 @@ pub fn write_waves<O: Sink>(out: &mut O, run: &Run, period: Option<Period>) -> R
     let layout = layout_for(run, period);
     let width = start(layout, run.cycles()) + layout.room as u64;
     let height = top(run.columns()) + height_below(period);
-    let mut line = begin_picture(out, width, height);
-    then_style(&mut line, out);
-    then_cycles(&mut line, out, layout, run, period);
-    then_names(&mut line, out, run, b"name", 8, 23);
-    then_bases(&mut line, out, layout, run);
-    then_lanes(&mut line, out, layout, run);
-    then_ending(&mut line, out, layout, run);
-    end_picture(line, out)
+    let pen = begin_picture(out, width, height);
+    let pen = then_style(pen);
+    let pen = then_cycles(pen, layout, run, period);
+    let pen = then_names(pen, run, b"name", 8, 23);
+    let pen = then_bases(pen, layout, run);
+    let pen = then_lanes(pen, layout, run);
+    let pen = then_ending(pen, layout, run);
+    end_picture(pen)
 }

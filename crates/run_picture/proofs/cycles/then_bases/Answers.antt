@@ -1,7 +1,8 @@
 use Rattle.std.proofs.Common.{◌≡◌, ◌∙◌, [], ◌∷◌, length, sym, arith}
 use Rattle.run_picture.specs.Drawn.{is_level}
 use Rattle.run_picture.specs.Elements.{base_element, base_elements}
-use Rattle.run_picture.proofs.Going.{unmoved, and_then, same, drawn_if, not_drawn, one_drawn, text_more}
+use Rattle.run_picture.proofs.Going.{drawn_if, not_drawn, one_drawn, text_more}
+use Rattle.vcp_outside.specs.Pens.{unmoved, and_then, same}
 use Rattle.run_picture.proofs.cycles.then_bases.Goals as goal
 
 pub columns-init : goal.columns-init
@@ -12,7 +13,7 @@ columns-preserved g c =
     let l = c.args.layout in
     let run = c.args.run.now in
     let base = base_element l (length run.rows) c.columns.column in
-    let told = rw (c.start.ensures.begin, c.start-end.ensures.begin, c.cycles.ensures.count, c.top-y.ensures) at c.then_line.ensures in
+    let told = rw (c.start.ensures.begin, c.start-end.ensures.begin, c.cycles.ensures.count, c.top-y.ensures) at c.then_line-pen.ensures in
     let drawn = drawn_if (base ∷ []) (is_level run c.columns.column) (sym c.is_level.ensures ∙ c.if-not-is_level.false) (one_drawn base told) in
     same (and_then c.columns.invariant drawn) (text_more (base_elements l run) c.columns.column)
 

@@ -1,13 +1,14 @@
 use Rattle.std.proofs.Common.{◌≡◌, length, arith}
 use Rattle.run_picture.specs.Elements.{cycle_elements}
-use Rattle.run_picture.proofs.Going.{unmoved, and_then, same, text_more}
+use Rattle.run_picture.proofs.Going.{text_more}
+use Rattle.vcp_outside.specs.Pens.{unmoved, and_then, same}
 use Rattle.run_picture.proofs.cycles.then_cycles.Goals as goal
 
 pub cycles-init : goal.cycles-init
 cycles-init g c = unmoved
 
 pub cycles-preserved : goal.cycles-preserved
-cycles-preserved g c = same (and_then c.cycles.invariant c.then_cycle.ensures) (text_more (cycle_elements c.args.layout c.args.run.now c.args.period) c.cycles.cycle)
+cycles-preserved g c = same (and_then c.cycles.invariant c.then_cycle-pen.ensures) (text_more (cycle_elements c.args.layout c.args.run.now c.args.period) c.cycles.cycle)
 
 pub returns : goal.returns
 returns g c =

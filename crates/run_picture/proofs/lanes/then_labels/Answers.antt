@@ -2,7 +2,8 @@ use Rattle.std.proofs.Common.{◌≡◌, false, rules, w64, SFits, [], ◌∷◌
 use borrow.Author.Tests.{tests}
 use Rattle.std.proofs.lemmas.Int.{to_z-of_z}
 use Rattle.run_picture.specs.Elements.{holds, first_element, last_element}
-use Rattle.run_picture.proofs.Going.{and_then, drawn_unless}
+use Rattle.run_picture.proofs.Going.{drawn_unless}
+use Rattle.vcp_outside.specs.Pens.{and_then}
 use Rattle.run_picture.proofs.lanes.then_labels.Goals as goal
 
 pub returns-then-not-stretch : goal.returns-then-not-stretch
@@ -11,6 +12,6 @@ returns-then-not-stretch g c =
     let s = c.args.stretch in
     let fits : SFits w64 s.first = search rules in
     let other : s.is_level ≡ false = search (tests, rules) in
-    let told = rw (c.start-x.ensures.begin, c.first_height-y.ensures) at c.then_text.ensures in
+    let told = rw (c.start-x.ensures.begin, c.first_height-y.ensures) at c.then_text-pen.ensures in
     drawn_unless (first_element l s ∷ cond (holds s) [] (last_element l s ∷ [])) s.is_level other
     (and_then (rw (to_z-of_z w64 s.first fits) at told) c.then_last.ensures)

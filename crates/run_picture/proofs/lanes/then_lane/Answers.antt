@@ -1,7 +1,8 @@
 use Rattle.std.proofs.Common.{◌≤◌, [], ◌∷◌, ◌++◌, length, arith}
 use Rattle.run_picture.specs.Elements.{stretch_elements, value_element, edge_elements, label_elements}
-use Rattle.run_picture.proofs.Going.{unmoved, and_then, same, drawn_one_more, three_texts}
+use Rattle.run_picture.proofs.Going.{drawn_one_more, three_texts}
 use Rattle.run_picture.proofs.Walk.{begun, next_at, all}
+use Rattle.vcp_outside.specs.Pens.{unmoved, and_then, same}
 use Rattle.run_picture.proofs.lanes.then_lane.Goals as goal
 
 pub stretches-init : goal.stretches-init
@@ -12,7 +13,7 @@ stretches-preserved g c =
     let i = c.stretches.invariant in
     let l = c.args.layout in
     let stretch = c.stretch_from-stretch.result in
-    let told = same (and_then c.then_value.ensures (and_then c.then_edge.ensures c.then_labels.ensures))
+    let told = same (and_then c.then_value-pen.ensures (and_then c.then_edge-pen.ensures c.then_labels-pen.ensures))
     (three_texts (value_element l stretch) (edge_elements l stretch) (label_elements l stretch)) in
     record {
       drawn = i.drawn ++ stretch ∷ [];
@@ -26,20 +27,20 @@ returns g c =
     let done : length c.args.run.now.rows ≤ c.stretches.at = omega arith in
     rw (all c.args.run.now c.args.column c.stretches.at i.drawn done i.before) i.text
 
-pub then_value-requires : goal.then_value-requires
-then_value-requires g c = record {
+pub then_value-pen-requires : goal.then_value-pen-requires
+then_value-pen-requires g c = record {
   some = rw c.stretch_from-stretch.ensures.begins c.stretch_from-stretch.ensures.some;
   within = c.stretch_from-stretch.ensures.few;
 }
 
-pub then_edge-requires : goal.then_edge-requires
-then_edge-requires g c = record {
+pub then_edge-pen-requires : goal.then_edge-pen-requires
+then_edge-pen-requires g c = record {
   some = rw c.stretch_from-stretch.ensures.begins c.stretch_from-stretch.ensures.some;
   within = c.stretch_from-stretch.ensures.few;
 }
 
-pub then_labels-requires : goal.then_labels-requires
-then_labels-requires g c = record {
+pub then_labels-pen-requires : goal.then_labels-pen-requires
+then_labels-pen-requires g c = record {
   some = rw c.stretch_from-stretch.ensures.begins c.stretch_from-stretch.ensures.some;
   within = c.stretch_from-stretch.ensures.few;
 }
