@@ -205,6 +205,5 @@ pub fn refused_line<O: Sink>(
 ) -> Result<(), Failed>
     ensures { WritesTo (O.seen out.old) (O.seen out.new) (refused_text cycle name.now found expected) result }
 {
-    let pen = LinePen::new(out);
-    then_refused(pen, cycle, name, found, expected).end()
+    then_refused(LinePen::new(out), cycle, name, found, expected).end()
 }

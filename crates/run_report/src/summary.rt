@@ -3,8 +3,7 @@
 ghost use Rattle.vcp_outside.specs.Written.{WritesTo};
 ghost use Rattle.run_report.specs.SummaryLine.{summary_text};
 
-use vcp_outside::{Failed, Sink, begin};
-use vcp_outside::Pen;
+use vcp_outside::{Failed, Pen, Sink, begin};
 
 /// Writes, for the made program of a number, the cycles of its run, the last value of its output, and
 /// the sum of all values of that. After `Failed` a part of the line is written.
