@@ -3,11 +3,11 @@
 
 ghost use Rattle.std.specs.Prelude.{◌≡◌, ◌<◌};
 ghost use Rattle.vcp_outside.specs.Written.{WritesTo};
-ghost use Rattle.vcp_outside.specs.Gathering.{GathersTo};
+ghost use Rattle.vcp_outside.specs.Pens.{Goes};
 ghost use Rattle.fault_campaign.specs.GroupLines.{shown, group_text, groups_in, counted, no_groups, pair_totals_text};
 
 use crate::pairs::verdict::PairVerdict;
-use vcp_outside::{Failed, Line, Sink, begin};
+use vcp_outside::{Failed, LinePen, Pen, Sink, begin};
 
 /// How many groups of a script have which verdict.
 #[derive(Clone, Copy)]
@@ -46,12 +46,12 @@ impl PairTotals {
 }
 
 // Goes on with a verdict.
-fn then_verdict<O: Sink>(line: &mut Line, out: &mut O, verdict: &PairVerdict)
-    ensures { GathersTo (O.seen out.old) (O.seen out.new) line.old line.new (shown verdict.now) }
+fn then_verdict<P: Pen>(pen: P, verdict: &PairVerdict) -> P
+    ensures { Goes (P.seen pen) (P.seen result) (shown verdict.now) }
 {
     match *verdict {
-        PairVerdict::Same => line.text(out, b"same"),
-        PairVerdict::Held { cycle } => line.numbered(out, b"held ", cycle as u64),
+        PairVerdict::Same => pen.text(b"same"),
+        PairVerdict::Held { cycle } => pen.numbered(b"held ", cycle as u64),
     }
 }
 
@@ -60,19 +60,17 @@ fn then_verdict<O: Sink>(line: &mut Line, out: &mut O, verdict: &PairVerdict)
 pub fn group_line<O: Sink>(out: &mut O, line: u32, verdict: &PairVerdict) -> Result<(), Failed>
     ensures { WritesTo (O.seen out.old) (O.seen out.new) (group_text line verdict.now) result }
 {
-    let mut text = begin(out, b"", line);
-    text.text(out, b" ");
-    then_verdict(&mut text, out, verdict);
-    text.end(out)
+    let pen = begin(out, b"", line).text(b" ");
+    then_verdict(pen, verdict).end()
 }
 
 /// Writes how many groups a script has, and how many of each verdict. After `Failed` a part of the line is written.
 pub fn pair_totals_line<O: Sink>(out: &mut O, totals: &PairTotals) -> Result<(), Failed>
     ensures { WritesTo (O.seen out.old) (O.seen out.new) (pair_totals_text totals.now) result }
 {
-    let mut line = Line::new();
-    line.numbered(out, b"pairs ", totals.groups());
-    line.numbered(out, b" same ", totals.same as u64);
-    line.numbered(out, b" held ", totals.held as u64);
-    line.end(out)
+    LinePen::new(out)
+        .numbered(b"pairs ", totals.groups())
+        .numbered(b" same ", totals.same as u64)
+        .numbered(b" held ", totals.held as u64)
+        .end()
 }

@@ -1,5 +1,5 @@
-use Rattle.std.proofs.Common.{◌≡◌, ℕ, List, ◌++◌, codes, decimal, append_assoc}
-use Rattle.vcp_outside.specs.SameText.{written_same}
+use Rattle.std.proofs.Common.{◌≡◌, ℕ, List, ◌++◌, codes, decimal, append_assoc, rules}
+use Rattle.vcp_outside.specs.Pens.{ended}
 use Rattle.fault_campaign.proofs.pairs.lines.pair_totals_line.Goals as goal
 
 -- three words, each with its number, and the line's end
@@ -9,7 +9,6 @@ pieces a all b same c held end = simp append_assoc
 pub returns : goal.returns
 returns g c =
     let t = c.args.totals.now in
-    let all = rw c.groups.ensures at (c.numbered.ensures.gathers _ _ _ (c.new-line.ensures.begun _ _)) in
-    let held = c.numbered-3.ensures.gathers _ _ _ (c.numbered-2.ensures.gathers _ _ _ all) in
-    written_same (c.end.ensures.writes _ _ _ held)
-    (pieces (codes "pairs ") _ (codes " same ") (decimal t.same) (codes " held ") (decimal t.held) (codes "\n"))
+    let all = rw c.groups.ensures at (c.numbered.ensures _ _ _ (c.new.ensures)) in
+    let held = c.numbered-3.ensures _ _ _ (c.numbered-2.ensures _ _ _ all) in
+    ended g.O.Sink.seen (search rules) held c.end.ensures (pieces (codes "pairs ") _ (codes " same ") (decimal t.same) (codes " held ") (decimal t.held) (codes "\n"))
