@@ -1,7 +1,7 @@
 //! The table that distinguishes the groups of which no output shows anything.
 
 ghost use Rattle.std.specs.Prelude.{◌≡◌, ◌<◌, ◌≤◌, ◌+◌, length, All};
-ghost use Rattle.vcp_outside.specs.Gathering.{GathersTo};
+ghost use Rattle.vcp_outside.specs.Pens.{Goes};
 ghost use Rattle.fault_script.specs.ScriptOf.{most_faults};
 ghost use Rattle.verdict_tables.specs.Parts.{most_parts};
 ghost use Rattle.verdict_tables.specs.SumText.{row_text};
@@ -12,7 +12,7 @@ use crate::SameEnding;
 use crate::endings::{Endings, EndingsOfParts};
 use crate::rows::{then_columns, then_titled};
 use fault_injector::Totals;
-use vcp_outside::{Line, Sink};
+use vcp_outside::Pen;
 
 /// Whether a group is in row `n`.
 pub(crate) fn is_ended(n: u32, ending: Option<SameEnding>) -> bool
@@ -56,20 +56,14 @@ fn count_ended(n: u32, endings: &EndingsOfParts) -> u32
 }
 
 /// Goes on with row `n`, of this name, where something is counted in it.
-fn then_ended_row<O: Sink>(
-    line: &mut Line,
-    out: &mut O,
-    n: u32,
-    name: &[u8],
-    endings: &EndingsOfParts,
-)
+fn then_ended_row<P: Pen>(pen: P, n: u32, name: &[u8], endings: &EndingsOfParts) -> P
     requires each { All (λ es. length es ≤ most_faults) endings.now }
     requires few { length endings.now ≤ most_parts }
-    ensures { GathersTo (O.seen out.old) (O.seen out.new) line.old line.new (row_text name.now (same_only (ended_count n (all_endings endings.now)))) }
+    ensures { Goes (P.seen pen) (P.seen result) (row_text name.now (same_only (ended_count n (all_endings endings.now)))) }
 {
     let count = count_ended(n, endings);
     if count == 0 {
-        return;
+        return pen;
     }
     let totals = Totals {
         same: count,
@@ -78,19 +72,17 @@ fn then_ended_row<O: Sink>(
         refused: 0,
         stopped: 0,
     };
-    then_columns(line, out, &totals);
-    line.texts(out, b"  ", name);
-    line.text(out, b"\n");
+    then_columns(pen, &totals).texts(b"  ", name).text(b"\n")
 }
 
 /// Goes on with the table.
-pub(crate) fn then_endings<O: Sink>(line: &mut Line, out: &mut O, endings: &EndingsOfParts)
+pub(crate) fn then_endings<P: Pen>(pen: P, endings: &EndingsOfParts) -> P
     requires each { All (λ es. length es ≤ most_faults) endings.now }
     requires few { length endings.now ≤ most_parts }
-    ensures { GathersTo (O.seen out.old) (O.seen out.new) line.old line.new (endings_text (all_endings endings.now)) }
+    ensures { Goes (P.seen pen) (P.seen result) (endings_text (all_endings endings.now)) }
 {
-    then_titled(line, out, b"by how it ends where it shows nowhere");
-    then_ended_row(line, out, 0, b"never reached", endings);
-    then_ended_row(line, out, 1, b"died out", endings);
-    then_ended_row(line, out, 2, b"stands in a cell", endings);
+    let pen = then_titled(pen, b"by how it ends where it shows nowhere");
+    let pen = then_ended_row(pen, 0, b"never reached", endings);
+    let pen = then_ended_row(pen, 1, b"died out", endings);
+    then_ended_row(pen, 2, b"stands in a cell", endings)
 }

@@ -1,14 +1,14 @@
 //! A campaign in parts.
 
 ghost use Rattle.std.specs.Prelude.{◌≡◌, ◌<◌, ◌++◌, decimal, length};
-ghost use Rattle.vcp_outside.specs.Gathering.{GathersTo};
+ghost use Rattle.vcp_outside.specs.Pens.{Goes};
 ghost use Rattle.fault_script.specs.Groups.{line_of};
 ghost use Rattle.verdict_tables.specs.Parts.{mark_of as mark_of_part, mark_text};
 
 use crate::verdicts::Verdicts;
 use fault_script::{Group, Script};
 use vcp_base::List;
-use vcp_outside::{Line, Sink};
+use vcp_outside::Pen;
 
 /// How many parts there may be.
 pub const MOST_PARTS: u32 = 10_000;
@@ -42,16 +42,13 @@ pub(crate) fn mark_of(many: usize, n: usize) -> Option<u64>
 }
 
 /// Goes on with such a number, and that of the group's line.
-pub(crate) fn then_group<O: Sink>(line: &mut Line, out: &mut O, mark: Option<u64>, group: &Group)
+pub(crate) fn then_group<P: Pen>(pen: P, mark: Option<u64>, group: &Group) -> P
     requires { 0 < length group.now }
-    ensures { GathersTo (O.seen out.old) (O.seen out.new) line.old line.new (mark_text mark ++ decimal (line_of group.now)) }
+    ensures { Goes (P.seen pen) (P.seen result) (mark_text mark ++ decimal (line_of group.now)) }
 {
     let at = group.line() as u64;
     match mark {
-        Some(number) => {
-            line.count(out, number);
-            line.numbered(out, b":", at);
-        }
-        None => line.count(out, at),
+        Some(number) => pen.count(number).numbered(b":", at),
+        None => pen.count(at),
     }
 }

@@ -1,7 +1,7 @@
 //! The rows of tables.
 
 ghost use Rattle.std.specs.Prelude.{◌≡◌, ◌<◌, ◌≤◌, ◌++◌, length, All};
-ghost use Rattle.vcp_outside.specs.Gathering.{GathersTo};
+ghost use Rattle.vcp_outside.specs.Pens.{Goes};
 ghost use Rattle.verdict_tables.specs.Parts.{most_parts, IsWhole};
 ghost use Rattle.verdict_tables.specs.Tables.{rows as rows_of};
 ghost use Rattle.verdict_tables.specs.SumText.{act_name as act_name_of, more_text, delay_text, row_name, row_text};
@@ -15,7 +15,7 @@ use fault_injector::Totals;
 use op_graph::Graph;
 use run_report::variable_name;
 use vcp_base::Kind;
-use vcp_outside::{Line, Sink};
+use vcp_outside::Pen;
 
 /// The act of row `n`.
 fn act_name(n: u32) -> &'static [u8]
@@ -47,23 +47,22 @@ fn or_more(n: u32) -> &'static [u8]
 }
 
 /// Goes on with what the row of a number of cycles counts; the last such row counts more cycles, too.
-pub fn then_delay<O: Sink>(line: &mut Line, out: &mut O, n: u32)
-    ensures { GathersTo (O.seen out.old) (O.seen out.new) line.old line.new (delay_text n) }
+pub fn then_delay<P: Pen>(pen: P, n: u32) -> P
+    ensures { Goes (P.seen pen) (P.seen result) (delay_text n) }
 {
-    line.numbered(out, b"after ", n as u64);
-    line.text(out, or_more(n));
+    pen.numbered(b"after ", n as u64).text(or_more(n))
 }
 
 /// Goes on with what row `n` of a table counts.
-fn then_row_name<O: Sink>(line: &mut Line, out: &mut O, graph: &Graph, table: Table, n: u32)
+fn then_row_name<P: Pen>(pen: P, graph: &Graph, table: Table, n: u32) -> P
     requires { n < rows_of graph.now table }
-    ensures { GathersTo (O.seen out.old) (O.seen out.new) line.old line.new (row_name graph.now table n) }
+    ensures { Goes (P.seen pen) (P.seen result) (row_name graph.now table n) }
 {
     match table {
-        Table::Acts => line.text(out, act_name(n)),
-        Table::Operations => then_operation(line, out, graph, n),
-        Table::Outputs => line.texts(out, b"output ", variable_name(graph, Kind::Out, n as u64)),
-        Table::Delays => then_delay(line, out, n),
+        Table::Acts => pen.text(act_name(n)),
+        Table::Operations => then_operation(pen, graph, n),
+        Table::Outputs => pen.texts(b"output ", variable_name(graph, Kind::Out, n as u64)),
+        Table::Delays => then_delay(pen, n),
     }
 }
 
@@ -93,74 +92,61 @@ fn blanks_before(n: u64) -> &'static [u8]
 }
 
 /// Goes on with a number in its column.
-fn then_column<O: Sink>(line: &mut Line, out: &mut O, n: u64)
-    ensures { GathersTo (O.seen out.old) (O.seen out.new) line.old line.new (column_text n) }
+fn then_column<P: Pen>(pen: P, n: u64) -> P
+    ensures { Goes (P.seen pen) (P.seen result) (column_text n) }
 {
-    line.numbered(out, blanks_before(n), n);
+    pen.numbered(blanks_before(n), n)
 }
 
 /// Goes on with the columns of totals.
-pub(crate) fn then_columns<O: Sink>(line: &mut Line, out: &mut O, totals: &Totals)
-    ensures { GathersTo (O.seen out.old) (O.seen out.new) line.old line.new (columns_text totals.now) }
+pub(crate) fn then_columns<P: Pen>(pen: P, totals: &Totals) -> P
+    ensures { Goes (P.seen pen) (P.seen result) (columns_text totals.now) }
 {
-    then_column(line, out, totals.faults());
-    then_column(line, out, totals.same as u64);
-    then_column(line, out, totals.wrong as u64);
-    then_column(line, out, totals.ran_on as u64);
-    then_column(line, out, totals.refused as u64);
-    then_column(line, out, totals.stopped as u64);
+    let pen = then_column(pen, totals.faults());
+    let pen = then_column(pen, totals.same as u64);
+    let pen = then_column(pen, totals.wrong as u64);
+    let pen = then_column(pen, totals.ran_on as u64);
+    let pen = then_column(pen, totals.refused as u64);
+    then_column(pen, totals.stopped as u64)
 }
 
 /// Goes on with row `n` of a table, where something is counted in it.
-fn then_row<O: Sink>(
-    line: &mut Line,
-    out: &mut O,
-    graph: &Graph,
-    table: Table,
-    n: u32,
-    totals: &Totals,
-)
+fn then_row<P: Pen>(pen: P, graph: &Graph, table: Table, n: u32, totals: &Totals) -> P
     requires { n < rows_of graph.now table }
-    ensures { GathersTo (O.seen out.old) (O.seen out.new) line.old line.new (row_text (row_name graph.now table n) totals.now) }
+    ensures { Goes (P.seen pen) (P.seen result) (row_text (row_name graph.now table n) totals.now) }
 {
     if totals.faults() == 0 {
-        return;
+        return pen;
     }
-    then_columns(line, out, totals);
-    line.text(out, b"  ");
-    then_row_name(line, out, graph, table, n);
-    line.text(out, b"\n");
+    let pen = then_columns(pen, totals).text(b"  ");
+    then_row_name(pen, graph, table, n).text(b"\n")
 }
 
 /// Goes on with the names of the columns, before what the rows are about.
-pub(crate) fn then_titled<O: Sink>(line: &mut Line, out: &mut O, name: &[u8])
-    ensures { GathersTo (O.seen out.old) (O.seen out.new) line.old line.new (heading_of name.now) }
+pub(crate) fn then_titled<P: Pen>(pen: P, name: &[u8]) -> P
+    ensures { Goes (P.seen pen) (P.seen result) (heading_of name.now) }
 {
-    line.texts(
-        out,
-        b"  faults    same   wrong  ran-on refused stopped  ",
-        name,
-    );
-    line.text(out, b"\n");
+    pen.texts(b"  faults    same   wrong  ran-on refused stopped  ", name)
+        .text(b"\n")
 }
 
 /// Goes on with a table, whose rows are about this.
-pub(crate) fn then_table<O: Sink>(
-    line: &mut Line,
-    out: &mut O,
+pub(crate) fn then_table<P: Pen>(
+    pen: P,
     graph: &Graph,
     table: Table,
     title: &[u8],
     parts: &Parts,
-)
+) -> P
     requires whole { All IsWhole parts.now }
     requires few { length parts.now ≤ most_parts }
-    ensures { GathersTo (O.seen out.old) (O.seen out.new) line.old line.new
+    ensures { Goes (P.seen pen) (P.seen result)
         (heading_of title.now ++ rows_below graph.now table parts.now (rows_of graph.now table)) }
 {
-    then_titled(line, out, title);
+    let mut pen = then_titled(pen, title);
     'rows: for n in 0..rows(graph, table) {
         let totals = totals_over(table, n, parts);
-        then_row(line, out, graph, table, n, &totals);
+        pen = then_row(pen, graph, table, n, &totals);
     }
+    pen
 }

@@ -1,7 +1,7 @@
 //! The faults that are not seen.
 
 ghost use Rattle.std.specs.Prelude.{◌≡◌, flat_map, length, All};
-ghost use Rattle.vcp_outside.specs.Gathering.{GathersTo};
+ghost use Rattle.vcp_outside.specs.Pens.{Goes};
 ghost use Rattle.verdict_tables.specs.Parts.{IsWhole, PartFits};
 ghost use Rattle.verdict_tables.specs.SumText.{fault_text, is_unseen as is_unseen_of, unseen_below, unseen_parts};
 
@@ -11,11 +11,11 @@ use fault_injector::{Verdict, then_verdict};
 use fault_script::Group;
 use fault_sites::{Site, then_site};
 use op_graph::Graph;
-use vcp_outside::{Line, Sink};
+use vcp_outside::Pen;
 
 /// Goes on with the faults of a group.
-pub(crate) fn then_faults<O: Sink>(line: &mut Line, out: &mut O, graph: &Graph, group: &Group)
-    ensures { GathersTo (O.seen out.old) (O.seen out.new) line.old line.new (flat_map (fault_text graph.now) group.now) }
+pub(crate) fn then_faults<P: Pen>(mut pen: P, graph: &Graph, group: &Group) -> P
+    ensures { Goes (P.seen pen) (P.seen result) (flat_map (fault_text graph.now) group.now) }
 {
     'faults: for i in 0..group.len() {
         let fault = group.at(i);
@@ -24,12 +24,11 @@ pub(crate) fn then_faults<O: Sink>(line: &mut Line, out: &mut O, graph: &Graph, 
             op: fault.op,
             act: fault.act,
         };
-        line.text(out, b"  ");
-        then_site(line, out, &site);
-        line.text(out, b": ");
-        then_operation(line, out, graph, fault.op);
-        line.text(out, b"\n");
+        pen = pen.text(b"  ");
+        pen = then_site(pen, &site).text(b": ");
+        pen = then_operation(pen, graph, fault.op).text(b"\n");
     }
+    pen
 }
 
 /// Whether a verdict is `wrong` or `ran-on`.
@@ -60,16 +59,10 @@ fn is_unseen(verdict: Verdict) -> bool
 }
 
 /// Goes on with the verdicts of a part that aren't seen, and their groups.
-fn then_unseen_in<O: Sink>(
-    line: &mut Line,
-    out: &mut O,
-    graph: &Graph,
-    mark: Option<u64>,
-    part: &Part,
-)
+fn then_unseen_in<P: Pen>(mut pen: P, graph: &Graph, mark: Option<u64>, part: &Part) -> P
     requires whole { IsWhole part.now }
     requires fits { PartFits graph.now part.now }
-    ensures { GathersTo (O.seen out.old) (O.seen out.new) line.old line.new
+    ensures { Goes (P.seen pen) (P.seen result)
         (unseen_below graph.now mark part.now.script part.now.verdicts (length part.now.verdicts)) }
 {
     'groups: for i in 0..part.verdicts.len() {
@@ -78,23 +71,23 @@ fn then_unseen_in<O: Sink>(
         if !is_unseen(verdict) {
             continue;
         }
-        then_group(line, out, mark, group);
-        line.text(out, b" ");
-        then_verdict(line, out, graph, &verdict);
-        line.text(out, b"\n");
-        then_faults(line, out, graph, group);
+        pen = then_group(pen, mark, group).text(b" ");
+        pen = then_verdict(pen, graph, &verdict).text(b"\n");
+        pen = then_faults(pen, graph, group);
     }
+    pen
 }
 
 /// Goes on with the verdicts of all parts that aren't seen, and their groups.
-pub(crate) fn then_all_unseen<O: Sink>(line: &mut Line, out: &mut O, graph: &Graph, parts: &Parts)
+pub(crate) fn then_all_unseen<P: Pen>(mut pen: P, graph: &Graph, parts: &Parts) -> P
     requires whole { All IsWhole parts.now }
     requires fits { All (PartFits graph.now) parts.now }
-    ensures { GathersTo (O.seen out.old) (O.seen out.new) line.old line.new (unseen_parts graph.now parts.now (length parts.now)) }
+    ensures { Goes (P.seen pen) (P.seen result) (unseen_parts graph.now parts.now (length parts.now)) }
 {
     let many = parts.len();
     'parts: for k in 0..many {
         let mark = mark_of(many, k);
-        then_unseen_in(line, out, graph, mark, parts.at(k));
+        pen = then_unseen_in(pen, graph, mark, parts.at(k));
     }
+    pen
 }

@@ -2,7 +2,7 @@
 
 ghost use Rattle.std.specs.Prelude.{◌≤◌, length, All};
 ghost use Rattle.vcp_outside.specs.Written.{WritesTo};
-ghost use Rattle.vcp_outside.specs.Gathering.{GathersTo};
+ghost use Rattle.vcp_outside.specs.Pens.{Goes};
 ghost use Rattle.verdict_tables.specs.Parts.{most_parts, IsWhole, PartFits};
 ghost use Rattle.verdict_tables.specs.SumText.{tables_text, sum_text};
 ghost use Rattle.verdict_tables.specs.SameEndings.{sum_apart_text, AreOf};
@@ -17,46 +17,24 @@ use crate::tables::Table;
 use crate::unseen::then_all_unseen;
 use fault_injector::then_totals;
 use op_graph::Graph;
-use vcp_outside::{Failed, Line, Sink};
+use vcp_outside::{Failed, LinePen, Pen, Sink};
 
 /// Goes on with the tables.
-fn then_tables<O: Sink>(line: &mut Line, out: &mut O, graph: &Graph, parts: &Parts)
+fn then_tables<P: Pen>(pen: P, graph: &Graph, parts: &Parts) -> P
     requires whole { All IsWhole parts.now }
     requires few { length parts.now ≤ most_parts }
-    ensures { GathersTo (O.seen out.old) (O.seen out.new) line.old line.new (tables_text graph.now parts.now) }
+    ensures { Goes (P.seen pen) (P.seen result) (tables_text graph.now parts.now) }
 {
+    let pen = then_table(pen, graph, Table::Acts, b"by what the fault does", parts);
+    let pen = then_table(pen, graph, Table::Operations, b"by where it stands", parts);
+    let pen = then_table(pen, graph, Table::Outputs, b"by where it shows", parts);
     then_table(
-        line,
-        out,
-        graph,
-        Table::Acts,
-        b"by what the fault does",
-        parts,
-    );
-    then_table(
-        line,
-        out,
-        graph,
-        Table::Operations,
-        b"by where it stands",
-        parts,
-    );
-    then_table(
-        line,
-        out,
-        graph,
-        Table::Outputs,
-        b"by where it shows",
-        parts,
-    );
-    then_table(
-        line,
-        out,
+        pen,
         graph,
         Table::Delays,
         b"by how many cycles later it shows",
         parts,
-    );
+    )
 }
 
 /// Writes how many verdicts there are of each sort, over all groups of all parts: by what the faults do, by the operation at which they are,
@@ -72,11 +50,10 @@ pub fn write_sum<O: Sink>(out: &mut O, graph: &Graph, parts: &Parts) -> Result<(
     requires few { length parts.now ≤ most_parts }
     ensures { WritesTo (O.seen out.old) (O.seen out.new) (sum_text graph.now parts.now) result }
 {
-    let mut line = Line::new();
-    then_tables(&mut line, out, graph, parts);
-    then_all_unseen(&mut line, out, graph, parts);
-    then_totals(&mut line, out, &totals_of_parts(parts));
-    line.end(out)
+    let pen = LinePen::new(out);
+    let pen = then_tables(pen, graph, parts);
+    let pen = then_all_unseen(pen, graph, parts);
+    then_totals(pen, &totals_of_parts(parts)).end()
 }
 
 /// Writes the same, and behind the tables one more, in which the groups with the verdict `same` are distinguished: how many are never reached, how
@@ -93,11 +70,10 @@ pub fn write_sum_apart<O: Sink>(
     requires each { AreOf endings.now parts.now }
     ensures { WritesTo (O.seen out.old) (O.seen out.new) (sum_apart_text graph.now parts.now endings.now) result }
 {
-    let mut line = Line::new();
-    then_tables(&mut line, out, graph, parts);
-    then_endings(&mut line, out, endings);
-    then_all_unseen(&mut line, out, graph, parts);
-    then_all_standing(&mut line, out, graph, parts, endings);
-    then_totals(&mut line, out, &totals_of_parts(parts));
-    line.end(out)
+    let pen = LinePen::new(out);
+    let pen = then_tables(pen, graph, parts);
+    let pen = then_endings(pen, endings);
+    let pen = then_all_unseen(pen, graph, parts);
+    let pen = then_all_standing(pen, graph, parts, endings);
+    then_totals(pen, &totals_of_parts(parts)).end()
 }

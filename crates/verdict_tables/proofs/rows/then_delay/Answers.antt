@@ -1,5 +1,5 @@
-use Rattle.verdict_tables.proofs.Going.{and_then}
+use Rattle.vcp_outside.specs.Pens.{and_then}
 use Rattle.verdict_tables.proofs.rows.then_delay.Goals as goal
 
 pub returns : goal.returns
-returns g c = and_then c.numbered.ensures.gathers (rw c.or_more.ensures at c.text.ensures.gathers)
+returns g c = and_then c.numbered.ensures (rw c.or_more.ensures at c.text.ensures)

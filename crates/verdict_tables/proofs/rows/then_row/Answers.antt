@@ -1,5 +1,6 @@
 use Rattle.fault_injector.specs.FaultLines.{faults}
-use Rattle.verdict_tables.proofs.Going.{and_then, no_row, a_row}
+use Rattle.verdict_tables.proofs.Going.{no_row, a_row}
+use Rattle.vcp_outside.specs.Pens.{and_then}
 use Rattle.verdict_tables.proofs.rows.then_row.Goals as goal
 
 pub returns-then-faults-eq0 : goal.returns-then-faults-eq0
@@ -7,5 +8,5 @@ returns-then-faults-eq0 g c = no_row (faults c.args.totals.now) _ (rw c.faults.e
 
 pub returns : goal.returns
 returns g c =
-    let row = and_then c.then_columns.ensures (and_then c.text.ensures.gathers (and_then c.then_row_name.ensures c.text-2.ensures.gathers)) in
+    let row = and_then c.then_columns.ensures (and_then c.text-pen.ensures (and_then c.then_row_name.ensures c.text.ensures)) in
     a_row (faults c.args.totals.now) _ (rw c.faults.ensures at c.if-faults-eq0.false) row

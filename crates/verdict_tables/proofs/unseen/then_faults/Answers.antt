@@ -1,7 +1,7 @@
 use Rattle.std.proofs.Common.{arith}
-use Rattle.verdict_tables.proofs.Going.{and_then, same, unmoved}
 use Rattle.verdict_tables.proofs.Picking.{all_taken, one_more}
 use Rattle.verdict_tables.specs.SumText.{fault_text}
+use Rattle.vcp_outside.specs.Pens.{unmoved, and_then, same}
 use Rattle.verdict_tables.proofs.unseen.then_faults.Goals as goal
 
 pub faults-init : goal.faults-init
@@ -9,8 +9,8 @@ faults-init g c = unmoved
 
 pub faults-preserved : goal.faults-preserved
 faults-preserved g c =
-    let place = and_then c.text-in-faults.ensures.gathers (and_then c.then_operation.ensures c.text-in-faults-2.ensures.gathers) in
-    let fault = and_then c.text.ensures.gathers (and_then c.then_site.ensures place) in
+    let place = and_then c.text-pen-in-faults.ensures (and_then c.then_operation.ensures c.text-pen-in-faults-2.ensures) in
+    let fault = and_then c.text-pen.ensures (and_then c.then_site.ensures place) in
     same (and_then c.faults.invariant fault) (one_more (fault_text c.args.graph.now) c.args.group.now c.faults.i c.at-fault.result c.at-fault.ensures)
 
 pub returns : goal.returns

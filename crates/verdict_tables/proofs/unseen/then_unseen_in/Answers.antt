@@ -1,8 +1,9 @@
 use Rattle.std.proofs.Common.{◌≡◌, ℕ, List, ◌++◌, length, codes, append_assoc, sym, ◌∙◌, add-one, arith}
 use Rattle.fault_script.specs.Groups.{GroupFits}
 use Rattle.fault_injector.specs.Names.{Names}
-use Rattle.verdict_tables.proofs.Going.{and_then, chosen, not_chosen, same, unmoved}
+use Rattle.verdict_tables.proofs.Going.{chosen, not_chosen}
 use Rattle.verdict_tables.proofs.Picking.{at_place}
+use Rattle.vcp_outside.specs.Pens.{unmoved, and_then, same}
 use Rattle.verdict_tables.proofs.unseen.then_unseen_in.Goals as goal
 
 pieces : (mark number shows faults : List ℕ)
@@ -23,8 +24,8 @@ then_verdict-requires g c =
 
 pub groups-preserved : goal.groups-preserved
 groups-preserved g c =
-    let last = and_then c.then_verdict.ensures (and_then c.text-in-groups.ensures.gathers c.then_faults.ensures) in
-    let judged = same (and_then c.then_group.ensures (and_then c.text.ensures.gathers last)) (pieces _ _ _ _) in
+    let last = and_then c.then_verdict.ensures (and_then c.text-pen-in-groups.ensures c.then_faults-pen.ensures) in
+    let judged = same (and_then c.then_group.ensures (and_then c.text-pen.ensures last)) (pieces _ _ _ _) in
     rw (add-one c.groups.i, c.at-group.ensures, c.at-verdict.ensures)
     (and_then c.groups.invariant (chosen _ _ _ (sym c.is_unseen.ensures ∙ c.if-not-is_unseen.false) judged))
 
