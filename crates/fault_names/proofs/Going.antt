@@ -1,26 +1,12 @@
--- Going: one piece of a text behind another.
-use Rattle.std.proofs.Common.{◌≡◌, ℕ, zero, suc, ◌+◌, List, [], ◌∷◌, ◌++◌, Option, append_assoc, refl, sym, ap, ◌∙◌, arith}
+-- Going: one more cycle, some sites, lines and entries behind others.
+use Rattle.std.proofs.Common.{◌≡◌, ℕ, zero, suc, ◌+◌, List, [], ◌∷◌, ◌++◌, append_assoc, refl, sym, ap, ◌∙◌, arith}
 use Rattle.std.proofs.lemmas.List.{append-nil}
-use Rattle.vcp_outside.specs.Seen.{SinkSeen}
-use Rattle.vcp_outside.specs.Gathering.{Gathered, Gathers, GathersTo}
 use Rattle.fault_script.specs.declared.act.Act.{Act}
 use Rattle.fault_sites.specs.declared.site.Site.{Site}
 use Rattle.fault_sites.specs.Sites.{site}
 use Rattle.fault_sites.specs.SiteText.{site_text, site_lines}
 use Rattle.fault_names.specs.Script.{sites_from, Entry, entry_text, entry_texts}
-
--- nothing
-pub unmoved : {a : Option (List ℕ)} {f : ℕ} {l : Gathered} → Gathers a a f f l l []
-unmoved start before text is = rw (append-nil text) is
-
--- a piece and another
-pub and_then : {a b c : Option (List ℕ)} {f g h : ℕ} {l m n : Gathered} {s t : List ℕ} → Gathers a b f g l m s → Gathers b c g h m n t
-    → Gathers a c f h l n (s ++ t)
-and_then {s = s} {t = t} first second start before text is = rw (← (append_assoc text s t)) (second start before _ (first start before text is))
-
--- the same piece, written otherwise
-pub same : {a b : Option (List ℕ)} {f g : ℕ} {l m : Gathered} {s t : List ℕ} → Gathers a b f g l m s → t ≡ s → Gathers a b f g l m t
-same gathers e start before text is = rw e (gathers start before text is)
+use Rattle.vcp_outside.specs.Pens.{Penned, Goes, unmoved, and_then, same}
 
 -- one more cycle
 pub one_more : (k : ℕ) (a : Act) (n i m : ℕ) → m ≡ n + i
@@ -44,22 +30,22 @@ texts_both [] fs = refl
 texts_both (e ∷ es) fs = ap (λ (t : List ℕ). entry_text e ++ t) (texts_both es fs) ∙ sym (append_assoc (entry_text e) (entry_texts es) (entry_texts fs))
 
 -- some entries of all were told, and these are left
-pub record Part (old new : SinkSeen) (line_old line_new : Gathered) (all left : List Entry) : Type 0 where
+pub record Part (old new : Penned) (all left : List Entry) : Type 0 where
   pub done : List Entry
   pub whole : all ≡ done ++ left
-  pub gathers : GathersTo old new line_old line_new (entry_texts done)
+  pub gathers : Goes old new (entry_texts done)
 
-pub none_told : {a : SinkSeen} {l : Gathered} {all : List Entry} → Part a a l l all all
+pub none_told : {l : Penned} {all : List Entry} → Part l l all all
 none_told = record { done = []; whole = refl; gathers = unmoved }
 
-pub told_more : {a b c : SinkSeen} {l m n : Gathered} {all left : List Entry} (some rest : List Entry) → Part a b l m all left → left ≡ some ++ rest
-    → GathersTo b c m n (entry_texts some) → Part a c l n all rest
+pub told_more : {l m n : Penned} {all left : List Entry} (some rest : List Entry) → Part l m all left → left ≡ some ++ rest
+    → Goes m n (entry_texts some) → Part l n all rest
 told_more {left = left} some rest part is told = record {
   done = part.done ++ some;
   whole = part.whole ∙ (ap (λ (es : List Entry). part.done ++ es) is ∙ sym (append_assoc part.done some rest));
   gathers = same (and_then part.gathers told) (texts_both part.done some);
 }
 
-pub all_told : {a b : SinkSeen} {l m : Gathered} {all left : List Entry} → Part a b l m all left → left ≡ [] → GathersTo a b l m (entry_texts all)
+pub all_told : {l m : Penned} {all left : List Entry} → Part l m all left → left ≡ [] → Goes l m (entry_texts all)
 all_told {left = left} part none =
     same part.gathers (ap entry_texts (part.whole ∙ (ap (λ (es : List Entry). part.done ++ es) none ∙ append-nil part.done)))

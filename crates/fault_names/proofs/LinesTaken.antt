@@ -1,6 +1,6 @@
 -- LinesTaken: what the lines so far leave.
 use borrow.Author.Tests.{le-leb, lt-leb}
-use Rattle.std.proofs.Common.{◌≡◌, ℕ, ◌+◌, ◌<◌, ◌≤◌, nat_le, List, [], ◌∷◌, Result, Ok, Err, Bool, true, false, cond, ap, refl, sym, ◌∙◌}
+use Rattle.std.proofs.Common.{◌≡◌, ℕ, ◌+◌, ◌<◌, ◌≤◌, nat_le, List, [], ◌∷◌, Result, Ok, Err, Bool, false, cond, ap, sym, ◌∙◌}
 use Rattle.op_graph.specs.Lists.{Lists}
 use Rattle.vcp_base.specs.Lines.{Line}
 use Rattle.vcp_base.specs.Words.{words}

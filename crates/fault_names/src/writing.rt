@@ -4,7 +4,7 @@ ghost use Rattle.std.specs.Prelude.{◌≤◌, length};
 ghost use Rattle.std.specs.Str.Lines.{lines};
 ghost use Rattle.vcp_base.specs.Limits.{most_source_bytes};
 ghost use Rattle.vcp_outside.specs.Written.{WritesTo};
-ghost use Rattle.vcp_outside.specs.Gathering.{GathersTo};
+ghost use Rattle.vcp_outside.specs.Pens.{Goes};
 ghost use Rattle.vcp_base.specs.Lines.{read_lines};
 ghost use Rattle.vcp_base.specs.Words.{words as words_of};
 ghost use Rattle.fault_sites.specs.SiteText.{site_lines};
@@ -19,11 +19,11 @@ use fault_script::Act;
 use fault_sites::{Site, then_site};
 use op_graph::Graph;
 use vcp_base::first_read;
-use vcp_outside::{Failed, Line, Sink};
+use vcp_outside::{Failed, LinePen, Pen, Sink};
 
 /// Goes on with an act at operation `k` in each of these cycles.
-fn then_act<O: Sink>(line: &mut Line, out: &mut O, k: u32, span: Span, act: Act)
-    ensures { GathersTo (O.seen out.old) (O.seen out.new) line.old line.new (site_lines (sites_over k span act)) }
+fn then_act<P: Pen>(mut pen: P, k: u32, span: Span, act: Act) -> P
+    ensures { Goes (P.seen pen) (P.seen result) (site_lines (sites_over k span act)) }
 {
     'cycles: for i in 0..cycles(span) {
         let site = Site {
@@ -31,59 +31,60 @@ fn then_act<O: Sink>(line: &mut Line, out: &mut O, k: u32, span: Span, act: Act)
             op: k,
             act,
         };
-        then_site(line, out, &site);
-        line.text(out, b"\n");
+        pen = then_site(pen, &site).text(b"\n");
     }
+    pen
 }
 
 /// Goes on with the faults of a line.
-fn then_faults<O: Sink>(line: &mut Line, out: &mut O, meant: &Meant)
-    ensures { GathersTo (O.seen out.old) (O.seen out.new) line.old line.new (site_lines (sites_meant meant.now)) }
+fn then_faults<P: Pen>(pen: P, meant: &Meant) -> P
+    ensures { Goes (P.seen pen) (P.seen result) (site_lines (sites_meant meant.now)) }
 {
-    then_act(line, out, meant.op, meant.span, meant.acts.act);
+    let pen = then_act(pen, meant.op, meant.span, meant.acts.act);
     match meant.acts.other {
-        Some(other) => then_act(line, out, meant.op, meant.span, other),
-        None => {}
+        Some(other) => then_act(pen, meant.op, meant.span, other),
+        None => pen,
     }
 }
 
 /// Goes on with the groups of a line.
-fn then_meant<O: Sink>(line: &mut Line, out: &mut O, meant: &Meant)
-    ensures { GathersTo (O.seen out.old) (O.seen out.new) line.old line.new (meant_text meant.now) }
+fn then_meant<P: Pen>(pen: P, meant: &Meant) -> P
+    ensures { Goes (P.seen pen) (P.seen result) (meant_text meant.now) }
 {
     if meant.together {
-        line.text(out, b"begin\n");
-        then_faults(line, out, meant);
-        line.text(out, b"end\n");
+        let pen = pen.text(b"begin\n");
+        then_faults(pen, meant).text(b"end\n")
     } else {
-        then_faults(line, out, meant);
+        then_faults(pen, meant)
     }
 }
 
 /// Goes on with a line that isn't skipped as a remark, and its groups, where it means something.
-fn then_line<O: Sink>(line: &mut Line, out: &mut O, graph: &Graph, text: &[u8])
-    ensures { GathersTo (O.seen out.old) (O.seen out.new) line.old line.new
+fn then_line<P: Pen>(pen: P, graph: &Graph, text: &[u8]) -> P
+    ensures { Goes (P.seen pen) (P.seen result)
         (entry_texts (entry_of text.now (meant_of graph.now (words_of text.now)))) }
 {
     if let Ok(meant) = meaning(graph, text) {
-        line.texts(out, b"# ", text);
-        line.text(out, b"\n");
-        then_meant(line, out, &meant);
+        let pen = pen.texts(b"# ", text).text(b"\n");
+        then_meant(pen, &meant)
+    } else {
+        pen
     }
 }
 
 /// The same of all lines of a text.
-fn then_lines<O: Sink>(line: &mut Line, out: &mut O, graph: &Graph, text: &[u8])
+fn then_lines<P: Pen>(mut pen: P, graph: &Graph, text: &[u8]) -> P
     requires { length text.now ≤ most_source_bytes }
-    ensures { GathersTo (O.seen out.old) (O.seen out.new) line.old line.new (entry_texts (entries graph.now (read_lines 1 (lines text.now)))) }
+    ensures { Goes (P.seen pen) (P.seen result) (entry_texts (entries graph.now (read_lines 1 (lines text.now)))) }
 {
     let mut rest = text;
     let mut before = 0;
     'lines: while let Some((number, words, more)) = first_read(rest, before) {
-        then_line(line, out, graph, words);
+        pen = then_line(pen, graph, words);
         before = number;
         rest = more;
     }
+    pen
 }
 
 /// Writes the script of a text of at most 1,048,576 bytes over the graph of the image with this digest: a remark with the digits of the
@@ -98,10 +99,8 @@ pub fn write_script<O: Sink>(
     requires { length text.now ≤ most_source_bytes }
     ensures { WritesTo (O.seen out.old) (O.seen out.new) (text_of_script digest.now graph.now text.now) result }
 {
-    let mut line = Line::new();
-    line.texts(out, b"# sites named of ", digest);
-    line.text(out, b"\n");
-    then_lines(&mut line, out, graph, text);
-    line.text(out, b"# end");
-    line.end(out)
+    let pen = LinePen::new(out)
+        .texts(b"# sites named of ", digest)
+        .text(b"\n");
+    then_lines(pen, graph, text).text(b"# end").end()
 }

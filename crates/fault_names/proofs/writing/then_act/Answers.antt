@@ -1,13 +1,14 @@
 use Rattle.std.proofs.Common.{◌≡◌, refl, arith}
 use Rattle.fault_names.specs.Script.{cycles_of}
-use Rattle.fault_names.proofs.Going.{and_then, same, unmoved, one_more}
+use Rattle.fault_names.proofs.Going.{one_more}
+use Rattle.vcp_outside.specs.Pens.{unmoved, and_then, same}
 use Rattle.fault_names.proofs.writing.then_act.Goals as goal
 
 pub cycles-init : goal.cycles-init
 cycles-init g c = unmoved
 
 pub cycles-preserved : goal.cycles-preserved
-cycles-preserved g c = same (and_then c.cycles.invariant (and_then c.then_site.ensures c.text.ensures.gathers)) (one_more c.args.k c.args.act c.args.span.first c.cycles.i _ refl)
+cycles-preserved g c = same (and_then c.cycles.invariant (and_then c.then_site.ensures c.text-pen.ensures)) (one_more c.args.k c.args.act c.args.span.first c.cycles.i _ refl)
 
 pub returns : goal.returns
 returns g c =

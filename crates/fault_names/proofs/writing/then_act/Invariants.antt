@@ -1,8 +1,8 @@
-use Rattle.vcp_outside.specs.Gathering.{GathersTo}
 use Rattle.fault_sites.specs.SiteText.{site_lines}
 use Rattle.fault_names.specs.Script.{sites_from}
+use Rattle.vcp_outside.specs.Pens.{Goes}
 use Rattle.fault_names.proofs.writing.then_act.Given as goal
 
 abbrev pub invariant-cycles : goal.invariant-cycles
 invariant-cycles g l =
-    GathersTo (g.O.Sink.seen l.fn.out) (g.O.Sink.seen l.out) l.fn.line l.line (site_lines (sites_from l.k l.act l.span.first l.i))
+    Goes (g.P.Pen.seen l.fn.pen) (g.P.Pen.seen l.pen) (site_lines (sites_from l.k l.act l.span.first l.i))

@@ -3,14 +3,15 @@ use Rattle.std.proofs.lemmas.List.{append-nil}
 use Rattle.fault_script.specs.declared.act.Act.{Act}
 use Rattle.fault_sites.specs.SiteText.{site_lines}
 use Rattle.fault_names.specs.Script.{sites_over, other_sites}
-use Rattle.fault_names.proofs.Going.{and_then, same, lines_both}
+use Rattle.fault_names.proofs.Going.{lines_both}
+use Rattle.vcp_outside.specs.Pens.{and_then, same}
 use Rattle.fault_names.proofs.writing.then_faults.Goals as goal
 
 pub returns-in-Some : goal.returns-in-Some
 returns-in-Some g c =
     let m = c.args.meant.now in
     let first = sites_over m.op m.span m.acts.act in
-    same (and_then c.then_act.ensures c.then_act-in-Some.ensures)
+    same (and_then c.then_act-pen.ensures c.then_act.ensures)
     (lines_both first (other_sites m.op m.span m.acts.other)
     ∙ ap (λ (o : Option Act). site_lines first ++ site_lines (other_sites m.op m.span o)) c.in-Some.is)
 
@@ -18,4 +19,4 @@ pub returns-in-None : goal.returns-in-None
 returns-in-None g c =
     let m = c.args.meant.now in
     let first = sites_over m.op m.span m.acts.act in
-    same c.then_act.ensures (ap (λ (o : Option Act). site_lines (first ++ other_sites m.op m.span o)) c.in-None.is ∙ ap site_lines (append-nil first))
+    same c.then_act-pen.ensures (ap (λ (o : Option Act). site_lines (first ++ other_sites m.op m.span o)) c.in-None.is ∙ ap site_lines (append-nil first))

@@ -18,7 +18,7 @@ lines-preserved g c =
       told =
           told_more (entry_of c.in-Some.words.now (meant_of c.args.graph.now (words c.in-Some.words.now)))
           (entries c.args.graph.now more) c.lines.invariant.told
-          (ap (entries c.args.graph.now) c.in-Some.ensures.some) c.then_line.ensures;
+          (ap (entries c.args.graph.now) c.in-Some.ensures.some) c.then_line-pen.ensures;
       few = omega (arith, c.in-Some.ensures.number, c.lines.invariant.few);
     }
 

@@ -8,7 +8,7 @@ use Rattle.fault_names.proofs.writing.then_lines.Given as goal
 
 abbrev pub invariant-lines : goal.invariant-lines
 invariant-lines g l = record {
-  told : Part (g.O.Sink.seen l.fn.out) (g.O.Sink.seen l.out) l.fn.line l.line (entries l.graph (read_lines 1 (lines l.text)))
+  told : Part (g.P.Pen.seen l.fn.pen) (g.P.Pen.seen l.pen) (entries l.graph (read_lines 1 (lines l.text)))
       (entries l.graph (read_lines (l.before + 1) (lines l.rest)));
   few : l.before + length l.rest ≤ most_source_bytes;
 }
