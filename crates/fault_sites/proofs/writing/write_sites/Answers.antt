@@ -10,4 +10,5 @@ pub returns : goal.returns
 returns g c =
     let remark = (rw c.classes_name.ensures at c.then_remark-pen.ensures) _ _ _ c.new.ensures in
     let told = c.then_part.ensures _ _ _ remark in
-    ended g.O.Sink.seen (search rules) told c.end.ensures (ended_text (classes_name c.args.classes) c.args.digest.now (kept c.args.part (sites c.args.classes c.args.graph.now c.args.cycles)))
+    ended g.O.Sink.seen (search rules) told c.end.ensures
+    (ended_text (classes_name c.args.classes) c.args.digest.now (kept c.args.part (sites c.args.classes c.args.graph.now c.args.cycles)))

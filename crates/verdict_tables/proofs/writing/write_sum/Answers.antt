@@ -15,7 +15,8 @@ returns g c =
     let totals = rw c.totals_of_parts.ensures at (c.then_totals.ensures _ _ _ unseen) in
     let graph = c.args.graph.now in
     let parts = c.args.parts.now in
-    ended g.O.Sink.seen (search rules) totals c.end.ensures (pieces (tables_text graph parts) (unseen_parts graph parts (length parts)) (totals_front (totals_of (all_verdicts parts))))
+    ended g.O.Sink.seen (search rules) totals c.end.ensures
+    (pieces (tables_text graph parts) (unseen_parts graph parts (length parts)) (totals_front (totals_of (all_verdicts parts))))
 
 pub then_tables-pen-requires-clause-whole : goal.then_tables-pen-requires-clause-whole
 then_tables-pen-requires-clause-whole g c = c.requires.whole

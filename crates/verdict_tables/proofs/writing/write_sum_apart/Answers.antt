@@ -30,7 +30,8 @@ returns g c =
     let graph = c.args.graph.now in
     let parts = c.args.parts.now in
     let es = c.args.endings.now in
-    ended g.O.Sink.seen (search rules) totals c.end.ensures (pieces (tables_text graph parts) (endings_text (all_endings es)) (unseen_parts graph parts (length parts)) (standing_parts graph parts es (length parts))
+    ended g.O.Sink.seen (search rules) totals c.end.ensures
+    (pieces (tables_text graph parts) (endings_text (all_endings es)) (unseen_parts graph parts (length parts)) (standing_parts graph parts es (length parts))
     (totals_front (totals_of (all_verdicts parts))))
 
 pub then_tables-pen-requires-clause-whole : goal.then_tables-pen-requires-clause-whole

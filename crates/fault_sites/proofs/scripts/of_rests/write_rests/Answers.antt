@@ -17,5 +17,6 @@ returns g c =
     let is : within c.budget_of.result gs ≡ fit = ap (λ (b : Budget). within b gs) c.budget_of.ensures ∙ within_part p.skip p.left most_faults gs in
     let remark = c.then_remark-pen.ensures _ _ _ c.new.ensures in
     let told = c.then_within.ensures _ _ _ remark in
-    ended g.O.Sink.seen (search rules) told c.end.ensures (ended_lines (codes "rest") c.args.digest.now (fed_groups fit) (groups_text fit) (groups_ended fit)
+    ended g.O.Sink.seen (search rules) told c.end.ensures
+    (ended_lines (codes "rest") c.args.digest.now (fed_groups fit) (groups_text fit) (groups_ended fit)
     ∙ ap (λ (hs : List (List Site)). (codes "# sites rest of " ++ c.args.digest.now) ++ fed_groups hs ++ codes "\n") (sym is))
