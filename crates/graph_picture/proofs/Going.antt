@@ -1,22 +1,13 @@
--- Going: one piece of a text behind another.
-use Rattle.std.proofs.Common.{◌≡◌, ℕ, suc, ◌<◌, arith, length, get_or, take, take-suc, List, [], ◌∷◌, ◌++◌, Option, refl, sym, append_assoc, flat_map, ◌∙◌, ap, add-one, ◌+◌}
+-- Going: the texts of things, one behind another.
+use Rattle.std.proofs.Common.{◌≡◌, ℕ, suc, ◌<◌, arith, length, get_or, take, take-suc, List, [], ◌∷◌, ◌++◌, refl, sym, append_assoc, flat_map, ◌∙◌, ap, add-one, ◌+◌}
 use Rattle.std.proofs.lemmas.Grind.{flat_map-append}
 use Rattle.std.proofs.lemmas.List.{append-nil}
-use Rattle.vcp_outside.specs.Gathering.{Gathered, Gathers}
 use Rattle.vcp_outside.specs.Elements.{Element, element_text}
 use Rattle.vcp_outside.specs.Characters.{escaped_in}
 use Rattle.vcp_outside.specs.declared.svg.characters.Escaping.TheVariants as escaping
 use Rattle.vcp_outside.specs.Drawing.{each_below}
 use Rattle.graph_picture.specs.DotText.{written}
-
--- nothing
-pub unmoved : {a : Option (List ℕ)} {f : ℕ} {l : Gathered} → Gathers a a f f l l []
-unmoved start before text is = rw (append-nil text) is
-
--- two pieces are one
-pub both : {a b c : Option (List ℕ)} {f g h : ℕ} {l m n : Gathered} (whole s t : List ℕ)
-    → Gathers a b f g l m s → Gathers b c g h m n t → whole ≡ s ++ t → Gathers a c f h l n whole
-both whole s t first second is start before text so_far = rw (is, ← (append_assoc text s t)) (second start before _ (first start before text so_far))
+use Rattle.vcp_outside.specs.Pens.{Penned, Goes, both}
 
 -- the text of what is drawn for things
 abbrev pub drawn_text : {X : Type 0} → (X → List Element) → List X → List ℕ
@@ -30,15 +21,6 @@ drawn_more h xs ys = ap (flat_map element_text) (flat_map-append h xs ys) ∙ fl
 pub one_more : {X : Type 0} (h : X → List Element) (f : ℕ → List X) (n : ℕ)
     → drawn_text h (each_below f (n + 1)) ≡ drawn_text h (each_below f n) ++ drawn_text h (f n)
 one_more h f n = rw (add-one n) (drawn_more h (each_below f n) (f n))
-
--- the same piece, written otherwise
-pub same : {a b : Option (List ℕ)} {f g : ℕ} {l m : Gathered} {s t : List ℕ} → Gathers a b f g l m s → t ≡ s → Gathers a b f g l m t
-same gathers e start before text is = rw e (gathers start before text is)
-
--- a piece and another
-pub and_then : {a b c : Option (List ℕ)} {f g h : ℕ} {l m n : Gathered} {s t : List ℕ} → Gathers a b f g l m s → Gathers b c g h m n t
-    → Gathers a c f h l n (s ++ t)
-and_then {s = s} {t = t} first second = both (s ++ t) s t first second refl
 
 -- the text of one element
 pub one_drawn : (e : Element) → flat_map element_text (e ∷ []) ≡ element_text e
@@ -89,8 +71,8 @@ taken_more f xs k d there =
     ∙ ap (λ t. flat_map f (take k xs) ++ t) (append-nil (f (get_or xs k d)))
 
 -- the same behind some text
-pub taken_behind : {X : Type 0} {a b c : Option (List ℕ)} {e g h : ℕ} {l m n : Gathered} (before : List ℕ) (f : X → List ℕ) (xs : List X) (k : ℕ) (d : X)
-    → k < length xs → Gathers a b e g l m (before ++ flat_map f (take k xs)) → Gathers b c g h m n (f (get_or xs k d))
-    → Gathers a c e h l n (before ++ flat_map f (take (k + 1) xs))
+pub taken_behind : {X : Type 0} {l m n : Penned} (before : List ℕ) (f : X → List ℕ) (xs : List X) (k : ℕ) (d : X)
+    → k < length xs → Goes l m (before ++ flat_map f (take k xs)) → Goes m n (f (get_or xs k d))
+    → Goes l n (before ++ flat_map f (take (k + 1) xs))
 taken_behind before f xs k d there first second =
     both _ _ _ first second (ap (λ t. before ++ t) (taken_more f xs k d there) ∙ sym (append_assoc before (flat_map f (take k xs)) (f (get_or xs k d))))

@@ -1,7 +1,7 @@
 //! The boxes of operations.
 
 ghost use Rattle.std.specs.Prelude.{◌≡◌, ◌≤◌, length, map, flat_map};
-ghost use Rattle.vcp_outside.specs.Gathering.{GathersTo};
+ghost use Rattle.vcp_outside.specs.Pens.{Goes};
 ghost use Rattle.vcp_outside.specs.Characters.{piece_bytes};
 ghost use Rattle.vcp_outside.specs.Elements.{element_text};
 ghost use Rattle.graph_picture.specs.Drawn.{box_of, boxes_below};
@@ -16,7 +16,7 @@ use crate::names::{is_constant, own_piece};
 use op_graph::{Graph, Op};
 use run_report::variable_name;
 use vcp_base::{Kind, Spot, kind_name};
-use vcp_outside::{Line, Name, Piece, Sink, Tag, then_element};
+use vcp_outside::{Name, Pen, Piece, Tag, then_element};
 
 /// The class of the worst that came of faults, which is its name too.
 fn worst_class(worst: Worst) -> &'static [u8]
@@ -45,13 +45,12 @@ pub(crate) fn class(look: Look) -> &'static [u8]
 }
 
 /// Draws the rectangle of operation `n`.
-fn then_outline<O: Sink>(line: &mut Line, out: &mut O, n: u32, look: Look, place: BoxPlace)
-    ensures { GathersTo (O.seen out.old) (O.seen out.new) line.old line.new
+fn then_outline<P: Pen>(pen: P, n: u32, look: Look, place: BoxPlace) -> P
+    ensures { Goes (P.seen pen) (P.seen result)
         (element_text (outline n look place)) }
 {
     then_element(
-        line,
-        out,
+        pen,
         Tag::Rect,
         &[
             (Name::Operation, Piece::Count(n as u64)),
@@ -62,41 +61,33 @@ fn then_outline<O: Sink>(line: &mut Line, out: &mut O, n: u32, look: Look, place
             (Name::Height, Piece::Count(50)),
         ],
         &[],
-    );
+    )
 }
 
 /// Draws words inside a box, so far below its upper side.
-fn then_words<O: Sink>(
-    line: &mut Line,
-    out: &mut O,
-    place: BoxPlace,
-    below: u64,
-    pieces: &[Piece<'_>],
-)
+fn then_words<P: Pen>(pen: P, place: BoxPlace, below: u64, pieces: &[Piece<'_>]) -> P
     requires { below ≤ 50 }
-    ensures { GathersTo (O.seen out.old) (O.seen out.new) line.old line.new
+    ensures { Goes (P.seen pen) (P.seen result)
         (element_text (words place below (map piece_bytes pieces.now))) }
 {
     then_element(
-        line,
-        out,
+        pen,
         Tag::Text,
         &[
             (Name::X, Piece::Count(left(place) + 5)),
             (Name::Y, Piece::Count(top(place) + below)),
         ],
         pieces,
-    );
+    )
 }
 
 /// Draws the number and the kind of operation `n`.
-fn then_head<O: Sink>(line: &mut Line, out: &mut O, n: u32, kind: Kind, place: BoxPlace)
-    ensures { GathersTo (O.seen out.old) (O.seen out.new) line.old line.new
+fn then_head<P: Pen>(pen: P, n: u32, kind: Kind, place: BoxPlace) -> P
+    ensures { Goes (P.seen pen) (P.seen result)
         (element_text (head n kind place)) }
 {
     then_words(
-        line,
-        out,
+        pen,
         place,
         12,
         &[
@@ -104,17 +95,16 @@ fn then_head<O: Sink>(line: &mut Line, out: &mut O, n: u32, kind: Kind, place: B
             Piece::Bytes(b" "),
             Piece::Bytes(kind_name(kind)),
         ],
-    );
+    )
 }
 
 /// Draws the place of an operation in the source.
-fn then_source<O: Sink>(line: &mut Line, out: &mut O, spot: Spot, place: BoxPlace)
-    ensures { GathersTo (O.seen out.old) (O.seen out.new) line.old line.new
+fn then_source<P: Pen>(pen: P, spot: Spot, place: BoxPlace) -> P
+    ensures { Goes (P.seen pen) (P.seen result)
         (element_text (source spot place)) }
 {
     then_words(
-        line,
-        out,
+        pen,
         place,
         34,
         &[
@@ -123,20 +113,19 @@ fn then_source<O: Sink>(line: &mut Line, out: &mut O, spot: Spot, place: BoxPlac
             Piece::Bytes(b":"),
             Piece::Count(spot.col as u64),
         ],
-    );
+    )
 }
 
 /// Draws what is noted in the last line of a box, where anything is: for which output the operation is blind and after how many cycle
 /// borders, or how many faults came to the worst, of how many.
-fn then_note<O: Sink>(line: &mut Line, out: &mut O, graph: &Graph, look: Look, place: BoxPlace)
-    ensures { GathersTo (O.seen out.old) (O.seen out.new) line.old line.new
+fn then_note<P: Pen>(pen: P, graph: &Graph, look: Look, place: BoxPlace) -> P
+    ensures { Goes (P.seen pen) (P.seen result)
         (flat_map element_text (note graph.now look place)) }
 {
     match look {
-        Look::Shown(Colour::Unreached | Colour::Plain) | Look::Untried => {}
+        Look::Shown(Colour::Unreached | Colour::Plain) | Look::Untried => pen,
         Look::Shown(Colour::Blind { output, after }) => then_words(
-            line,
-            out,
+            pen,
             place,
             45,
             &[
@@ -146,8 +135,7 @@ fn then_note<O: Sink>(line: &mut Line, out: &mut O, graph: &Graph, look: Look, p
             ],
         ),
         Look::Tried { worst, some, all } => then_words(
-            line,
-            out,
+            pen,
             place,
             45,
             &[
@@ -162,13 +150,12 @@ fn then_note<O: Sink>(line: &mut Line, out: &mut O, graph: &Graph, look: Look, p
 }
 
 /// Draws a bar at a side of a box.
-fn then_bar<O: Sink>(line: &mut Line, out: &mut O, x: u64, y: u64)
-    ensures { GathersTo (O.seen out.old) (O.seen out.new) line.old line.new
+fn then_bar<P: Pen>(pen: P, x: u64, y: u64) -> P
+    ensures { Goes (P.seen pen) (P.seen result)
         (element_text (bar x y)) }
 {
     then_element(
-        line,
-        out,
+        pen,
         Tag::Rect,
         &[
             (Name::Class, Piece::Bytes(b"cell")),
@@ -178,57 +165,55 @@ fn then_bar<O: Sink>(line: &mut Line, out: &mut O, x: u64, y: u64)
             (Name::Height, Piece::Count(50)),
         ],
         &[],
-    );
+    )
 }
 
 /// Draws the bar of a cell, of its LOAD at the left side, and of its STORE at the right.
-fn then_cell_bar<O: Sink>(line: &mut Line, out: &mut O, kind: Kind, place: BoxPlace)
-    ensures { GathersTo (O.seen out.old) (O.seen out.new) line.old line.new
+fn then_cell_bar<P: Pen>(pen: P, kind: Kind, place: BoxPlace) -> P
+    ensures { Goes (P.seen pen) (P.seen result)
         (flat_map element_text (cell_bar kind place)) }
 {
     match kind {
-        Kind::Load => then_bar(line, out, left(place), top(place)),
-        Kind::Store => then_bar(line, out, left(place) + 92, top(place)),
-        _ => {}
+        Kind::Load => then_bar(pen, left(place), top(place)),
+        Kind::Store => then_bar(pen, left(place) + 92, top(place)),
+        _ => pen,
     }
 }
 
 /// Draws the box of operation `n`, which is no constant, with its look and the constants that it reads.
-fn then_body<O: Sink, L: Looks>(
-    line: &mut Line,
-    out: &mut O,
+fn then_body<P: Pen, L: Looks>(
+    pen: P,
     graph: &Graph,
     looks: &L,
     n: u32,
     look: Look,
     place: BoxPlace,
     op: &Op,
-)
+) -> P
     requires tells { L.IsFor looks.now graph.now }
-    ensures { GathersTo (O.seen out.old) (O.seen out.new) line.old line.new
+    ensures { Goes (P.seen pen) (P.seen result)
         (flat_map element_text (body_elements graph.now (L.looks looks.now graph.now) (box_of graph.now n look place op.now))) }
 {
-    then_outline(line, out, n, look, place);
-    then_head(line, out, n, op.kind, place);
-    then_words(line, out, place, 23, &[own_piece(graph, op.kind, op.imm)]);
-    then_source(line, out, op.spot, place);
-    then_note(line, out, graph, look, place);
-    then_cell_bar(line, out, op.kind, place);
-    then_constant_at(line, out, graph, looks, place, op, 0, op.a);
-    then_constant_at(line, out, graph, looks, place, op, 1, op.b);
-    then_constant_at(line, out, graph, looks, place, op, 2, op.c);
+    let pen = then_outline(pen, n, look, place);
+    let pen = then_head(pen, n, op.kind, place);
+    let pen = then_words(pen, place, 23, &[own_piece(graph, op.kind, op.imm)]);
+    let pen = then_source(pen, op.spot, place);
+    let pen = then_note(pen, graph, look, place);
+    let pen = then_cell_bar(pen, op.kind, place);
+    let pen = then_constant_at(pen, graph, looks, place, op, 0, op.a);
+    let pen = then_constant_at(pen, graph, looks, place, op, 1, op.b);
+    then_constant_at(pen, graph, looks, place, op, 2, op.c)
 }
 
 /// Draws the boxes of a graph's operations.
-pub(crate) fn then_boxes<O: Sink, L: Looks>(
-    line: &mut Line,
-    out: &mut O,
+pub(crate) fn then_boxes<P: Pen, L: Looks>(
+    mut pen: P,
     graph: &Graph,
     looks: &L,
     layout: &GraphLayout,
-)
+) -> P
     requires tells { L.IsFor looks.now graph.now }
-    ensures { GathersTo (O.seen out.old) (O.seen out.new) line.old line.new
+    ensures { Goes (P.seen pen) (P.seen result)
         (flat_map element_text (flat_map (box_elements graph.now (L.looks looks.now graph.now))
         (boxes_below graph.now (L.looks looks.now graph.now) layout.now.places (length graph.now.operations)))) }
 {
@@ -239,6 +224,7 @@ pub(crate) fn then_boxes<O: Sink, L: Looks>(
         }
         let look = looks.look(graph, n);
         let place = layout.place(n);
-        then_body(line, out, graph, looks, n, look, place, &op);
+        pen = then_body(pen, graph, looks, n, look, place, &op);
     }
+    pen
 }

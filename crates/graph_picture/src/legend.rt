@@ -1,11 +1,11 @@
 //! The legend of a picture, and its style.
 
 ghost use Rattle.std.specs.Prelude.{flat_map};
-ghost use Rattle.vcp_outside.specs.Gathering.{GathersTo};
+ghost use Rattle.vcp_outside.specs.Pens.{Goes};
 ghost use Rattle.vcp_outside.specs.Elements.{element_text};
 ghost use Rattle.graph_picture.specs.Elements.{swatch, caption, sample_of, legend_of};
 
-use vcp_outside::{Line, Name, Piece, Sink, Tag, then_element};
+use vcp_outside::{Name, Pen, Piece, Tag, then_element};
 
 /// A sample of a legend: a small rectangle of a class, and beside it what it says.
 #[derive(Clone, Copy)]
@@ -21,12 +21,11 @@ pub struct Sample<'a> {
 }
 
 /// Draws a small rectangle of a class.
-fn then_swatch<O: Sink>(line: &mut Line, out: &mut O, x: u32, class: &[u8])
-    ensures { GathersTo (O.seen out.old) (O.seen out.new) line.old line.new (element_text (swatch x class.now)) }
+fn then_swatch<P: Pen>(pen: P, x: u32, class: &[u8]) -> P
+    ensures { Goes (P.seen pen) (P.seen result) (element_text (swatch x class.now)) }
 {
     then_element(
-        line,
-        out,
+        pen,
         Tag::Rect,
         &[
             (Name::X, Piece::Count(x as u64)),
@@ -36,22 +35,21 @@ fn then_swatch<O: Sink>(line: &mut Line, out: &mut O, x: u32, class: &[u8])
             (Name::Class, Piece::Bytes(class)),
         ],
         &[],
-    );
+    )
 }
 
 /// Writes what a class says, beside its rectangle, and how often it comes where that is counted.
-fn then_caption<O: Sink>(line: &mut Line, out: &mut O, x: u32, told: &[u8], many: Option<u32>)
-    ensures { GathersTo (O.seen out.old) (O.seen out.new) line.old line.new (element_text (caption x told.now many)) }
+fn then_caption<P: Pen>(pen: P, x: u32, told: &[u8], many: Option<u32>) -> P
+    ensures { Goes (P.seen pen) (P.seen result) (element_text (caption x told.now many)) }
 {
     let place = [
         (Name::X, Piece::Count(x as u64 + 20)),
         (Name::Y, Piece::Count(20)),
     ];
     match many {
-        None => then_element(line, out, Tag::Text, &place, &[Piece::Bytes(told)]),
+        None => then_element(pen, Tag::Text, &place, &[Piece::Bytes(told)]),
         Some(n) => then_element(
-            line,
-            out,
+            pen,
             Tag::Text,
             &place,
             &[
@@ -64,24 +62,20 @@ fn then_caption<O: Sink>(line: &mut Line, out: &mut O, x: u32, told: &[u8], many
 }
 
 /// Draws a sample.
-fn then_sample<O: Sink>(line: &mut Line, out: &mut O, shown: &Sample<'_>)
-    ensures { GathersTo (O.seen out.old) (O.seen out.new) line.old line.new (flat_map element_text (sample_of shown.now)) }
+fn then_sample<P: Pen>(pen: P, shown: &Sample<'_>) -> P
+    ensures { Goes (P.seen pen) (P.seen result) (flat_map element_text (sample_of shown.now)) }
 {
-    then_swatch(line, out, shown.x, shown.class);
-    then_caption(line, out, shown.x, shown.told, shown.many);
+    let pen = then_swatch(pen, shown.x, shown.class);
+    then_caption(pen, shown.x, shown.told, shown.many)
 }
 
 /// Draws the style and the legend: what the colours say.
-pub(crate) fn then_legend<O: Sink>(
-    line: &mut Line,
-    out: &mut O,
-    rules: &[u8],
-    samples: &[Sample<'_>],
-)
-    ensures { GathersTo (O.seen out.old) (O.seen out.new) line.old line.new (flat_map element_text (legend_of rules.now samples.now)) }
+pub(crate) fn then_legend<P: Pen>(pen: P, rules: &[u8], samples: &[Sample<'_>]) -> P
+    ensures { Goes (P.seen pen) (P.seen result) (flat_map element_text (legend_of rules.now samples.now)) }
 {
-    then_element(line, out, Tag::Style, &[], &[Piece::Bytes(rules)]);
+    let mut pen = then_element(pen, Tag::Style, &[], &[Piece::Bytes(rules)]);
     'samples: for i in 0..samples.len() {
-        then_sample(line, out, &samples[i]);
+        pen = then_sample(pen, &samples[i]);
     }
+    pen
 }

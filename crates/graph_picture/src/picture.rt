@@ -38,11 +38,11 @@ pub fn write_looks<O: Sink, L: Looks>(
     ensures { WritesTo (O.seen out.old) (O.seen out.new)
         (picture_of graph.now (L.looks looks.now graph.now) (legend_of rules.now samples.now) layout.now) result }
 {
-    let mut line = begin_picture(out, layout.width(), layout.height());
-    then_legend(&mut line, out, rules, samples);
-    then_wires(&mut line, out, graph, layout);
-    then_boxes(&mut line, out, graph, looks, layout);
-    end_picture(line, out)
+    let pen = begin_picture(out, layout.width(), layout.height());
+    let pen = then_legend(pen, rules, samples);
+    let pen = then_wires(pen, graph, layout);
+    let pen = then_boxes(pen, graph, looks, layout);
+    end_picture(pen)
 }
 
 /// Writes the picture of a graph, whose weights up to the horizon, of at most 1000 cycle borders, these are,

@@ -11,7 +11,7 @@ use crate::dot::cells::then_cells;
 use crate::dot::edges::then_edges;
 use crate::dot::nodes::then_nodes;
 use op_graph::Graph;
-use vcp_outside::{Failed, Line, Sink};
+use vcp_outside::{Failed, LinePen, Pen, Sink};
 use weight_audit::Weights;
 
 /// How all is drawn, and what the colours mean.
@@ -37,11 +37,8 @@ pub fn write_dot<O: Sink>(
     requires audit { IsAudit graph.now horizon weights.now }
     ensures { WritesTo (O.seen out.old) (O.seen out.new) (dot_text graph.now weights.now horizon) result }
 {
-    let mut line = Line::new();
-    line.text(out, BEGINNING);
-    then_nodes(&mut line, out, graph, weights, horizon + 1);
-    then_edges(&mut line, out, graph, weights, horizon + 1);
-    then_cells(&mut line, out, graph);
-    line.text(out, b"}");
-    line.end(out)
+    let pen = LinePen::new(out).text(BEGINNING);
+    let pen = then_nodes(pen, graph, weights, horizon + 1);
+    let pen = then_edges(pen, graph, weights, horizon + 1);
+    then_cells(pen, graph).text(b"}").end()
 }

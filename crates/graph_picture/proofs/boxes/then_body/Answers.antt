@@ -3,7 +3,8 @@ use mir.Val.{SFits}
 use Rattle.std.proofs.Math.Facts.{to_z-of_z}
 use Rattle.graph_picture.specs.Elements.{outline, head, own, source, note, cell_bar, constant_at}
 use Rattle.graph_picture.specs.Drawn.{own_of}
-use Rattle.graph_picture.proofs.Going.{and_then, same, body_drawn_text}
+use Rattle.graph_picture.proofs.Going.{body_drawn_text}
+use Rattle.vcp_outside.specs.Pens.{and_then, same}
 use Rattle.graph_picture.proofs.boxes.then_body.Goals as goal
 
 pub returns : goal.returns
@@ -13,10 +14,10 @@ returns g c =
     let place = c.args.place in
     let looks = g.L.Looks.looks c.args.looks.now graph in
     let fits : SFits w64 op.imm = search rules in
-    let told = rw (c.own_piece.ensures, to_z-of_z {w = w64} {z = op.imm} fits) at c.then_words.ensures in
-    let constants = and_then c.then_constant_at.ensures (and_then c.then_constant_at-2.ensures c.then_constant_at-3.ensures) in
-    let last = and_then c.then_note.ensures (and_then c.then_cell_bar.ensures constants) in
-    let all = and_then c.then_outline.ensures (and_then c.then_head.ensures (and_then told (and_then c.then_source.ensures last))) in
+    let told = rw (c.own_piece.ensures, to_z-of_z {w = w64} {z = op.imm} fits) at c.then_words-pen.ensures in
+    let constants = and_then c.then_constant_at-pen.ensures (and_then c.then_constant_at-pen-2.ensures c.then_constant_at.ensures) in
+    let last = and_then c.then_note-pen.ensures (and_then c.then_cell_bar-pen.ensures constants) in
+    let all = and_then c.then_outline-pen.ensures (and_then c.then_head-pen.ensures (and_then told (and_then c.then_source-pen.ensures last))) in
     same all
     (body_drawn_text (outline c.args.n c.args.look place) (head c.args.n op.kind place) (own (own_of graph op.kind op.imm) place) (source op.spot place)
     (note graph c.args.look place) (cell_bar op.kind place) (constant_at graph looks place op 0) (constant_at graph looks place op 1)

@@ -5,7 +5,8 @@ use Rattle.graph_picture.specs.Arrangement.{place_at}
 use Rattle.graph_picture.specs.Constants.{is_constant}
 use Rattle.graph_picture.specs.Drawn.{box_of, box_drawn, box_at}
 use Rattle.graph_picture.specs.Elements.{box_elements, body_elements}
-use Rattle.graph_picture.proofs.Going.{both, same, one_more, unmoved, drawn_text}
+use Rattle.graph_picture.proofs.Going.{one_more, drawn_text}
+use Rattle.vcp_outside.specs.Pens.{unmoved, same, both}
 use Rattle.graph_picture.proofs.boxes.then_boxes.Goals as goal
 
 pub operations-init : goal.operations-init
@@ -19,7 +20,7 @@ operations-preserved g c =
     let places = c.args.layout.now.places in
     let box = box_of graph n (looks n) (place_at places n) c.operation-op.result in
     let is : is_constant c.operation-op.result.kind ≡ false = sym c.is_constant.ensures ∙ c.if-is_constant.false in
-    let drawn = rw (c.look-look.ensures, c.place-place.ensures) at c.then_body.ensures in
+    let drawn = rw (c.look-look.ensures, c.place-place.ensures) at c.then_body-pen.ensures in
     let one = ap (λ o. drawn_text (box_elements graph looks) (box_drawn graph n (looks n) (place_at places n) o)) c.operation-op.ensures
     ∙ ap (flat_map element_text) (append-nil (box_elements graph looks box) ∙ ap (λ t. cond t [] (body_elements graph looks box)) is) in
     both _ _ _ c.operations.invariant (same {s = flat_map element_text (body_elements graph looks box)} drawn one) (one_more (box_elements graph looks) (box_at graph looks places) n)

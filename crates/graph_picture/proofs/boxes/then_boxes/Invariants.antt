@@ -1,12 +1,11 @@
 use Rattle.std.proofs.Common.{flat_map}
-use Rattle.vcp_outside.specs.Gathering.{GathersTo}
 use Rattle.vcp_outside.specs.Elements.{element_text}
 use Rattle.graph_picture.specs.Drawn.{boxes_below}
 use Rattle.graph_picture.specs.Elements.{box_elements}
+use Rattle.vcp_outside.specs.Pens.{Goes}
 use Rattle.graph_picture.proofs.boxes.then_boxes.Given as goal
 
 abbrev pub invariant-operations : goal.invariant-operations
-invariant-operations g l = GathersTo (g.O.Sink.seen l.fn.out) (g.O.Sink.seen l.out)
-    l.fn.line l.line
+invariant-operations g l = Goes (g.P.Pen.seen l.fn.pen) (g.P.Pen.seen l.pen)
     (flat_map element_text
     (flat_map (box_elements l.graph (g.L.Looks.looks l.looks l.graph)) (boxes_below l.graph (g.L.Looks.looks l.looks l.graph) l.layout.places l.n)))

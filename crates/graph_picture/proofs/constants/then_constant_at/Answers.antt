@@ -11,7 +11,8 @@ use Rattle.graph_picture.specs.declared.looks.Look.{Look}
 use Rattle.graph_picture.specs.Constants.{is_constant, is_constant_there}
 use Rattle.graph_picture.specs.Drawn.{own_of}
 use Rattle.graph_picture.specs.Elements.{patch, patch_value, constant_elements, constant_of}
-use Rattle.graph_picture.proofs.Going.{and_then, same, one_drawn, unmoved}
+use Rattle.graph_picture.proofs.Going.{one_drawn}
+use Rattle.vcp_outside.specs.Pens.{unmoved, and_then, same}
 use Rattle.graph_picture.proofs.constants.then_constant_at.Goals as goal
 
 module _ (g : Lists) (looks : ℕ → Look) (p : BoxPlace) (which k : ℕ) where
@@ -40,7 +41,7 @@ returns-then-is_constant_at g c =
     let is : is_constant constant.kind ≡ true =
     sym (ap is_constant_there c.operation-constant.ensures) ∙ sym c.is_constant_at.ensures.value ∙ c.if-is_constant_at.true in
     let fits : SFits w64 constant.imm = search rules in
-    let patched = rw c.look.ensures at c.then_patch.ensures in
+    let patched = rw c.look.ensures at c.then_patch-pen.ensures in
     let told = rw (c.own_piece-value.ensures, to_z-of_z {w = w64} {z = constant.imm} fits) at c.then_value.ensures in
     rw (reads, c.requires.names) (same (and_then patched told)
     (ap (λ o. flat_map element_text (constant_of graph looks c.args.place c.args.which k o)) c.operation-constant.ensures

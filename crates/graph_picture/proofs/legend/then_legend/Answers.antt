@@ -2,16 +2,17 @@ use Rattle.std.proofs.Common.{ap, sym, ◌++◌, ◌∙◌, arith, flat_map}
 use Rattle.std.proofs.lemmas.List.{append-nil, take_all}
 use Rattle.vcp_outside.specs.Elements.{element_text}
 use Rattle.graph_picture.specs.Elements.{style, sample_of}
-use Rattle.graph_picture.proofs.Going.{same, each_drawn, taken_behind}
+use Rattle.graph_picture.proofs.Going.{each_drawn, taken_behind}
+use Rattle.vcp_outside.specs.Pens.{same}
 use Rattle.graph_picture.proofs.legend.then_legend.Goals as goal
 
 pub samples-init : goal.samples-init
-samples-init g c = same c.then_element.ensures (append-nil (element_text (style c.args.rules.now)))
+samples-init g c = same c.then_element-pen.ensures (append-nil (element_text (style c.args.rules.now)))
 
 pub samples-preserved : goal.samples-preserved
 samples-preserved g c =
     taken_behind (element_text (style c.args.rules.now)) (λ s. flat_map element_text (sample_of s)) c.args.samples.now c.samples.i _ c.samples-test.true
-    c.samples.invariant c.then_sample.ensures
+    c.samples.invariant c.then_sample-pen.ensures
 
 pub returns : goal.returns
 returns g c =

@@ -1,11 +1,12 @@
 use Rattle.std.proofs.Common.{ap, ◌++◌}
 use Rattle.vcp_outside.specs.Elements.{element_text}
 use Rattle.graph_picture.specs.Elements.{swatch, caption}
-use Rattle.graph_picture.proofs.Going.{and_then, same, one_drawn}
+use Rattle.graph_picture.proofs.Going.{one_drawn}
+use Rattle.vcp_outside.specs.Pens.{and_then, same}
 use Rattle.graph_picture.proofs.legend.then_sample.Goals as goal
 
 pub returns : goal.returns
 returns g c =
     let s = c.args.shown.now in
-    same (and_then c.then_swatch.ensures c.then_caption.ensures)
+    same (and_then c.then_swatch-pen.ensures c.then_caption.ensures)
     (ap (λ t. element_text (swatch s.x s.class.now) ++ t) (one_drawn (caption s.x s.told.now s.many)))

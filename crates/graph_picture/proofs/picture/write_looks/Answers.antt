@@ -1,8 +1,9 @@
-use Rattle.std.proofs.Common.{flat_map}
+use Rattle.std.proofs.Common.{flat_map, rules, refl}
 use Rattle.vcp_outside.specs.Elements.{beginning, ending}
 use Rattle.graph_picture.specs.Drawn.{drawing}
 use Rattle.graph_picture.specs.Elements.{legend_of, wire_elements, box_elements}
 use Rattle.graph_picture.proofs.Going.{parts}
+use Rattle.vcp_outside.specs.Pens.{ended}
 use Rattle.graph_picture.proofs.picture.write_looks.Goals as goal
 
 pub returns : goal.returns
@@ -12,7 +13,7 @@ returns g c =
     let looks = g.L.Looks.looks c.args.looks.now graph in
     let d = drawing graph looks l.places in
     let legend = legend_of c.args.rules.now c.args.samples.now in
-    let begun = rw (c.width.ensures, c.height.ensures) at c.begin_picture-line.ensures in
-    let all = c.then_boxes.ensures _ _ _ (c.then_wires.ensures _ _ _ (c.then_legend.ensures _ _ _ begun)) in
+    let begun = rw (c.width.ensures, c.height.ensures) at c.begin_picture-pen.ensures in
+    let all = c.then_boxes-pen.ensures _ _ _ (c.then_wires-pen.ensures _ _ _ (c.then_legend-pen.ensures _ _ _ begun)) in
     rw (parts (beginning l.width l.height) ending legend (flat_map (wire_elements graph) d.wires) (flat_map (box_elements graph looks) d.boxes))
-    (c.end_picture.ensures _ _ _ all)
+    (ended g.O.Sink.seen (search rules) all c.end_picture.ensures refl)

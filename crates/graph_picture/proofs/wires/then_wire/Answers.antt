@@ -8,7 +8,8 @@ use Rattle.graph_picture.specs.Arrangement.{place_at}
 use Rattle.graph_picture.specs.Constants.{is_constant_there}
 use Rattle.graph_picture.specs.Drawn.{Wire}
 use Rattle.graph_picture.specs.Elements.{wire_element, line_from, wire_elements}
-use Rattle.graph_picture.proofs.Going.{same, one_drawn, unmoved}
+use Rattle.graph_picture.proofs.Going.{one_drawn}
+use Rattle.vcp_outside.specs.Pens.{unmoved, same}
 use Rattle.graph_picture.proofs.wires.then_wire.Goals as goal
 
 of_constant : (w : Wire) (o : Option Op) → is_constant_there o ≡ true → line_from w o ≡ []

@@ -1,7 +1,8 @@
 use Rattle.std.proofs.Common.{◌≡◌, ◌++◌, ◌∙◌, ap, length, arith}
 use Rattle.graph_picture.specs.Drawn.{wire_of, wires_of, wires_at}
 use Rattle.graph_picture.specs.Elements.{wire_elements}
-use Rattle.graph_picture.proofs.Going.{and_then, both, drawn_more, drawn_text, one_more, same, unmoved}
+use Rattle.graph_picture.proofs.Going.{drawn_more, drawn_text, one_more}
+use Rattle.vcp_outside.specs.Pens.{unmoved, and_then, same, both}
 use Rattle.graph_picture.proofs.wires.then_wires.Goals as goal
 
 pub operations-init : goal.operations-init
@@ -16,7 +17,7 @@ operations-preserved g c =
     let first = wire_of places n op 0 in
     let second = wire_of places n op 1 in
     let third = wire_of places n op 2 in
-    let all = and_then c.then_wire.ensures (and_then c.then_wire-in-operations.ensures c.then_wire-in-operations-2.ensures) in
+    let all = and_then c.then_wire-pen.ensures (and_then c.then_wire-pen-in-operations.ensures c.then_wire-pen-in-operations-2.ensures) in
     let drawn = same all (ap (λ o. drawn_text (wire_elements graph) (wires_of places n o)) c.operation-op.ensures
     ∙ (drawn_more (wire_elements graph) first (second ++ third)
     ∙ ap (λ t. drawn_text (wire_elements graph) first ++ t) (drawn_more (wire_elements graph) second third))) in

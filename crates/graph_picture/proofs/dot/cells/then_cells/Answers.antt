@@ -1,6 +1,6 @@
 use Rattle.std.proofs.Common.{◌≡◌, length, add-one, arith}
 use Rattle.op_graph.specs.Lists.{cells}
-use Rattle.graph_picture.proofs.Going.{and_then, unmoved}
+use Rattle.vcp_outside.specs.Pens.{unmoved, and_then}
 use Rattle.graph_picture.proofs.dot.cells.then_cells.Goals as goal
 
 pub cells-init : goal.cells-init
@@ -9,7 +9,7 @@ cells-init g c = unmoved
 pub cells-preserved : goal.cells-preserved
 cells-preserved g c =
     rw (add-one c.cells.k, c.cell-cell.ensures)
-    (and_then c.cells.invariant (and_then c.numbered.ensures.gathers (and_then c.numbered-in-cells.ensures.gathers c.text.ensures.gathers)))
+    (and_then c.cells.invariant (and_then c.numbered.ensures (and_then c.numbered-in-cells.ensures c.text-pen.ensures)))
 
 pub returns : goal.returns
 returns g c =

@@ -8,7 +8,7 @@ use Rattle.weight_audit.specs.Audit.{Audit}
 use Rattle.graph_picture.specs.Colours.{colour_of}
 use Rattle.graph_picture.specs.Constants.{is_constant, is_constant_there}
 use Rattle.graph_picture.specs.DotText.{node_name, edge_line, constant_text, reading_text}
-use Rattle.graph_picture.proofs.Going.{and_then, same, unmoved}
+use Rattle.vcp_outside.specs.Pens.{unmoved, and_then, same}
 use Rattle.graph_picture.proofs.dot.edges.then_wire.Goals as goal
 
 module _ (g : Lists) (a : Audit) (distances n reader which : ℕ) where
@@ -46,5 +46,5 @@ returns-else-is_constant_at g c =
     let graph = c.args.graph.now in
     let reads : is_some (reads_as op.kind op.from c.args.j) ≡ true = sym (c.reads_operation.ensures op.from) ∙ c.if-not-reads_operation.false in
     let is : is_constant_there (slice_get graph.operations c.args.k) ≡ false = sym c.is_constant_at.ensures.value ∙ c.if-is_constant_at.false in
-    rw (reads, c.requires.names) (same (same (and_then c.numbered.ensures.gathers c.then_edge_end.ensures)
+    rw (reads, c.requires.names) (same (same (and_then c.numbered-pen.ensures c.then_edge_end.ensures)
     (of_other graph c.args.weights.now c.args.distances c.args.k c.args.n c.args.j (slice_get graph.operations c.args.k) is)) (append-nil _))

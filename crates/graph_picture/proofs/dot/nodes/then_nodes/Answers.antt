@@ -6,7 +6,8 @@ use Rattle.graph_picture.specs.Colours.{colours}
 use Rattle.graph_picture.specs.Constants.{is_constant}
 use Rattle.graph_picture.specs.Drawn.{box_at, box_drawn}
 use Rattle.graph_picture.specs.DotText.{box_text, node_line, node_name, label}
-use Rattle.graph_picture.proofs.Going.{and_then, same, one_text_more, unmoved}
+use Rattle.graph_picture.proofs.Going.{one_text_more}
+use Rattle.vcp_outside.specs.Pens.{unmoved, and_then, same}
 use Rattle.graph_picture.proofs.dot.nodes.then_nodes.Goals as goal
 
 pub operations-init : goal.operations-init
@@ -20,7 +21,7 @@ operations-preserved g c =
     let boxes = box_at graph looks [] in
     let op = c.operation-op.result in
     let is : is_constant op.kind ≡ false = sym c.is_constant.ensures ∙ c.if-is_constant.false in
-    let drawn = rw (c.colour_of-colour.ensures, c.outputs.ensures) at c.then_operation.ensures in
+    let drawn = rw (c.colour_of-colour.ensures, c.outputs.ensures) at c.then_operation-pen.ensures in
     same (and_then c.operations.invariant drawn)
     (one_text_more (box_text graph) boxes n ∙ ap (λ t. flat_map (box_text graph) (each_below boxes n) ++ t)
     (ap (λ o. flat_map (box_text graph) (box_drawn graph n (looks n) (place_at [] n) o)) c.operation-op.ensures ∙ append-nil _
