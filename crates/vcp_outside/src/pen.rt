@@ -8,7 +8,7 @@ ghost use Rattle.vcp_outside.specs.Pens.{Penned, Goes};
 use crate::{Escaping, Piece};
 
 /// What a text is written with, piece by piece, on its way to a sink. After a write that failed nothing more is written, and
-/// who made the pen is told so at its end. It stays a pen for the same sink.
+/// its end fails. It stays a pen for the same sink.
 pub trait Pen: Sized {
     /// What is seen of it: its sink, the line on its way there, and which sink it is.
     ghost seen: { Self → Penned };
