@@ -8,6 +8,10 @@ use Rattle.std.proofs.lemmas.List.Sums.{sum_by-cons}
 use Rattle.std.proofs.lemmas.Option.{get_or_from_slice_get, slice_get_within}
 use Rattle.op_graph.specs.Lists.{Lists}
 use Rattle.fault_sites.specs.Sites.{each_below}
+use Rattle.std.specs.Borrow.{GName}
+use Rattle.vcp_outside.specs.declared.failed.Failed.{Failed}
+use Rattle.vcp_outside.specs.Pens.{Ends, HasWritten, Penned, ended}
+use Rattle.vcp_outside.specs.Seen.{SinkSeen}
 use Rattle.fault_cover.specs.declared.class.CoverClass.{CoverClass}
 use Rattle.fault_cover.specs.declared.class.CoverClasses.{CoverClasses}
 use Rattle.fault_cover.specs.declared.counting.ClassCount.{ClassCount}
@@ -23,7 +27,8 @@ use Rattle.fault_cover.specs.CoverText.{is_shown, leaves_any, left_text, lines_t
 use Rattle.fault_cover.specs.Leftovers.{AreCovered, beyond_line, key_if, key_line, keys_of, line_text, lines_at}
 use Rattle.fault_cover.specs.Surveys.{IsSurvey, Surveyed}
 use Rattle.fault_cover.specs.Telling.{Subject}
-use Rattle.fault_cover.specs.Writing.{IsFound, IsSmall, body_text, count_row}
+use Rattle.fault_cover.specs.declared.writing.Uncovered.TheVariants as uncovered
+use Rattle.fault_cover.specs.Writing.{IsFound, IsSmall, WritesCover, body_text, count_row}
 use Rattle.fault_cover.proofs.Below.{flat_below, nothing_below, same_below}
 use Rattle.fault_cover.proofs.Tallying.{one_for, small}
 use Rattle.fault_cover.proofs.Hearing.{heard_at_are}
@@ -151,6 +156,18 @@ cover_found s classes digest counts all lines left list listed is tells = record
   text_is = refl;
   left_is = tells ∙ ap leaves_any is.all_is;
 }
+
+-- the cover is written with a pen, whole or in part, for whom the sink comes back to
+module _ {X : Type 0} {back left : X} {sink : SinkSeen} {name : GName} {pen : Penned} {text whole : List ℕ} {any : Bool} (s : Subject) (classes : CoverClasses)
+    (digest : List ℕ) (seen : X → SinkSeen) (is_back : name ≡ pen.name → back ≡ left) (has : HasWritten sink name text pen) where
+  pub cover_whole : {u : Unit {0}} → Ends pen (seen left) (codes "\n") (Ok u) → whole ≡ text ++ codes "\n" → CoverOf s classes digest whole any
+      → WritesCover s classes digest sink (seen back) (Ok any)
+  cover_whole ends is covers = (whole, covers, (ended seen is_back has ends is).whole)
+
+  pub cover_part : {e : Failed} → Ends pen (seen left) (codes "\n") (Err e) → whole ≡ text ++ codes "\n" → CoverOf s classes digest whole any
+      → WritesCover s classes digest sink (seen back) (Err uncovered.Failed)
+  cover_part ends is covers =
+      let writes = ended seen is_back has ends is in (whole, any, covers, writes.part, writes.cause.failed)
 
 -- ---- columns
 

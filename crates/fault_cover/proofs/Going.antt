@@ -1,5 +1,5 @@
--- Going: one piece of a text behind another, and some faults that are told of behind others.
-use Rattle.std.proofs.Common.{◌≡◌, ◌≢◌, ℕ, ◌+◌, ◌==◌, Bool, true, false, cond, List, [], ◌∷◌, ◌++◌, map, flat_map, take, slice_get, Option, Some}
+-- Going: some faults that are told of behind others, and rows of a text.
+use Rattle.std.proofs.Common.{◌≡◌, ◌≢◌, ℕ, ◌+◌, ◌==◌, Bool, true, false, cond, List, [], ◌∷◌, ◌++◌, map, flat_map, take, slice_get, Some}
 use Rattle.std.proofs.Common.{refl, sym, ap, subst, ◌∙◌, add-one, append_assoc, codes}
 use Rattle.std.proofs.lemmas.Bool.{eqb-true}
 use Rattle.std.proofs.lemmas.Grind.{flat_map-append}
@@ -7,8 +7,6 @@ use Rattle.std.proofs.lemmas.List.{append-nil, map-append}
 use Rattle.std.proofs.lemmas.List.Elements.{All-append, All-cons, All-nil}
 use Rattle.std.proofs.lemmas.Option.{get_or_from_slice_get, slice_get_within}
 use Rattle.std.proofs.Math.Seq.{take-suc}
-use Rattle.vcp_outside.specs.Gathering.{Gathered, Gathers, GathersTo}
-use Rattle.vcp_outside.specs.Seen.{SinkSeen}
 use Rattle.fault_sites.specs.Sites.{each_below}
 use Rattle.fault_cover.specs.declared.disturbance.Disturbance.{Disturbance}
 use Rattle.fault_cover.specs.declared.effect.Effect.{Effect}
@@ -16,21 +14,7 @@ use Rattle.fault_cover.specs.Classes.{Single, fault_at}
 use Rattle.fault_cover.specs.CoverText.{AreHeard, Heard, heard_as}
 use Rattle.fault_cover.specs.Passing.{Passes}
 use Rattle.fault_cover.specs.Telling.{Subject, Tells}
-
--- ---- texts
-
--- nothing
-pub unmoved : {a : Option (List ℕ)} {f : ℕ} {l : Gathered} → Gathers a a f f l l []
-unmoved start before text is = rw (append-nil text) is
-
--- a piece and another
-pub and_then : {a b c : Option (List ℕ)} {f g h : ℕ} {l m n : Gathered} {s t : List ℕ} → Gathers a b f g l m s → Gathers b c g h m n t
-    → Gathers a c f h l n (s ++ t)
-and_then {s = s} {t = t} first second start before text is = rw (← (append_assoc text s t)) (second start before _ (first start before text is))
-
--- the same piece, written otherwise
-pub same : {a b : Option (List ℕ)} {f g : ℕ} {l m : Gathered} {s t : List ℕ} → Gathers a b f g l m s → t ≡ s → Gathers a b f g l m t
-same gathers e start before text is = rw e (gathers start before text is)
+use Rattle.vcp_outside.specs.Pens.{Penned, Goes, unmoved, and_then, same}
 
 -- ---- faults
 
@@ -50,53 +34,40 @@ heard_one {s = s} k d x is = record {
   told = All-cons (λ h. Tells s h.fault.op h.fault.does h.told) (heard_as k d x) [] is (All-nil (λ h. Tells s h.fault.op h.fault.does h.told));
 }
 
-pub passes_none : {s : Subject} {text : Heard → List ℕ} {a : SinkSeen} {l : Gathered} {keeps : List Heard → Type 0} → Passes s [] text a a l l keeps keeps
-passes_none {s = s} {keeps = keeps} = record {
-  heard = [];
-  are = heard_none;
-  gathers = unmoved;
-  keeps = λ past is. subst keeps (sym (append-nil past)) is;
-}
+module _ {L : Type 0} {s : Subject} {keeps : L → L → List Heard → Type 0} where
+  pub passes_none : {x : L} → Passes s [] keeps x x
+  passes_none {x = x} = record { heard = []; are = heard_none; kept = λ start past is. subst (keeps start x) (sym (append-nil past)) is }
 
-pub passes_one : {s : Subject} {text : Heard → List ℕ} {a b : SinkSeen} {l m : Gathered} {before after : List Heard → Type 0} (k : ℕ) (d : Disturbance) (x :
-    Effect)
-    → Tells s k d x → GathersTo a b l m (text (heard_as k d x)) → ((past : List Heard) → before past → after (past ++ heard_as k d x ∷ []))
-    → Passes s (fault_at k d ∷ []) text a b l m before after
-passes_one {s = s} {text = text} k d x tells gathers keeps = record {
-  heard = heard_as k d x ∷ [];
-  are = heard_one k d x tells;
-  gathers = same gathers (append-nil (text (heard_as k d x)));
-  keeps = keeps;
-}
+  pub passes_one : {x y : L} (k : ℕ) (d : Disturbance) (told : Effect) → Tells s k d told
+      → ((start : L) (past : List Heard) → keeps start x past → keeps start y (past ++ heard_as k d told ∷ []))
+      → Passes s (fault_at k d ∷ []) keeps x y
+  passes_one k d told tells kept = record { heard = heard_as k d told ∷ []; are = heard_one k d told tells; kept = kept }
 
-pub passes_both : {s : Subject} {text : Heard → List ℕ} {a b c : SinkSeen} {l m n : Gathered} {p q r : List Heard → Type 0} (xs ys : List Single)
-    → Passes s xs text a b l m p q → Passes s ys text b c m n q r → Passes s (xs ++ ys) text a c l n p r
-passes_both {s = s} {text = text} {r = r} xs ys one other = record {
-  heard = one.heard ++ other.heard;
-  are = heard_both xs ys one.heard other.heard one.are other.are;
-  gathers = same (and_then one.gathers other.gathers) (flat_map-append text one.heard other.heard);
-  keeps = λ past is. subst r (append_assoc past one.heard other.heard) (other.keeps (past ++ one.heard) (one.keeps past is));
-}
+  pub passes_both : {x y z : L} (xs ys : List Single) → Passes s xs keeps x y → Passes s ys keeps y z → Passes s (xs ++ ys) keeps x z
+  passes_both {z = z} xs ys one other = record {
+    heard = one.heard ++ other.heard;
+    are = heard_both xs ys one.heard other.heard one.are other.are;
+    kept = λ start past is.
+        subst (keeps start z) (append_assoc past one.heard other.heard) (other.kept start (past ++ one.heard) (one.kept start past is));
+  }
 
--- the same faults, listed otherwise
-pub passes_same : {s : Subject} {text : Heard → List ℕ} {a b : SinkSeen} {l m : Gathered} {p q : List Heard → Type 0} (xs ys : List Single)
-    → Passes s xs text a b l m p q → xs ≡ ys → Passes s ys text a b l m p q
-passes_same {s = s} {text = text} {a = a} {b = b} {l = l} {m = m} {p = p} {q = q} xs ys passes e = subst (λ zs. Passes s zs text a b l m p q) e passes
+  -- the same faults, listed otherwise
+  pub passes_same : {x y : L} (xs ys : List Single) → Passes s xs keeps x y → xs ≡ ys → Passes s ys keeps x y
+  passes_same {x = x} {y = y} xs ys passes e = subst (λ zs. Passes s zs keeps x y) e passes
 
--- those of one number more
-pub passes_more : {s : Subject} {text : Heard → List ℕ} {a b c : SinkSeen} {l m n : Gathered} {p q r : List Heard → Type 0} (f : ℕ → List Single) (i : ℕ)
-    → Passes s (each_below f i) text a b l m p q → Passes s (f i) text b c m n q r → Passes s (each_below f (i + 1)) text a c l n p r
-passes_more f i one other = passes_same (each_below f i ++ f i) (each_below f (i + 1)) (passes_both (each_below f i) (f i) one other)
-    (ap (each_below f) (sym (add-one i)))
+  -- those of one number more
+  pub passes_more : {x y z : L} (f : ℕ → List Single) (i : ℕ) → Passes s (each_below f i) keeps x y → Passes s (f i) keeps y z
+      → Passes s (each_below f (i + 1)) keeps x z
+  passes_more f i one other = passes_same (each_below f i ++ f i) (each_below f (i + 1)) (passes_both (each_below f i) (f i) one other)
+      (ap (each_below f) (sym (add-one i)))
 
--- the same of what faults are made of
-pub made_more : {s : Subject} {text : Heard → List ℕ} {a b c : SinkSeen} {l m n : Gathered} {p q r : List Heard → Type 0} {X : Type 0} (of : X → Single)
-    (f : ℕ → List X) (i : ℕ) → Passes s (map of (each_below f i)) text a b l m p q → Passes s (map of (f i)) text b c m n q r
-    → Passes s (map of (each_below f (i + 1))) text a c l n p r
-made_more of f i one other =
-    passes_same (map of (each_below f i) ++ map of (f i)) (map of (each_below f (i + 1)))
-    (passes_both (map of (each_below f i)) (map of (f i)) one other)
-    (sym (map-append of (each_below f i) (f i)) ∙ ap (λ n. map of (each_below f n)) (sym (add-one i)))
+  -- the same of what faults are made of
+  pub made_more : {x y z : L} {X : Type 0} (of : X → Single) (f : ℕ → List X) (i : ℕ) → Passes s (map of (each_below f i)) keeps x y
+      → Passes s (map of (f i)) keeps y z → Passes s (map of (each_below f (i + 1))) keeps x z
+  made_more of f i one other =
+      passes_same (map of (each_below f i) ++ map of (f i)) (map of (each_below f (i + 1)))
+      (passes_both (map of (each_below f i)) (map of (f i)) one other)
+      (sym (map-append of (each_below f i) (f i)) ∙ ap (λ n. map of (each_below f n)) (sym (add-one i)))
 
 -- one element more
 pub taken_one : {X : Type 0} (xs : List X) (i : ℕ) (x : X) → slice_get xs i ≡ Some x → take i xs ++ x ∷ [] ≡ take (i + 1) xs
@@ -112,6 +83,16 @@ taken_more f xs i x there =
     ∙ ap (flat_map f) (ap (λ y. take i xs ++ y ∷ []) (sym (get_or_from_slice_get xs i x x there)) ∙ sym (take-suc xs i x (slice_get_within xs i x there)))
     ∙ ap (λ n. flat_map f (take n xs)) (sym (add-one i))
 
+-- what is written of one fault more
+pub told_next : {x y z : Penned} (text : Heard → List ℕ) (past : List Heard) (h : Heard) → Goes x y (flat_map text past) → Goes y z (text h)
+    → Goes x z (flat_map text (past ++ h ∷ []))
+told_next text past h first next =
+    same (and_then first next) (flat_map-append text past (h ∷ []) ∙ ap (λ t. flat_map text past ++ t) (append-nil (text h)))
+
+pub told_nothing : {x y : Penned} (text : Heard → List ℕ) (past : List Heard) (h : Heard) → Goes x y (flat_map text past) → text h ≡ []
+    → Goes x y (flat_map text (past ++ h ∷ []))
+told_nothing text past h first none = told_next text past h first (same unmoved none)
+
 -- ---- rows
 
 some_row : (s : List ℕ) (n : ℕ) (b : Bool) → (n == 0) ≡ b → n ≢ 0 → cond (n == 0) [] s ≡ s
@@ -119,12 +100,12 @@ some_row s n true is some = absurd (some (eqb-true n 0 is))
 some_row s n false is some = ap (λ (c : Bool). cond c [] s) is
 
 -- a row of some, and one of none
-pub a_row : {a b c : Option (List ℕ)} {f g h : ℕ} {k l m : Gathered} (n : ℕ) (columns name : List ℕ) → n ≢ 0
-    → Gathers a b f g k l (columns ++ codes "  ") → Gathers b c g h l m (name ++ codes "\n")
-    → Gathers a c f h k m (cond (n == 0) [] (columns ++ (codes "  " ++ (name ++ codes "\n"))))
+pub a_row : {k l m : Penned} (n : ℕ) (columns name : List ℕ) → n ≢ 0
+    → Goes k l (columns ++ codes "  ") → Goes l m (name ++ codes "\n")
+    → Goes k m (cond (n == 0) [] (columns ++ (codes "  " ++ (name ++ codes "\n"))))
 a_row n columns name some first last =
     same (and_then first last)
     (some_row (columns ++ (codes "  " ++ (name ++ codes "\n"))) n (n == 0) refl some ∙ sym (append_assoc columns (codes "  ") (name ++ codes "\n")))
 
-pub no_row : {a : Option (List ℕ)} {f : ℕ} {l : Gathered} (n : ℕ) (s : List ℕ) → n ≡ 0 → Gathers a a f f l l (cond (n == 0) [] s)
+pub no_row : {l : Penned} (n : ℕ) (s : List ℕ) → n ≡ 0 → Goes l l (cond (n == 0) [] s)
 no_row n s none = same unmoved (ap (λ (k : ℕ). cond (k == 0) [] s) none)

@@ -15,11 +15,9 @@ use crate::effect::Effect;
 use crate::faults::{Listener, Subject, then_class_faults};
 use crate::items::item;
 use crate::tally::{Tally, plus};
-use fault_sites::Nowhere;
 use op_graph::Graph;
 use std::alloc::Global;
 use vcp_base::Memory;
-use vcp_outside::{Line, Sink};
 
 /// How many rows there are for how many cycles later faults are refused: one for each number below 16, and one for all others.
 pub(crate) const DELAYS: usize = 17;
@@ -62,21 +60,12 @@ impl Counting {
 }
 
 impl Listener for Counting {
-    ghost text = { λ g h. [] };
+    ghost Keeps = { λ _ _. Counts };
 
-    ghost Keeps = { λ _. Counts };
-
-    fn hear<O: Sink>(
-        &mut self,
-        _line: &mut Line,
-        _out: &mut O,
-        _graph: &Graph,
-        _k: u32,
-        _disturbance: &Disturbance,
-        told: &Effect,
-    ) {
+    fn hear(mut self, _graph: &Graph, _k: u32, _disturbance: &Disturbance, told: &Effect) -> Self {
         self.tally.count(told);
         count_delay(&mut self.delays, told);
+        self
     }
 }
 
@@ -95,11 +84,10 @@ fn count_class(subject: &Subject<'_>, class: CoverClass) -> ClassCount
         → IsSurvey (subject_of subject.now.graph.now subject.now.table.now subject.now.survey.now.horizon stops) subject.now.survey.now
         → IsClassCount (subject_of subject.now.graph.now subject.now.table.now subject.now.survey.now.horizon stops) class result }
 {
-    let mut line = Line::new();
-    let mut counting = Counting::new();
-    let mut nowhere = Nowhere {};
-    then_class_faults(&mut line, &mut nowhere, &mut counting, subject, class);
-    ClassCount { class, counting }
+    ClassCount {
+        class,
+        counting: then_class_faults(Counting::new(), subject, class),
+    }
 }
 
 /// What is counted of each of these classes. Nothing is written.

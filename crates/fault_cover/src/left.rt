@@ -16,11 +16,9 @@ use crate::effect::Effect;
 use crate::faults::{Listener, Subject, then_faults_at};
 use crate::items::item;
 use crate::tally::plus;
-use fault_sites::Nowhere;
 use op_graph::Graph;
 use std::alloc::Global;
 use vcp_base::Memory;
-use vcp_outside::{Line, Sink};
 
 /// What is reported of faults that are neither refused nor do nothing, nor show.
 #[derive(Clone, Copy)]
@@ -79,28 +77,24 @@ impl Left {
 }
 
 impl Listener for Left {
-    ghost text = { λ g h. [] };
+    ghost Keeps = { λ g _. Leaves g };
 
-    ghost Keeps = { Leaves };
-
-    fn hear<O: Sink>(
-        &mut self,
-        _line: &mut Line,
-        _out: &mut O,
-        graph: &Graph,
-        _k: u32,
-        _disturbance: &Disturbance,
-        told: &Effect,
-    ) {
+    fn hear(mut self, graph: &Graph, _k: u32, _disturbance: &Disturbance, told: &Effect) -> Self {
         match told {
-            Effect::RunsOn { borders, op } => self.push(key_of(graph.len(), *borders, *op)),
-            Effect::Beyond => self.beyond = plus(self.beyond, 1),
+            Effect::RunsOn { borders, op } => {
+                self.push(key_of(graph.len(), *borders, *op));
+                self
+            }
+            Effect::Beyond => {
+                self.beyond = plus(self.beyond, 1);
+                self
+            }
             Effect::Refused { borders: _ }
             | Effect::Nothing
             | Effect::Shows {
                 borders: _,
                 output: _,
-            } => {}
+            } => self,
         }
     }
 }
@@ -248,10 +242,7 @@ fn add_lines_at(
         → AreLinesAt (subject_of subject.now.graph.now subject.now.table.now subject.now.survey.now.horizon stops) classes.now k lines.old.list.items
         lines.new.list.items) }
 {
-    let mut left = Left::new(alloc);
-    let mut line = Line::new();
-    let mut nowhere = Nowhere {};
-    then_faults_at(&mut line, &mut nowhere, &mut left, subject, classes, k);
+    let left = then_faults_at(Left::new(alloc), subject, classes, k);
     if left.lacked {
         lines.lacked = true;
         return;

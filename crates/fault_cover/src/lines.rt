@@ -1,7 +1,7 @@
 //! The lines of a cover.
 
 ghost use Rattle.std.specs.Prelude.{◌≡◌, ◌<◌, ◌≤◌, ◌^◌, ◌++◌, Some, codes, decimal, flat_map, length, replicate};
-ghost use Rattle.vcp_outside.specs.Gathering.{GathersTo};
+ghost use Rattle.vcp_outside.specs.Pens.{Goes};
 ghost use Rattle.verdict_tables.specs.SumText.{delay_text};
 ghost use Rattle.fault_cover.specs.Classes.{fault_at};
 ghost use Rattle.fault_cover.specs.CoverText.{back as back_of, class_name as class_name_of, classes_in, classes_name as classes_name_of, column_text};
@@ -22,7 +22,7 @@ use itoa::Buffer;
 use op_graph::Graph;
 use run_report::variable_name;
 use vcp_base::{Kind, same_bytes};
-use vcp_outside::{Line, Sink};
+use vcp_outside::Pen;
 use verdict_tables::{then_delay, then_operation};
 
 /// The word that names a class.
@@ -98,77 +98,68 @@ fn blanks(count: usize) -> &'static [u8]
 }
 
 /// Goes on with a number at the right end of a column of twelve.
-fn then_column<O: Sink>(line: &mut Line, out: &mut O, n: u64)
-    ensures { GathersTo (O.seen out.old) (O.seen out.new) line.old line.new (column_text n) }
+fn then_column<P: Pen>(pen: P, n: u64) -> P
+    ensures { Goes (P.seen pen) (P.seen result) (column_text n) }
 {
     let width: usize = 12;
-    line.numbered(out, blanks(width.saturating_sub(digits_in(n))), n);
+    pen.numbered(blanks(width.saturating_sub(digits_in(n))), n)
 }
 
 /// Goes on with the columns of a tally, and two blanks.
-fn then_columns<O: Sink>(line: &mut Line, out: &mut O, tally: &Tally)
-    ensures { sum_of tally.now < 2 ^ 63 → GathersTo (O.seen out.old) (O.seen out.new) line.old line.new (columns_text tally.now ++ codes "  ") }
+fn then_columns<P: Pen>(pen: P, tally: &Tally) -> P
+    ensures { sum_of tally.now < 2 ^ 63 → Goes (P.seen pen) (P.seen result) (columns_text tally.now ++ codes "  ") }
 {
-    then_column(line, out, tally.sum());
-    then_column(line, out, tally.refused);
-    then_column(line, out, tally.nothing);
-    then_column(line, out, tally.shows);
-    then_column(line, out, tally.runs_on);
-    then_column(line, out, tally.beyond);
-    line.text(out, b"  ");
+    let pen = then_column(pen, tally.sum());
+    let pen = then_column(pen, tally.refused);
+    let pen = then_column(pen, tally.nothing);
+    let pen = then_column(pen, tally.shows);
+    let pen = then_column(pen, tally.runs_on);
+    then_column(pen, tally.beyond).text(b"  ")
 }
 
 /// Goes on with the row of a class, where it has a fault.
-pub(crate) fn then_class_row<O: Sink>(
-    line: &mut Line,
-    out: &mut O,
-    class: CoverClass,
-    tally: &Tally,
-)
-    ensures { sum_of tally.now < 2 ^ 63 → GathersTo (O.seen out.old) (O.seen out.new) line.old line.new (row_text (class_name_of class) tally.now) }
+pub(crate) fn then_class_row<P: Pen>(pen: P, class: CoverClass, tally: &Tally) -> P
+    ensures { sum_of tally.now < 2 ^ 63 → Goes (P.seen pen) (P.seen result) (row_text (class_name_of class) tally.now) }
 {
     if tally.sum() == 0 {
-        return;
+        return pen;
     }
-    then_columns(line, out, tally);
-    line.texts(out, class_name(class), b"\n");
+    then_columns(pen, tally).texts(class_name(class), b"\n")
 }
 
 /// Goes on with the row of a number of cycles, where any fault is refused so late.
-pub(crate) fn then_delay_row<O: Sink>(line: &mut Line, out: &mut O, n: u32, refused: u64)
-    ensures { refused < 2 ^ 63 → GathersTo (O.seen out.old) (O.seen out.new) line.old line.new (row_text (delay_text n) (refused_only refused)) }
+pub(crate) fn then_delay_row<P: Pen>(pen: P, n: u32, refused: u64) -> P
+    ensures { refused < 2 ^ 63 → Goes (P.seen pen) (P.seen result) (row_text (delay_text n) (refused_only refused)) }
 {
     let tally = Tally::refused_only(refused);
     if refused == 0 {
-        return;
+        return pen;
     }
-    then_columns(line, out, &tally);
-    then_delay(line, out, n);
-    line.text(out, b"\n");
+    let pen = then_columns(pen, &tally);
+    then_delay(pen, n).text(b"\n")
 }
 
 /// Goes on with the names of the columns, and what the rows are about.
-pub(crate) fn then_heading<O: Sink>(line: &mut Line, out: &mut O, about: &[u8])
-    ensures { GathersTo (O.seen out.old) (O.seen out.new) line.old line.new (heading_text about.now) }
+pub(crate) fn then_heading<P: Pen>(pen: P, about: &[u8]) -> P
+    ensures { Goes (P.seen pen) (P.seen result) (heading_text about.now) }
 {
-    line.texts(
-        out,
+    pen.texts(
         b"      faults     refused     nothing       shows     runs-on      beyond  ",
         about,
-    );
-    line.text(out, b"\n");
+    )
+    .text(b"\n")
 }
 
 /// Goes on with the totals, without the LF.
-pub(crate) fn then_totals<O: Sink>(line: &mut Line, out: &mut O, tally: &Tally)
-    ensures { sum_of tally.now < 2 ^ 63 → GathersTo (O.seen out.old) (O.seen out.new) line.old line.new (totals_line tally.now) }
+pub(crate) fn then_totals<P: Pen>(pen: P, tally: &Tally) -> P
+    ensures { sum_of tally.now < 2 ^ 63 → Goes (P.seen pen) (P.seen result) (totals_line tally.now) }
 {
-    line.numbered(out, b"faults ", tally.sum());
-    line.numbered(out, b" refused ", tally.refused);
-    line.numbered(out, b" nothing ", tally.nothing);
-    line.numbered(out, b" shows ", tally.shows);
-    line.numbered(out, b" runs-on ", tally.runs_on);
-    line.numbered(out, b" beyond ", tally.beyond);
+    pen.numbered(b"faults ", tally.sum())
+        .numbered(b" refused ", tally.refused)
+        .numbered(b" nothing ", tally.nothing)
+        .numbered(b" shows ", tally.shows)
+        .numbered(b" runs-on ", tally.runs_on)
+        .numbered(b" beyond ", tally.beyond)
 }
 
 /// The first word of a fault, and a space.
@@ -184,114 +175,92 @@ fn front(disturbance: &Disturbance) -> &'static [u8]
 }
 
 /// Goes on with what is behind the operation of a fault.
-fn then_back<O: Sink>(line: &mut Line, out: &mut O, disturbance: &Disturbance)
-    ensures { GathersTo (O.seen out.old) (O.seen out.new) line.old line.new (back_of disturbance.now) }
+fn then_back<P: Pen>(pen: P, disturbance: &Disturbance) -> P
+    ensures { Goes (P.seen pen) (P.seen result) (back_of disturbance.now) }
 {
     match *disturbance {
-        Disturbance::AddToResult => line.text(out, b" add any"),
+        Disturbance::AddToResult => pen.text(b" add any"),
         Disturbance::AddToOperand { j: n } | Disturbance::AddToRest { right: n } => {
-            line.numbered(out, b" ", n as u64);
-            line.text(out, b" add any");
+            pen.numbered(b" ", n as u64).text(b" add any")
         }
-        Disturbance::Late { j, r } => {
-            line.numbered(out, b" ", j as u64);
-            line.numbered(out, b" late ", r as u64);
-        }
-        Disturbance::Does(act) => then_rest(line, out, &act),
+        Disturbance::Late { j, r } => { pen.numbered(b" ", j as u64).numbered(b" late ", r as u64) }
+        Disturbance::Does(act) => then_rest(pen, &act),
     }
 }
 
 /// Goes on with a fault at operation `k`, as a script spells it but for its cycle, and with the operation.
-fn then_fault<O: Sink>(
-    line: &mut Line,
-    out: &mut O,
-    graph: &Graph,
-    k: u32,
-    disturbance: &Disturbance,
-)
-    ensures { GathersTo (O.seen out.old) (O.seen out.new) line.old line.new (codes ": " ++ (single_text (fault_at k disturbance.now)
+fn then_fault<P: Pen>(pen: P, graph: &Graph, k: u32, disturbance: &Disturbance) -> P
+    ensures { Goes (P.seen pen) (P.seen result) (codes ": " ++ (single_text (fault_at k disturbance.now)
         ++ (codes ": " ++ (place_text graph.now k ++ codes "\n")))) }
 {
-    line.texts(out, b": ", front(disturbance));
-    line.numbered(out, b"N ", k as u64);
-    then_back(line, out, disturbance);
-    line.text(out, b": ");
-    then_operation(line, out, graph, k);
-    line.text(out, b"\n");
+    let pen = pen
+        .texts(b": ", front(disturbance))
+        .numbered(b"N ", k as u64);
+    let pen = then_back(pen, disturbance).text(b": ");
+    then_operation(pen, graph, k).text(b"\n")
 }
 
-/// A line for each fault that shows.
-#[derive(Drop)]
-pub(crate) struct Showing {}
+/// A line for each fault that shows, written with a pen.
+pub(crate) struct Showing<P> {
+    pub(crate) pen: P,
+}
 
-impl Listener for Showing {
-    ghost text = { λ g h. shows_text g h.fault h.told };
+impl<P: Pen> Listener for Showing<P> {
+    ghost Keeps = { λ g start showing heard. Goes (P.seen start.pen) (P.seen showing.pen) (flat_map (λ h. shows_text g h.fault h.told) heard) };
 
-    ghost Keeps = { λ _ _ _. Unit {0} };
-
-    fn hear<O: Sink>(
-        &mut self,
-        line: &mut Line,
-        out: &mut O,
-        graph: &Graph,
-        k: u32,
-        disturbance: &Disturbance,
-        told: &Effect,
-    ) {
+    fn hear(self, graph: &Graph, k: u32, disturbance: &Disturbance, told: &Effect) -> Self {
         if let Effect::Shows { borders, output } = told {
-            line.numbered(out, b"shows ", *borders as u64);
-            line.texts(out, b" ", variable_name(graph, Kind::Out, *output as u64));
-            then_fault(line, out, graph, k, disturbance);
+            let Showing { pen } = self;
+            let name = variable_name(graph, Kind::Out, *output as u64);
+            let pen = pen.numbered(b"shows ", *borders as u64).texts(b" ", name);
+            Showing {
+                pen: then_fault(pen, graph, k, disturbance),
+            }
+        } else {
+            self
         }
     }
 }
 
 /// Goes on with what is reported of the faults of a line.
-fn then_left_effect<O: Sink>(line: &mut Line, out: &mut O, told: LeftEffect)
-    ensures { GathersTo (O.seen out.old) (O.seen out.new) line.old line.new (effect_text told) }
+fn then_left_effect<P: Pen>(pen: P, told: LeftEffect) -> P
+    ensures { Goes (P.seen pen) (P.seen result) (effect_text told) }
 {
     match told {
         LeftEffect::RunsOn { borders, op } => {
-            line.numbered(out, b"runs-on ", borders);
-            line.numbered(out, b" ", op);
+            pen.numbered(b"runs-on ", borders).numbered(b" ", op)
         }
-        LeftEffect::Beyond => line.text(out, b"beyond"),
+        LeftEffect::Beyond => pen.text(b"beyond"),
     }
 }
 
 /// Goes on with a line of an operation whose faults run on or are beyond.
-fn then_left_line<O: Sink>(line: &mut Line, out: &mut O, graph: &Graph, left: &LeftLine)
-    ensures { GathersTo (O.seen out.old) (O.seen out.new) line.old line.new (line_text graph.now left.now) }
+fn then_left_line<P: Pen>(pen: P, graph: &Graph, left: &LeftLine) -> P
+    ensures { Goes (P.seen pen) (P.seen result) (line_text graph.now left.now) }
 {
-    then_left_effect(line, out, left.told);
-    line.numbered(out, b": faults ", left.faults);
-    line.text(out, b" of ");
-    then_operation(line, out, graph, left.at);
-    line.text(out, b"\n");
+    let pen = then_left_effect(pen, left.told)
+        .numbered(b": faults ", left.faults)
+        .text(b" of ");
+    then_operation(pen, graph, left.at).text(b"\n")
 }
 
 /// Goes on with the lines of the operations whose faults run on or are beyond.
-pub(crate) fn then_left<O: Sink>(line: &mut Line, out: &mut O, graph: &Graph, lines: &[LeftLine])
-    ensures { GathersTo (O.seen out.old) (O.seen out.new) line.old line.new (flat_map (line_text graph.now) lines.now) }
+pub(crate) fn then_left<P: Pen>(mut pen: P, graph: &Graph, lines: &[LeftLine]) -> P
+    ensures { Goes (P.seen pen) (P.seen result) (flat_map (line_text graph.now) lines.now) }
 {
     'lines: for i in 0..lines.len() {
         let left = item(lines, i);
-        then_left_line(line, out, graph, &left);
+        pen = then_left_line(pen, graph, &left);
     }
+    pen
 }
 
 /// Goes on with the remark that names the classes, the horizon and the image.
-pub(crate) fn then_remark<O: Sink>(
-    line: &mut Line,
-    out: &mut O,
-    classes: CoverClasses,
-    horizon: u32,
-    digest: &[u8],
-)
-    ensures { GathersTo (O.seen out.old) (O.seen out.new) line.old line.new (remark classes horizon digest.now) }
+pub(crate) fn then_remark<P: Pen>(pen: P, classes: CoverClasses, horizon: u32, digest: &[u8]) -> P
+    ensures { Goes (P.seen pen) (P.seen result) (remark classes horizon digest.now) }
 {
-    line.texts(out, b"# cover ", classes_name(classes));
-    line.numbered(out, b" ", horizon as u64);
-    line.texts(out, b" of ", digest);
-    line.text(out, b"\n");
+    pen.texts(b"# cover ", classes_name(classes))
+        .numbered(b" ", horizon as u64)
+        .texts(b" of ", digest)
+        .text(b"\n")
 }

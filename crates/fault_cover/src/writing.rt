@@ -1,7 +1,7 @@
 //! A cover, written line by line.
 
 ghost use Rattle.std.specs.Prelude.{◌≡◌, ◌<◌, ◌≤◌, ◌^◌, List, All, IfOk, flat_map, length};
-ghost use Rattle.vcp_outside.specs.Gathering.{GathersTo};
+ghost use Rattle.vcp_outside.specs.Pens.{Goes};
 ghost use Rattle.range_walk.specs.declared.range.Stops.{Stops};
 ghost use Rattle.signature_table.specs.Signatures.{IsTableOf};
 ghost use Rattle.fault_sites.specs.Sites.{each_below};
@@ -28,7 +28,7 @@ use op_graph::Graph;
 use signature_table::Table;
 use std::alloc::Global;
 use vcp_base::Memory;
-use vcp_outside::{Failed, Line, Sink};
+use vcp_outside::{Failed, LinePen, Pen, Sink};
 
 /// Why a cover isn't written, or not whole.
 #[derive(Clone, Copy)]
@@ -51,33 +51,29 @@ const CLASSES: [CoverClass; 7] = [
 ];
 
 /// Goes on with the rows of the classes.
-fn then_class_rows<O: Sink>(line: &mut Line, out: &mut O, counts: &[ClassCount])
-    ensures { All IsSmall counts.now → GathersTo (O.seen out.old) (O.seen out.new) line.old line.new (flat_map count_row counts.now) }
+fn then_class_rows<P: Pen>(mut pen: P, counts: &[ClassCount]) -> P
+    ensures { All IsSmall counts.now → Goes (P.seen pen) (P.seen result) (flat_map count_row counts.now) }
 {
     'classes: for i in 0..counts.len() {
         let count = item(counts, i);
-        then_class_row(line, out, count.class, &count.counting.tally);
+        pen = then_class_row(pen, count.class, &count.counting.tally);
     }
+    pen
 }
 
 /// Goes on with the rows of the numbers of cycles.
-fn then_delay_rows<O: Sink>(line: &mut Line, out: &mut O, counts: &[ClassCount])
+fn then_delay_rows<P: Pen>(mut pen: P, counts: &[ClassCount]) -> P
     ensures { (covered : List Covered) → AreCounted counts.now covered → length (heard_of covered) < 2 ^ 62
-        → GathersTo (O.seen out.old) (O.seen out.new) line.old line.new (each_below (delay_row (heard_of covered)) 17) }
+        → Goes (P.seen pen) (P.seen result) (each_below (delay_row (heard_of covered)) 17) }
 {
     'delays: for n in 0..DELAYS {
-        then_delay_row(line, out, n as u32, delayed(counts, n));
+        pen = then_delay_row(pen, n as u32, delayed(counts, n));
     }
+    pen
 }
 
 /// Goes on with the lines of the faults that show, of which there are so many.
-fn then_showing<O: Sink>(
-    line: &mut Line,
-    out: &mut O,
-    subject: &Subject<'_>,
-    classes: &[CoverClass],
-    shows: u64,
-)
+fn then_showing<P: Pen>(pen: P, subject: &Subject<'_>, classes: &[CoverClass], shows: u64) -> P
     requires table { IsTableOf subject.now.table.now subject.now.graph.now }
     requires mapped { IsMapped subject.now.graph.now subject.now.survey.now }
     ensures { (stops : List Stops)
@@ -85,16 +81,18 @@ fn then_showing<O: Sink>(
         Covered)
         → AreCovered (subject_of subject.now.graph.now subject.now.table.now subject.now.survey.now.horizon stops) classes.now covered
         → shows ≡ count_told is_shown (heard_of covered)
-        → GathersTo (O.seen out.old) (O.seen out.new) line.old line.new (flat_map (λ h. shows_text subject.now.graph.now h.fault h.told) (heard_of covered)) }
+        → Goes (P.seen pen) (P.seen result) (flat_map (λ h. shows_text subject.now.graph.now h.fault h.told) (heard_of covered)) }
 {
     if shows == 0 {
-        return;
+        return pen;
     }
-    let mut showing = Showing {};
+    let mut showing = Showing { pen };
     'classes: for i in 0..classes.len() {
         let class = item(classes, i);
-        then_class_faults(line, out, &mut showing, subject, class);
+        showing = then_class_faults(showing, subject, class);
     }
+    let Showing { pen } = showing;
+    pen
 }
 
 /// The lines of operations whose faults run on or are beyond, where there are any by the tally of all faults.
@@ -153,29 +151,28 @@ fn find(alloc: Global, subject: &Subject<'_>, classes: &[CoverClass]) -> Result<
 }
 
 /// Goes on with what is found: the tables, the lines, and the totals.
-fn then_found<O: Sink>(
-    line: &mut Line,
-    out: &mut O,
+fn then_found<P: Pen>(
+    pen: P,
     subject: &Subject<'_>,
     classes: &[CoverClass],
     counts: &[ClassCount],
     all: &Tally,
     lines: &[LeftLine],
-)
+) -> P
     requires table { IsTableOf subject.now.table.now subject.now.graph.now }
     requires mapped { IsMapped subject.now.graph.now subject.now.survey.now }
     ensures { (stops : List Stops)
         → IsSurvey (subject_of subject.now.graph.now subject.now.table.now subject.now.survey.now.horizon stops) subject.now.survey.now
         → (is : IsFound (subject_of subject.now.graph.now subject.now.table.now subject.now.survey.now.horizon stops) classes.now counts.now all.now lines.now)
-        → GathersTo (O.seen out.old) (O.seen out.new) line.old line.new (body_text subject.now.graph.now subject.now.survey.now.horizon is.covered) }
+        → Goes (P.seen pen) (P.seen result) (body_text subject.now.graph.now subject.now.survey.now.horizon is.covered) }
 {
-    then_heading(line, out, b"by what the fault does");
-    then_class_rows(line, out, counts);
-    then_heading(line, out, b"by how many cycles later it is refused");
-    then_delay_rows(line, out, counts);
-    then_showing(line, out, subject, classes, all.shows);
-    then_left(line, out, subject.graph, lines);
-    then_totals(line, out, all);
+    let pen = then_heading(pen, b"by what the fault does");
+    let pen = then_class_rows(pen, counts);
+    let pen = then_heading(pen, b"by how many cycles later it is refused");
+    let pen = then_delay_rows(pen, counts);
+    let pen = then_showing(pen, subject, classes, all.shows);
+    let pen = then_left(pen, subject.graph, lines);
+    then_totals(pen, all)
 }
 
 /// Writes the cover of these classes, which are `list`.
@@ -199,19 +196,10 @@ fn write_classes<O: Sink>(
     match find(alloc, subject, list) {
         Ok(found) => {
             let left = found.all.leaves_any();
-            let mut line = Line::new();
             let survey = subject.survey;
-            then_remark(&mut line, out, classes, survey.horizon(), digest);
-            then_found(
-                &mut line,
-                out,
-                subject,
-                list,
-                &found.counts,
-                &found.all,
-                &found.lines,
-            );
-            match line.end(out) {
+            let pen = then_remark(LinePen::new(out), classes, survey.horizon(), digest);
+            let pen = then_found(pen, subject, list, &found.counts, &found.all, &found.lines);
+            match pen.end() {
                 Ok(()) => Ok(left),
                 Err(Failed) => Err(Uncovered::Failed),
             }

@@ -9,7 +9,7 @@ operations-init g c = λ stops survey. passes_none
 pub operations-preserved : goal.operations-preserved
 operations-preserved g c = λ stops survey.
     passes_more (λ k. singles_of c.args.class c.args.subject.now.graph.now k) c.operations.k (c.operations.invariant stops survey)
-    (c.then_operation_faults.ensures stops survey)
+    (c.then_operation_faults-listener.ensures stops survey)
 
 pub returns : goal.returns
 returns g c =

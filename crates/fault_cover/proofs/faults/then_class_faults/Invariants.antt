@@ -5,6 +5,5 @@ use Rattle.fault_cover.proofs.faults.then_class_faults.Given as goal
 
 abbrev pub invariant-operations : goal.invariant-operations
 invariant-operations g l =
-    Passing l.subject.graph.now l.subject.table.now l.subject.survey.now (each_below (λ k. singles_of l.class l.subject.graph.now k) l.k) (g.L.Listener.text
-    l.subject.graph.now) (g.O.Sink.seen l.fn.out) (g.O.Sink.seen l.out)
-    l.fn.line l.line (g.L.Listener.Keeps l.subject.graph.now l.fn.listener) (g.L.Listener.Keeps l.subject.graph.now l.listener)
+    Passing l.subject.graph.now l.subject.table.now l.subject.survey.now (each_below (λ k. singles_of l.class l.subject.graph.now k) l.k)
+    (g.L.Listener.Keeps l.subject.graph.now) l.fn.listener l.listener

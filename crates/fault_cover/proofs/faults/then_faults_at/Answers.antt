@@ -13,7 +13,7 @@ classes-preserved g c = λ stops survey.
     let past = flat_map (λ d. singles_of d c.args.subject.now.graph.now c.args.k) (take i c.args.classes.now) in
     passes_same (past ++ singles_of one c.args.subject.now.graph.now c.args.k) (flat_map (λ d. singles_of d c.args.subject.now.graph.now c.args.k) (take (i
     + 1) c.args.classes.now))
-    (passes_both past (singles_of one c.args.subject.now.graph.now c.args.k) (c.classes.invariant stops survey) (c.then_operation_faults.ensures stops survey))
+    (passes_both past (singles_of one c.args.subject.now.graph.now c.args.k) (c.classes.invariant stops survey) (c.then_operation_faults-listener.ensures stops survey))
     (taken_more (λ d. singles_of d c.args.subject.now.graph.now c.args.k) c.args.classes.now i one c.item-class.ensures)
 
 pub returns : goal.returns

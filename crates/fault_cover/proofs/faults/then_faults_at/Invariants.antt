@@ -6,5 +6,4 @@ use Rattle.fault_cover.proofs.faults.then_faults_at.Given as goal
 abbrev pub invariant-classes : goal.invariant-classes
 invariant-classes g l =
     Passing l.subject.graph.now l.subject.table.now l.subject.survey.now (flat_map (λ c. singles_of c l.subject.graph.now l.k) (take l.i l.classes))
-    (g.L.Listener.text l.subject.graph.now) (g.O.Sink.seen l.fn.out) (g.O.Sink.seen l.out)
-    l.fn.line l.line (g.L.Listener.Keeps l.subject.graph.now l.fn.listener) (g.L.Listener.Keeps l.subject.graph.now l.listener)
+    (g.L.Listener.Keeps l.subject.graph.now) l.fn.listener l.listener

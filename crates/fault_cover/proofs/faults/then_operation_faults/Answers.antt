@@ -12,7 +12,7 @@ operands-init g c = λ stops survey. passes_none
 pub operands-preserved : goal.operands-preserved
 operands-preserved g c = λ stops survey.
     made_more (fault_at c.args.k) (row c.args.class c.args.subject.now.graph.now c.args.k c.operation-op.result) c.operands.j
-    (c.operands.invariant stops survey) (c.then_row.ensures stops survey)
+    (c.operands.invariant stops survey) (c.then_row-listener.ensures stops survey)
 
 pub returns : goal.returns
 returns g c = λ stops survey.

@@ -8,6 +8,5 @@ use Rattle.fault_cover.proofs.faults.then_row.Given as goal
 abbrev pub invariant-faults : goal.invariant-faults
 invariant-faults g l =
     Passing l.subject.graph.now l.subject.table.now l.subject.survey.now
-    (map (fault_at l.k) (each_below (λ i. candidate l.class l.subject.graph.now l.k l.op l.j i) l.i)) (g.L.Listener.text l.subject.graph.now)
-    (g.O.Sink.seen l.fn.out) (g.O.Sink.seen l.out) l.fn.line l.line
-    (g.L.Listener.Keeps l.subject.graph.now l.fn.listener) (g.L.Listener.Keeps l.subject.graph.now l.listener)
+    (map (fault_at l.k) (each_below (λ i. candidate l.class l.subject.graph.now l.k l.op l.j i) l.i))
+    (g.L.Listener.Keeps l.subject.graph.now) l.fn.listener l.listener

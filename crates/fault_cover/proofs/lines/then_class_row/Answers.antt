@@ -12,4 +12,4 @@ pub returns : goal.returns
 returns g c = λ few.
     let t = c.args.tally.now in
     a_row (sum_of t) (columns_text t) (class_name c.args.class) (λ none. omega (arith, none, c.sum.ensures few, c.if-sum-eq0.false))
-    (c.then_columns.ensures few) (rw c.class_name.ensures at c.texts.ensures.gathers)
+    (c.then_columns.ensures few) (rw c.class_name.ensures at c.texts.ensures)

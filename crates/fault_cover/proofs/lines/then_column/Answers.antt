@@ -6,4 +6,4 @@ pub returns : goal.returns
 returns g c =
     let many = c.saturating_sub.ensures ∙ ap (λ d. 12 - d) c.digits_in.ensures in
     let left = c.blanks.ensures ∙ ap (λ k. replicate k 32) many in
-    rw left at c.numbered.ensures.gathers
+    rw left at c.numbered.ensures

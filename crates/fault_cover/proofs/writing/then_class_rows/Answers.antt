@@ -2,7 +2,8 @@ use Rattle.std.proofs.Common.{◌≤◌, flat_map, length, ap, sym, arith}
 use Rattle.std.proofs.lemmas.List.{take_all}
 use Rattle.fault_cover.specs.Writing.{count_row}
 use Rattle.fault_cover.proofs.Covering.{small_at}
-use Rattle.fault_cover.proofs.Going.{and_then, same, taken_more, unmoved}
+use Rattle.fault_cover.proofs.Going.{taken_more}
+use Rattle.vcp_outside.specs.Pens.{unmoved, and_then, same}
 use Rattle.fault_cover.proofs.writing.then_class_rows.Goals as goal
 
 pub classes-init : goal.classes-init
@@ -11,7 +12,7 @@ classes-init g c = λ small. unmoved
 pub classes-preserved : goal.classes-preserved
 classes-preserved g c = λ small.
     let n = c.item-count.result in
-    same (and_then (c.classes.invariant small) (c.then_class_row.ensures (small_at c.args.counts.now c.classes.i n c.item-count.ensures small)))
+    same (and_then (c.classes.invariant small) (c.then_class_row-pen.ensures (small_at c.args.counts.now c.classes.i n c.item-count.ensures small)))
     (sym (taken_more count_row c.args.counts.now c.classes.i n c.item-count.ensures))
 
 pub returns : goal.returns

@@ -3,7 +3,7 @@ use Rattle.fault_sites.specs.Sites.{each_below}
 use Rattle.verdict_tables.specs.SumText.{delay_text}
 use Rattle.fault_cover.specs.CoverText.{delay_row, heard_of, is_late, refused_only, row_text}
 use Rattle.fault_cover.proofs.Tallying.{count_few}
-use Rattle.fault_cover.proofs.Going.{and_then, same, unmoved}
+use Rattle.vcp_outside.specs.Pens.{unmoved, and_then, same}
 use Rattle.fault_cover.proofs.writing.then_delay_rows.Goals as goal
 
 pub delays-init : goal.delays-init
@@ -14,7 +14,7 @@ delays-preserved g c = λ covered are few.
     let n = c.delays.n in
     let is = c.delayed.ensures covered are few in
     let most = count_few (is_late n) (heard_of covered) in
-    let row = c.then_delay_row.ensures (omega (arith, is, most, few)) in
+    let row = c.then_delay_row-pen.ensures (omega (arith, is, most, few)) in
     same (and_then (c.delays.invariant covered are few) row)
     (ap (each_below (delay_row (heard_of covered))) (add-one n)
     ∙ ap (λ m. each_below (delay_row (heard_of covered)) n ++ row_text (delay_text n) (refused_only m)) (sym is))

@@ -1,10 +1,11 @@
-use Rattle.std.proofs.Common.{◌≤◌, ◌+◌, ◌++◌, ◌∙◌, ap, arith, flat_map, length, sym, take, take_all}
+use Rattle.std.proofs.Common.{◌≤◌, ◌+◌, [], ◌++◌, ◌∙◌, ap, arith, flat_map, length, sym, take, take_all}
 use Rattle.fault_cover.specs.Classes.{of_classes, singles}
 use Rattle.fault_cover.specs.CoverText.{heard_of, shows_text}
 use Rattle.fault_cover.specs.Telling.{subject}
 use Rattle.fault_cover.proofs.Covering.{nothing_shown}
-use Rattle.fault_cover.proofs.Going.{passes_both, passes_none, passes_same, same, taken_more, unmoved}
+use Rattle.fault_cover.proofs.Going.{passes_both, passes_none, passes_same, taken_more}
 use Rattle.fault_cover.proofs.Hearing.{heard_of_are, heard_once}
+use Rattle.vcp_outside.specs.Pens.{unmoved, same}
 use Rattle.fault_cover.proofs.writing.then_showing.Goals as goal
 
 pub returns-then-shows-eq0 : goal.returns-then-shows-eq0
@@ -22,7 +23,7 @@ classes-preserved g c = λ stops survey.
     let i = c.classes.i in
     let past = flat_map (λ d. singles d graph) (take i classes) in
     passes_same (past ++ singles one graph) (flat_map (λ d. singles d graph) (take (i + 1) classes))
-    (passes_both past (singles one graph) (c.classes.invariant stops survey) (c.then_class_faults.ensures stops survey))
+    (passes_both past (singles one graph) (c.classes.invariant stops survey) (c.then_class_faults-showing.ensures stops survey))
     (taken_more (λ d. singles d graph) classes i one c.item-class.ensures)
 
 pub returns : goal.returns
@@ -33,6 +34,6 @@ returns g c = λ stops survey covered are shows.
     let past : length classes ≤ c.classes.i = omega (arith, c.classes-test.false) in
     let passes = passes_same (flat_map (λ d. singles d graph) (take c.classes.i classes)) (of_classes classes graph) (c.classes.invariant stops survey)
     (ap (flat_map (λ d. singles d graph)) (take_all c.classes.i classes past)) in
-    same passes.gathers
+    same (passes.kept _ [] unmoved)
     (ap (flat_map (λ h. shows_text graph h.fault h.told))
     (heard_once s (of_classes classes graph) (heard_of covered) passes.heard (heard_of_are s classes covered are) passes.are))
