@@ -125,17 +125,15 @@ fn is_signed(ty: Option<Ty>, rest: &[u8]) -> bool
     takes_sign(ty) && (first == b'+' || first == b'-')
 }
 
-fn run_len(rest: &[u8]) -> usize
-    ensures { result ≡ prefix_len spec.is_run rest.now }
-{
-    rest.iter().take_while(|b| is_run(**b)).count()
-}
-
 // The longest run at the front.
 fn run(rest: &[u8]) -> &[u8]
     ensures { result.now ≡ spec.run rest.now }
 {
-    front(rest, run_len(rest))
+    let mut n = 0;
+    while n < rest.len() && is_run(rest[n]) {
+        n += 1;
+    }
+    front(rest, n)
 }
 
 fn with_sign(sign: u8, number: u64) -> i64
@@ -181,20 +179,14 @@ fn plain_literal(ty: Option<Ty>, rest: &[u8]) -> Option<Literal>
     }
 }
 
-fn any_literal(ty: Option<Ty>, rest: &[u8]) -> Option<Literal>
-    ensures { result ≡ spec.literal_at ty rest.now }
+/// The literal that begins at the front, behind its prefix.
+pub fn literal_at(ty: Option<Ty>, rest: &[u8]) -> Option<Literal>
+    ensures value { result ≡ spec.literal_at ty rest.now }
+    ensures within { IfSome result (λ l. l.len ≤ length rest.now) }
 {
     if is_signed(ty, rest) {
         signed_literal(ty, rest)
     } else {
         plain_literal(ty, rest)
     }
-}
-
-/// The literal that begins at the front, behind its prefix.
-pub fn literal_at(ty: Option<Ty>, rest: &[u8]) -> Option<Literal>
-    ensures value { result ≡ spec.literal_at ty rest.now }
-    ensures within { IfSome result (λ l. l.len ≤ length rest.now) }
-{
-    any_literal(ty, rest)
 }

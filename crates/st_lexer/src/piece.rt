@@ -146,13 +146,21 @@ fn opening_at(at: usize, rest: &[u8]) -> Opening
 fn word_len(rest: &[u8]) -> usize
     ensures { result ≡ prefix_len is_word_byte rest.now }
 {
-    rest.iter().take_while(|b| is_letter_or_digit(**b)).count()
+    let mut n = 0;
+    while n < rest.len() && is_letter_or_digit(rest[n]) {
+        n += 1;
+    }
+    n
 }
 
 fn line_len(rest: &[u8]) -> usize
     ensures { result ≡ prefix_len is_not_lf rest.now }
 {
-    rest.iter().take_while(|b| **b != b'\n').count()
+    let mut n = 0;
+    while n < rest.len() && rest[n] != b'\n' {
+        n += 1;
+    }
+    n
 }
 
 // Where the comment at the front ends; `last` is the last byte of its closing mark.
