@@ -16,7 +16,7 @@ EXPECTED = {
     # the law of operands, which some twenty lemmas of expressions carry
     ("flat_expr", "op_graph::OperandLaw"),
     # the part of a word behind a byte
-    ("fault_names", "vcp_base::Firsts"),
+    ("fault_sites", "vcp_base::Firsts"),
     # graphs, scripts and verdicts of worked rows
     ("fault_campaign", "fault_injector::WorkedVerdicts"),
     ("fault_injector", "run_report::OperationRows"),

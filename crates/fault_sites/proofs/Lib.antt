@@ -29,3 +29,12 @@ mod Worked
 pub mod Lists
 pub mod Plain
 pub mod WrittenScripts
+pub mod Checked
+pub mod Cuts
+pub mod Fitted
+pub mod Found
+pub mod NamedGoing
+pub mod NamedReadBack
+pub mod LinesTaken
+mod NamedShort
+mod NamedWorked

@@ -20,3 +20,9 @@ pub mod SiteText
 pub mod Sites
 pub mod Spending
 pub mod Telling
+pub mod NamedEntries
+pub mod NamedLaws
+pub mod NamedLines
+pub mod NamedOperations
+pub mod NamedScript
+pub mod NamedWords

@@ -15,6 +15,7 @@ mod graph_values;
 mod late;
 mod laws;
 mod lines;
+mod named;
 mod next_word;
 mod nowhere;
 mod part;
@@ -42,6 +43,10 @@ pub use laws::{
     parts_are_the_whole,
 };
 pub use lines::{classes_name, classes_named, then_rest, then_site, verb};
+pub use named::{
+    Acts, MOST_NAMED_BYTES, Meant, Refused, Span, Why, a_script_by_names_is_read_back, check,
+    meaning, operation_named, write_script,
+};
 pub use next_word::next_is;
 pub use nowhere::Nowhere;
 pub use part::Part;

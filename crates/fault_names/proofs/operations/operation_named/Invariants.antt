@@ -1,9 +1,0 @@
-use Rattle.std.proofs.Common.{◌≡◌, ◌<◌, IfOk}
-use Rattle.fault_names.specs.Operations.{named_below, the_one}
-use Rattle.fault_names.proofs.operations.operation_named.Given as goal
-
-abbrev pub invariant-operations : goal.invariant-operations
-invariant-operations l = record {
-  so_far : the_one (named_below l.graph l.kind l.name l.i) ≡ l.found;
-  there : IfOk l.found (λ k. k < l.i);
-}

@@ -1,0 +1,90 @@
+//! Which operation a name names.
+
+ghost use Rattle.std.specs.Prelude.{◌≡◌, ◌<◌, IfOk, length};
+ghost use Rattle.fault_sites.specs.NamedOperations.{is_kind as is_kind_of, may_be_alone as may_be_alone_of, is_variable as is_variable_of, is_at as is_at_of};
+ghost use Rattle.fault_sites.specs.NamedOperations.{is_named as is_named_of, found_next};
+ghost use Rattle.fault_sites.specs.NamedOperations.{operation_named as operation_named_of};
+ghost use Rattle.fault_sites.specs.NamedWords.{spot_of};
+
+use crate::named::cutting::spot;
+use crate::named::refused::Why;
+use op_graph::{Graph, Op};
+use run_report::variable_name;
+use vcp_base::{Kind, Spot, is_same_name, kind_code};
+
+/// Whether an operation is of this kind, where one is said.
+fn is_kind(kind: Option<Kind>, other: Kind) -> bool
+    ensures { result ≡ is_kind_of kind other }
+{
+    match kind {
+        None => true,
+        Some(said) => kind_code(said) == kind_code(other),
+    }
+}
+
+/// Whether the kind is said, or the operation is no LOAD.
+fn may_be_alone(kind: Option<Kind>, other: Kind) -> bool
+    ensures { result ≡ may_be_alone_of kind other }
+{
+    match kind {
+        Some(_) => true,
+        None => match other {
+            Kind::Load => false,
+            _ => true,
+        },
+    }
+}
+
+/// Whether an operation is that of a variable.
+fn is_variable(graph: &Graph, kind: Option<Kind>, name: &[u8], op: &Op) -> bool
+    ensures { result ≡ is_variable_of graph.now kind name.now op.now }
+{
+    may_be_alone(kind, op.kind)
+        && is_same_name(name, variable_name(graph, op.kind, op.imm.unsigned_abs()))
+}
+
+/// Whether an operation comes from a place.
+fn is_at(place: Option<Spot>, other: Spot) -> bool
+    ensures { result ≡ is_at_of place other }
+{
+    match place {
+        None => false,
+        Some(spot) => spot.line == other.line && spot.col == other.col,
+    }
+}
+
+/// Whether an operation has a name, which is this place where it is one.
+fn is_named(graph: &Graph, kind: Option<Kind>, name: &[u8], place: Option<Spot>, op: &Op) -> bool
+    requires { place ≡ spot_of name.now }
+    ensures { result ≡ is_named_of graph.now kind name.now op.now }
+{
+    is_kind(kind, op.kind) && (is_variable(graph, kind, name, op) || is_at(place, op.spot))
+}
+
+/// The one of some operations that has a name, with operation `i` behind them, which has the name or hasn't.
+fn with_next(found: Result<u32, Why>, i: u32, is: bool) -> Result<u32, Why>
+    ensures { result ≡ found_next found i is }
+{
+    if !is {
+        return found;
+    }
+    match found {
+        Err(Why::Unknown) => Ok(i),
+        _ => Err(Why::Several),
+    }
+}
+
+/// The operation that has a name, of this kind where one is said. A name is a variable or a place in the
+/// source; one that no operation has, or more than one, is refused.
+pub fn operation_named(graph: &Graph, kind: Option<Kind>, name: &[u8]) -> Result<u32, Why>
+    ensures value { result ≡ operation_named_of graph.now kind name.now }
+    ensures there { IfOk result (λ k. k < length graph.now.operations) }
+{
+    let place = spot(name);
+    let mut found = Err(Why::Unknown);
+    'operations: for i in 0..graph.len() {
+        let op = graph.operation(i);
+        found = with_next(found, i, is_named(graph, kind, name, place, &op));
+    }
+    found
+}

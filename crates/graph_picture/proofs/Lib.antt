@@ -1,9 +1,0 @@
-mod ByDepth
-mod Going
-mod Lines
-mod OwnRows
-mod Seen
-mod WholeDrawing
-mod WholeText
-mod Counted
-mod WorstIs

@@ -1,6 +1,0 @@
-use Rattle.std.proofs.Common.{◌≡◌}
-use Rattle.graph_picture.specs.Colours.{colour_of}
-use Rattle.graph_picture.proofs.colours.colour_of.Given as goal
-
-abbrev pub invariant-outputs : goal.invariant-outputs
-invariant-outputs l = l.colour ≡ colour_of l.weights l.op l.distances l.output

@@ -1,6 +1,0 @@
-use Rattle.std.proofs.Common.{◌≡◌, max, drop}
-use Rattle.graph_picture.specs.Depths.{deepest}
-use Rattle.graph_picture.proofs.columns.deepest.Given as goal
-
-abbrev pub invariant-depths : goal.invariant-depths
-invariant-depths l = max l.greatest (deepest (drop l.i l.depths)) ≡ deepest l.depths

@@ -1,6 +1,0 @@
-use Rattle.graph_picture.specs.DotText.{cells_below}
-use Rattle.vcp_outside.specs.Pens.{Goes}
-use Rattle.graph_picture.proofs.dot.cells.then_cells.Given as goal
-
-abbrev pub invariant-cells : goal.invariant-cells
-invariant-cells g l = Goes (g.P.Pen.seen l.fn.pen) (g.P.Pen.seen l.pen) (cells_below l.graph l.k)

@@ -1,8 +1,0 @@
-use Rattle.std.proofs.Common.{flat_map, []}
-use Rattle.graph_picture.specs.Drawn.{wires_below}
-use Rattle.graph_picture.specs.DotText.{wire_text}
-use Rattle.vcp_outside.specs.Pens.{Goes}
-use Rattle.graph_picture.proofs.dot.edges.then_edges.Given as goal
-
-abbrev pub invariant-operations : goal.invariant-operations
-invariant-operations g l = Goes (g.P.Pen.seen l.fn.pen) (g.P.Pen.seen l.pen) (flat_map (wire_text l.graph l.weights l.distances) (wires_below l.graph [] l.n))
