@@ -1,8 +1,8 @@
 -- NamedScripts: the script of lines that name faults.
 use Rattle.std.proofs.Common.{◌≡◌, ℕ, ◌≤◌, ◌^◌, List, length, All, Ok, ap, sym, subst, ◌∙◌, arith}
 use Rattle.op_graph.specs.Rules.{IsGraph}
-use Rattle.fault_names.specs.Entries.{most_named_bytes, checked, text_of_script}
-use Rattle.fault_names.specs.Laws.{Compiled, IsCompiled, IsShortEnough}
+use Rattle.fault_sites.specs.NamedEntries.{most_named_bytes, checked, text_of_script}
+use Rattle.fault_sites.specs.NamedLaws.{Compiled, IsCompiled, IsShortEnough}
 use Rattle.vcp_inputs.specs.declared.images.Image.{Image}
 use Rattle.vcp_study_core.specs.Parts.{digits}
 use Rattle.vcp_study_core.specs.Texts.{IsNamedScript}

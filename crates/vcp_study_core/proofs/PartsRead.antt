@@ -10,8 +10,8 @@ use Rattle.fault_script.specs.ScriptOf.{script_of}
 use Rattle.fault_injector.specs.declared.verdict.Verdict.{Verdict}
 use Rattle.verdict_tables.specs.declared.parts.Part.{Part}
 use Rattle.verdict_tables.specs.Remark.{is_for}
-use Rattle.graph_picture.specs.Arrangement.{Arrangement, IsArranged}
-use Rattle.graph_picture.specs.FaultsText.{IsFaultsPicture, faults_text}
+use Rattle.pictures.specs.Arrangement.{Arrangement, IsArranged}
+use Rattle.pictures.specs.FaultsText.{IsFaultsPicture, faults_text}
 use Rattle.vcp_inputs.specs.declared.images.Image.{Image}
 use Rattle.vcp_inputs.specs.Files.{FileRead}
 use Rattle.vcp_inputs.specs.Refusals.{unscripted}

@@ -5,7 +5,7 @@ use Rattle.op_graph.specs.Lists.{Lists}
 use Rattle.fault_script.specs.declared.act.Fault.{Fault as FaultOf}
 use Rattle.fault_injector.specs.declared.verdict.Verdict.{Verdict}
 use Rattle.fault_injector.specs.Names.{Names}
-use Rattle.run_picture.specs.declared.times.Period.{Period}
+use Rattle.pictures.specs.declared.waves.times.Period.{Period}
 use Rattle.verdict_tables.specs.Reading.{verdicts_in}
 use Rattle.vcp_study_core.specs.CarriedOut.{WritesSo}
 use Rattle.vcp_study_core.specs.FromFiles.{fault_answer, as_found, own_answer}

@@ -3,9 +3,9 @@ use Rattle.std.proofs.Common.{◌≤◌, inl, inr, ℕ, Bool, List, refl}
 use Rattle.vcp_outside.specs.Seen.{SinkSeen}
 use Rattle.op_graph.specs.Lists.{Lists}
 use Rattle.weight_audit.specs.Audit.{Audit, IsAudit, most_weights, weights_up_to}
-use Rattle.graph_picture.specs.Arrangement.{Arrangement, IsArranged}
-use Rattle.graph_picture.specs.Elements.{IsGraphPicture, graph_text}
-use Rattle.graph_picture.specs.DotText.{IsDotOf, dot_text}
+use Rattle.pictures.specs.Arrangement.{Arrangement, IsArranged}
+use Rattle.pictures.specs.Elements.{IsGraphPicture, graph_text}
+use Rattle.pictures.specs.DotText.{IsDotOf, dot_text}
 use Rattle.vcp_inputs.specs.declared.images.Image.{Image}
 use Rattle.vcp_inputs.specs.declared.refusal.NoInput.{NoInput}
 use Rattle.vcp_inputs.specs.declared.refusal.NoInput.TheVariants as input

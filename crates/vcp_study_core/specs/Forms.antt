@@ -13,8 +13,8 @@ use Rattle.fault_sites.specs.RunSites.{run_class_of}
 use Rattle.fault_sites.specs.SiteText.{classes_of}
 use Rattle.fault_sites.specs.declared.scripts.chosen.Chosen.{Chosen}
 use Rattle.fault_sites.specs.declared.scripts.chosen.Chosen.TheVariants as chosen
-use Rattle.run_picture.specs.declared.times.Period.{Period}
-use Rattle.run_picture.specs.Times.{period_of}
+use Rattle.pictures.specs.declared.waves.times.Period.{Period}
+use Rattle.pictures.specs.Times.{period_of}
 use Rattle.vcp_study_core.specs.declared.command.StudyCommand.{StudyCommand}
 use Rattle.vcp_study_core.specs.declared.command.StudyCommand.TheVariants as command
 use Rattle.vcp_study_core.specs.declared.command.AloneStudy.{AloneStudy}

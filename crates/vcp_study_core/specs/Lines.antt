@@ -1,10 +1,10 @@
 -- Lines: the lines of what this program alone refuses. Each begins with a file's name, and ends with LF.
 use Rattle.std.specs.Prelude.{ℕ, List, ◌++◌, codes}
 use Rattle.input_rows.specs.declared.fault.RowFault.TheVariants as rows
-use Rattle.run_picture.specs.declared.fault.RunTextFault.{RunTextFault}
-use Rattle.run_picture.specs.declared.fault.RunTextFault.TheVariants as fault
-use Rattle.fault_names.specs.declared.refused.Why.{Why}
-use Rattle.fault_names.specs.declared.refused.Why.TheVariants as reason
+use Rattle.pictures.specs.declared.waves.fault.RunTextFault.{RunTextFault}
+use Rattle.pictures.specs.declared.waves.fault.RunTextFault.TheVariants as fault
+use Rattle.fault_sites.specs.declared.named.refused.Why.{Why}
+use Rattle.fault_sites.specs.declared.named.refused.Why.TheVariants as reason
 use Rattle.vcp_inputs.specs.Lines.{memory_text, place_text, rows_text}
 use Rattle.verdict_tables.specs.declared.fault.VerdictsFault.{VerdictsFault}
 use Rattle.verdict_tables.specs.declared.fault.VerdictsFault.TheVariants as verdicts

@@ -2,14 +2,14 @@
 use Rattle.std.specs.Prelude.{ℕ, List, [], Some, None, ◌≡◌}
 use Rattle.vcp_base.specs.Limits.{most_image_bytes, most_rows_bytes}
 use Rattle.vcp_outside.specs.Held.{Held}
-use Rattle.fault_names.specs.Entries.{most_named_bytes}
+use Rattle.fault_sites.specs.NamedEntries.{most_named_bytes}
 use Rattle.fault_sites.specs.Rests.{groups}
 use Rattle.fault_sites.specs.RunSites.{run_class_name, run_sites as run_sites_of}
 use Rattle.fault_sites.specs.Laws.{Distinct}
 use Rattle.fault_sites.specs.SiteText.{classes_name}
 use Rattle.fault_sites.specs.Sites.{sites as sites_of}
-use Rattle.graph_picture.specs.DotText.{IsDotOf}
-use Rattle.graph_picture.specs.Elements.{IsGraphPicture}
+use Rattle.pictures.specs.DotText.{IsDotOf}
+use Rattle.pictures.specs.Elements.{IsGraphPicture}
 use Rattle.verdict_tables.specs.SameEndings.{endings_over, sum_apart_text}
 use Rattle.verdict_tables.specs.SumText.{sum_text}
 use Rattle.vcp_inputs.specs.declared.images.Image.{Image}

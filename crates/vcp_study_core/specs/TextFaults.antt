@@ -2,8 +2,8 @@
 use Rattle.std.specs.Prelude.{ℕ, ◌≡◌, ◌≢◌, List, Err}
 use Rattle.op_graph.specs.Lists.{Lists}
 use Rattle.fault_script.specs.declared.act.Fault.{Fault as FaultOf}
-use Rattle.run_picture.specs.RunOf.{run_of}
-use Rattle.run_picture.specs.declared.fault.RunTextFault.TheVariants as run_fault
+use Rattle.pictures.specs.RunOf.{run_of}
+use Rattle.pictures.specs.declared.waves.fault.RunTextFault.TheVariants as run_fault
 use Rattle.verdict_tables.specs.Reading.{verdicts_in}
 use Rattle.verdict_tables.specs.declared.fault.VerdictsFault.TheVariants as verdicts_fault
 use Rattle.vcp_study_core.specs.declared.fault.Fault.{Fault}

@@ -8,11 +8,11 @@ use Rattle.range_walk.specs.declared.range.Range.{Range}
 use Rattle.range_walk.specs.declared.range.Stops.{Stops}
 use Rattle.range_audit.specs.Audit.{IsAuditWithin, named_below, NamesStops, NeverStops, NeverStopsWithin}
 use Rattle.range_audit.specs.RangeText.{ranges_text}
-use Rattle.run_picture.specs.Elements.{IsPictureOf}
-use Rattle.run_picture.specs.RunOf.{Recorded, run_of}
-use Rattle.run_picture.specs.declared.fault.RunTextFault.{RunTextFault}
-use Rattle.run_picture.specs.declared.fault.RunTextFault.TheVariants as run_fault
-use Rattle.run_picture.specs.declared.times.Period.{Period}
+use Rattle.pictures.specs.WavesElements.{IsPictureOf}
+use Rattle.pictures.specs.RunOf.{Recorded, run_of}
+use Rattle.pictures.specs.declared.waves.fault.RunTextFault.{RunTextFault}
+use Rattle.pictures.specs.declared.waves.fault.RunTextFault.TheVariants as run_fault
+use Rattle.pictures.specs.declared.waves.times.Period.{Period}
 use Rattle.fault_script.specs.ScriptOf.{most_faults}
 use Rattle.fault_sites.specs.Part.{kept}
 use Rattle.fault_sites.specs.RestScript.{IsGroupScript}
@@ -25,11 +25,11 @@ use Rattle.fault_cover.specs.Certain.{CertainAtOperation, CertainAtRest, Certain
 use Rattle.fault_cover.specs.CoverText.{CoverOf}
 use Rattle.fault_cover.specs.Telling.{subject}
 use Rattle.fault_cover.specs.declared.class.CoverClasses.{CoverClasses}
-use Rattle.fault_names.specs.Entries.{checked, text_of_script}
-use Rattle.fault_names.specs.Laws.{Compiled}
-use Rattle.fault_names.specs.declared.refused.Refused.{Refused}
+use Rattle.fault_sites.specs.NamedEntries.{checked, text_of_script}
+use Rattle.fault_sites.specs.NamedLaws.{Compiled}
+use Rattle.fault_sites.specs.declared.named.refused.Refused.{Refused}
 use Rattle.fault_injector.specs.FaultLines.{totals_of}
-use Rattle.graph_picture.specs.FaultsText.{IsFaultsPicture}
+use Rattle.pictures.specs.FaultsText.{IsFaultsPicture}
 use Rattle.verdict_tables.specs.declared.parts.Part.{Part}
 use Rattle.verdict_tables.specs.Parts.{all_verdicts}
 use Rattle.verdict_tables.specs.SumText.{shows_unseen}

@@ -3,7 +3,7 @@
 use crate::part_words::{Named, PartWords};
 use fault_cover::CoverClasses;
 use fault_sites::{Chosen, Classes, RunClass};
-use run_picture::Period;
+use pictures::Period;
 use vcp_base::Text;
 use vcp_inputs::{Code, RowsWord};
 

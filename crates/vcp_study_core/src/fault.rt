@@ -3,8 +3,8 @@
 ghost use Rattle.std.specs.Prelude.{◌≡◌, Ok, Err, OnOk, OnErr};
 ghost use Rattle.vcp_study_core.specs.declared.fault.Fault.TheVariants as fault;
 
-use fault_names::Refused;
-use run_picture::RunTextFault;
+use fault_sites::Refused;
+use pictures::RunTextFault;
 use vcp_inputs::NoInput;
 use vcp_outside::Failed;
 use verdict_tables::VerdictsFault;

@@ -3,13 +3,13 @@
 ghost use Rattle.std.specs.Prelude.{◌≡◌, ◌≤◌};
 ghost use Rattle.vcp_base.specs.Limits.{most_horizon};
 ghost use Rattle.signature_table.specs.Signatures.{table_of};
-ghost use Rattle.graph_picture.specs.DotText.{IsDotOf};
-ghost use Rattle.graph_picture.specs.Elements.{IsGraphPicture};
+ghost use Rattle.pictures.specs.DotText.{IsDotOf};
+ghost use Rattle.pictures.specs.Elements.{IsGraphPicture};
 ghost use Rattle.vcp_study_core.specs.CarriedOut.{WritesSo, told_line, told_status};
 ghost use Rattle.vcp_study_core.specs.Texts.{Draws, Weighed};
 
 use crate::fault::{Fault, told};
-use graph_picture::{layout_of, write_dot as write_dot_text, write_picture};
+use pictures::{layout_of, write_dot as write_dot_text, write_picture};
 use std::alloc::Global;
 use vcp_base::{Memory, Text};
 use vcp_inputs::{Image, weights_of};

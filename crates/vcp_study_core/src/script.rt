@@ -2,7 +2,7 @@
 
 ghost use Rattle.std.specs.Prelude.{ℕ, List, ◌≡◌, ◌≤◌, length};
 ghost use Rattle.signature_table.specs.Signatures.{table_of};
-ghost use Rattle.fault_names.specs.Entries.{most_named_bytes};
+ghost use Rattle.fault_sites.specs.NamedEntries.{most_named_bytes};
 ghost use Rattle.vcp_study_core.specs.CarriedOut.{Studies, WritesSo, told_line, told_status};
 ghost use Rattle.vcp_study_core.specs.Forms.{script_named};
 ghost use Rattle.vcp_study_core.specs.Tasks.{StudyOf};
@@ -10,8 +10,9 @@ ghost use Rattle.vcp_study_core.specs.Texts.{NamedScript};
 
 use crate::fault::{Fault, StudyRefusal, told};
 use crate::loading::bytes_under;
-use fault_names::{MOST_NAMED_BYTES, a_script_by_names_is_read_back, check, write_script};
-use fault_sites::image_digest;
+use fault_sites::{
+    MOST_NAMED_BYTES, a_script_by_names_is_read_back, check, image_digest, write_script,
+};
 use std::alloc::Global;
 use vcp_base::Text;
 use vcp_inputs::Image;

@@ -7,9 +7,9 @@ ghost use Rattle.vcp_study_core.specs.FromFiles.{fault_answer};
 ghost use Rattle.vcp_study_core.specs.Lines.{own_text, refused_words as refused_words_of, run_text, said_text, verdicts_text};
 
 use crate::fault::{Fault, StudyRefusal};
-use fault_names::Why;
+use fault_sites::Why;
 use input_rows::RowFault;
-use run_picture::RunTextFault;
+use pictures::RunTextFault;
 use vcp_inputs::{Refusal, input_status, tell_input, tell_of, tell_place, tell_refusal};
 use vcp_outside::{Failed, Sink, write_all};
 use verdict_tables::VerdictsFault;

@@ -7,7 +7,7 @@ ghost use Rattle.vcp_study_core.specs.Texts.{Waves};
 
 use crate::fault::{Fault, StudyRefusal, told};
 use crate::loading::bytes_under;
-use run_picture::{Period, RunTextFault, read_run, write_waves};
+use pictures::{Period, RunTextFault, read_run, write_waves};
 use std::alloc::Global;
 use vcp_base::{MOST_ROWS_BYTES, Text};
 use vcp_outside::{Files, Sink};

@@ -16,7 +16,7 @@ use crate::command::{AloneStudy, ImageStudy, StudyCommand};
 use crate::part_words::{Named, PartWords};
 use fault_cover::classes_named as cover_classes_named;
 use fault_sites::{Chosen, Part, classes_named, run_class_named};
-use run_picture::{Period, period_named};
+use pictures::{Period, period_named};
 use vcp_base::{MOST_CYCLES, MOST_HORIZON, Text, Words, numeral, same_bytes};
 use vcp_inputs::{CommandWords, RowsWord};
 use verdict_tables::MOST_PARTS;

@@ -1,5 +1,5 @@
 use Rattle.std.proofs.Common.{false, refl}
-use Rattle.graph_picture.specs.DotText.{IsDotOf, dot_text}
+use Rattle.pictures.specs.DotText.{IsDotOf, dot_text}
 use Rattle.vcp_study_core.specs.Texts.{Draws, Weighed, few}
 use Rattle.vcp_study_core.proofs.Carrying.{wrote}
 use Rattle.vcp_study_core.proofs.Weights.{dot_of, unweighed}

@@ -1,5 +1,5 @@
 use Rattle.std.proofs.Common.{false, refl}
-use Rattle.graph_picture.specs.Elements.{IsGraphPicture, graph_text}
+use Rattle.pictures.specs.Elements.{IsGraphPicture, graph_text}
 use Rattle.vcp_study_core.specs.Texts.{Draws, Weighed, few}
 use Rattle.vcp_study_core.proofs.Facts.{appends-nothing}
 use Rattle.vcp_study_core.proofs.Carrying.{no_memory, wrote}

@@ -1,5 +1,5 @@
 use Rattle.std.proofs.Common.{refl, ap, ◌∙◌}
-use Rattle.graph_picture.specs.FaultsText.{faults_text}
+use Rattle.pictures.specs.FaultsText.{faults_text}
 use Rattle.verdict_tables.specs.SumText.{shows_unseen}
 use Rattle.vcp_study_core.specs.Texts.{ShowsPart}
 use Rattle.vcp_study_core.proofs.Facts.{appends-nothing}

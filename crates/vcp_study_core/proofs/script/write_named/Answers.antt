@@ -1,5 +1,5 @@
 use Rattle.std.proofs.Common.{◌≡◌, false, refl, sym, ap, ◌∙◌}
-use Rattle.fault_names.specs.Entries.{checked, text_of_script}
+use Rattle.fault_sites.specs.NamedEntries.{checked, text_of_script}
 use Rattle.vcp_study_core.specs.FromFiles.{own_answer}
 use Rattle.vcp_study_core.specs.Parts.{digits}
 use Rattle.vcp_study_core.specs.Texts.{NamedScript, refused_line, named_script}
