@@ -3,7 +3,7 @@
 ghost use Rattle.std.specs.Prelude.{◌≡◌, ◌<◌, length, slice_get};
 ghost use Rattle.std.specs.Option.{option_to_list};
 ghost use Rattle.vcp_base.specs.Spellings.{kinds};
-ghost use Rattle.fault_sites.specs.Sites.{reads as reads_of, from_one, may_stand as may_stand_of, operator_one};
+ghost use Rattle.fault_sites.specs.Sites.{reads as reads_of, from_one, operator_one};
 ghost use Rattle.fault_sites.specs.Acts.{act_at, columns as columns_of_class, rows as rows_of_class};
 
 use crate::class::Class;
@@ -39,19 +39,12 @@ pub fn from_of(graph: &Graph, op: &Op, j: u32, r: u32) -> Option<Act>
     }
 }
 
-/// Whether another kind has as many operands.
-fn may_stand(kind: Kind, other: Kind) -> bool
-    ensures { result ≡ may_stand_of kind other }
-{
-    operands(other) == operands(kind) && kind_code(other) != kind_code(kind)
-}
-
 /// The call as one of the kind with the code, where that may take its place: another one of as many operands.
 pub fn operator_of(kind: Kind, code: u8) -> Option<Act>
     ensures { operator_one kind (slice_get kinds code) ≡ option_to_list result }
 {
     let other = kind_of_code(code)?;
-    if may_stand(kind, other) {
+    if operands(other) == operands(kind) && kind_code(other) != kind_code(kind) {
         Some(Act::Operator { kind: other })
     } else {
         None

@@ -1,10 +1,10 @@
 //! Flips of bits of words, whose signs are taken from a run without faults.
 
-ghost use Rattle.std.specs.Prelude.{◌≡◌, ◌<◌, ◌≤◌, ◌/◌, ◌%◌, ◌^◌, ◌==◌, length};
+ghost use Rattle.std.specs.Prelude.{◌≡◌, ◌<◌, ◌/◌, ◌%◌, ◌^◌, ◌==◌};
 ghost use Rattle.vcp_base.specs.Limits.{most_cycles};
 ghost use Rattle.vcp_base.specs.Values.{at as at_of};
-ghost use Rattle.fault_sites.specs.Flips.{bit_of, flip as flip_of, flipped_bits, flips_in};
-ghost use Rattle.fault_sites.specs.RunCycle.{as_cycle, expected_word as expected_word_of};
+ghost use Rattle.fault_sites.specs.Flips.{bit_of, flip as flip_of, flipped_bits};
+ghost use Rattle.fault_sites.specs.RunCycle.{expected_word as expected_word_of};
 
 use crate::cycle_values::CycleValues;
 use crate::graph_values::at;
@@ -48,28 +48,16 @@ fn bit(w: Word, b: u32) -> bool
     }
 }
 
-/// What flips bit `b` of a word, where it is added.
-fn flip(w: Word, b: u32) -> i64
-    requires { b < flipped_bits }
-    ensures { result ≡ flip_of w b }
-{
-    if bit(w, b) { -power(b) } else { power(b) }
-}
-
-/// Bit `b` of the result of operation `k` is flipped.
+/// Bit `b` of the result of operation `k` is flipped: minus 2^b is added where the bit is 1, and plus 2^b where it is 0.
 pub(crate) fn flipped(c: &CycleValues<'_>, k: u32, b: u32) -> Act
     requires few { c.now.cycle < most_cycles }
     requires bit { b < flipped_bits }
     ensures { result ≡ Act.ResultAdd (flip_of (expected_word_of c.now.table.now c.now.cycle k (at_of c.now.values.now k)) b) }
 {
     let word = expected_word(c.table, c.cycle, k, at(c.values, k as u64));
-    Act::ResultAdd { e: flip(word, b) }
-}
-
-/// How many flips there are in a cycle.
-pub(crate) fn count_flips_in(c: &CycleValues<'_>) -> u64
-    ensures count { result ≡ length (flips_in (as_cycle c.now)) }
-    ensures few { result ≤ 2097152 }
-{
-    c.graph.len() as u64 * BITS as u64
+    let size = power(b);
+    if bit(word, b) {
+        return Act::ResultAdd { e: -size };
+    }
+    Act::ResultAdd { e: size }
 }

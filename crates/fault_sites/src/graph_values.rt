@@ -59,23 +59,19 @@ fn append(values: &mut Vec<i64>, value: &i64)
     }
 }
 
-/// The value of input `n`; 0 where there is none.
-fn input(row: &Row, n: u64) -> i64
-    ensures { result ≡ at_of row.now n }
-{
-    if n < row.len() as u64 {
-        row.at(n as usize)
-    } else {
-        0
-    }
-}
-
-/// The operation's own number.
+/// The operation's own number: of an INPUT its value, 0 where there is none.
 fn own(row: &Row, op: &Op) -> i64
     ensures { result ≡ own_of row.now op.now.kind op.now.imm }
 {
     match op.kind {
-        Kind::Input => input(row, op.imm.unsigned_abs()),
+        Kind::Input => {
+            let n = op.imm.unsigned_abs();
+            if n < row.len() as u64 {
+                row.at(n as usize)
+            } else {
+                0
+            }
+        }
         _ => op.imm,
     }
 }

@@ -4,8 +4,7 @@ ghost use Rattle.std.specs.Prelude.{◌≡◌, ◌<◌, ◌≤◌, ◌+◌, ◌-
 ghost use Rattle.std.specs.Option.{option_to_list};
 ghost use Rattle.vcp_base.specs.Limits.{most_cycles};
 ghost use Rattle.fault_sites.specs.Late.{late_add, late_addend, late_one, loads_from as loads_from_of};
-ghost use Rattle.fault_sites.specs.Late.{may_be_late as may_be_late_of, past_word as past_word_of, read_word as read_word_of};
-ghost use Rattle.fault_sites.specs.Late.{stored_word as stored_word_of};
+ghost use Rattle.fault_sites.specs.Late.{may_be_late as may_be_late_of, read_word as read_word_of};
 ghost use Rattle.fault_sites.specs.RunCycle.{as_cycle};
 
 use crate::cycle_values::CycleValues;
@@ -37,28 +36,7 @@ pub fn may_be_late(graph: &Graph, op: &Op, j: u32, r: u32, source: &Op) -> bool
     within(source.ty, operand_type(op.kind, j, op.from)) && !loads_from(graph, op, r)
 }
 
-/// The word that operation `r` answered in the cycle before.
-fn past_word(c: &CycleValues<'_>, r: u32) -> Word
-    requires later { 0 < c.now.cycle }
-    requires few { c.now.cycle < most_cycles }
-    ensures { result ≡ past_word_of (as_cycle c.now) r }
-{
-    expected_word(c.table, c.cycle - 1, r, at(c.past, r as u64))
-}
-
-/// What a LOAD reads, where the value is `v`: the word of its cell's STORE of the cycle before.
-fn stored_word(c: &CycleValues<'_>, v: i64, store: Option<u32>) -> Word
-    requires later { 0 < c.now.cycle }
-    requires few { c.now.cycle < most_cycles }
-    ensures { result ≡ stored_word_of (as_cycle c.now) v store }
-{
-    match store {
-        Some(store) => expected_word(c.table, c.cycle - 1, store, v),
-        None => Word::ZERO,
-    }
-}
-
-/// What operand `j` is.
+/// What operand `j` is: of a LOAD the word of its cell's STORE of the cycle before.
 fn read_word(c: &CycleValues<'_>, op: &Op, j: u32) -> Word
     requires later { 0 < c.now.cycle }
     requires few { c.now.cycle < most_cycles }
@@ -66,7 +44,10 @@ fn read_word(c: &CycleValues<'_>, op: &Op, j: u32) -> Word
 {
     let v = operand(c.cells, c.values, op, j);
     match op.kind {
-        Kind::Load => stored_word(c, v, store_of(c.graph, op)),
+        Kind::Load => match store_of(c.graph, op) {
+            Some(store) => expected_word(c.table, c.cycle - 1, store, v),
+            None => Word::ZERO,
+        },
         _ => expected_word(c.table, c.cycle, named(op, j), v),
     }
 }
@@ -77,7 +58,8 @@ fn addend(c: &CycleValues<'_>, op: &Op, j: u32, r: u32) -> i128
     requires few { c.now.cycle < most_cycles }
     ensures { result ≡ late_addend (as_cycle c.now) op.now j r }
 {
-    past_word(c, r).get() - read_word(c, op, j).get()
+    let past = expected_word(c.table, c.cycle - 1, r, at(c.past, r as u64));
+    past.get() - read_word(c, op, j).get()
 }
 
 /// So much is added to operand `j`, where it isn't 0, which would be no fault, and a line may have it: at most 2^62 in size.

@@ -2,7 +2,7 @@
 
 ghost use Rattle.std.specs.Prelude.{◌≡◌};
 ghost use Rattle.vcp_outside.specs.Pens.{Goes};
-ghost use Rattle.fault_sites.specs.SiteText.{class_name as class_name_of, classes_name as classes_name_of, classes_of, verb as verb_of, rest as rest_of};
+ghost use Rattle.fault_sites.specs.SiteText.{classes_name as classes_name_of, classes_of, verb as verb_of, rest as rest_of};
 ghost use Rattle.fault_sites.specs.SiteText.{site_line};
 
 use crate::class::{Class, Classes};
@@ -11,25 +11,16 @@ use fault_script::Act;
 use vcp_base::{kind_name, same_bytes};
 use vcp_outside::Pen;
 
-/// The word that names a class.
-fn class_name(class: Class) -> &'static [u8]
-    ensures { result.now ≡ class_name_of class }
-{
-    match class {
-        Class::Bits => b"bits",
-        Class::Stale => b"stale",
-        Class::Skip => b"skip",
-        Class::From => b"from",
-        Class::Operator => b"operator",
-    }
-}
-
 /// The word that names one class, or all.
 pub fn classes_name(classes: Classes) -> &'static [u8]
     ensures { result.now ≡ classes_name_of classes }
 {
     match classes {
-        Classes::One(class) => class_name(class),
+        Classes::One(Class::Bits) => b"bits",
+        Classes::One(Class::Stale) => b"stale",
+        Classes::One(Class::Skip) => b"skip",
+        Classes::One(Class::From) => b"from",
+        Classes::One(Class::Operator) => b"operator",
         Classes::All => b"all",
     }
 }

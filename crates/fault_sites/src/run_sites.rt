@@ -14,7 +14,7 @@ ghost use Rattle.vcp_outside.specs.Pens.{Goes};
 
 use crate::counts::BEHIND_ALL;
 use crate::cycle_values::CycleValues;
-use crate::flips::count_flips_in;
+use crate::flips::BITS;
 use crate::graph_values::GraphValues;
 use crate::nowhere::Nowhere;
 use crate::part::Part;
@@ -58,7 +58,7 @@ fn then_flips<P: Pen>(told: Telling<P>, c: &CycleValues<'_>) -> Telling<P>
     ensures { Tells (P.seen told.pen) (P.seen result.pen) told.part result.part (flips_in (as_cycle c.now)) }
 {
     let Telling { pen, part } = told;
-    let count = count_flips_in(c);
+    let count = c.graph.len() as u64 * BITS as u64;
     if count <= part.skip {
         let part = Part {
             skip: part.skip - count,

@@ -69,21 +69,7 @@ fn read_in_cycle(graph: &Graph, by_word: &mut [WordReadings]) -> Result<(), Memo
     Ok(())
 }
 
-/// The reading of a STORE's word by the LOAD of its cell.
-fn cross(cell: &Cell, by_word: &mut [WordReadings]) -> Result<(), Memory>
-    requires { cell.now.store < length by_word.old }
-    ensures { OnOk result (Adds (λ k. reading_across k cell.now) by_word.old by_word.new) }
-{
-    let reading = Reading {
-        op: cell.load,
-        operand: 0,
-        borders: 1,
-        multiplier: 1,
-    };
-    add(by_word, cell.store, reading)
-}
-
-/// The readings of the STOREs' words in the next cycle.
+/// The readings of the STOREs' words by the LOADs of their cells, in the next cycle.
 fn read_across(graph: &Graph, by_word: &mut [WordReadings]) -> Result<(), Memory>
     requires graph { IsGraph graph.now }
     requires count { length by_word.old ≡ length graph.now.operations }
@@ -93,7 +79,13 @@ fn read_across(graph: &Graph, by_word: &mut [WordReadings]) -> Result<(), Memory
     entries_keep_their_rules();
     'cells: for i in 0..graph.cells() {
         let cell = graph.cell(i);
-        cross(&cell, by_word)?;
+        let reading = Reading {
+            op: cell.load,
+            operand: 0,
+            borders: 1,
+            multiplier: 1,
+        };
+        add(by_word, cell.store, reading)?;
     }
     Ok(())
 }

@@ -1,8 +1,7 @@
 //! Which operation a name names.
 
 ghost use Rattle.std.specs.Prelude.{◌≡◌, ◌<◌, IfOk, length};
-ghost use Rattle.fault_sites.specs.NamedOperations.{is_kind as is_kind_of, may_be_alone as may_be_alone_of, is_variable as is_variable_of, is_at as is_at_of};
-ghost use Rattle.fault_sites.specs.NamedOperations.{is_named as is_named_of, found_next};
+ghost use Rattle.fault_sites.specs.NamedOperations.{is_at as is_at_of, is_named as is_named_of, found_next};
 ghost use Rattle.fault_sites.specs.NamedOperations.{operation_named as operation_named_of};
 ghost use Rattle.fault_sites.specs.NamedWords.{spot_of};
 
@@ -11,37 +10,6 @@ use crate::named::refused::Why;
 use op_graph::{Graph, Op};
 use run_report::variable_name;
 use vcp_base::{Kind, Spot, is_same_name, kind_code};
-
-/// Whether an operation is of this kind, where one is said.
-fn is_kind(kind: Option<Kind>, other: Kind) -> bool
-    ensures { result ≡ is_kind_of kind other }
-{
-    match kind {
-        None => true,
-        Some(said) => kind_code(said) == kind_code(other),
-    }
-}
-
-/// Whether the kind is said, or the operation is no LOAD.
-fn may_be_alone(kind: Option<Kind>, other: Kind) -> bool
-    ensures { result ≡ may_be_alone_of kind other }
-{
-    match kind {
-        Some(_) => true,
-        None => match other {
-            Kind::Load => false,
-            _ => true,
-        },
-    }
-}
-
-/// Whether an operation is that of a variable.
-fn is_variable(graph: &Graph, kind: Option<Kind>, name: &[u8], op: &Op) -> bool
-    ensures { result ≡ is_variable_of graph.now kind name.now op.now }
-{
-    may_be_alone(kind, op.kind)
-        && is_same_name(name, variable_name(graph, op.kind, op.imm.unsigned_abs()))
-}
 
 /// Whether an operation comes from a place.
 fn is_at(place: Option<Spot>, other: Spot) -> bool
@@ -53,12 +21,20 @@ fn is_at(place: Option<Spot>, other: Spot) -> bool
     }
 }
 
-/// Whether an operation has a name, which is this place where it is one.
+/// Whether an operation has a name, which is this place where it is one, and is of this kind where one is said. A variable alone names no LOAD.
 fn is_named(graph: &Graph, kind: Option<Kind>, name: &[u8], place: Option<Spot>, op: &Op) -> bool
     requires { place ≡ spot_of name.now }
     ensures { result ≡ is_named_of graph.now kind name.now op.now }
 {
-    is_kind(kind, op.kind) && (is_variable(graph, kind, name, op) || is_at(place, op.spot))
+    let is_there = is_at(place, op.spot);
+    let is_its = is_same_name(name, variable_name(graph, op.kind, op.imm.unsigned_abs()));
+    match kind {
+        Some(said) => kind_code(said) == kind_code(op.kind) && (is_its || is_there),
+        None => match op.kind {
+            Kind::Load => is_there,
+            _ => is_its || is_there,
+        },
+    }
 }
 
 /// The one of some operations that has a name, with operation `i` behind them, which has the name or hasn't.
