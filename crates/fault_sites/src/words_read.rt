@@ -1,7 +1,7 @@
 //! Where each word is read.
 
 ghost use Rattle.std.specs.Option.{is_some};
-ghost use Rattle.std.specs.Prelude.{◌≡◌, ◌<◌, ◌++◌, ◌∷◌, [], ℕ, true, cond, length, set, IfOk, OnOk};
+ghost use Rattle.std.specs.Prelude.{◌≡◌, ◌<◌, ◌++◌, ◌∷◌, [], ℕ, true, length, set, IfOk, OnOk};
 ghost use Rattle.op_graph.specs.Lists.{cells};
 ghost use Rattle.op_graph.specs.Reads.{named as named_of};
 ghost use Rattle.op_graph.specs.Rules.{IsGraph, reads_as};
@@ -90,19 +90,6 @@ fn read_across(graph: &Graph, by_word: &mut [WordReadings]) -> Result<(), Memory
     Ok(())
 }
 
-/// The same, where there is a next cycle.
-fn read_next(graph: &Graph, more: bool, by_word: &mut [WordReadings]) -> Result<(), Memory>
-    requires graph { IsGraph graph.now }
-    requires count { length by_word.old ≡ length graph.now.operations }
-    ensures { OnOk result (Adds (λ k. cond more (readings_across k (cells graph.now)) []) by_word.old by_word.new) }
-{
-    if more {
-        read_across(graph, by_word)
-    } else {
-        Ok(())
-    }
-}
-
 /// No readings of so many words.
 fn no_readings(alloc: Global, count: u32) -> Result<Vec<WordReadings>, Memory>
     ensures many { IfOk result (λ by_word. length by_word.items ≡ count) }
@@ -123,7 +110,11 @@ fn gather(graph: &Graph, more: bool, by_word: &mut [WordReadings]) -> Result<(),
     ensures { OnOk result (AreReadings graph.now more by_word.new) }
 {
     read_in_cycle(graph, by_word)?;
-    read_next(graph, more, by_word)
+    if more {
+        read_across(graph, by_word)
+    } else {
+        Ok(())
+    }
 }
 
 /// The readings of each operation's word, of a cycle behind which there is another one or none.

@@ -2,7 +2,7 @@
 
 ghost use Rattle.std.specs.Prelude.{◌≡◌, ◌<◌, ◌≤◌, IfSome, IfOk};
 ghost use Rattle.vcp_base.specs.Limits.{most_cycles};
-ghost use Rattle.fault_sites.specs.NamedWords.{last_of, span_of};
+ghost use Rattle.fault_sites.specs.NamedWords.{span_of};
 ghost use Rattle.fault_sites.specs.NamedLines.{ending_of, when_of, with_rest, is_together as is_together_of};
 
 use crate::named::cutting::cut_at;
@@ -34,39 +34,31 @@ pub enum Ending {
     },
 }
 
-/// The cycle behind the second `.` of N..M.
-fn last(text: &[u8]) -> Option<u32>
-    ensures value { result ≡ last_of text.now }
-    ensures below { IfSome result (λ n. n < most_cycles) }
-{
-    match text {
-        [b'.', word @ ..] => cycle_number(word),
-        _ => None,
-    }
-}
-
 /// One cycle, or N..M.
 pub(crate) fn cycles_said(word: &[u8]) -> Option<Span>
     ensures value { result ≡ span_of word.now }
     ensures order { IfSome result (λ s. s.first ≤ s.last) }
     ensures below { IfSome result (λ s. s.last < most_cycles) }
 {
-    match cut_at(word, b'.') {
-        None => match cycle_number(word) {
+    let Some((front, back)) = cut_at(word, b'.') else {
+        return match cycle_number(word) {
             Some(n) => Some(Span { first: n, last: n }),
             None => None,
+        };
+    };
+    let Some(first) = cycle_number(front) else {
+        return None;
+    };
+    let [b'.', word @ ..] = back else {
+        return None;
+    };
+    match cycle_number(word) {
+        Some(last) => if first <= last {
+            Some(Span { first, last })
+        } else {
+            None
         },
-        Some((front, back)) => match cycle_number(front) {
-            Some(first) => match last(back) {
-                Some(last) => if first <= last {
-                    Some(Span { first, last })
-                } else {
-                    None
-                },
-                None => None,
-            },
-            None => None,
-        },
+        None => None,
     }
 }
 
