@@ -13,3 +13,4 @@ pub mod FittingLists
 pub mod FittingOperations
 pub mod FittingGraphs
 pub mod KeyLists
+mod Walks

@@ -192,7 +192,6 @@ pub(crate) fn operations_of(
         let place = walk.place(s, i);
         let entry = op_of(s, &place, &found, bytes);
         bytes.push(&mut found, entry);
-        walk = walk.past(s, i);
     }
     found
 }

@@ -29,39 +29,43 @@ fn input_at(inputs: &[Var], i: u32) -> Option<Entry>
     }
 }
 
-/// Output `k`, where it is of operation `i`.
-fn output_at(outputs: &[Outlet], k: usize, i: u32) -> Option<Entry>
-    ensures { result ≡ entry_at (λ o. o.op) (λ o. o.ty) i k (slice_get outputs.now k) }
+/// Output `k`, where it is of operation `i`, and the number of the output to come next.
+fn output_at(outputs: &[Outlet], k: usize, i: u32) -> (Option<Entry>, usize)
+    ensures entry { result.0 ≡ entry_at (λ o. o.op) (λ o. o.ty) i k (slice_get outputs.now k) }
+    ensures next { result.1 ≡ cond (is_of (λ o. o.op) i (slice_get outputs.now k)) (k + 1) k }
 {
     match outputs.get(k) {
-        None => None,
+        None => (None, k),
         Some(o) => {
             if o.op == i {
-                Some(Entry {
+                let entry = Entry {
                     number: k,
                     ty: o.ty,
-                })
+                };
+                (Some(entry), k + 1)
             } else {
-                None
+                (None, k)
             }
         }
     }
 }
 
-/// Cell `k`, where operation `i` is its LOAD.
-fn loaded_at(loads: &[Loaded], k: usize, i: u32) -> Option<Entry>
-    ensures { result ≡ entry_at (λ l. l.load) (λ l. l.ty) i k (slice_get loads.now k) }
+/// Cell `k`, where operation `i` is its LOAD, and the number of the cell whose LOAD is to come next.
+fn loaded_at(loads: &[Loaded], k: usize, i: u32) -> (Option<Entry>, usize)
+    ensures entry { result.0 ≡ entry_at (λ l. l.load) (λ l. l.ty) i k (slice_get loads.now k) }
+    ensures next { result.1 ≡ cond (is_of (λ l. l.load) i (slice_get loads.now k)) (k + 1) k }
 {
     match loads.get(k) {
-        None => None,
+        None => (None, k),
         Some(l) => {
             if l.load == i {
-                Some(Entry {
+                let entry = Entry {
                     number: k,
                     ty: l.ty,
-                })
+                };
+                (Some(entry), k + 1)
             } else {
-                None
+                (None, k)
             }
         }
     }
@@ -80,43 +84,20 @@ fn cell_at(loads: &[Loaded], k: usize) -> Option<Entry>
     }
 }
 
-/// Cell `k`, where operation `i` is its STORE.
-fn stored_at(loads: &[Loaded], stores: &[u32], k: usize, i: u32) -> Option<Entry>
-    ensures { result ≡ store_at loads.now i k (slice_get stores.now k) }
+/// Cell `k`, where operation `i` is its STORE, and the number of the cell whose STORE is to come next.
+fn stored_at(loads: &[Loaded], stores: &[u32], k: usize, i: u32) -> (Option<Entry>, usize)
+    ensures entry { result.0 ≡ store_at loads.now i k (slice_get stores.now k) }
+    ensures next { result.1 ≡ cond (is_of (λ n. n) i (slice_get stores.now k)) (k + 1) k }
 {
     match stores.get(k) {
-        None => None,
-        Some(n) => if *n == i { cell_at(loads, k) } else { None },
-    }
-}
-
-/// One output further, where the walk has come to one of operation `i`.
-fn next_output(outputs: &[Outlet], k: usize, i: u32) -> usize
-    ensures { result ≡ cond (is_of (λ o. o.op) i (slice_get outputs.now k)) (k + 1) k }
-{
-    match outputs.get(k) {
-        None => k,
-        Some(o) => if o.op == i { k + 1 } else { k },
-    }
-}
-
-/// One LOAD further, where the walk has come to one of operation `i`.
-fn next_load(loads: &[Loaded], k: usize, i: u32) -> usize
-    ensures { result ≡ cond (is_of (λ l. l.load) i (slice_get loads.now k)) (k + 1) k }
-{
-    match loads.get(k) {
-        None => k,
-        Some(l) => if l.load == i { k + 1 } else { k },
-    }
-}
-
-/// One STORE further, where the walk has come to one of operation `i`.
-fn next_store(stores: &[u32], k: usize, i: u32) -> usize
-    ensures { result ≡ cond (is_of (λ n. n) i (slice_get stores.now k)) (k + 1) k }
-{
-    match stores.get(k) {
-        None => k,
-        Some(n) => if *n == i { k + 1 } else { k },
+        None => (None, k),
+        Some(n) => {
+            if *n == i {
+                (cell_at(loads, k), k + 1)
+            } else {
+                (None, k)
+            }
+        }
     }
 }
 
@@ -134,32 +115,27 @@ impl Walk {
         }
     }
 
-    /// What operation `i` is by the other lists, where the walk has come to it.
-    pub(crate) fn place(&self, s: &Scope<'_>, i: u32) -> Place
+    /// What operation `i` is by the other lists, where the walk has come to it. It goes past the operation.
+    pub(crate) fn place(&mut self, s: &Scope<'_>, i: u32) -> Place
         requires rising { Rising (scope_of s.now) }
-        requires here { IsAt (scope_of s.now) i self.now }
-        ensures { result ≡ place_of (scope_of s.now) i }
+        requires here { IsAt (scope_of s.now) i self.old }
+        ensures place { result ≡ place_of (scope_of s.now) i }
+        ensures past { IsAt (scope_of s.now) (i + 1) self.new }
     {
         entries_are_found_by_one_walk();
+        let (out, next_out) = output_at(s.outputs, self.out, i);
+        let (load, next_load) = loaded_at(s.loads, self.load, i);
+        let (store, next_store) = stored_at(s.loads, s.stores, self.store, i);
+        *self = Walk {
+            out: next_out,
+            load: next_load,
+            store: next_store,
+        };
         Place {
             input: input_at(s.inputs, i),
-            load: loaded_at(s.loads, self.load, i),
-            store: stored_at(s.loads, s.stores, self.store, i),
-            out: output_at(s.outputs, self.out, i),
-        }
-    }
-
-    /// Past operation `i`, where the walk has come to it.
-    pub(crate) fn past(&self, s: &Scope<'_>, i: u32) -> Walk
-        requires rising { Rising (scope_of s.now) }
-        requires here { IsAt (scope_of s.now) i self.now }
-        ensures { IsAt (scope_of s.now) (i + 1) result }
-    {
-        entries_are_found_by_one_walk();
-        Walk {
-            out: next_output(s.outputs, self.out, i),
-            load: next_load(s.loads, self.load, i),
-            store: next_store(s.stores, self.store, i),
+            load,
+            store,
+            out,
         }
     }
 }

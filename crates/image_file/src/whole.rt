@@ -91,7 +91,8 @@ fn loads_of(alloc: Global, cells: &[Cell], bytes: &mut Reader<'_>) -> Vec<Loaded
     ensures loads { bytes.new.fault ≡ None → result.items ≡ map load_of cells.now }
 {
     let mut loads = Vec::new(alloc);
-    'cells: for c in cells {
+    'cells: for i in 0..cells.len() {
+        let c = &cells[i];
         let load = Loaded {
             name: c.name,
             ty: c.ty,
@@ -109,8 +110,8 @@ fn stores_of(alloc: Global, cells: &[Cell], bytes: &mut Reader<'_>) -> Vec<u32>
     ensures stores { bytes.new.fault ≡ None → result.items ≡ map store_of cells.now }
 {
     let mut stores = Vec::new(alloc);
-    'cells: for c in cells {
-        bytes.push(&mut stores, c.store);
+    'cells: for i in 0..cells.len() {
+        bytes.push(&mut stores, cells[i].store);
     }
     stores
 }

@@ -14,10 +14,6 @@ pub place-place-requires-clause-rising : goal.place-place-requires-clause-rising
 place-place-requires-clause-rising c =
     c.requires.rising (c.entries.invariant.0.before (none_is c.entries.bytes.fault (sym c.is_some.ensures ∙ c.if-is_some.false)))
 
-pub past-walk-requires-clause-rising : goal.past-walk-requires-clause-rising
-past-walk-requires-clause-rising c =
-    c.requires.rising (c.entries.invariant.0.before (none_is c.entries.bytes.fault (sym c.is_some.ensures ∙ c.if-is_some.false)))
-
 pub op_of-entry-requires-clause-few : goal.op_of-entry-requires-clause-few
 op_of-entry-requires-clause-few c =
     let len = c.entries.invariant.1 (none_is c.entries.bytes.fault (sym c.is_some.ensures ∙ c.if-is_some.false)) in
@@ -27,7 +23,7 @@ pub entries-preserved : goal.entries-preserved
 entries-preserved c =
     let s : Said = said_of c.args.s.now in
     let len = c.entries.invariant.1 (none_is c.entries.bytes.fault (sym c.is_some.ensures ∙ c.if-is_some.false)) in
-    let here : c.place-place.result ≡ place_of s.scope (length c.entries.found.items) = c.place-place.ensures ∙ ap (place_of s.scope) (sym len) in
+    let here : c.place-place.result ≡ place_of s.scope (length c.entries.found.items) = c.place-place.ensures.place ∙ ap (place_of s.scope) (sym len) in
     let known = subst (λ (b : List Op). GoesOn {B = Op × List ℕ} c.entries.bytes.fault c.op_of-entry.new.bytes.fault
     ((op_by c.place-place.result s b).read c.entries.bytes.left.now)
     (Ok (c.op_of-entry.result, c.op_of-entry.new.bytes.left.now))) c.deref.ensures.value c.op_of-entry.ensures in
@@ -38,7 +34,7 @@ entries-preserved c =
       one_more (λ b. (op_piece s b).read) c.entries.found.items c.entries.found.items _ c.args.count c.entries.i c.op_of-entry.result
           c.entries.invariant.0 c.entries-test.true refl reads c.push.ensures.keeps c.push.ensures.pushed,
       λ o. rw (c.push.ensures.pushed o) (omega (arith, len, more)),
-      c.past-walk.ensures,
+      c.place-place.ensures.past,
     )
 
 pub returns-then-is_some : goal.returns-then-is_some
