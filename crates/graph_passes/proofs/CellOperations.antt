@@ -97,6 +97,15 @@ kind_store : (k : Kind) → is_store k ≡ true → k ≡ kind.Store
 kind_store kind.Store h = refl
 kind_store _ h = absurd cc
 
+-- another kind is neither
+pub not_load : (k : Kind) → (k ≡ kind.Load → ⊥) → is_load k ≡ false
+not_load kind.Load other = absurd (other refl)
+not_load _ other = refl
+
+pub not_store : (k : Kind) → (k ≡ kind.Store → ⊥) → is_store k ≡ false
+not_store kind.Store other = absurd (other refl)
+not_store _ other = refl
+
 load_is : (entries : EntryLaws) (g : Lists) → IsGraph g → (q : ℕ) (op : Op) → slice_get g.operations q ≡ Some op → (k : ℕ) (l : Loaded) →
     slice_get g.loads k ≡ Some l → q ≡ l.load → op.kind ≡ kind.Load
 load_is entries g graph q op there k l at is =

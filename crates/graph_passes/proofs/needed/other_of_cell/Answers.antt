@@ -1,12 +1,10 @@
-use Rattle.std.proofs.Common.{ℕ, ◌<◌, ◌≤◌, w32, ◌≡◌, false, Some, slice_get, sym, ap, subst, ◌∙◌, rules, w64, arith}
+use Rattle.std.proofs.Common.{ℕ, ◌<◌, ◌≤◌, w32, ◌≡◌, Some, slice_get, sym, ap, subst, ◌∙◌, rules, w64, arith}
 use mir.Val.{Fits, SFits}
 use Rattle.std.proofs.lemmas.Int.{to_z-of_z}
 use Rattle.std.specs.Prelude.{unsigned_abs}
-use Rattle.std.proofs.lemmas.Grind.{common_steps}
 use Rattle.vcp_base.specs.Limits.{most_cells}
 use Rattle.vcp_base.specs.declared.kind.Kind.TheVariants as kind
-use Rattle.op_graph.specs.Rules.{is_load, is_store}
-use Rattle.graph_passes.proofs.CellOperations.{load_inside, store_inside, joined_long, other_of_load, other_of_store, other_of_none}
+use Rattle.graph_passes.proofs.CellOperations.{load_inside, store_inside, joined_long, other_of_load, other_of_store, other_of_none, not_load, not_store}
 use Rattle.graph_passes.proofs.Copies.{cell_parts}
 use Rattle.graph_passes.proofs.needed.other_of_cell.Goals as goal
 
@@ -102,7 +100,6 @@ pub returns-in_default : goal.returns-in_default
 returns-in_default c =
     let g = c.args.graph.now in
     let op = c.operation-op.result in
-    let no_load : is_load op.kind ≡ false = first_of (cc, grind (arith, common_steps)) in
-    let no_store : is_store op.kind ≡ false = first_of (cc, grind (arith, common_steps)) in
-    let other = other_of_none c.entries_keep_their_rules.ensures g c.requires.graph c.args.q op c.operation-op.ensures no_load no_store in
+    let other = other_of_none c.entries_keep_their_rules.ensures g c.requires.graph c.args.q op c.operation-op.ensures
+    (not_load op.kind c.in_default.not-Load) (not_store op.kind c.in_default.not-Store) in
     record { there = other.inside; sound = other.sound; complete = other.complete }
