@@ -10,7 +10,7 @@ use Rattle.vcp_base.specs.Limits.{most_operations}
 use Rattle.op_graph.specs.declared.build.Build.{Build}
 use Rattle.op_graph.specs.declared.build.Build.TheVariants as build
 use Rattle.vcp_typed.specs.declared.slot.Slot.{Slot}
-use Rattle.vcp_typed.specs.declared.slot.Slots.{Slots}
+use Rattle.st_tree.specs.declared.nodes.Nodes.{Nodes}
 use Rattle.vcp_typed.specs.Fitting.{output_columns}
 use Rattle.vcp_typed.specs.Meaning.{Stop}
 use Rattle.vcp_typed.specs.SourceRun.{is_input, outputs}
@@ -18,7 +18,7 @@ use Rattle.flat_expr.specs.State.{State, IsState, IsPlace, IsHeld, IsCell, Knows
 use Rattle.flat_expr.specs.State.{whole_size, run}
 
 -- the flattening is of these slots
-abbrev pub IsOver : State → Slots → Type 0
+abbrev pub IsOver : State → Nodes Slot → Type 0
 IsOver s slots = s.slots ≡ slots.items.items
 
 -- the slot of the number

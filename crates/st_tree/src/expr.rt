@@ -190,11 +190,10 @@ impl Expr {
     pub fn unary(alloc: Global, op: UnOp, arg: Expr, spot: Spot) -> Result<Expr, Memory>
         ensures { IfOk result (λ e. expr_tree e ≡ unary_tree op (expr_tree arg) spot) }
     {
-        Ok(Expr::Unary {
-            op,
-            arg: Box::new(alloc, arg)?,
-            spot,
-        })
+        match Box::new(alloc, arg) {
+            Ok(arg) => Ok(Expr::Unary { op, arg, spot }),
+            Err(_) => Err(Memory),
+        }
     }
 
     /// An operator between its operands; `Memory` where there is no room for it.
@@ -208,12 +207,18 @@ impl Expr {
         ensures { IfOk result
             (λ e. expr_tree e ≡ binary_tree op (expr_tree left) (expr_tree right) spot) }
     {
-        Ok(Expr::Binary {
-            op,
-            left: Box::new(alloc, left)?,
-            right: Box::new(alloc, right)?,
-            spot,
-        })
+        match Box::new(alloc, left) {
+            Ok(left) => match Box::new(alloc, right) {
+                Ok(right) => Ok(Expr::Binary {
+                    op,
+                    left,
+                    right,
+                    spot,
+                }),
+                Err(_) => Err(Memory),
+            },
+            Err(_) => Err(Memory),
+        }
     }
 
     /// A function of arguments.

@@ -8,6 +8,7 @@
 
 mod expr;
 mod laws;
+mod nodes;
 mod program;
 mod same_expr;
 mod same_program;
@@ -17,6 +18,7 @@ mod stmt;
 
 pub use expr::{BinOp, Expr, Exprs, UnOp};
 pub use laws::{trees_of_appended, trees_of_nodes};
+pub use nodes::Nodes;
 pub use program::{Block, Blocks, Decl, Declared, DeclaredNames, Decls, Program, Section};
 pub use same_program::same_tree;
 pub use spelling::{level_of, spelled_names_are_declarable, spelling_begins};

@@ -8,13 +8,6 @@ use crate::program::{Block, Decl, Declared, Program};
 use crate::same_expr::{same_expr_or_none, same_text};
 use crate::same_stmt::same_stmts;
 
-fn same_declared(a: &Declared, b: &Declared) -> bool
-    ensures { IsTrue result
-        ↔ (bare_declared (declared_tree a.now) ≡ bare_declared (declared_tree b.now)) }
-{
-    same_text(&a.name, &b.name)
-}
-
 fn same_names(a: &[Declared], b: &[Declared]) -> bool
     ensures { IsTrue result
         ↔ (map bare_declared (map declared_tree a.now)
@@ -24,7 +17,7 @@ fn same_names(a: &[Declared], b: &[Declared]) -> bool
         return false;
     }
     for i in 0..a.len() {
-        if !same_declared(&a[i], &b[i]) {
+        if !same_text(&a[i].name, &b[i].name) {
             return false;
         }
     }

@@ -5,10 +5,11 @@ ghost use Rattle.st_tree.specs.StmtTree.{assign as assign_tree, if_ as if_tree, 
 ghost use Rattle.st_tree.specs.StmtTree.{no_branches, and_branch};
 ghost use Rattle.st_tree.specs.Appended.{stmts_and, arms_and, branches_and};
 ghost use Rattle.st_tree.specs.ExprViews.{expr_tree, expr_tree_or_none};
-ghost use Rattle.st_tree.specs.StmtViews.{label_tree, label_trees, stmt_tree, stmt_trees, arm_trees, branch_trees, other_tree};
+ghost use Rattle.st_tree.specs.StmtViews.{label_trees, stmt_tree, stmt_trees, arm_trees, branch_trees, other_tree};
 ghost use Rattle.st_tree.specs.Items.{arm_items, branch_items};
 
 use crate::expr::Expr;
+use crate::nodes::Nodes;
 use std::alloc::Global;
 use vcp_base::{Memory, Spot, Text, append};
 
@@ -25,15 +26,7 @@ impl Drop for Label {
 }
 
 /// The labels of a branch of a CASE.
-pub struct Labels {
-    pub items: Vec<Label>,
-}
-
-impl Drop for Labels {
-    fn drop(self) {
-        let Labels { items: _ } = self;
-    }
-}
+pub type Labels = Nodes<Label>;
 
 /// A list of statements.
 #[cycle(stmt)]
@@ -167,46 +160,6 @@ impl Drop for Stmt {
                 spot: _,
             } => {}
         }
-    }
-}
-
-impl Labels {
-    /// A list of no labels. It takes no memory.
-    pub fn new(alloc: Global) -> Labels
-        ensures items { result.items.items ≡ [] }
-        ensures tree { label_trees result.items.items ≡ [] }
-    {
-        Labels {
-            items: Vec::new(alloc),
-        }
-    }
-
-    /// Appends a label. After `Memory` the list is unchanged.
-    pub fn push(&mut self, item: Label) -> Result<(), Memory>
-        ensures items { OnOk result (self.new.items.items ≡ self.old.items.items ++ item ∷ []) }
-        ensures tree { OnOk result
-            (label_trees self.new.items.items
-            ≡ label_trees self.old.items.items ++ label_tree item ∷ []) }
-        ensures unchanged { OnErr result (self.new.items.items ≡ self.old.items.items) }
-    {
-        append(&mut self.items, item)
-    }
-
-    /// How many labels there are.
-    pub fn len(&self) -> usize
-        ensures { result ≡ length self.now.items.items }
-    {
-        self.items.len()
-    }
-
-    /// The label at place `i`, counted from 0, where `i` is less than `len`.
-    pub fn at(&self, i: usize) -> &Label
-        requires { i < length self.now.items.items }
-        ensures item { slice_get self.now.items.items i ≡ Some result.now }
-        ensures tree { label_trees (drop i self.now.items.items)
-            ≡ label_tree result.now ∷ label_trees (drop (i + 1) self.now.items.items) }
-    {
-        &self.items[i]
     }
 }
 

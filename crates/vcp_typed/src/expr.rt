@@ -206,22 +206,20 @@ impl TExpr {
     pub fn widen(alloc: Global, ty: Ty, arg: TExpr) -> Result<TExpr, Memory>
         ensures { IfOk result (λ e. texpr_tree e ≡ widen_tree ty (texpr_tree arg)) }
     {
-        Ok(TExpr::Widen {
-            ty,
-            arg: Box::new(alloc, arg)?,
-        })
+        match Box::new(alloc, arg) {
+            Ok(arg) => Ok(TExpr::Widen { ty, arg }),
+            Err(_) => Err(Memory),
+        }
     }
 
     /// An operator before its operand; `Memory` where there is no room for it.
     pub fn unary(alloc: Global, op: UnOp, ty: Ty, arg: TExpr, spot: Spot) -> Result<TExpr, Memory>
         ensures { IfOk result (λ e. texpr_tree e ≡ unary_tree op ty (texpr_tree arg) spot) }
     {
-        Ok(TExpr::Unary {
-            op,
-            ty,
-            arg: Box::new(alloc, arg)?,
-            spot,
-        })
+        match Box::new(alloc, arg) {
+            Ok(arg) => Ok(TExpr::Unary { op, ty, arg, spot }),
+            Err(_) => Err(Memory),
+        }
     }
 
     /// An operator between its operands; `Memory` where there is no room for it.
@@ -236,13 +234,19 @@ impl TExpr {
         ensures { IfOk result
             (λ e. texpr_tree e ≡ binary_tree op ty (texpr_tree left) (texpr_tree right) spot) }
     {
-        Ok(TExpr::Binary {
-            op,
-            ty,
-            left: Box::new(alloc, left)?,
-            right: Box::new(alloc, right)?,
-            spot,
-        })
+        match Box::new(alloc, left) {
+            Ok(left) => match Box::new(alloc, right) {
+                Ok(right) => Ok(TExpr::Binary {
+                    op,
+                    ty,
+                    left,
+                    right,
+                    spot,
+                }),
+                Err(_) => Err(Memory),
+            },
+            Err(_) => Err(Memory),
+        }
     }
 
     /// A function of arguments.

@@ -9,6 +9,7 @@ ghost use Rattle.vcp_typed.specs.TStmtTree.{and_tarm, no_tbranches, and_tbranch}
 ghost use Rattle.vcp_typed.specs.TStmtViews.{tstmt_tree, tstmt_trees, tarm_trees, tbranch_trees, tother_tree, tstmts_and, tarms_and, tbranches_and};
 
 use crate::expr::TExpr;
+use st_tree::Nodes;
 use std::alloc::Global;
 use vcp_base::{Memory, Spot, append};
 
@@ -22,15 +23,7 @@ pub struct TLabel {
 }
 
 /// The labels of a branch of a CASE.
-pub struct TLabels {
-    pub items: Vec<TLabel>,
-}
-
-impl Drop for TLabels {
-    fn drop(self) {
-        let TLabels { items: _ } = self;
-    }
-}
+pub type TLabels = Nodes<TLabel>;
 
 /// A list of statements.
 #[cycle(typed_stmt)]
@@ -162,40 +155,6 @@ impl Drop for TStmt {
                 spot: _,
             } => {}
         }
-    }
-}
-
-impl TLabels {
-    /// A list of no labels. It takes no memory.
-    pub fn new(alloc: Global) -> TLabels
-        ensures { result.items.items ≡ [] }
-    {
-        TLabels {
-            items: Vec::new(alloc),
-        }
-    }
-
-    /// Appends a label. After `Memory` the list is unchanged.
-    pub fn push(&mut self, item: TLabel) -> Result<(), Memory>
-        ensures items { OnOk result (self.new.items.items ≡ self.old.items.items ++ item ∷ []) }
-        ensures unchanged { OnErr result (self.new.items.items ≡ self.old.items.items) }
-    {
-        append(&mut self.items, item)
-    }
-
-    /// How many labels there are.
-    pub fn len(&self) -> usize
-        ensures { result ≡ length self.now.items.items }
-    {
-        self.items.len()
-    }
-
-    /// The label at place `i`, counted from 0, where `i` is less than `len`.
-    pub fn at(&self, i: usize) -> &TLabel
-        requires { i < length self.now.items.items }
-        ensures { slice_get self.now.items.items i ≡ Some result.now }
-    {
-        &self.items[i]
     }
 }
 

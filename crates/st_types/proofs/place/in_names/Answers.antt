@@ -9,7 +9,7 @@ returns-then-n-count-clause-ok c = λ rest.
     let xs = c.args.names.now.items.items in (
       declared_tree c.at.result.now,
       front-place (map declared_tree xs) rest c.args.n (declared_tree c.at.result.now)
-          (get-map declared_tree xs c.args.n (Some c.at.result.now) c.at.ensures.item),
+          (get-map declared_tree xs c.args.n (Some c.at.result.now) c.at.ensures),
       refl,
     )
 
