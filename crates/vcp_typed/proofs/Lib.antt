@@ -3,6 +3,7 @@ pub mod Appends
 pub mod Columns
 pub mod Sizes
 pub mod Wides
+pub mod Growths
 pub mod Keeps
 pub mod Stops
 pub mod Worked

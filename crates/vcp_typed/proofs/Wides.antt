@@ -39,25 +39,3 @@ pub wide-for : (d : TStmt) (slot : ℕ) (first by : ℤ) (turns : ℕ) (body : T
     → stmt_is_wide (tstmt_tree d) ≡ stmts_are_wide (tstmt_trees body.items.items)
 wide-for d slot first by turns body s is =
     ap (λ (x : TStmt). stmt_is_wide (tstmt_tree x)) is ∙ ap stmt_is_wide (tree-for slot first by turns body s)
-
-next-found : (found one rest r next w : Bool) → r ≡ one → next ≡ (found || r) → (found || (one || rest)) ≡ w → (next || rest) ≡ w
-next-found true one rest r next w h k l = ap (λ b. b || rest) k ∙ l
-next-found false one rest r next w h k l = ap (λ b. b || rest) (k ∙ h) ∙ l
-
--- a turn that looks at an item
-pub found-more : {X : Type 0} (any : List X → Bool) (is_so : X → Bool) (xs : List X) (i : ℕ) (x : X) (found r next w : Bool)
-    → ((y : X) (ys : List X) → any (y ∷ ys) ≡ (is_so y || any ys)) → i < length xs → x ≡ get_or xs i x
-    → r ≡ is_so x → next ≡ (found || r) → (found || any (drop i xs)) ≡ w → (next || any (drop (i + 1) xs)) ≡ w
-found-more any is_so xs i x found r next w more lt is h k l =
-    let e : any (drop i xs) ≡ (is_so x || any (drop (i + 1) xs)) = at_drop_more any xs i x lt ∙ ap (λ y. any (y ∷ drop (i + 1) xs)) (sym is)
-    ∙ more x (drop (i + 1) xs) in
-    next-found found (is_so x) (any (drop (i + 1) xs)) r next w h k (ap (λ b. found || b) (sym e) ∙ l)
-
-or-none : (found rest w : Bool) → rest ≡ false → (found || rest) ≡ w → found ≡ w
-or-none true rest w e h = h
-or-none false rest w e h = sym e ∙ h
-
--- what was found behind the last item
-pub found-all : {X : Type 0} (any : List X → Bool) (xs : List X) (i : ℕ) (found w : Bool) → any [] ≡ false → length xs ≤ i
-    → (found || any (drop i xs)) ≡ w → found ≡ w
-found-all any xs i found w none end h = or-none found _ w (ap any (drop_all i xs end) ∙ none) h

@@ -7,6 +7,7 @@ pub mod Meaning
 pub mod SourceRun
 pub mod Size
 pub mod Wide
+pub mod Measures
 pub mod Checked
 pub mod Items
 pub mod Codes

@@ -3,6 +3,7 @@
 ghost use Rattle.std.specs.Prelude.{◌≡◌, ◌≤◌, ◌<◌, ◌+◌, ◌*◌, ◌||◌, false, sum_by};
 ghost use Rattle.std.specs.List.{list_any};
 ghost use Rattle.vcp_base.specs.Limits.{most_size};
+ghost use Rattle.vcp_typed.specs.Measures.{Grows};
 ghost use Rattle.vcp_typed.specs.Size.{cut, operator_size, function_size, expr_size, exprs_size, label_size, stmt_size, stmts_size, arms_size, branches_size};
 ghost use Rattle.vcp_typed.specs.Size.{other_size, section_size, size};
 ghost use Rattle.vcp_typed.specs.Wide.{is_lint, expr_is_wide, exprs_are_wide, stmt_is_wide, stmts_are_wide, arms_are_wide, branches_are_wide, other_is_wide};
@@ -21,40 +22,21 @@ const TOO_LARGE: u32 = MOST_SIZE + 1;
 
 /// What the walk finds of a part of a program.
 #[derive(Clone, Copy)]
-struct Measure {
+pub(crate) struct Measure {
     /// Its Size, up to the first that is too large.
-    size: u32,
+    pub size: u32,
     /// Whether a node of it has the type LINT.
-    wide: bool,
+    pub wide: bool,
 }
 
-/// The measure of a node or slot of this Size and type, without its parts.
-fn alone(size: u32, ty: Ty) -> Measure
-    ensures size { result.size ≡ size }
-    ensures wide { result.wide ≡ is_lint ty }
+/// The measure with a part of this Size, which has the type LINT or not.
+fn more(total: Measure, size: u32, wide: bool) -> Measure
+    ensures size { result.size ≡ cut (total.size + size) }
+    ensures wide { result.wide ≡ (total.wide || wide) }
 {
     Measure {
-        size,
-        wide: is_lint(ty),
-    }
-}
-
-/// The measure of what has no type.
-fn untyped(size: u32) -> Measure
-    ensures size { result.size ≡ size }
-    ensures wide { result.wide ≡ false }
-{
-    Measure { size, wide: false }
-}
-
-/// The measure of two parts.
-fn both(a: Measure, b: Measure) -> Measure
-    ensures size { result.size ≡ cut (a.size + b.size) }
-    ensures wide { result.wide ≡ (a.wide || b.wide) }
-{
-    Measure {
-        size: plus(a.size, b.size),
-        wide: either(a.wide, b.wide),
+        size: plus(total.size, size),
+        wide: total.wide || wide,
     }
 }
 
@@ -62,12 +44,6 @@ fn is_lint(ty: Ty) -> bool
     ensures { result ≡ is_lint ty }
 {
     matches!(ty, Ty::Lint)
-}
-
-fn either(a: bool, b: bool) -> bool
-    ensures { result ≡ (a || b) }
-{
-    a || b
 }
 
 /// The Size of a FOR: of its turns, or of none.
@@ -119,42 +95,40 @@ fn function_size(fun: Fun) -> u32
 }
 
 #[cycle(measure)]
-fn expr_measure(e: &TExpr) -> Measure
-    ensures size { result.size ≡ cut (expr_size (texpr_tree e.now)) }
-    ensures wide { result.wide ≡ expr_is_wide (texpr_tree e.now) }
+fn expr_measure(total: Measure, e: &TExpr) -> Measure
+    ensures { Grows total result (expr_size (texpr_tree e.now)) (expr_is_wide (texpr_tree e.now)) }
 {
     match e {
-        TExpr::Lit { ty, .. } => alone(1, *ty),
-        TExpr::Get { ty, .. } => alone(0, *ty),
-        TExpr::Widen { ty, arg } => both(alone(0, *ty), expr_measure(arg)),
-        TExpr::Unary { ty, arg, .. } => both(alone(2, *ty), expr_measure(arg)),
+        TExpr::Lit { ty, .. } => more(total, 1, is_lint(*ty)),
+        TExpr::Get { ty, .. } => more(total, 0, is_lint(*ty)),
+        TExpr::Widen { ty, arg } => expr_measure(more(total, 0, is_lint(*ty)), arg),
+        TExpr::Unary { ty, arg, .. } => expr_measure(more(total, 2, is_lint(*ty)), arg),
         TExpr::Binary {
             op,
             ty,
             left,
             right,
             ..
-        } => both(
-            both(alone(operator_size(*op), *ty), expr_measure(left)),
-            expr_measure(right),
+        } => expr_measure(
+            expr_measure(more(total, operator_size(*op), is_lint(*ty)), left),
+            right,
         ),
-        TExpr::Call { fun, ty, args, .. } => both(
-            alone(function_size(*fun), *ty),
-            exprs_measure(&args.items),
+        TExpr::Call { fun, ty, args, .. } => exprs_measure(
+            more(total, function_size(*fun), is_lint(*ty)),
+            &args.items,
         ),
     }
 }
 
 #[cycle(measure)]
-fn exprs_measure(es: &[TExpr]) -> Measure
-    ensures size { result.size ≡ cut (exprs_size (texpr_trees es.now)) }
-    ensures wide { result.wide ≡ exprs_are_wide (texpr_trees es.now) }
+fn exprs_measure(total: Measure, es: &[TExpr]) -> Measure
+    ensures { Grows total result (exprs_size (texpr_trees es.now)) (exprs_are_wide (texpr_trees es.now)) }
 {
-    let mut total = untyped(0);
+    let mut sum = total;
     'each: for e in es {
-        total = both(total, expr_measure(e));
+        sum = expr_measure(sum, e);
     }
-    total
+    sum
 }
 
 fn label_size(label: &TLabel) -> u32
@@ -174,100 +148,76 @@ fn labels_size(labels: &[TLabel]) -> u32
 }
 
 #[cycle(measures)]
-fn stmt_measure(s: &TStmt) -> Measure
-    ensures size { result.size ≡ cut (stmt_size (tstmt_tree s.now)) }
-    ensures wide { result.wide ≡ stmt_is_wide (tstmt_tree s.now) }
+fn stmt_measure(total: Measure, s: &TStmt) -> Measure
+    ensures { Grows total result (stmt_size (tstmt_tree s.now)) (stmt_is_wide (tstmt_tree s.now)) }
 {
     match s {
-        TStmt::Assign { value, .. } => both(untyped(1), expr_measure(value)),
-        TStmt::If { arms, other } => both(arms_measure(&arms.items), other_measure(other)),
+        TStmt::Assign { value, .. } => expr_measure(more(total, 1, false), value),
+        TStmt::If { arms, other } => other_measure(arms_measure(total, &arms.items), other),
         TStmt::Case {
             on,
             branches,
             other,
             ..
-        } => both(
-            both(expr_measure(on), branches_measure(&branches.items)),
-            other_measure(other),
+        } => other_measure(
+            branches_measure(expr_measure(total, on), &branches.items),
+            other,
         ),
         TStmt::For { turns, body, .. } => {
-            let body = stmts_measure(&body.items);
-            Measure {
-                size: repeated(*turns, body.size),
-                wide: body.wide,
-            }
+            let nothing = Measure {
+                size: 0,
+                wide: false,
+            };
+            let body = stmts_measure(nothing, &body.items);
+            more(total, repeated(*turns, body.size), body.wide)
         }
     }
 }
 
 #[cycle(measures)]
-fn stmts_measure(ss: &[TStmt]) -> Measure
-    ensures size { result.size ≡ cut (stmts_size (tstmt_trees ss.now)) }
-    ensures wide { result.wide ≡ stmts_are_wide (tstmt_trees ss.now) }
+fn stmts_measure(total: Measure, ss: &[TStmt]) -> Measure
+    ensures { Grows total result (stmts_size (tstmt_trees ss.now)) (stmts_are_wide (tstmt_trees ss.now)) }
 {
-    let mut total = untyped(0);
+    let mut sum = total;
     'each: for s in ss {
-        total = both(total, stmt_measure(s));
+        sum = stmt_measure(sum, s);
     }
-    total
+    sum
 }
 
 #[cycle(measures)]
-fn arms_measure(arms: &[TArm]) -> Measure
-    ensures size { result.size ≡ cut (arms_size (tarm_trees arms.now)) }
-    ensures wide { result.wide ≡ arms_are_wide (tarm_trees arms.now) }
+fn arms_measure(total: Measure, arms: &[TArm]) -> Measure
+    ensures { Grows total result (arms_size (tarm_trees arms.now)) (arms_are_wide (tarm_trees arms.now)) }
 {
-    let mut total = untyped(0);
+    let mut sum = total;
     'each: for arm in arms {
-        total = both(total, arm_measure(arm));
+        sum = stmts_measure(
+            expr_measure(more(sum, 3, false), &arm.cond),
+            &arm.body.items,
+        );
     }
-    total
+    sum
 }
 
 #[cycle(measures)]
-fn arm_measure(arm: &TArm) -> Measure
-    ensures size { result.size
-        ≡ cut (3 + expr_size (texpr_tree arm.now.cond) + stmts_size (tstmt_trees arm.now.body.items.items)) }
-    ensures wide { result.wide ≡ (expr_is_wide (texpr_tree arm.now.cond) || stmts_are_wide (tstmt_trees arm.now.body.items.items)) }
+fn branches_measure(total: Measure, branches: &[TBranch]) -> Measure
+    ensures { Grows total result (branches_size (tbranch_trees branches.now)) (branches_are_wide (tbranch_trees branches.now)) }
 {
-    both(
-        both(untyped(3), expr_measure(&arm.cond)),
-        stmts_measure(&arm.body.items),
-    )
-}
-
-#[cycle(measures)]
-fn branches_measure(branches: &[TBranch]) -> Measure
-    ensures size { result.size ≡ cut (branches_size (tbranch_trees branches.now)) }
-    ensures wide { result.wide ≡ branches_are_wide (tbranch_trees branches.now) }
-{
-    let mut total = untyped(0);
+    let mut sum = total;
     'each: for branch in branches {
-        total = both(total, branch_measure(branch));
+        let labels = plus(3, labels_size(&branch.labels.items));
+        sum = stmts_measure(more(sum, labels, false), &branch.body.items);
     }
-    total
+    sum
 }
 
 #[cycle(measures)]
-fn branch_measure(branch: &TBranch) -> Measure
-    ensures size { result.size
-        ≡ cut (3 + sum_by label_size branch.now.labels.items.items + stmts_size (tstmt_trees branch.now.body.items.items)) }
-    ensures wide { result.wide ≡ stmts_are_wide (tstmt_trees branch.now.body.items.items) }
-{
-    both(
-        untyped(plus(3, labels_size(&branch.labels.items))),
-        stmts_measure(&branch.body.items),
-    )
-}
-
-#[cycle(measures)]
-fn other_measure(other: &Option<TStmts>) -> Measure
-    ensures size { result.size ≡ cut (other_size (tother_tree other.now)) }
-    ensures wide { result.wide ≡ other_is_wide (tother_tree other.now) }
+fn other_measure(total: Measure, other: &Option<TStmts>) -> Measure
+    ensures { Grows total result (other_size (tother_tree other.now)) (other_is_wide (tother_tree other.now)) }
 {
     match other {
-        None => untyped(0),
-        Some(body) => stmts_measure(&body.items),
+        None => total,
+        Some(body) => stmts_measure(total, &body.items),
     }
 }
 
@@ -283,26 +233,28 @@ fn section_size(section: Section) -> u32
     }
 }
 
-fn slots_measure(slots: &[Slot]) -> Measure
-    ensures size { result.size ≡ cut (sum_by (λ s. section_size s.section) slots.now) }
-    ensures wide { result.wide ≡ list_any (λ s. is_lint s.ty) slots.now }
+fn slots_measure(total: Measure, slots: &[Slot]) -> Measure
+    ensures { Grows total result (sum_by (λ s. section_size s.section) slots.now) (list_any (λ s. is_lint s.ty) slots.now) }
 {
-    let mut total = untyped(0);
+    let mut sum = total;
     'each: for s in slots {
-        total = both(total, alone(section_size(s.section), s.ty));
+        sum = more(sum, section_size(s.section), is_lint(s.ty));
     }
-    total
+    sum
 }
 
-fn measured(slots: &Slots, body: &TStmts) -> Measure
+/// The Size of a program of these slots and this body, or 65,537 where it is more than 65,536, and whether a slot or a node
+/// of these has the type LINT.
+pub(crate) fn measured(slots: &Slots, body: &TStmts) -> Measure
     ensures size { result.size
         ≡ cut (size (record { slots = slots.now.items.items; body = tstmt_trees body.now.items.items })) }
     ensures wide { result.wide ≡ wide (record { slots = slots.now.items.items; body = tstmt_trees body.now.items.items }) }
 {
-    both(
-        both(untyped(2), slots_measure(&slots.items)),
-        stmts_measure(&body.items),
-    )
+    let own = Measure {
+        size: 2,
+        wide: false,
+    };
+    stmts_measure(slots_measure(own, &slots.items), &body.items)
 }
 
 /// The Size of a program of these slots and this body, or 65,537 where it is more than 65,536.
@@ -311,11 +263,4 @@ pub fn size_of(slots: &Slots, body: &TStmts) -> u32
         ≡ cut (size (record { slots = slots.now.items.items; body = tstmt_trees body.now.items.items })) }
 {
     measured(slots, body).size
-}
-
-/// Whether a slot or a node of these has the type LINT.
-pub(crate) fn is_wide(slots: &Slots, body: &TStmts) -> bool
-    ensures { result ≡ wide (record { slots = slots.now.items.items; body = tstmt_trees body.now.items.items }) }
-{
-    measured(slots, body).wide
 }

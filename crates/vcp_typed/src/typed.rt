@@ -7,7 +7,7 @@ ghost use Rattle.vcp_typed.specs.Size.{size};
 ghost use Rattle.vcp_typed.specs.Wide.{wide};
 ghost use Rattle.vcp_typed.specs.TStmtViews.{tstmt_trees};
 
-use crate::measure::{is_wide, size_of};
+use crate::measure::{measured, size_of};
 use crate::slot::{Slot, Slots};
 use crate::stmt::TStmts;
 use st_tree::Section;
@@ -110,7 +110,7 @@ impl Typed {
     pub fn wide(&self) -> bool
         ensures { result ≡ wide self.now }
     {
-        is_wide(&self.slots, &self.body)
+        measured(&self.slots, &self.body).wide
     }
 
     /// The Size of the program: the most operations that it is flattened to. At most 65,536.
