@@ -18,7 +18,7 @@ use Rattle.st_types.specs.declared.fault.Fault.{Fault}
 use Rattle.st_types.specs.declared.fault.Rule.TheVariants as rule
 use Rattle.st_types.specs.declared.statement.Turning.{Turning}
 use Rattle.st_types.specs.Faults.{fault}
-use Rattle.st_types.specs.Notes.{Notes}
+use Rattle.st_types.specs.Notes.{UpTo, Notes}
 use Rattle.st_types.specs.Scope.{Entry, find}
 use Rattle.st_types.specs.ExprTyping.{both, type_of, expr_of}
 use Rattle.st_types.specs.ExprSteps.{Types}
@@ -27,10 +27,26 @@ use Rattle.st_types.specs.StmtTyping.{IsBool, BoundFault, StepFault, LastFault, 
 use Rattle.st_types.specs.StmtTyping.{StmtsFault, stmts_of, ArmsFault, BranchesFault, OtherFault, assign_of, test_of, selector_of, for_of, arm_of, branch_of}
 use Rattle.st_types.specs.StmtTyping.{case_of, is_free, turns_of}
 use Rattle.st_types.specs.StmtSteps.{Gives, Numbers, Bounds, Steps, TypesLast, TypesLabel, TypesLabels, TypesStmt, TypesStmts, TypesArms}
-use Rattle.st_types.specs.StmtSteps.{TypesBranches, TypesOther, stmt_after, label_after, arm_after, branch_after, if_of, turning_of, for_with}
-use Rattle.st_types.proofs.ExprLaws.{typed-is}
+use Rattle.st_types.specs.StmtSteps.{TypesBranches, TypesOther, label_after, branch_after, turning_of, for_with}
+use Rattle.st_types.proofs.ExprLaws.{none-some, same-value, typed-is}
 use Rattle.st_types.proofs.MadeChecked.{not-zero-made}
 use Rattle.st_types.proofs.NoteLaws.{quiet, pair, third, note-where}
+use Rattle.st_types.proofs.StmtLaws.{no-stmts, no-arms}
+
+-- where no fault is noted behind a part, none was before it, and it has none
+earlier : (b c : Option Fault) (F : Fault → Type 0) → Notes b c F → c ≡ None → b ≡ None
+earlier None c F n e = refl
+earlier (Some f) c F n e = absurd (subst (λ x. UpTo x f) e (n.keeps f refl))
+
+faultless : (b c : Option Fault) (F : Fault → Type 0) → Notes b c F → c ≡ None → (f : Fault) × F f → ⊥
+faultless b c F n e h = subst (λ x. UpTo x h.0) e (n.finds h.0 h.1)
+
+-- what is built of a node that is there, or isn't
+pub none-built : {X Y : Type 0} (f : X → Y) (o : Option X) (y : Y) → o ≡ None → option_map f o ≡ Some y → ⊥
+none-built f o y is e = none-some y (sym (ap (option_map f) is) ∙ e)
+
+pub some-built : {X Y : Type 0} (f : X → Y) (o : Option X) (x : X) (y : Y) → o ≡ Some x → option_map f o ≡ Some y → f x ≡ y
+some-built f o x y is e = same-value (f x) y (sym (ap (option_map f) is) ∙ e)
 
 own-type : (s : List Entry) (e : ExprTree) (x : Option typed.TExprTree) → x ≡ expr_of s e → option_map ty_of x ≡ type_of s e
 own-type s e x is = ap (option_map ty_of) is ∙ typed-is s e
@@ -140,15 +156,19 @@ assign-types s held n e p a b c d o x r is n1 t v =
     let name = subst (λ y. Notes a b (NameFault held y p)) is n1 in
     record {
       notes = pair a b d _ _ name (pair b c d _ _ t.notes own);
-      gives = v.gives ∙ ap₂ (both (assign_of held p)) is t.gives;
+      gives = λ _. v.gives ∙ ap₂ (both (assign_of held p)) is t.gives;
     }
+
+-- IF of these parts
+abbrev pub if_of : checked.TArmTrees → checked.TOtherTree → Option checked.TStmtTree
+if_of arms o = Some (checked.if_ arms o)
 
 pub if-types : (s : List Entry) (held : List ℕ) (arms : ArmTrees) (o : OtherTree) (a b c : Option Fault) (x : Option checked.TArmTrees)
     (y : Option checked.TOtherTree) (r : Option checked.TStmtTree)
     → TypesArms s held arms a b x → TypesOther s held o b c y → r ≡ both if_of x y → TypesStmt s held (if_ arms o) a c r
 if-types s held arms o a b c x y r h k is = record {
   notes = pair a b c _ _ h.notes k.notes;
-  gives = is ∙ ap₂ (both if_of) h.gives k.gives;
+  gives = λ n. is ∙ ap₂ (both if_of) (h.gives (earlier b c _ k.notes n)) (k.gives n);
 }
 
 pub case-types : (s : List Entry) (held : List ℕ) (e : ExprTree) (branches : BranchTrees) (o : OtherTree) (p : Spot) (a b c d g : Option Fault)
@@ -164,7 +184,7 @@ case-types s held e branches o p a b c d g x q t y z r h is n sel k l gives =
     let q1 : q ≡ option_and_then selector_of (expr_of s e) = sel ∙ ap (option_and_then selector_of) h.gives in
     record {
       notes = pair a b g _ _ h.notes (pair b c g _ _ m (pair c d g _ _ k1.notes l.notes));
-      gives = gives ∙ (λ i. case_of p (q1 i) (k1.gives i) (l.gives i));
+      gives = λ e. gives ∙ (λ i. case_of p (q1 i) (k1.gives (earlier d g _ l.notes e) i) (l.gives e i));
     }
 
 for_is : (held : List ℕ) (spot : Spot) (o : Option Entry) (v w u : Option ℤ) (b : Option checked.TStmtTrees)
@@ -215,7 +235,7 @@ for-types s held n p q e f by body a c d g h k o t inner v w u y x r is ty1 in1 
           (λ m. NameFault held o p m
           ⊎ (((m ≡ fault rule.Mismatch p) × IsBool t)
           ⊎ (BoundFault s t e m ⊎ (BoundFault s t f m ⊎ (StepFault s t by m ⊎ StmtsFault s z body m)))))) in2 all));
-      gives = gives ∙ (λ i. for_of held p o (x1.gives i) (x2.gives i) (x3.gives i) (x4.gives i))
+      gives = λ z. gives ∙ (λ i. for_of held p o (x1.gives i) (x2.gives i) (x3.gives i) (x4.gives z i))
           ∙ (λ i. for_of held p (is i) (number_in s (ty2 i) e) (number_in s (ty2 i) f) (step_of s (ty2 i) by) (stmts_of s (in2 i) body));
     }
 
@@ -233,10 +253,13 @@ stmts_glue xs ys = Some (stmts_all xs ys)
 
 pub more-stmts : (s : List Entry) (held : List ℕ) (l : StmtTree) (ls : StmtTrees) (a b c : Option Fault) (x : Option checked.TStmtTree)
     (xs : Option checked.TStmtTrees) → TypesStmt s held l a b x → TypesStmts s held ls b c xs → TypesStmts s held (and_stmt l ls) a c (both stmt_cons x xs)
-more-stmts s held l ls a b c x xs h k = record { notes = pair a b c _ _ h.notes k.notes; gives = ap₂ (both stmt_cons) h.gives k.gives }
+more-stmts s held l ls a b c x xs h k = record {
+  notes = pair a b c _ _ h.notes k.notes;
+  gives = λ n. ap₂ (both stmt_cons) (h.gives (earlier b c _ k.notes n)) (k.gives n);
+}
 
 pub no-more-stmts : (s : List Entry) (held : List ℕ) (a : Option Fault) → TypesStmts s held no_stmts a a (Some checked.no_tstmts)
-no-more-stmts s held a = record { notes = quiet a (StmtsFault s held no_stmts) (λ f h. h); gives = refl }
+no-more-stmts s held a = record { notes = quiet a (StmtsFault s held no_stmts) (λ f h. h); gives = λ _. refl }
 
 stmts-assoc : (xs : checked.TStmtTrees) (x : checked.TStmtTree) (ys : checked.TStmtTrees)
     → stmts_all (tstmts_and xs x) ys ≡ stmts_all xs (checked.and_tstmt x ys)
@@ -247,12 +270,29 @@ stmts-all-none : (xs : checked.TStmtTrees) → stmts_all xs checked.no_tstmts �
 stmts-all-none checked.no_tstmts = refl
 stmts-all-none (checked.and_tstmt z xs) = ap (λ (t : checked.TStmtTrees). checked.and_tstmt z t) (stmts-all-none xs)
 
-pub stmts-on : (a b : Option checked.TStmtTrees) (x : Option checked.TStmtTree) (r : Option checked.TStmtTrees) → b ≡ both stmt_after a x
+abbrev pub stmt_after : checked.TStmtTrees → checked.TStmtTree → Option checked.TStmtTrees
+stmt_after xs x = Some (tstmts_and xs x)
+
+stmts-on : (a b : Option checked.TStmtTrees) (x : Option checked.TStmtTree) (r : Option checked.TStmtTrees) → b ≡ both stmt_after a x
     → both stmts_glue a (both stmt_cons x r) ≡ both stmts_glue b r
 stmts-on None b x r e = sym (ap (λ y. both stmts_glue y r) e)
 stmts-on (Some xs) b None r e = sym (ap (λ y. both stmts_glue y r) e)
 stmts-on (Some xs) b (Some x) None e = sym (ap (λ y. both stmts_glue y None) e)
 stmts-on (Some xs) b (Some x) (Some ys) e = ap Some (sym (stmts-assoc xs x ys)) ∙ sym (ap (λ y. both stmts_glue y (Some ys)) e)
+
+-- the list with a statement, where one was built
+pub stmts-next : (s : List Entry) (held : List ℕ) (ss : StmtTrees) (a b : Option Fault) (xs ys : checked.TStmtTrees) (x : Option checked.TStmtTree)
+    (r : Option checked.TStmtTrees)
+    → TypesStmts s held ss a b (both stmts_glue (Some xs) (both stmt_cons x r)) → ((y : checked.TStmtTree) → x ≡ Some y → ys ≡ tstmts_and xs y)
+    → TypesStmts s held ss a b (both stmts_glue (Some ys) r)
+stmts-next s held ss a b xs ys None r h add = record {
+  notes = h.notes;
+  gives = λ n. absurd (faultless a b _ h.notes n (no-stmts s held ss (sym (h.gives n))));
+}
+stmts-next s held ss a b xs ys (Some y) r h add = record {
+  notes = h.notes;
+  gives = λ n. sym (stmts-on (Some xs) (Some ys) (Some y) r (ap Some (add y refl))) ∙ h.gives n;
+}
 
 pub stmts-end : (a : Option checked.TStmtTrees) → both stmts_glue a (Some checked.no_tstmts) ≡ a
 stmts-end None = refl
@@ -275,11 +315,11 @@ more-arms s held e body p ls a b c d g x q y z h n is k l =
     let q1 : q ≡ option_and_then test_of (expr_of s e) = is ∙ ap (option_and_then test_of) h.gives in
     record {
       notes = pair a b g _ _ h.notes (pair b c g _ _ m (pair c d g _ _ k.notes l.notes));
-      gives = λ i. arm_of p (q1 i) (k.gives i) (l.gives i);
+      gives = λ e i. arm_of p (q1 i) (k.gives (earlier d g _ l.notes e) i) (l.gives e i);
     }
 
 pub no-more-arms : (s : List Entry) (held : List ℕ) (a : Option Fault) → TypesArms s held no_arms a a (Some checked.no_tarms)
-no-more-arms s held a = record { notes = quiet a (ArmsFault s held no_arms) (λ f h. h); gives = refl }
+no-more-arms s held a = record { notes = quiet a (ArmsFault s held no_arms) (λ f h. h); gives = λ _. refl }
 
 arms-assoc : (xs : checked.TArmTrees) (e : typed.TExprTree) (body : checked.TStmtTrees) (p : Spot) (ys : checked.TArmTrees)
     → arms_all (tarms_and xs e body p) ys ≡ arms_all xs (checked.and_tarm e body p ys)
@@ -290,13 +330,31 @@ arms-all-none : (xs : checked.TArmTrees) → arms_all xs checked.no_tarms ≡ xs
 arms-all-none checked.no_tarms = refl
 arms-all-none (checked.and_tarm c b q xs) = ap (λ (t : checked.TArmTrees). checked.and_tarm c b q t) (arms-all-none xs)
 
-pub arms-on : (p : Spot) (a b : Option checked.TArmTrees) (x : Option typed.TExprTree) (y : Option checked.TStmtTrees) (r : Option checked.TArmTrees)
+abbrev pub arm_after : Spot → Option checked.TArmTrees → Option typed.TExprTree → Option checked.TStmtTrees → Option checked.TArmTrees
+arm_after spot (Some arms) (Some e) (Some body) = Some (tarms_and arms e body spot)
+arm_after spot _ _ _ = None
+
+arms-on : (p : Spot) (a b : Option checked.TArmTrees) (x : Option typed.TExprTree) (y : Option checked.TStmtTrees) (r : Option checked.TArmTrees)
     → b ≡ arm_after p a x y → both arms_glue a (arm_of p x y r) ≡ both arms_glue b r
 arms-on p None b x y r e = sym (ap (λ z. both arms_glue z r) e)
 arms-on p (Some xs) b None y r e = sym (ap (λ z. both arms_glue z r) e)
 arms-on p (Some xs) b (Some x) None r e = sym (ap (λ z. both arms_glue z r) e)
 arms-on p (Some xs) b (Some x) (Some y) None e = sym (ap (λ z. both arms_glue z None) e)
 arms-on p (Some xs) b (Some x) (Some y) (Some ys) e = ap Some (sym (arms-assoc xs x y p ys)) ∙ sym (ap (λ z. both arms_glue z (Some ys)) e)
+
+-- the list with a condition and its body, where the condition was built
+pub arms-next : (s : List Entry) (held : List ℕ) (ls : ArmTrees) (a b : Option Fault) (xs ys : checked.TArmTrees) (p : Spot) (x : Option typed.TExprTree)
+    (body : checked.TStmtTrees) (r : Option checked.TArmTrees)
+    → TypesArms s held ls a b (both arms_glue (Some xs) (arm_of p x (Some body) r)) → ((e : typed.TExprTree) → x ≡ Some e → ys ≡ tarms_and xs e body p)
+    → TypesArms s held ls a b (both arms_glue (Some ys) r)
+arms-next s held ls a b xs ys p None body r h add = record {
+  notes = h.notes;
+  gives = λ n. absurd (faultless a b _ h.notes n (no-arms s held ls (sym (h.gives n))));
+}
+arms-next s held ls a b xs ys p (Some e) body r h add = record {
+  notes = h.notes;
+  gives = λ n. sym (arms-on p (Some xs) (Some ys) (Some e) (Some body) r (ap Some (add e refl))) ∙ h.gives n;
+}
 
 pub arms-end : (a : Option checked.TArmTrees) → both arms_glue a (Some checked.no_tarms) ≡ a
 arms-end None = refl
@@ -315,11 +373,11 @@ pub more-branches : (s : List Entry) (held : List ℕ) (t : Option Ty) (ls : Lis
     → TypesBranches s held t (and_branch ls body rest) a d (branch_of x y z)
 more-branches s held t ls body rest a b c d x y z h k l = record {
   notes = pair a b d _ _ h.notes (pair b c d _ _ k.notes l.notes);
-  gives = λ i. branch_of (h.gives i) (k.gives i) (l.gives i);
+  gives = λ e i. branch_of (h.gives i) (k.gives (earlier c d _ l.notes e) i) (l.gives e i);
 }
 
 pub no-more-branches : (s : List Entry) (held : List ℕ) (t : Option Ty) (a : Option Fault) → TypesBranches s held t no_branches a a (Some checked.no_tbranches)
-no-more-branches s held t a = record { notes = quiet a (BranchesFault s held t no_branches) (λ f h. h); gives = refl }
+no-more-branches s held t a = record { notes = quiet a (BranchesFault s held t no_branches) (λ f h. h); gives = λ _. refl }
 
 branches-assoc : (xs : checked.TBranchTrees) (ls : List TLabel) (body : checked.TStmtTrees) (ys : checked.TBranchTrees)
     → branches_all (tbranches_and xs ls body) ys ≡ branches_all xs (checked.and_tbranch ls body ys)
@@ -345,11 +403,14 @@ branches-end (Some xs) = ap Some (branches-all-none xs)
 -- ---- ELSE
 
 pub no-else : (s : List Entry) (held : List ℕ) (a : Option Fault) → TypesOther s held no_other a a (Some checked.no_tother)
-no-else s held a = record { notes = quiet a (OtherFault s held no_other) (λ f h. h); gives = refl }
+no-else s held a = record { notes = quiet a (OtherFault s held no_other) (λ f h. h); gives = λ _. refl }
 
 pub some-else : (s : List Entry) (held : List ℕ) (body : StmtTrees) (a b : Option Fault) (y : Option checked.TStmtTrees) (r : Option checked.TOtherTree)
     → TypesStmts s held body a b y → r ≡ option_map (λ x. checked.tother x) y → TypesOther s held (other body) a b r
-some-else s held body a b y r h is = record { notes = h.notes; gives = is ∙ ap (option_map (λ x. checked.tother x)) h.gives }
+some-else s held body a b y r h is = record {
+  notes = h.notes;
+  gives = λ n. is ∙ ap (option_map (λ x. checked.tother x)) (h.gives n);
+}
 
 -- ---- values
 

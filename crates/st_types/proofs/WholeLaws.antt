@@ -1,5 +1,5 @@
 -- WholeLaws: the typing of a program from that of its declarations and its body.
-use Rattle.std.proofs.Common.{◌≡◌, ◌⊎◌, ℕ, ◌≤◌, [], length, Option, Some, None, option_map, sym, ap, ◌∙◌, subst, arith}
+use Rattle.std.proofs.Common.{◌≡◌, ◌⊎◌, ℕ, ◌≤◌, [], length, Option, Some, None, option_map, sym, ap, subst, arith}
 use Rattle.st_tree.specs.ProgramTree.{ProgramTree}
 use Rattle.vcp_typed.specs.Size.{cut, size}
 use Rattle.vcp_typed.specs.SourceRun.{Program}
@@ -12,8 +12,6 @@ use Rattle.st_types.specs.StmtTyping.{StmtsFault, stmts_of}
 use Rattle.st_tree.specs.Declarable.{names_of}
 use Rattle.vcp_base.specs.Limits.{most_names, most_size}
 use Rattle.st_types.specs.Typing.{made, FaultAt, typed_of, IsFaultless, IsTyped}
-use Rattle.st_types.proofs.ExprLaws.{some-none}
-use Rattle.st_types.proofs.Faultless.{faultless-typed}
 use Rattle.st_types.proofs.NoteLaws.{pair}
 
 -- the faults that are noted are those of the program
@@ -32,9 +30,6 @@ pub program-gives : (p : ProgramTree) (n : Made) (o : Option TStmtTrees) → n �
 program-gives p n o e g =
     subst (λ m. option_map (program_of m) (stmts_of m.entries [] p.body) ≡ option_map (program_of n) o) e
     (ap (option_map (program_of n)) (sym g))
-
-pub never-none : (p : ProgramTree) → IsFaultless p → typed_of p ≡ None → ⊥
-never-none p never e = let k = faultless-typed p never in some-none k.0 (sym k.1 ∙ e)
 
 cut-small : (n : ℕ) → cut n ≤ most_size → n ≤ most_size
 cut-small n h = omega arith

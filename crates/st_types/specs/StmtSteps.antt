@@ -7,9 +7,8 @@ use Rattle.vcp_base.specs.Types.{is_bool}
 use Rattle.st_tree.specs.ExprTree.{ExprTree}
 use Rattle.st_tree.specs.StmtTree.{LabelTree, StmtTree, StmtTrees, ArmTrees, BranchTrees, OtherTree}
 use Rattle.vcp_typed.specs.declared.stmt.TLabel.{TLabel}
-use Rattle.vcp_typed.specs.TExprTree as typed
 use Rattle.vcp_typed.specs.TStmtTree as checked
-use Rattle.vcp_typed.specs.TStmtViews.{tstmts_and, tarms_and, tbranches_and}
+use Rattle.vcp_typed.specs.TStmtViews.{tbranches_and}
 use Rattle.st_types.specs.declared.constants.Number.{Number}
 use Rattle.st_types.specs.declared.fault.Fault.{Fault}
 use Rattle.st_types.specs.declared.statement.Turning.{Turning}
@@ -24,6 +23,11 @@ use Rattle.st_types.specs.StmtTyping.{branches_of, OtherFault, other_of}
 pub record Gives {A : Type 0} (F : Fault → Type 0) (w : A) (old new : Option Fault) (r : A) : Type 0 where
   pub notes : Notes old new F
   pub gives : r ≡ w
+
+-- the faults F are met, and r is w, where no fault is noted
+pub record Builds {A : Type 0} (F : Fault → Type 0) (w : A) (old new : Option Fault) (r : A) : Type 0 where
+  pub notes : Notes old new F
+  pub gives : new ≡ None → r ≡ w
 
 -- ---- constants
 
@@ -58,39 +62,28 @@ TypesLabels s t ls old new r = Gives (LabelsFault s t ls) (labels_of s t ls) old
 -- ---- statements
 
 abbrev pub TypesStmt : List Entry → List ℕ → StmtTree → Option Fault → Option Fault → Option checked.TStmtTree → Type 0
-TypesStmt s held x old new r = Gives (StmtFault s held x) (stmt_of s held x) old new r
+TypesStmt s held x old new r = Builds (StmtFault s held x) (stmt_of s held x) old new r
 
 abbrev pub TypesStmts : List Entry → List ℕ → StmtTrees → Option Fault → Option Fault → Option checked.TStmtTrees → Type 0
-TypesStmts s held xs old new r = Gives (StmtsFault s held xs) (stmts_of s held xs) old new r
+TypesStmts s held xs old new r = Builds (StmtsFault s held xs) (stmts_of s held xs) old new r
 
 abbrev pub TypesArms : List Entry → List ℕ → ArmTrees → Option Fault → Option Fault → Option checked.TArmTrees → Type 0
-TypesArms s held arms old new r = Gives (ArmsFault s held arms) (arms_of s held arms) old new r
+TypesArms s held arms old new r = Builds (ArmsFault s held arms) (arms_of s held arms) old new r
 
 abbrev pub TypesBranches : List Entry → List ℕ → Option Ty → BranchTrees → Option Fault → Option Fault → Option checked.TBranchTrees → Type 0
-TypesBranches s held t branches old new r = Gives (BranchesFault s held t branches) (branches_of s held t branches) old new r
+TypesBranches s held t branches old new r = Builds (BranchesFault s held t branches) (branches_of s held t branches) old new r
 
 abbrev pub TypesOther : List Entry → List ℕ → OtherTree → Option Fault → Option Fault → Option checked.TOtherTree → Type 0
-TypesOther s held o old new r = Gives (OtherFault s held o) (other_of s held o) old new r
+TypesOther s held o old new r = Builds (OtherFault s held o) (other_of s held o) old new r
 
 -- one more at the end of a list; none where a part has a fault
-
-abbrev pub stmt_after : checked.TStmtTrees → checked.TStmtTree → Option checked.TStmtTrees
-stmt_after xs x = Some (tstmts_and xs x)
 
 abbrev pub label_after : List TLabel → TLabel → Option (List TLabel)
 label_after ls l = Some (ls ++ l ∷ [])
 
-abbrev pub arm_after : Spot → Option checked.TArmTrees → Option typed.TExprTree → Option checked.TStmtTrees → Option checked.TArmTrees
-arm_after spot (Some arms) (Some e) (Some body) = Some (tarms_and arms e body spot)
-arm_after spot _ _ _ = None
-
 abbrev pub branch_after : Option checked.TBranchTrees → Option (List TLabel) → Option checked.TStmtTrees → Option checked.TBranchTrees
 branch_after (Some branches) (Some ls) (Some body) = Some (tbranches_and branches ls body)
 branch_after _ _ _ = None
-
--- IF of these parts
-abbrev pub if_of : checked.TArmTrees → checked.TOtherTree → Option checked.TStmtTree
-if_of arms o = Some (checked.if_ arms o)
 
 -- what a FOR does beside its body
 abbrev pub turning_of : List ℕ → Option Entry → Option ℤ → Option ℤ → Option ℤ → Option Turning

@@ -3,7 +3,7 @@
 //! Who gives up a part moves it into a function of this module: a value that is dropped where it stands is
 //! taken apart there, in the proof of each function that holds it.
 
-use vcp_typed::{TArms, TBranches, TExpr, TStmt, TStmts};
+use vcp_typed::{TBranches, TExpr, TStmts};
 
 /// An expression is given up.
 pub(crate) fn discard(e: TExpr) {
@@ -20,19 +20,9 @@ pub(crate) fn discard_all(list: Option<Vec<TExpr>>) {
     drop(list);
 }
 
-/// A statement is given up, where there is one.
-pub(crate) fn discard_stmt(s: Option<TStmt>) {
-    drop(s);
-}
-
-/// Statements are given up, where there are some.
-pub(crate) fn discard_body(body: Option<TStmts>) {
+/// Statements are given up.
+pub(crate) fn discard_body(body: TStmts) {
     drop(body);
-}
-
-/// The conditions of an IF with their bodies are given up.
-pub(crate) fn discard_arms(list: TArms) {
-    drop(list);
 }
 
 /// The branches of a CASE are given up.

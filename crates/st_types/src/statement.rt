@@ -1,20 +1,22 @@
 //! The typing of statements.
 
-ghost use Rattle.std.specs.Prelude.{◌≡◌, ◌≢◌, pos, IfSome, option_map, option_and_then};
+ghost use Rattle.std.specs.Prelude.{◌≡◌, ◌≢◌, pos, IfSome, Some, option_map, option_and_then};
 ghost use Rattle.st_tree.specs.StmtTree.{assign as assign_tree, if_ as if_tree, case as case_tree, for_ as for_tree};
 ghost use Rattle.st_tree.specs.ExprViews.{expr_tree, expr_tree_or_none};
 ghost use Rattle.st_tree.specs.StmtViews.{stmt_tree, stmt_trees, arm_trees, branch_trees, other_tree};
 ghost use Rattle.vcp_typed.specs.Checked.{ty_of as type_of_value};
 ghost use Rattle.vcp_typed.specs.Items.{tarm_items, tbranch_items};
+ghost use Rattle.vcp_typed.specs.TExprTree.{TExprTree};
 ghost use Rattle.vcp_typed.specs.TExprViews.{texpr_tree};
-ghost use Rattle.vcp_typed.specs.TStmtViews.{tstmt_tree, tstmt_trees, tarm_trees, tbranch_trees, tother_tree};
+ghost use Rattle.vcp_typed.specs.TStmtTree.{TStmtTree};
+ghost use Rattle.vcp_typed.specs.TStmtViews.{tstmt_tree, tstmt_trees, tarm_trees, tbranch_trees, tother_tree, tstmts_and, tarms_and};
 ghost use Rattle.st_types.specs.declared.fault.Rule.TheVariants as rule_;
 ghost use Rattle.st_types.specs.Faults.{fault};
 ghost use Rattle.st_types.specs.Full.{UnlessFull};
 ghost use Rattle.st_types.specs.ExprTyping.{both};
 ghost use Rattle.st_types.specs.StmtTyping.{entry_type, Narrows, NoTest, IsBool, assign_of, test_of, selector_of};
 ghost use Rattle.st_types.specs.StmtTyping.{turns_of as turns_of_bounds, case_of};
-ghost use Rattle.st_types.specs.StmtSteps.{Gives, TypesStmt, TypesStmts, TypesArms, TypesBranches, TypesOther, stmt_after, arm_after, branch_after, if_of};
+ghost use Rattle.st_types.specs.StmtSteps.{Gives, TypesStmt, TypesStmts, TypesArms, TypesBranches, TypesOther, branch_after};
 ghost use Rattle.st_types.specs.StmtSteps.{turning_of, for_with};
 
 use crate::environment::Environment;
@@ -22,9 +24,7 @@ use crate::fault::{Fault, Rule};
 use crate::names::Entry;
 use crate::note::{Noted, note};
 use crate::operator::{type_of, widened};
-use crate::refusals::{
-    discard, discard_arms, discard_body, discard_branches, discard_some, discard_stmt,
-};
+use crate::refusals::{discard, discard_body, discard_branches, discard_some};
 use crate::variable::{control_type, held_in, is_free, name_fault};
 use st_tree::{Arm, Branch, Expr, Stmt, Stmts, trees_of_nodes};
 use std::alloc::Global;
@@ -165,44 +165,28 @@ fn turning_of(
     })
 }
 
-// FOR of these parts; none where one of them has a fault.
-fn for_of(turning: Option<Turning>, body: Option<TStmts>, spot: Spot) -> Option<TStmt>
-    ensures { option_map tstmt_tree result ≡ for_with spot turning (option_map (λ b. tstmt_trees b.items.items) body) }
+// FOR of these parts; none where what it does beside its body has a fault.
+fn for_of(turning: Option<Turning>, body: TStmts, spot: Spot) -> Option<TStmt>
+    ensures { option_map tstmt_tree result ≡ for_with spot turning (Some (tstmt_trees body.items.items)) }
 {
-    let Some(of) = turning else {
-        discard_body(body);
-        return None;
-    };
-    let Some(body) = body else {
-        return None;
-    };
-    Some(TStmt::for_(of.slot, of.first, of.by, of.turns, body, spot))
-}
-
-// IF of these parts; none where one of them has a fault.
-fn if_of(arms: Option<TArms>, other: Option<Option<TStmts>>) -> Option<TStmt>
-    ensures { option_map tstmt_tree result
-        ≡ both if_of (option_map (λ a. tarm_trees (tarm_items a)) arms) (option_map tother_tree other) }
-{
-    let Some(arms) = arms else {
-        return None;
-    };
-    let Some(other) = other else {
-        discard_arms(arms);
-        return None;
-    };
-    Some(TStmt::if_(arms, other))
+    match turning {
+        None => {
+            discard_body(body);
+            None
+        }
+        Some(of) => Some(TStmt::for_(of.slot, of.first, of.by, of.turns, body, spot)),
+    }
 }
 
 // CASE of these parts; none where one of them has a fault.
 fn case_of(
     on: Option<TExpr>,
     branches: Option<TBranches>,
-    other: Option<Option<TStmts>>,
+    other: Option<TStmts>,
     spot: Spot,
 ) -> Option<TStmt>
     ensures { option_map tstmt_tree result
-        ≡ case_of spot (option_map texpr_tree on) (option_map (λ b. tbranch_trees (tbranch_items b)) branches) (option_map tother_tree other) }
+        ≡ case_of spot (option_map texpr_tree on) (option_map (λ b. tbranch_trees (tbranch_items b)) branches) (Some (tother_tree other)) }
 {
     let Some(on) = on else {
         return None;
@@ -211,74 +195,37 @@ fn case_of(
         discard(on);
         return None;
     };
-    let Some(other) = other else {
-        discard(on);
-        discard_branches(branches);
-        return None;
-    };
     Some(TStmt::case(on, branches, other, spot))
 }
 
 // ---- lists with one more
 
-// The statements with one more; none where one of them has a fault.
-fn with_stmt(list: Option<TStmts>, s: Option<TStmt>, full: &mut bool) -> Option<TStmts>
-    ensures { UnlessFull full.old full.new
-        (option_map (λ b. tstmt_trees b.items.items) result
-        ≡ both stmt_after (option_map (λ b. tstmt_trees b.items.items) list) (option_map tstmt_tree s)) }
+// Appends a statement, where there is one.
+fn add_stmt(list: &mut TStmts, s: Option<TStmt>, full: &mut bool)
+    ensures { UnlessFull full.old full.new ((x : TStmtTree) → option_map tstmt_tree s ≡ Some x
+        → tstmt_trees list.new.items.items ≡ tstmts_and (tstmt_trees list.old.items.items) x) }
 {
-    let Some(mut list) = list else {
-        discard_stmt(s);
-        return None;
-    };
     let Some(s) = s else {
-        discard_body(Some(list));
-        return None;
+        return;
     };
     match list.push(s) {
-        Ok(()) => Some(list),
-        Err(Memory) => {
-            discard_body(Some(list));
-            *full = true;
-            None
-        }
+        Ok(()) => {}
+        Err(Memory) => *full = true,
     }
 }
 
-// The conditions and bodies with one more; none where a part of one has a fault.
-fn with_arm(
-    list: Option<TArms>,
-    cond: Option<TExpr>,
-    body: Option<TStmts>,
-    spot: Spot,
-    full: &mut bool,
-) -> Option<TArms>
-    ensures { UnlessFull full.old full.new
-        (option_map (λ a. tarm_trees (tarm_items a)) result
-        ≡ arm_after spot (option_map (λ a. tarm_trees (tarm_items a)) list) (option_map texpr_tree cond) (option_map (λ b. tstmt_trees b.items.items) body)) }
+// Appends a condition with its body, where there is one.
+fn add_arm(list: &mut TArms, cond: Option<TExpr>, body: TStmts, spot: Spot, full: &mut bool)
+    ensures { UnlessFull full.old full.new ((e : TExprTree) → option_map texpr_tree cond ≡ Some e
+        → tarm_trees (tarm_items list.new) ≡ tarms_and (tarm_trees (tarm_items list.old)) e (tstmt_trees body.items.items) spot) }
 {
-    let Some(mut list) = list else {
-        discard_some(cond);
-        discard_body(body);
-        return None;
-    };
     let Some(cond) = cond else {
-        discard_arms(list);
         discard_body(body);
-        return None;
-    };
-    let Some(body) = body else {
-        discard(cond);
-        discard_arms(list);
-        return None;
+        return;
     };
     match list.push(TArm { cond, body, spot }) {
-        Ok(()) => Some(list),
-        Err(Memory) => {
-            discard_arms(list);
-            *full = true;
-            None
-        }
+        Ok(()) => {}
+        Err(Memory) => *full = true,
     }
 }
 
@@ -286,7 +233,7 @@ fn with_arm(
 fn with_branch(
     list: Option<TBranches>,
     labels: Option<TLabels>,
-    body: Option<TStmts>,
+    body: TStmts,
     full: &mut bool,
 ) -> Option<TBranches>
     ensures { UnlessFull full.old full.new
@@ -294,7 +241,7 @@ fn with_branch(
         ≡ branch_after
         (option_map (λ b. tbranch_trees (tbranch_items b)) list)
         (option_map (λ v. v.items.items) labels)
-        (option_map (λ b. tstmt_trees b.items.items) body)) }
+        (Some (tstmt_trees body.items.items))) }
 {
     let Some(mut list) = list else {
         discard_body(body);
@@ -303,10 +250,6 @@ fn with_branch(
     let Some(labels) = labels else {
         discard_branches(list);
         discard_body(body);
-        return None;
-    };
-    let Some(body) = body else {
-        discard_branches(list);
         return None;
     };
     match list.push(TBranch { labels, body }) {
@@ -394,7 +337,7 @@ impl Environment<'_> {
     {
         let made = self.type_arms(arms, noted);
         let rest = self.type_other(other, noted);
-        if_of(made, rest)
+        Some(TStmt::if_(made, rest))
     }
 
     // A CASE.
@@ -459,35 +402,35 @@ impl Environment<'_> {
         }
     }
 
-    /// Types statements inside FORs over the slots `held`: notes their faults, and gives the checked statements, none
+    /// Types statements inside FORs over the slots `held`: notes their faults, and gives the checked statements, any
     /// where one has a fault.
     #[cycle(statements)]
-    pub(crate) fn type_stmts(&self, stmts: &[Stmt], noted: &mut Noted) -> Option<TStmts>
+    pub(crate) fn type_stmts(&self, stmts: &[Stmt], noted: &mut Noted) -> TStmts
         ensures { UnlessFull noted.old.full noted.new.full
             (TypesStmts self.now.names.now self.now.held.now (stmt_trees stmts.now) noted.old.first noted.new.first
-            (option_map (λ b. tstmt_trees b.items.items) result)) }
+            (Some (tstmt_trees result.items.items))) }
     {
-        let mut list = Some(TStmts::new(self.alloc));
+        let mut list = TStmts::new(self.alloc);
         'each: for s in stmts {
             let made = self.type_stmt(s, noted);
-            list = with_stmt(list, made, &mut noted.full);
+            add_stmt(&mut list, made, &mut noted.full);
         }
         list
     }
 
-    // The conditions of an IF with their bodies; none where one of them has a fault.
+    // The conditions of an IF with their bodies; any where one of them has a fault.
     #[cycle(statements)]
-    fn type_arms(&self, arms: &[Arm], noted: &mut Noted) -> Option<TArms>
+    fn type_arms(&self, arms: &[Arm], noted: &mut Noted) -> TArms
         ensures { UnlessFull noted.old.full noted.new.full
             (TypesArms self.now.names.now self.now.held.now (arm_trees arms.now) noted.old.first noted.new.first
-            (option_map (λ a. tarm_trees (tarm_items a)) result)) }
+            (Some (tarm_trees (tarm_items result)))) }
     {
-        let mut list = Some(TArms::new(self.alloc));
+        let mut list = TArms::new(self.alloc);
         'each: for arm in arms {
             let e = self.type_expression(&arm.cond, noted);
             let cond = tested(e, arm.spot, &mut noted.first);
             let body = self.type_stmts(&arm.body.items, noted);
-            list = with_arm(list, cond, body, arm.spot, &mut noted.full);
+            add_arm(&mut list, cond, body, arm.spot, &mut noted.full);
         }
         list
     }
@@ -515,16 +458,13 @@ impl Environment<'_> {
 
     // The body of ELSE, where there is one.
     #[cycle(statements)]
-    fn type_other(&self, other: &Option<Stmts>, noted: &mut Noted) -> Option<Option<TStmts>>
+    fn type_other(&self, other: &Option<Stmts>, noted: &mut Noted) -> Option<TStmts>
         ensures { UnlessFull noted.old.full noted.new.full
-            (TypesOther self.now.names.now self.now.held.now (other_tree other.now) noted.old.first noted.new.first (option_map tother_tree result)) }
+            (TypesOther self.now.names.now self.now.held.now (other_tree other.now) noted.old.first noted.new.first (Some (tother_tree result))) }
     {
         match other {
-            None => Some(None),
-            Some(body) => match self.type_stmts(&body.items, noted) {
-                None => None,
-                Some(made) => Some(Some(made)),
-            },
+            None => None,
+            Some(body) => Some(self.type_stmts(&body.items, noted)),
         }
     }
 }

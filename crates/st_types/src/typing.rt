@@ -1,6 +1,6 @@
 //! The typing of programs.
 
-ghost use Rattle.std.specs.Prelude.{◌≡◌, IfErr, IfOk, None, Some, false, option_map};
+ghost use Rattle.std.specs.Prelude.{◌≡◌, IfErr, IfOk, None, Some, false};
 ghost use Rattle.st_tree.specs.ProgramTree.{ProgramTree};
 ghost use Rattle.st_tree.specs.ProgramViews.{program_tree};
 ghost use Rattle.vcp_typed.specs.SourceRun.{Program as TypedProgram};
@@ -58,16 +58,11 @@ fn limited(program: &Program, slots: Slots, body: TStmts) -> Result<Typed, TypeF
 }
 
 // The least fault that was noted; else the checked program.
-fn answered(
-    program: &Program,
-    slots: Slots,
-    body: Option<TStmts>,
-    noted: Noted,
-) -> Result<Typed, TypeFault>
+fn answered(program: &Program, slots: Slots, body: TStmts, noted: Noted) -> Result<Typed, TypeFault>
     requires names { HasNames (program_tree program.now) }
     requires notes { noted.full ≡ false → Notes None noted.first (FaultAt (program_tree program.now)) }
-    requires is { noted.full ≡ false → typed_of (program_tree program.now)
-        ≡ option_map (λ b. record { slots = slots.items.items; body = b }) (option_map (λ b. tstmt_trees b.items.items) body) }
+    requires is { noted.full ≡ false → noted.first ≡ None
+        → typed_of (program_tree program.now) ≡ Some (record { slots = slots.items.items; body = tstmt_trees body.items.items }) }
     ensures ok { IfOk result (λ t. IsTyped (program_tree program.now) t) }
     ensures err { IfErr result (Refuses (program_tree program.now)) }
 {
@@ -80,11 +75,7 @@ fn answered(
             discard_body(body);
             Err(told(fault))
         }
-        None => match body {
-            // a program without a fault has a body
-            None => unreachable!(),
-            Some(body) => limited(program, slots, body),
-        },
+        None => limited(program, slots, body),
     }
 }
 

@@ -8,11 +8,8 @@ returns-in_default c = not-full (rw c.in_default.is refl)
 pub returns-in_default-labels : goal.returns-in_default-labels
 returns-in_default-labels c = not-full (rw (c.in-Some.is, c.in_default-labels.is) refl)
 
-pub returns-in_default-body : goal.returns-in_default-body
-returns-in_default-body c = not-full (rw (c.in-Some.is, c.in-Some-labels.is, c.in_default-body.is) refl)
-
 pub returns-in-Ok : goal.returns-in-Ok
-returns-in-Ok c = not-full (rw (c.in-Some.is, c.in-Some-labels.is, c.in-Some-body.is) (ap (λ x. Some x) c.in-Ok.ensures.tree))
+returns-in-Ok c = not-full (rw (c.in-Some.is, c.in-Some-labels.is) (ap (λ x. Some x) c.in-Ok.ensures.tree))
 
 pub returns-in-Err : goal.returns-in-Err
 returns-in-Err c = is-full

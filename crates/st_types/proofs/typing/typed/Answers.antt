@@ -1,4 +1,4 @@
-use Rattle.std.proofs.Common.{[], option_map, subst, map, None}
+use Rattle.std.proofs.Common.{[], Some, subst, map, None}
 use Rattle.std.proofs.lemmas.Result.{IfErr-weaker}
 use Rattle.st_tree.specs.StmtViews.{stmt_trees}
 use Rattle.st_tree.specs.ProgramViews.{block_tree, program_tree}
@@ -14,21 +14,21 @@ pub answered-requires-clause-notes : goal.answered-requires-clause-notes
 answered-requires-clause-notes c = λ o.
     let body = subst
     (λ xs. TypesStmts c.declared-made.result.names [] (stmt_trees xs) c.declared-made.new.noted.first c.type_stmts-body.new.noted.first
-    (option_map (λ b. tstmt_trees b.items.items) c.type_stmts-body.result)) c.deref-2.ensures.value (c.type_stmts-body.ensures.is o) in
+    (Some (tstmt_trees c.type_stmts-body.result.items.items))) c.deref-2.ensures.value (c.type_stmts-body.ensures.is o) in
     let made = subst (λ xs. MakesAll (map block_tree xs) nothing_made (made_by c.declared-made.result) None c.declared-made.new.noted.first)
     c.deref.ensures.value (c.declared-made.ensures.is (c.type_stmts-body.ensures.before o)) in
     program-notes (program_tree c.args.program.now) (made_by c.declared-made.result) c.declared-made.new.noted.first c.type_stmts-body.new.noted.first
     made body.notes
 
 pub answered-requires-clause-is : goal.answered-requires-clause-is
-answered-requires-clause-is c = λ o.
+answered-requires-clause-is c = λ o n.
     let body = subst
     (λ xs. TypesStmts c.declared-made.result.names [] (stmt_trees xs) c.declared-made.new.noted.first c.type_stmts-body.new.noted.first
-    (option_map (λ b. tstmt_trees b.items.items) c.type_stmts-body.result)) c.deref-2.ensures.value (c.type_stmts-body.ensures.is o) in
+    (Some (tstmt_trees c.type_stmts-body.result.items.items))) c.deref-2.ensures.value (c.type_stmts-body.ensures.is o) in
     let made = subst (λ xs. MakesAll (map block_tree xs) nothing_made (made_by c.declared-made.result) None c.declared-made.new.noted.first)
     c.deref.ensures.value (c.declared-made.ensures.is (c.type_stmts-body.ensures.before o)) in
     program-gives (program_tree c.args.program.now) (made_by c.declared-made.result)
-    (option_map (λ b. tstmt_trees b.items.items) c.type_stmts-body.result) made.gives body.gives
+    (Some (tstmt_trees c.type_stmts-body.result.items.items)) made.gives (body.gives n)
 
 pub returns-clause-only : goal.returns-clause-only
 returns-clause-only c =

@@ -1,4 +1,4 @@
-use Rattle.std.proofs.Common.{◌≡◌, [], ◌∷◌, ◌+◌, option_map, Some, None, sym, ap, ◌∙◌, subst, arith, drop}
+use Rattle.std.proofs.Common.{◌≡◌, [], ◌∷◌, ◌+◌, option_map, Some, refl, sym, ap, ◌∙◌, subst, arith, drop}
 use Rattle.std.proofs.lemmas.List.{drop_all}
 use Rattle.st_tree.specs.StmtTree.{assign, if_, case, for_}
 use Rattle.st_tree.specs.ExprViews.{expr_tree, expr_tree_or_none}
@@ -13,8 +13,8 @@ use Rattle.st_types.specs.Full.{not-full, is-full, so, so-two, so-three, so-four
 use Rattle.st_types.proofs.Items.{from-item}
 use Rattle.st_types.proofs.Weight.{stmt_weight, stmts_weight, other_weight}
 use Rattle.st_types.proofs.Lighter.{stmt-lighter, arm-lighter, branch-lighter}
-use Rattle.st_types.proofs.StmtNodes.{if-types, case-types, for-types, stmt_cons, more-stmts, no-more-stmts, stmts-on, stmts-end, more-arms, no-more-arms}
-use Rattle.st_types.proofs.StmtNodes.{arms-on, arms-end, more-branches, no-more-branches, branches-on, branches-end, no-else, some-else}
+use Rattle.st_types.proofs.StmtNodes.{if-types, case-types, for-types, stmt_cons, more-stmts, no-more-stmts, stmts-next, stmts-end, more-arms, no-more-arms}
+use Rattle.st_types.proofs.StmtNodes.{arms-next, arms-end, more-branches, no-more-branches, branches-on, branches-end, no-else, some-else}
 use Rattle.st_types.proofs.environment.Environment.+statements.Goals as goal
 
 pub type_stmt-returns-in-Assign : goal.type_stmt-returns-in-Assign
@@ -61,7 +61,7 @@ type_if-type_other-rest-requires t c = omega arith
 
 pub type_if-returns : goal.type_if-returns
 type_if-returns t c =
-    so-two c.type_arms-made.ensures c.type_other-rest.ensures (λ h k. if-types _ _ _ _ _ _ _ _ _ _ h k c.if_of.ensures)
+    so-two c.type_arms-made.ensures c.type_other-rest.ensures (λ h k. if-types _ _ _ _ _ _ _ _ _ _ h k (ap (λ x. Some x) c.if_.ensures))
 
 pub type_case-type_branches-made-requires : goal.type_case-type_branches-made-requires
 type_case-type_branches-made-requires t c = omega arith
@@ -103,7 +103,7 @@ type_for-returns-in-Ok t c = λ spot.
     so-four c.bound-low.ensures c.bound-high.ensures c.step-step_by.ensures.is c.type_stmts.ensures (λ x1 x2 x3 x4.
     let body = subst
     (λ h. TypesStmts c.args.self.now.names.now h (stmt_trees c.args.body.now) c.step-step_by.new.noted.first c.type_stmts.new.noted.first
-    (option_map (λ b. tstmt_trees b.items.items) c.type_stmts.result)) c.deref.ensures.value x4 in
+    (Some (tstmt_trees c.type_stmts.result.items.items))) c.deref.ensures.value x4 in
     for-types _ _ _ _ spot _ _ _ _ _ _ _ _ _ _ _ _ _ _ _ _ _ _ _ c.find-x.ensures c.control_type-ty.ensures.ty c.in-Ok.ensures
     c.control_type-ty.ensures.notes x1 x2 x3 body c.turning_of-turning.ensures c.for_of.ensures)
 
@@ -119,14 +119,13 @@ type_stmts-each-preserved t c = λ end r h.
     let d : drop c.each.s-index c.args.stmts.now ≡ c.s-item.result ∷ drop (c.each.s-index + 1) c.args.stmts.now =
     from-item _ _ _ c.each-test.true c.s-item.is in
     let all = c.each.invariant end (both stmt_cons (option_map tstmt_tree c.type_stmt-made.result) r)
-    (so-three c.type_stmt-made.ensures c.with_stmt-list.ensures h (λ x p rest.
+    (so-three c.type_stmt-made.ensures c.add_stmt.ensures h (λ x p rest.
     subst (λ xs. TypesStmts c.args.self.now.names.now c.args.self.now.held.now (stmt_trees xs) c.each.noted.first end.first (both stmt_cons
     (option_map tstmt_tree c.type_stmt-made.result) r)) (sym d)
     (more-stmts _ _ _ _ _ _ _ _ _ x rest))) in
     record {
       before = all.before;
-      is = λ o. subst (λ q. TypesStmts c.args.self.now.names.now c.args.self.now.held.now (stmt_trees c.args.stmts.now) c.args.noted.now.first end.first q)
-          (stmts-on _ _ _ r (c.with_stmt-list.ensures.is (h.before o))) (all.is o);
+      is = λ o. stmts-next _ _ _ _ _ _ _ _ r (all.is o) (c.add_stmt.ensures.is (h.before o));
     }
 
 pub type_stmts-returns : goal.type_stmts-returns
@@ -147,19 +146,17 @@ pub type_arms-each-preserved : goal.type_arms-each-preserved
 type_arms-each-preserved t c = λ end r h.
     let d : drop c.each.arm-index c.args.arms.now ≡ c.arm-item.result ∷ drop (c.each.arm-index + 1) c.args.arms.now =
     from-item _ _ _ c.each-test.true c.arm-item.is in
-    let all = c.each.invariant end (arm_of c.arm-item.result.spot (option_map texpr_tree c.tested-cond.result) (option_map
-    (λ b. tstmt_trees b.items.items) c.type_stmts-body.result) r)
-    (so-four c.type_expression-e.ensures c.type_stmts-body.ensures c.with_arm-list.ensures h (λ x y p rest.
+    let all = c.each.invariant end (arm_of c.arm-item.result.spot (option_map texpr_tree c.tested-cond.result) (Some (tstmt_trees c.type_stmts-body.result.items.items)) r)
+    (so-four c.type_expression-e.ensures c.type_stmts-body.ensures c.add_arm.ensures h (λ x y p rest.
     let body = subst
     (λ xs. TypesStmts c.args.self.now.names.now c.args.self.now.held.now (stmt_trees xs) c.tested-cond.new.first c.type_stmts-body.new.noted.first
-    (option_map (λ b. tstmt_trees b.items.items) c.type_stmts-body.result)) c.deref.ensures.value y in
+    (Some (tstmt_trees c.type_stmts-body.result.items.items))) c.deref.ensures.value y in
     subst (λ xs. TypesArms c.args.self.now.names.now c.args.self.now.held.now (arm_trees xs) c.each.noted.first end.first (arm_of c.arm-item.result.spot
-    (option_map texpr_tree c.tested-cond.result) (option_map (λ b. tstmt_trees b.items.items) c.type_stmts-body.result) r)) (sym d)
+    (option_map texpr_tree c.tested-cond.result) (Some (tstmt_trees c.type_stmts-body.result.items.items)) r)) (sym d)
     (more-arms _ _ _ _ _ _ _ _ _ _ _ _ _ _ _ x c.tested-cond.ensures.notes c.tested-cond.ensures.gives body rest))) in
     record {
       before = all.before;
-      is = λ o. subst (λ q. TypesArms c.args.self.now.names.now c.args.self.now.held.now (arm_trees c.args.arms.now) c.args.noted.now.first end.first q)
-          (arms-on _ _ _ _ _ r (c.with_arm-list.ensures.is (h.before o))) (all.is o);
+      is = λ o. arms-next _ _ _ _ _ _ _ _ _ _ r (all.is o) (c.add_arm.ensures.is (h.before o));
     }
 
 pub type_arms-returns : goal.type_arms-returns
@@ -180,17 +177,16 @@ pub type_branches-each-preserved : goal.type_branches-each-preserved
 type_branches-each-preserved t c = λ end r h.
     let d : drop c.each.branch-index c.args.branches.now ≡ c.branch-item.result ∷ drop (c.each.branch-index + 1) c.args.branches.now =
     from-item _ _ _ c.each-test.true c.branch-item.is in
-    let all = c.each.invariant end (branch_of (option_map (λ v. v.items.items) c.type_labels-labels.result) (option_map
-    (λ b. tstmt_trees b.items.items) c.type_stmts-body.result) r)
+    let all = c.each.invariant end (branch_of (option_map (λ v. v.items.items) c.type_labels-labels.result) (Some (tstmt_trees c.type_stmts-body.result.items.items)) r)
     (so-four c.type_labels-labels.ensures c.type_stmts-body.ensures c.with_branch-list.ensures h (λ x y p rest.
     let labels = subst
     (λ xs. TypesLabels c.args.self.now.names.now c.args.ty (label_trees xs) c.each.noted.first c.type_labels-labels.new.noted.first
     (option_map (λ v. v.items.items) c.type_labels-labels.result)) c.deref.ensures.value x in
     let body = subst
     (λ xs. TypesStmts c.args.self.now.names.now c.args.self.now.held.now (stmt_trees xs) c.type_labels-labels.new.noted.first c.type_stmts-body.new.noted.first
-    (option_map (λ b. tstmt_trees b.items.items) c.type_stmts-body.result)) c.deref-in-each.ensures.value y in
+    (Some (tstmt_trees c.type_stmts-body.result.items.items))) c.deref-in-each.ensures.value y in
     subst (λ xs. TypesBranches c.args.self.now.names.now c.args.self.now.held.now c.args.ty (branch_trees xs) c.each.noted.first end.first (branch_of
-    (option_map (λ v. v.items.items) c.type_labels-labels.result) (option_map (λ b. tstmt_trees b.items.items) c.type_stmts-body.result) r)) (sym d)
+    (option_map (λ v. v.items.items) c.type_labels-labels.result) (Some (tstmt_trees c.type_stmts-body.result.items.items)) r)) (sym d)
     (more-branches _ _ _ _ _ _ _ _ _ _ _ _ _ labels body rest))) in
     record {
       before = all.before;
@@ -219,24 +215,11 @@ pub type_other-type_stmts-requires : goal.type_other-type_stmts-requires
 type_other-type_stmts-requires t c =
     omega (arith, ap (λ o. other_weight (other_tree o)) c.in-Some.is, ap (λ xs. stmts_weight (stmt_trees xs)) c.deref.ensures.value)
 
-pub type_other-returns-in-Some-type_stmts : goal.type_other-returns-in-Some-type_stmts
-type_other-returns-in-Some-type_stmts t c =
+pub type_other-returns-in-Some : goal.type_other-returns-in-Some
+type_other-returns-in-Some t c =
     so c.type_stmts.ensures (λ h.
     let body = subst
     (λ xs. TypesStmts c.args.self.now.names.now c.args.self.now.held.now (stmt_trees xs) c.args.noted.now.first c.type_stmts.new.noted.first
-    (option_map (λ b. tstmt_trees b.items.items) c.type_stmts.result)) c.deref.ensures.value h in
+    (Some (tstmt_trees c.type_stmts.result.items.items))) c.deref.ensures.value h in
     subst (λ o. TypesOther c.args.self.now.names.now c.args.self.now.held.now o c.args.noted.now.first c.type_stmts.new.noted.first
-    (Some (tother (tstmt_trees c.in-Some-type_stmts.made.items.items)))) (sym (ap other_tree c.in-Some.is))
-    (some-else _ _ _ _ _ _ _ body
-    (sym (ap (λ o. option_map (λ x. tother x) (option_map (λ b. tstmt_trees b.items.items) o)) c.in-Some-type_stmts.is))))
-
-pub type_other-returns-in-None-type_stmts : goal.type_other-returns-in-None-type_stmts
-type_other-returns-in-None-type_stmts t c =
-    so c.type_stmts.ensures (λ h.
-    let body = subst
-    (λ xs. TypesStmts c.args.self.now.names.now c.args.self.now.held.now (stmt_trees xs) c.args.noted.now.first c.type_stmts.new.noted.first
-    (option_map (λ b. tstmt_trees b.items.items) c.type_stmts.result)) c.deref.ensures.value h in
-    subst (λ o. TypesOther c.args.self.now.names.now c.args.self.now.held.now o c.args.noted.now.first c.type_stmts.new.noted.first None)
-    (sym (ap other_tree c.in-Some.is))
-    (some-else _ _ _ _ _ _ _ body
-    (sym (ap (λ o. option_map (λ x. tother x) (option_map (λ b. tstmt_trees b.items.items) o)) c.in-None-type_stmts.is))))
+    (Some (tother (tstmt_trees c.type_stmts.result.items.items)))) (sym (ap other_tree c.in-Some.is)) (some-else _ _ _ _ _ _ _ body refl))

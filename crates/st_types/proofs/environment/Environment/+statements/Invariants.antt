@@ -1,4 +1,4 @@
-use Rattle.std.proofs.Common.{◌+◌, Option, option_map, drop}
+use Rattle.std.proofs.Common.{◌+◌, Option, Some, option_map, drop}
 use Rattle.st_tree.specs.StmtViews.{stmt_tree, stmt_trees, arm_trees, branch_trees, other_tree}
 use Rattle.vcp_typed.specs.Items.{tarm_items, tbranch_items}
 use Rattle.vcp_typed.specs.TStmtTree.{TStmtTrees, TArmTrees, TBranchTrees}
@@ -40,14 +40,14 @@ invariant-type_stmts-each l =
     (end : Noted) (r : Option TStmtTrees)
     → UnlessFull l.noted.full end.full (TypesStmts l.self.names.now l.self.held.now (stmt_trees (drop l.s-index l.stmts)) l.noted.first end.first r)
     → UnlessFull l.initial.noted.full end.full (TypesStmts l.self.names.now l.self.held.now (stmt_trees l.stmts) l.initial.noted.first end.first
-    (both stmts_glue (option_map (λ b. tstmt_trees b.items.items) l.list) r))
+    (both stmts_glue (Some (tstmt_trees l.list.items.items)) r))
 
 abbrev pub invariant-type_arms-each : goal.invariant-type_arms-each
 invariant-type_arms-each l =
     (end : Noted) (r : Option TArmTrees)
     → UnlessFull l.noted.full end.full (TypesArms l.self.names.now l.self.held.now (arm_trees (drop l.arm-index l.arms)) l.noted.first end.first r)
     → UnlessFull l.initial.noted.full end.full (TypesArms l.self.names.now l.self.held.now (arm_trees l.arms) l.initial.noted.first end.first
-    (both arms_glue (option_map (λ a. tarm_trees (tarm_items a)) l.list) r))
+    (both arms_glue (Some (tarm_trees (tarm_items l.list))) r))
 
 abbrev pub invariant-type_branches-each : goal.invariant-type_branches-each
 invariant-type_branches-each l =
