@@ -1,10 +1,5 @@
 //! Why a text doesn't tell the verdicts of a script.
 
-ghost use Rattle.std.specs.Prelude.{◌≡◌};
-ghost use Rattle.verdict_tables.specs.declared.fault.VerdictsFault.TheVariants as fault;
-
-use vcp_base::Memory;
-
 /// Why a text doesn't tell the verdicts of a script's groups, with the number of its first refused line, counted from 1.
 #[derive(Clone, Copy)]
 pub enum VerdictsFault {
@@ -35,12 +30,4 @@ pub enum VerdictsFault {
     },
     /// There was no memory. It is merged with no other cause.
     Memory,
-}
-
-impl From<Memory> for VerdictsFault {
-    ghost from_gives = { λ _ f. f ≡ fault.Memory };
-
-    fn from(_: Memory) -> VerdictsFault {
-        VerdictsFault::Memory
-    }
 }
