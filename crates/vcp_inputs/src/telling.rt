@@ -2,14 +2,14 @@
 
 ghost use Rattle.std.specs.Prelude.{◌≡◌, [], ◌∷◌, ◌++◌, codes};
 ghost use Rattle.vcp_outside.specs.Written.{WritesTo};
-ghost use Rattle.vcp_outside.specs.Gathering.{GathersTo};
+ghost use Rattle.vcp_outside.specs.Pens.{Goes};
 ghost use Rattle.vcp_inputs.specs.Lines.{diagnostic, diagnostic_text, refusal_text, input_text};
 ghost use Rattle.vcp_inputs.specs.Lines.{input_status as status_of_input};
 ghost use Rattle.vcp_inputs.specs.Told.{as_diagnostic, told_text};
 
 use crate::diagnostics::{Told, told_of};
 use crate::refusal::{NoInput, Refusal};
-use vcp_outside::{Failed, Line, Sink, write_all};
+use vcp_outside::{Failed, LinePen, Pen, Sink, write_all};
 
 /// The line where memory was wanted.
 const NO_MEMORY: &[u8] = b"no memory\n";
@@ -50,37 +50,32 @@ fn tell<E: Sink>(err: &mut E, name: &[u8], told: &Told) -> Result<(), Failed>
     if let Told::Memory = told {
         return write_all(err, NO_MEMORY);
     }
-    let mut line = Line::new();
-    line.text(err, name);
-    then_told(&mut line, err, told);
-    line.end(err)
+    let pen = LinePen::new(err).text(name);
+    then_told(pen, told).end()
 }
 
 // Goes on with what is told, behind a file's name.
-fn then_told<E: Sink>(line: &mut Line, err: &mut E, told: &Told)
-    ensures { GathersTo (E.seen err.old) (E.seen err.new) line.old line.new (told_text told.now) }
+fn then_told<P: Pen>(pen: P, told: &Told) -> P
+    ensures { Goes (P.seen pen) (P.seen result) (told_text told.now) }
 {
     match told {
-        Told::Whole(what) => line.texts(err, b" ", what),
-        Told::Place(place, what) => {
-            line.numbered(err, b":", *place as u64);
-            line.texts(err, b" ", what);
-        }
+        Told::Whole(what) => pen.texts(b" ", what),
+        Told::Place(place, what) => pen.numbered(b":", *place as u64).texts(b" ", what),
         Told::Pair(row, column, what) => {
-            line.numbered(err, b":", *row as u64);
-            line.numbered(err, b":", *column as u64);
-            line.texts(err, b" ", what);
+            pen.numbered(b":", *row as u64)
+                .numbered(b":", *column as u64)
+                .texts(b" ", what)
         }
         Told::Correction {
             offset,
             stored,
             expected,
         } => {
-            line.numbered(err, b":", *offset as u64);
-            line.numbered(err, b" I6 Table stored ", *stored);
-            line.numbered(err, b" expected ", *expected);
+            pen.numbered(b":", *offset as u64)
+                .numbered(b" I6 Table stored ", *stored)
+                .numbered(b" expected ", *expected)
         }
-        Told::Memory => {}
+        Told::Memory => pen,
     }
 }
 
@@ -89,18 +84,16 @@ fn then_told<E: Sink>(line: &mut Line, err: &mut E, told: &Told)
 pub fn tell_of<E: Sink>(err: &mut E, name: &[u8], what: &[u8]) -> Result<(), Failed>
     ensures { WritesTo (E.seen err.old) (E.seen err.new) (name.now ++ (what.now ++ codes "\n")) result }
 {
-    let mut line = Line::new();
-    line.texts(err, name, what);
-    line.end(err)
+    LinePen::new(err).texts(name, what).end()
 }
 
 /// Prints a line of a number's place, as a record, an offset or a line of a script, and what is said of it.
 pub fn tell_place<E: Sink>(err: &mut E, name: &[u8], place: u32, what: &[u8]) -> Result<(), Failed>
     ensures { WritesTo (E.seen err.old) (E.seen err.new) (diagnostic_text name.now (diagnostic (place ∷ []) what.now)) result }
 {
-    let mut line = Line::new();
-    line.text(err, name);
-    line.numbered(err, b":", place as u64);
-    line.texts(err, b" ", what);
-    line.end(err)
+    LinePen::new(err)
+        .text(name)
+        .numbered(b":", place as u64)
+        .texts(b" ", what)
+        .end()
 }

@@ -1,6 +1,7 @@
-use Rattle.std.proofs.Common.{append_assoc}
+use Rattle.std.proofs.Common.{append_assoc, rules, refl}
 use Rattle.vcp_inputs.proofs.Lines.{writes_same}
+use Rattle.vcp_outside.specs.Pens.{ended}
 use Rattle.vcp_inputs.proofs.telling.tell_of.Goals as goal
 
 pub returns : goal.returns
-returns g c = writes_same (c.end.ensures.writes _ _ _ (c.texts.ensures.gathers _ _ _ (c.new-line.ensures.begun _ _))) (simp append_assoc)
+returns g c = writes_same (ended g.E.Sink.seen (search rules) (c.texts.ensures _ _ _ (c.new.ensures)) c.end.ensures refl) (simp append_assoc)
