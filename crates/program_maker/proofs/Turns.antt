@@ -11,13 +11,13 @@ use Rattle.program_maker.specs.MadeSource.{variables, filled, form_line, stateme
 pub and_then : {a b c : Writer} {x y : List ℕ} → Writes a b x → Writes b c y → Writes a c (x ++ y)
 and_then {a} {b} {c} {x} {y} first second = record {
   so_far = λ sound. first.so_far (second.so_far sound);
-  adds = λ sound. second.adds sound ∙ ap (λ t. t ++ y) (first.adds (second.so_far sound)) ∙ append_assoc a.text.items x y;
+  adds = λ sound. second.adds sound ∙ ap (λ t. t ++ y) (first.adds (second.so_far sound)) ∙ append_assoc a.text.list.items x y;
 }
 
 pub nothing : {a : Writer} → Writes a a []
 nothing {a} = record {
   so_far = λ sound. sound;
-  adds = λ sound. sym (append-nil a.text.items);
+  adds = λ sound. sym (append-nil a.text.list.items);
 }
 
 -- no text

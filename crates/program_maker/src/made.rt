@@ -27,10 +27,8 @@ pub fn make(alloc: Global, number: u32) -> Result<Made, Memory>
     ensures rows { IfOk result (λ made. made.rows ≡ made_rows number) }
 {
     let mut draws = Draws::new(number);
-    let mut source = Writer::new(alloc);
-    source.source(&mut draws);
-    let mut rows = Writer::new(alloc);
-    rows.rows(&mut draws);
+    let source = Writer::new(alloc).source(&mut draws);
+    let rows = Writer::new(alloc).rows(&mut draws);
     Ok(Made {
         source: source.into_text()?,
         rows: rows.into_text()?,

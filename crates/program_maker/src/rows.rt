@@ -16,33 +16,31 @@ const INPUTS: u32 = 2001;
 
 impl Writer {
     // Draws an input and writes it.
-    fn input(&mut self, draws: &mut Draws)
+    fn input(self, draws: &mut Draws) -> Writer
         ensures draws { draws.new ≡ next draws.old }
-        ensures text { Writes self.old self.new (signed_decimal (spec.input (chosen 2001 (next draws.old)))) }
+        ensures text { Writes self result (signed_decimal (spec.input (chosen 2001 (next draws.old)))) }
     {
-        self.number(draws.draw(INPUTS) as i64 - 1000);
+        self.number(draws.draw(INPUTS) as i64 - 1000)
     }
 
     // Draws the record of a cycle and writes it.
-    fn row(&mut self, draws: &mut Draws)
+    fn row(self, draws: &mut Draws) -> Writer
         ensures draws { (number i : ℕ) → draws.old ≡ state number (spec.draws_of_statements + 2 * i)
             → draws.new ≡ state number (spec.draws_of_statements + 2 * (i + 1)) }
         ensures text { (number i : ℕ) → draws.old ≡ state number (spec.draws_of_statements + 2 * i)
-            → Writes self.old self.new (spec.row number i) }
+            → Writes self result (spec.row number i) }
     {
-        self.input(draws);
-        self.put(b",");
-        self.input(draws);
-        self.put(b"\n");
+        self.input(draws).put(b",").input(draws).put(b"\n")
     }
 
     /// Draws the rows of a program, after its source, and writes them.
-    pub fn rows(&mut self, draws: &mut Draws)
-        ensures { (number : ℕ) → draws.old ≡ state number spec.draws_of_statements → Writes self.old self.new (spec.made_rows number) }
+    pub fn rows(self, draws: &mut Draws) -> Writer
+        ensures { (number : ℕ) → draws.old ≡ state number spec.draws_of_statements → Writes self result (spec.made_rows number) }
     {
-        self.put(b"a,b\n");
+        let mut written = self.put(b"a,b\n");
         'rows: for _ in 0..CYCLES {
-            self.row(draws);
+            written = written.row(draws);
         }
+        written
     }
 }

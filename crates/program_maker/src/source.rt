@@ -30,27 +30,29 @@ fn form_line(form: u32) -> &'static [u8]
 
 impl Writer {
     // Writes name `i` of a list of variables.
-    fn listed(&mut self, i: u32)
-        ensures { Writes self.old self.new (spec.listed i) }
+    fn listed(self, i: u32) -> Writer
+        ensures { Writes self result (spec.listed i) }
     {
-        if i > 0 {
-            self.put(b", ");
+        if i == 0 {
+            self.variable(i)
+        } else {
+            self.put(b", ").variable(i)
         }
-        self.variable(i);
     }
 
     // Writes the names of all variables.
-    fn names(&mut self)
-        ensures { Writes self.old self.new (spec.joined spec.listed spec.variables) }
+    fn names(mut self) -> Writer
+        ensures { Writes self result (spec.joined spec.listed spec.variables) }
     {
         'names: for i in 0..VARIABLES {
-            self.listed(i);
+            self = self.listed(i);
         }
+        self
     }
 
     // Writes a byte of a line, or the variable that it stands for.
-    fn part(&mut self, p: u32, q: u32, r: u32, byte: u8)
-        ensures { Writes self.old self.new (spec.part p q r byte) }
+    fn part(self, p: u32, q: u32, r: u32, byte: u8) -> Writer
+        ensures { Writes self result (spec.part p q r byte) }
     {
         match byte {
             b'p' => self.variable(p),
@@ -61,47 +63,48 @@ impl Writer {
     }
 
     // Writes a line whose letters p, q and r stand for variables.
-    fn filled(&mut self, p: u32, q: u32, r: u32, line: &[u8])
-        ensures { Writes self.old self.new (spec.filled p q r line.now) }
+    fn filled(mut self, p: u32, q: u32, r: u32, line: &[u8]) -> Writer
+        ensures { Writes self result (spec.filled p q r line.now) }
     {
         'bytes: for byte in line {
-            self.part(p, q, r, *byte);
+            self = self.part(p, q, r, *byte);
         }
+        self
     }
 
     // Draws a statement and writes it.
-    fn statement(&mut self, draws: &mut Draws)
+    fn statement(self, draws: &mut Draws) -> Writer
         ensures draws { (number i : ℕ) → draws.old ≡ state number (4 * i) → draws.new ≡ state number (4 * (i + 1)) }
-        ensures text { (number i : ℕ) → draws.old ≡ state number (4 * i) → Writes self.old self.new (spec.statement number i) }
+        ensures text { (number i : ℕ) → draws.old ≡ state number (4 * i) → Writes self result (spec.statement number i) }
     {
         let p = draws.draw(VARIABLES);
         let q = draws.draw(VARIABLES);
         let r = draws.draw(VARIABLES);
         let form = draws.draw(FORMS);
-        self.filled(p, q, r, form_line(form));
+        self.filled(p, q, r, form_line(form))
     }
 
     // Draws the statements and writes them.
-    fn statements(&mut self, draws: &mut Draws)
+    fn statements(mut self, draws: &mut Draws) -> Writer
         ensures draws { (number : ℕ) → draws.old ≡ state number 0 → draws.new ≡ state number (4 * spec.statements) }
-        ensures text { (number : ℕ) → draws.old ≡ state number 0 → Writes self.old self.new (spec.joined (spec.statement number) spec.statements) }
+        ensures text { (number : ℕ) → draws.old ≡ state number 0 → Writes self result (spec.joined (spec.statement number) spec.statements) }
     {
         'statements: for _ in 0..STATEMENTS {
-            self.statement(draws);
+            self = self.statement(draws);
         }
+        self
     }
 
     /// Draws the source of a program and writes it.
-    pub fn source(&mut self, draws: &mut Draws)
+    pub fn source(self, draws: &mut Draws) -> Writer
         ensures draws { (number : ℕ) → draws.old ≡ state number 0 → draws.new ≡ state number (4 * spec.statements) }
-        ensures text { (number : ℕ) → draws.old ≡ state number 0 → Writes self.old self.new (spec.made_source number) }
+        ensures text { (number : ℕ) → draws.old ≡ state number 0 → Writes self result (spec.made_source number) }
     {
         self.put(
             b"PROGRAM demo\nVAR_INPUT a, b : DINT; END_VAR\nVAR_OUTPUT y : DINT; END_VAR\nVAR ",
-        );
-        self.names();
-        self.put(b" : DINT; END_VAR\n");
-        self.statements(draws);
-        self.put(b"y := v0 + v1 + v2 + v3;\nEND_PROGRAM\n");
+        ).names()
+            .put(b" : DINT; END_VAR\n")
+            .statements(draws)
+            .put(b"y := v0 + v1 + v2 + v3;\nEND_PROGRAM\n")
     }
 }

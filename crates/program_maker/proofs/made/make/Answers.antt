@@ -7,12 +7,12 @@ use Rattle.program_maker.proofs.made.make.Goals as goal
 pub returns-clause-source : goal.returns-clause-source
 returns-clause-source c =
     c.in_ok-into_text.ensures.text
-    ∙ (c.source.ensures.text c.args.number (begun c.args.number c.new-draws.result c.new-draws.ensures)).adds c.in_ok-into_text.ensures.sound
-    ∙ ap (λ t. t ++ made_source c.args.number) c.new-source.ensures.text
+    ∙ (c.source-source.ensures.text c.args.number (begun c.args.number c.new-draws.result c.new-draws.ensures)).adds c.in_ok-into_text.ensures.sound
+    ∙ ap (λ t. t ++ made_source c.args.number) c.new.ensures.text
 
 pub returns-clause-rows : goal.returns-clause-rows
 returns-clause-rows c =
     c.in_ok-into_text-2.ensures.text
-    ∙ (c.rows.ensures c.args.number (c.source.ensures.draws c.args.number (begun c.args.number c.new-draws.result c.new-draws.ensures))).adds
+    ∙ (c.rows-rows.ensures c.args.number (c.source-source.ensures.draws c.args.number (begun c.args.number c.new-draws.result c.new-draws.ensures))).adds
     c.in_ok-into_text-2.ensures.sound
-    ∙ ap (λ t. t ++ made_rows c.args.number) c.new-rows.ensures.text
+    ∙ ap (λ t. t ++ made_rows c.args.number) c.new-2.ensures.text

@@ -9,9 +9,9 @@ bytes-init c = nothing
 
 pub bytes-preserved : goal.bytes-preserved
 bytes-preserved c =
-    byte_more (part c.args.p c.args.q c.args.r) c.args.line.now c.bytes.byte-index c.bytes-test.true c.bytes.invariant c.part.ensures
+    byte_more (part c.args.p c.args.q c.args.r) c.args.line.now c.bytes.byte-index c.bytes-test.true c.bytes.invariant c.part-self.ensures
 
 pub returns : goal.returns
 returns c =
-    subst (λ line. Writes c.args.self.now c.bytes.self (filled c.args.p c.args.q c.args.r line)) (take_all c.bytes.byte-index c.args.line.now (omega arith))
+    subst (λ line. Writes c.args.self c.bytes.self (filled c.args.p c.args.q c.args.r line)) (take_all c.bytes.byte-index c.args.line.now (omega arith))
     c.bytes.invariant

@@ -8,9 +8,9 @@ pub names-init : goal.names-init
 names-init c = none listed
 
 pub names-preserved : goal.names-preserved
-names-preserved c = one_more listed c.names.i c.names.invariant c.listed.ensures
+names-preserved c = one_more listed c.names.i c.names.invariant c.listed-self.ensures
 
 pub returns : goal.returns
 returns c =
     let all : c.names.i ≡ variables = omega arith in
-    subst (λ n. Writes c.args.self.now c.names.self (joined listed n)) all c.names.invariant
+    subst (λ n. Writes c.args.self c.names.self (joined listed n)) all c.names.invariant

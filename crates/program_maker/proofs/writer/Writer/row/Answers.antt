@@ -17,8 +17,8 @@ returns-clause-text c = λ number i h.
     let one : c.input.new.draws ≡ state number (draws_of_statements + (2 * i + 1)) =
     c.input.ensures.draws ∙ further number (draws_of_statements + 2 * i) (draws_of_statements + (2 * i + 1)) _ (omega arith) h in
     and_then
-    (subst (λ d. Writes c.args.self.now c.input.new.self (signed_decimal (input d))) (drawn number (draws_of_statements + 2 * i) 2001 _ _ h refl) c.input.ensures.text)
+    (subst (λ d. Writes c.args.self c.input.result (signed_decimal (input d))) (drawn number (draws_of_statements + 2 * i) 2001 _ _ h refl) c.input.ensures.text)
     (and_then c.put.ensures
     (and_then
-    (subst (λ d. Writes c.put.new.self c.input-2.new.self (signed_decimal (input d))) (drawn number (draws_of_statements + (2 * i + 1)) 2001 _ _ one refl) c.input-2.ensures.text)
+    (subst (λ d. Writes c.put.result c.input-2.result (signed_decimal (input d))) (drawn number (draws_of_statements + (2 * i + 1)) 2001 _ _ one refl) c.input-2.ensures.text)
     c.put-2.ensures))

@@ -11,11 +11,11 @@ rows-init c = λ number h. (h, none (row number))
 pub rows-preserved : goal.rows-preserved
 rows-preserved c = λ number h.
     let before = c.rows.invariant number h in (
-      c.row.ensures.draws number c.rows.counter before.0,
-      one_more (row number) c.rows.counter before.1 (c.row.ensures.text number c.rows.counter before.0),
+      c.row-written.ensures.draws number c.rows.counter before.0,
+      one_more (row number) c.rows.counter before.1 (c.row-written.ensures.text number c.rows.counter before.0),
     )
 
 pub returns : goal.returns
 returns c =
     let all : c.rows.counter ≡ cycles = omega arith in
-    λ number h. and_then c.put.ensures (subst (λ n. Writes c.put.new.self c.rows.self (joined (row number) n)) all (c.rows.invariant number h).1)
+    λ number h. and_then c.put-written.ensures (subst (λ n. Writes c.put-written.result c.rows.written (joined (row number) n)) all (c.rows.invariant number h).1)

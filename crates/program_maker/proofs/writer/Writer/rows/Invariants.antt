@@ -7,4 +7,4 @@ use Rattle.program_maker.proofs.writer.Writer.rows.Given as goal
 
 abbrev pub invariant-rows : goal.invariant-rows
 invariant-rows l = (number : ℕ) → l.initial.draws ≡ state number draws_of_statements →
-    (l.draws ≡ state number (draws_of_statements + 2 * l.counter)) × Writes l.initial.self l.self (joined (row number) l.counter)
+    (l.draws ≡ state number (draws_of_statements + 2 * l.counter)) × Writes l.initial.written l.written (joined (row number) l.counter)

@@ -17,7 +17,7 @@ returns-clause-text c = λ number i h.
     let one : c.draw-p.new.self ≡ state number (4 * i + 1) = c.draw-p.ensures.state ∙ further number (4 * i) (4 * i + 1) _ (omega arith) h in
     let two : c.draw-q.new.self ≡ state number (4 * i + 2) = c.draw-q.ensures.state ∙ further number (4 * i + 1) (4 * i + 2) _ (omega arith) one in
     let three : c.draw-r.new.self ≡ state number (4 * i + 3) = c.draw-r.ensures.state ∙ further number (4 * i + 2) (4 * i + 3) _ (omega arith) two in
-    subst (Writes c.args.self.now c.filled.new.self)
+    subst (Writes c.args.self c.filled.result)
     (ap (filled c.draw-p.result c.draw-q.result c.draw-r.result) c.form_line.ensures
     ∙ of_draws number i c.draw-p.result c.draw-q.result c.draw-r.result c.draw-form.result
     (drawn number (4 * i) variables _ _ h c.draw-p.ensures.drawn)
