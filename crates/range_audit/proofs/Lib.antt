@@ -4,4 +4,5 @@ mod Cycles
 mod Joined
 mod NoneNamed
 mod Steps
+mod Typed
 mod Worked

@@ -4,25 +4,14 @@ ghost use Rattle.std.specs.Prelude.{◌≡◌, length, IfOk};
 ghost use Rattle.range_audit.specs.Audit.{Holds, NamesStops, EndsNamed, named_below, NeverStops, HoldsWithin, NamesStopsWithin, EndsNamedWithin};
 ghost use Rattle.range_audit.specs.Audit.{NeverStopsWithin};
 ghost use Rattle.range_walk.specs.Known.{NamesAble, LieInTypes};
-ghost use Rattle.range_audit.specs.Searching.{IsSound};
 
+use crate::boxes::Boxes;
 use crate::cells::loaded_cells;
-use crate::families::{Budget, closer, settled, typed_box};
+use crate::families::{Budget, closer, settled};
 use op_graph::{Graph, entries_keep_their_rules, operands_are_in_their_types};
 use range_walk::{Range, Ranges, walk};
 use std::alloc::Global;
 use vcp_base::Memory;
-
-/// What is found of the operations of a graph where nothing is known of its cells but their types, on rows whose inputs are in these ranges.
-fn typed_ranges(alloc: Global, graph: &Graph, inputs: &[Range]) -> Result<Ranges, Memory>
-    ensures { IfOk result (λ a. IsSound graph.now inputs.now a) }
-{
-    // Each cell always has a value of its type.
-    operands_are_in_their_types();
-    let _operations = graph.len();
-    let cells = loaded_cells(alloc, graph, true)?;
-    walk(alloc, graph, &cells, inputs)
-}
 
 /// What is found of the operations of a graph, an answer for any number of cycles, where ranges of inputs are assumed: of the first ones, as
 /// many as there are. It is what `ranges_of` tells, but of rows whose inputs are in these ranges alone. Of other rows nothing is said. Where
@@ -46,8 +35,10 @@ pub fn ranges_within(
     operands_are_in_their_types();
     entries_keep_their_rules();
     let _operations = graph.len();
-    let typed = typed_ranges(alloc, graph, inputs)?;
-    let types = typed_box(alloc, graph)?;
+    // Each cell always has a value of its type.
+    let cells = loaded_cells(alloc, graph, true)?;
+    let typed = walk(alloc, graph, &cells, inputs)?;
+    let types = Boxes::one(alloc, cells)?;
     let mut budget = Budget::new(alloc, graph, closely);
     let boxes = settled(alloc, graph, inputs, types, &mut budget);
     let told = closer(alloc, graph, inputs, typed, &boxes, &mut budget);

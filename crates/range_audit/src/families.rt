@@ -1,7 +1,6 @@
 //! Boxes in one of which the cells always are: a box for each value of one cell.
 
-ghost use Rattle.std.specs.Prelude.{◌≡◌, ◌<◌, ℕ, true, List, length, slice_get, Some, IfOk, IfSome};
-ghost use Rattle.range_walk.specs.declared.range.Range.{Range as Interval};
+ghost use Rattle.std.specs.Prelude.{◌≡◌, ◌<◌, ℕ, true, length, slice_get, Some, IfSome};
 ghost use Rattle.range_audit.specs.Searching.{Box as Boxed, IsSound, InBox, EndsFrom, EndsIn, Always};
 
 use crate::asking::Asking;
@@ -343,17 +342,6 @@ fn nearest(
     boxes
 }
 
-/// The box of the types of the cells.
-pub(crate) fn typed_box(alloc: Global, graph: &Graph) -> Result<Boxes, Memory>
-    ensures { IfOk result (λ boxes. (inputs : List Interval) → Always graph.now inputs (InBox boxes.list.items (length graph.now.stores))) }
-{
-    // Each cell always has a value of its type.
-    operands_are_in_their_types();
-    let _operations = graph.len();
-    let cells = loaded_cells(alloc, graph, true)?;
-    Boxes::one(alloc, cells)
-}
-
 /// One box in which the cells are always, on rows whose inputs are in these ranges. Where none is found in the rounds that are tried, it is
 /// the one that is given, that of their types.
 pub(crate) fn settled(
@@ -497,25 +485,6 @@ fn closer_by(
     }
 }
 
-/// The same by each of these.
-fn closer_by_each(
-    alloc: Global,
-    graph: &Graph,
-    inputs: &[Range],
-    ranges: Ranges,
-    tries: &[Values],
-    budget: &mut Budget,
-) -> Ranges
-    requires sound { IsSound graph.now inputs.now ranges }
-    ensures { IsSound graph.now inputs.now result }
-{
-    let mut told = ranges;
-    'tries: for k in 0..tries.len() {
-        told = closer_by(alloc, graph, inputs, told, tries[k], budget);
-    }
-    told
-}
-
 /// What is told of the operations of a graph, whose cells are always in these boxes, by a closer look at those that are named: in these boxes,
 /// in one box, and by the values of its cells. Where closer ranges are searched for, that is done also where none is named.
 pub(crate) fn closer(
@@ -530,11 +499,14 @@ pub(crate) fn closer(
     requires always { Always graph.now inputs.now (InBox boxes.now.list.items (length graph.now.stores)) }
     ensures { IsSound graph.now inputs.now result }
 {
-    let here = with_family(alloc, graph, inputs, ranges, boxes, budget);
+    let mut told = with_family(alloc, graph, inputs, ranges, boxes, budget);
     if graph.len() > MOST_SEARCHED {
-        return here;
+        return told;
     }
     // Which cells are looked at is told by the ranges that they have here, so that closer ones take no room from a cell that tells more.
-    let tries = tries_of(alloc, graph, here.known(), &mut budget.cells);
-    closer_by_each(alloc, graph, inputs, here, &tries, budget)
+    let tries = tries_of(alloc, graph, told.known(), &mut budget.cells);
+    'tries: for k in 0..tries.len() {
+        told = closer_by(alloc, graph, inputs, told, tries[k], budget);
+    }
+    told
 }

@@ -1,6 +1,6 @@
 //! What is found of the operations over several boxes of cells, and by two searches.
 
-ghost use Rattle.std.specs.Prelude.{◌≡◌, ◌≤ℤ◌, ℤ, cond, ◌&&◌, ◌||◌, length, IfOk};
+ghost use Rattle.std.specs.Prelude.{◌≡◌, ◌≤ℤ◌, ℤ, length, IfOk};
 ghost use Rattle.range_walk.specs.Intervals.{IsIn};
 ghost use Rattle.range_audit.specs.Searching.{InBox, IsAllFound, IsFoundBy, IsMore, IsCloser, IsJoined};
 
@@ -11,22 +11,17 @@ use range_walk::{Range, Ranges, Stops, both_hold, either_holds, walk};
 use std::alloc::Global;
 use vcp_base::Memory;
 
-/// Whether both hold, or one of the two.
-fn joined(both: bool, x: bool, y: bool) -> bool
-    ensures { result ≡ cond both (x && y) (x || y) }
-{
-    if both {
-        return both_hold(x, y);
-    }
-    either_holds(x, y)
-}
-
 /// Why an operation may stop, that may for both these reasons, or for one of the two.
 pub(crate) fn joined_stops(both: bool, a: Stops, b: Stops) -> Stops
     ensures { IsJoined both a b result }
 {
-    let range = joined(both, a.range, b.range);
-    let div_zero = joined(both, a.div_zero, b.div_zero);
+    if both {
+        let range = both_hold(a.range, b.range);
+        let div_zero = both_hold(a.div_zero, b.div_zero);
+        return Stops { range, div_zero };
+    }
+    let range = either_holds(a.range, b.range);
+    let div_zero = either_holds(a.div_zero, b.div_zero);
     Stops { range, div_zero }
 }
 

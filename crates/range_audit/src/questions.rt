@@ -1,9 +1,7 @@
 //! Which condition is taken apart, where a number that is stored leaves its range.
 
-ghost use Rattle.std.specs.Prelude.{◌<◌, length};
-
 use crate::boxes::Boxes;
-use op_graph::Graph;
+use op_graph::{Graph, Op};
 use range_walk::Range;
 use vcp_base::{Kind, Ty};
 
@@ -21,19 +19,11 @@ pub(crate) fn range_or(ranges: &[Range], i: usize) -> Range {
     }
 }
 
-/// Whether a range has more than one value.
-fn is_open(range: Range) -> bool {
-    range.low < range.high
-}
-
-/// What operation `i` depends on next: of a SEL the condition where that is open, else what is taken; of another operation the first operand
-/// that is open, else the second.
-fn depends_on(graph: &Graph, ranges: &[Range], i: u32) -> u32
-    requires { i < length graph.now.operations }
-{
-    let op = graph.operation(i);
+/// What an operation depends on next: of a SEL the condition where that is open, which is that it has more than one value, else what is taken;
+/// of another operation the first operand that is open, else the second.
+fn depends_on(ranges: &[Range], op: &Op) -> u32 {
     let first = range_or(ranges, op.a as usize);
-    let open = is_open(first);
+    let open = first.low < first.high;
     match op.kind {
         Kind::Input | Kind::Const | Kind::Load => NONE,
         Kind::Sel => {
@@ -49,17 +39,6 @@ fn depends_on(graph: &Graph, ranges: &[Range], i: u32) -> u32
     }
 }
 
-/// Operation `i` where it is a BOOL that is read and open; else no operation.
-fn read_condition(graph: &Graph, ranges: &[Range], i: u32) -> u32
-    requires { i < length graph.now.operations }
-{
-    let op = graph.operation(i);
-    if matches!(op.ty, Ty::Bool) && is_open(range_or(ranges, i as usize)) {
-        return i;
-    }
-    NONE
-}
-
 /// An open condition on which the value of operation `i` depends: one by which a SEL takes, or else a BOOL that is read; no operation where
 /// none is found.
 pub(crate) fn open_condition(graph: &Graph, ranges: &[Range], i: u32) -> u32 {
@@ -68,11 +47,13 @@ pub(crate) fn open_condition(graph: &Graph, ranges: &[Range], i: u32) -> u32 {
         if at >= graph.len() {
             return NONE;
         }
-        let next = depends_on(graph, ranges, at);
-        if next == NONE {
-            return read_condition(graph, ranges, at);
-        }
         let op = graph.operation(at);
+        let next = depends_on(ranges, &op);
+        if next == NONE {
+            let range = range_or(ranges, at as usize);
+            let is_condition = matches!(op.ty, Ty::Bool) && range.low < range.high;
+            return if is_condition { at } else { NONE };
+        }
         if op.kind == Kind::Sel && op.a == next {
             return next;
         }

@@ -3,8 +3,7 @@
 ghost use Rattle.std.specs.Prelude.{◌≡◌, ◌<◌, length, slice_get};
 ghost use Rattle.vcp_outside.specs.Written.{WritesTo};
 ghost use Rattle.vcp_outside.specs.Pens.{Goes};
-ghost use Rattle.range_audit.specs.Audit.{named_below};
-ghost use Rattle.range_audit.specs.RangeText.{able_below, counts_text, lines_of, lines_below, search_text, ranges_text};
+ghost use Rattle.range_audit.specs.RangeText.{lines_of, lines_below, search_text, ranges_text};
 
 use crate::families::MOST_SEARCHED;
 use crate::report::counts::{count_able, count_named};
@@ -52,16 +51,6 @@ fn then_search<P: Pen>(pen: P, graph: &Graph) -> P
     }
 }
 
-/// Goes on with how many operations may stop, of how many that can by their kinds and types.
-fn then_counts<P: Pen>(pen: P, graph: &Graph, ranges: &Ranges) -> P
-    requires { length ranges.now.stops ≡ length graph.now.operations }
-    ensures { Goes (P.seen pen) (P.seen result)
-        (counts_text (named_below ranges.now.stops (length graph.now.operations)) (able_below graph.now (length graph.now.operations))) }
-{
-    pen.numbered(b"may stop ", count_named(graph, ranges) as u64)
-        .numbered(b" of ", count_able(graph) as u64)
-}
-
 /// Writes a line for each way in which an operation may stop, in order, and before these, where `all` are wanted, one with the range of
 /// each operation, and first of all one of each output and of each variable that is kept; at last how many may stop, of how many that can
 /// by their kinds and types, and before that a line where the graph has too many operations to be searched closer. It takes no memory. After
@@ -82,6 +71,8 @@ pub fn write_ranges<O: Sink>(
     let pen = LinePen::new(out);
     let pen = then_variables(pen, graph, known, all);
     let pen = then_operations(pen, graph, ranges, all);
-    let pen = then_search(pen, graph);
-    then_counts(pen, graph, ranges).end()
+    then_search(pen, graph)
+        .numbered(b"may stop ", count_named(graph, ranges) as u64)
+        .numbered(b" of ", count_able(graph) as u64)
+        .end()
 }

@@ -1,9 +1,24 @@
+use Rattle.std.proofs.Common.{subst}
+use Rattle.range_walk.specs.Walking.{IsWalk}
 use Rattle.range_audit.proofs.Cycles.{audit}
 use Rattle.range_audit.proofs.NoneNamed.{never_within}
+use Rattle.range_audit.proofs.Typed.{typed_always, typed_sound}
 use Rattle.range_audit.proofs.audit.ranges_within.Goals as goal
 
 pub closer-told-requires : goal.closer-told-requires
-closer-told-requires c = record { sound = c.in_ok-typed.ensures; always = c.settled-boxes.ensures }
+closer-told-requires c =
+    let g = c.args.graph.now in
+    let walk = subst (λ cells. IsWalk g.operations cells c.args.inputs.now c.in_ok-typed.typed) c.deref.ensures.value c.in_ok-typed.ensures in
+    record {
+      sound = typed_sound g c.args.inputs.now c.in_ok-cells.cells c.operands_are_in_their_types.ensures c.len-operations.ensures.rules
+          c.in_ok-cells.ensures.holds c.in_ok-typed.typed walk;
+      always = c.settled-boxes.ensures;
+    }
+
+pub settled-boxes-requires : goal.settled-boxes-requires
+settled-boxes-requires c =
+    typed_always c.args.graph.now c.args.inputs.now c.in_ok-cells.cells c.operands_are_in_their_types.ensures c.len-operations.ensures.rules
+    c.in_ok-cells.ensures.holds _ c.in_ok-cells.ensures.many c.in_ok-types.ensures
 
 pub returns : goal.returns
 returns c =

@@ -1,5 +1,5 @@
 use Rattle.std.proofs.Common.{◌≡◌, ℕ, List, ◌++◌, codes, append_assoc, rules, refl}
-use Rattle.vcp_outside.specs.Pens.{ended}
+use Rattle.vcp_outside.specs.Pens.{and_then, ended}
 use Rattle.range_audit.proofs.report.writing.write_ranges.Goals as goal
 
 pieces : (variables lines searched counts : List ℕ)
@@ -10,6 +10,5 @@ pub returns : goal.returns
 returns g c =
     let variables = rw c.known-known.ensures at (c.then_variables-pen.ensures _ _ _ c.new-pen.ensures) in
     let lines = c.then_operations-pen.ensures _ _ _ variables in
-    let searched = c.then_search-pen.ensures _ _ _ lines in
-    let counts = c.then_counts.ensures _ _ _ searched in
-    ended g.O.Sink.seen (search rules) counts c.end.ensures (rw pieces refl)
+    let counts = and_then (rw c.count_named.ensures at c.numbered.ensures) (rw c.count_able.ensures at c.numbered-2.ensures) in
+    ended g.O.Sink.seen (search rules) (counts _ _ _ (c.then_search.ensures _ _ _ lines)) c.end.ensures (rw pieces refl)

@@ -1,5 +1,5 @@
 use Rattle.range_audit.specs.Searching.{IsSound}
-use Rattle.range_audit.proofs.families.closer_by_each.Given as goal
+use Rattle.range_audit.proofs.families.closer.Given as goal
 
 abbrev pub invariant-tries : goal.invariant-tries
 invariant-tries l = IsSound l.graph l.inputs l.told
