@@ -15,16 +15,13 @@ use crate::fault::Fault;
 use std::alloc::Global;
 use vcp_base::Text;
 use vcp_inputs::{HowOften, load_typed};
-use vcp_outside::{Failed, Files, Line, Sink};
+use vcp_outside::{Failed, Files, LinePen, Pen, Sink};
 
 /// A program that is one of the language, with its Size.
 fn ok_line<O: Sink>(out: &mut O, size: u32) -> Result<(), Failed>
     ensures { WritesTo (O.seen out.old) (O.seen out.new) (ok_text size) result }
 {
-    let mut line = Line::new();
-    line.text(out, b"ok ");
-    line.count(out, size as u64);
-    line.end(out)
+    LinePen::new(out).text(b"ok ").count(size as u64).end()
 }
 
 /// Does what the words `check P` say, and writes to `out` alone: P is read whole and
