@@ -1,7 +1,9 @@
 -- Steps of reading a header.
-use Rattle.std.proofs.Common.{◌≡◌, ◌<◌, ℕ, ◌+◌, zero, suc, Bool, true, false, ◌&&◌, List, [], ◌∷◌, ◌++◌, length, drop, slice_get, get_or, slice_set}
+use Rattle.std.proofs.Common.{◌≡◌, ◌≢◌, ◌<◌, ◌≤◌, ◌⊎◌, ◌==◌, inl, inr, cond, ℕ, ◌+◌, zero, suc, Bool, true, false, ◌&&◌, List, [], ◌∷◌, ◌++◌, length, drop, slice_get, get_or, slice_set}
 use Rattle.std.proofs.Common.{replicate, Option, Some, None, option_map, refl, ap, sym, ◌∙◌, arith, add-one, append_assoc}
 use Rattle.std.proofs.lemmas.Bool.{eq-eqb}
+use Rattle.std.proofs.lemmas.Bool.Decides.{eqb_tells}
+use Rattle.std.proofs.lemmas.List.{append-nil, drop_all}
 use Rattle.vcp_base.specs.declared.columns.Column.{Column}
 use Rattle.vcp_base.specs.Names.{is_same_name}
 use Rattle.input_rows.specs.Cells.{trimmed}
@@ -95,3 +97,24 @@ one_place columns free fields ps j p f o h e n =
 pub order-here : (columns : List Column) (header : List (List ℕ)) → length header ≡ length columns
     → order_of columns header ≡ places_of columns (replicate (length columns) true) header
 order-here columns header e = rw (eq-eqb (length header) (length columns) e) refl
+
+-- a header of another length has no order
+is_other : (a b : ℕ) → a ≢ b → (a == b) ≡ false
+is_other a b other = of (eqb_tells a b) where
+  of : ((a == b) ≡ true) × (a ≡ b) ⊎ ((a == b) ≡ false) × (a ≢ b) → (a == b) ≡ false
+  of (inl same) = absurd (other same.1)
+  of (inr differ) = differ.0
+
+pub other_length : (columns : List Column) (header : List (List ℕ)) {m n : ℕ} → m ≡ length header → n ≡ length columns → m ≢ n → None ≡ order_of columns header
+other_length columns header fields all other =
+    sym (ap (λ b. cond b (places_of columns (replicate (length columns) true) header) None)
+    (is_other (length header) (length columns) (λ same. other (fields ∙ same ∙ sym all))))
+
+-- the order of a header whose fields all have a place
+pub order_found : (columns : List Column) (header : List (List ℕ)) (free : List Bool) (places : List ℕ) (j : ℕ) {m n : ℕ}
+    → m ≡ length header → n ≡ length columns → m ≡ n → length header ≤ j
+    → places_of columns (replicate (length columns) true) header ≡ before_places places (places_of columns free (drop j header))
+    → Some places ≡ order_of columns header
+order_found columns header free places j fields all same ends so_far =
+    sym (order-here columns header (sym fields ∙ same ∙ all) ∙ so_far
+    ∙ ap (λ rest. before_places places (places_of columns free rest)) (drop_all j header ends) ∙ ap Some (append-nil places))

@@ -3,6 +3,7 @@ pub mod Fuel
 pub mod Headers
 pub mod Lefts
 pub mod Nexts
+mod Openings
 pub mod Orders
 pub mod Placing
 pub mod Reading

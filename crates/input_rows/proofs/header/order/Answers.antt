@@ -1,10 +1,10 @@
 use mir.Val.{Fits}
 use Rattle.std.proofs.lemmas.Result.{IfOk-from_err}
-use Rattle.std.proofs.Common.{ℕ, ◌<◌, ◌^◌, w32, ◌≡◌, ◌∙◌, sym, ◌∷◌, [], ◌++◌, Bool, Some, None, length-set, arith}
+use Rattle.std.proofs.Common.{ℕ, ◌<◌, ◌≤◌, ◌^◌, w32, ◌≡◌, ◌∙◌, sym, ap, subst, length, ◌∷◌, [], ◌++◌, Bool, Some, None, length-set, arith}
 use Rattle.csv.specs.Records.{fields_of}
 use Rattle.input_rows.specs.Cells.{trimmed}
 use Rattle.input_rows.specs.Header.{place_of}
-use Rattle.input_rows.proofs.Headers.{no_place, one_place, order-here}
+use Rattle.input_rows.proofs.Headers.{no_place, one_place, order-here, other_length, order_found}
 use Rattle.input_rows.proofs.header.order.Goals as goal
 
 -- the number of a column has 32 bits
@@ -32,3 +32,17 @@ returns-in_err-push-in-Some c = IfOk-from_err c.from_residual-in_err-push-in-Som
 
 pub overflow_cast-place : goal.overflow_cast-place
 overflow_cast-place c = small_place c.in-Some.ensures.within c.requires
+
+pub returns-then-len : goal.returns-then-len
+returns-then-len c = other_length c.args.columns.now (fields_of c.args.header.now) c.len.ensures c.len-2.ensures c.if-len.true
+
+pub free_place-requires : goal.free_place-requires
+free_place-requires c = ap length c.deref.ensures.value ∙ c.fields.invariant.0
+
+pub field-requires : goal.field-requires
+field-requires c = subst (λ n. c.fields.j < n) c.len-j-end.ensures c.fields-test.true
+
+pub returns : goal.returns
+returns c =
+    order_found c.args.columns.now (fields_of c.args.header.now) c.fields.free.items c.fields.places.items c.fields.j c.len.ensures c.len-2.ensures c.if-len.false
+    (subst (λ n. n ≤ c.fields.j) c.len-j-end.ensures c.fields-test.false) c.fields.invariant.1
