@@ -12,12 +12,12 @@ pub and_then : {a b c : Writer} {xs ys : List Lexeme} → Adds a b xs → Adds b
 and_then {a} {b} {c} {xs} {ys} first second = record {
   so_far = λ sound. first.so_far (second.so_far sound);
   text = λ sound. second.text sound ∙ ap (λ (t : List ℕ). t ++ text_of ys) (first.text (second.so_far sound))
-      ∙ append_assoc a.text.items (text_of xs) (text_of ys)
-      ∙ ap (λ (t : List ℕ). a.text.items ++ t) (sym (flat_map-append (λ (x : Lexeme). x.bytes) xs ys));
+      ∙ append_assoc a.text.list.items (text_of xs) (text_of ys)
+      ∙ ap (λ (t : List ℕ). a.text.list.items ++ t) (sym (flat_map-append (λ (x : Lexeme). x.bytes) xs ys));
 }
 
 pub nothing : {a : Writer} → Adds a a []
-nothing {a} = record { so_far = λ sound. sound; text = λ sound. sym (append-nil a.text.items) }
+nothing {a} = record { so_far = λ sound. sound; text = λ sound. sym (append-nil a.text.list.items) }
 
 -- the same lexemes
 pub same : {a b : Writer} {xs ys : List Lexeme} → xs ≡ ys → Adds a b xs → Adds a b ys
@@ -25,7 +25,7 @@ same {a} {b} e one = subst (Adds a b) e one
 
 -- lexemes of the same bytes
 pub respelled : {a b : Writer} {xs : List Lexeme} (ys : List Lexeme) → text_of xs ≡ text_of ys → Adds a b xs → Adds a b ys
-respelled {a} {b} ys e one = record { so_far = one.so_far; text = λ sound. one.text sound ∙ ap (λ (t : List ℕ). a.text.items ++ t) e }
+respelled {a} {b} ys e one = record { so_far = one.so_far; text = λ sound. one.text sound ∙ ap (λ (t : List ℕ). a.text.list.items ++ t) e }
 
 -- one lexeme, of which the bytes are written
 pub one_put : {a b : Writer} {bytes : List ℕ} (x : Lexeme) → x.bytes ≡ bytes → Puts a b bytes → Adds a b (x ∷ [])
@@ -35,7 +35,7 @@ one_put x e put = put (x ∷ []) (append-nil x.bytes ∙ e)
 pub at_level : {a b : Writer} {m : ℕ} (n : ℕ) (f : ℕ → List Lexeme) → (a.has_failed ≡ false → m ≡ n) → Adds a b (f m) → Adds a b (f n)
 at_level {a} {b} {m} n f level one = record {
   so_far = one.so_far;
-  text = λ sound. one.text sound ∙ ap (λ (k : ℕ). a.text.items ++ text_of (f k)) (level (one.so_far sound));
+  text = λ sound. one.text sound ∙ ap (λ (k : ℕ). a.text.list.items ++ text_of (f k)) (level (one.so_far sound));
 }
 
 -- an expression in brackets where they are needed

@@ -16,7 +16,7 @@ use Rattle.st_writer.specs.declared.writer.Writer.{Writer}
 -- Unless memory ran out, now or before, the bytes of these lexemes stand behind the text.
 pub record Adds (old new : Writer) (xs : List Lexeme) : Type 0 where
   pub so_far : new.has_failed ≡ false → old.has_failed ≡ false
-  pub text : new.has_failed ≡ false → new.text.items ≡ old.text.items ++ text_of xs
+  pub text : new.has_failed ≡ false → new.text.list.items ≡ old.text.list.items ++ text_of xs
 
 -- these bytes, whatever lexemes they are
 abbrev pub Puts : Writer → Writer → List ℕ → Type 0

@@ -51,35 +51,28 @@ fn sign_text(op: UnOp) -> &'static [u8]
 
 impl Writer {
     // Writes an opening bracket where brackets are needed.
-    fn opening(&mut self, needed: bool)
-        ensures { Adds self.old self.new (where_needed needed sym.LParen) }
+    fn opening(self, needed: bool) -> Writer
+        ensures { Adds self result (where_needed needed sym.LParen) }
     {
-        if needed {
-            self.put(b"(");
-        }
+        if needed { self.put(b"(") } else { self }
     }
 
     // Writes a closing bracket where brackets are needed.
-    fn closing(&mut self, needed: bool)
-        ensures { Adds self.old self.new (where_needed needed sym.RParen) }
+    fn closing(self, needed: bool) -> Writer
+        ensures { Adds self result (where_needed needed sym.RParen) }
     {
-        if needed {
-            self.put(b")");
-        }
+        if needed { self.put(b")") } else { self }
     }
 
     /// Writes an expression where an operator of the level `wanted` or more is wanted.
     #[cycle(expr)]
-    pub fn expr(&mut self, wanted: u8, e: &Expr)
-        ensures { Adds self.old self.new (canonical.expr wanted (expr_tree e.now)) }
+    pub fn expr(self, wanted: u8, e: &Expr) -> Writer
+        ensures { Adds self result (canonical.expr wanted (expr_tree e.now)) }
     {
         match e {
             Expr::Lit { ty, value, .. } => self.literal(*ty, *value),
             Expr::Name { name, .. } => self.name(name),
-            Expr::Unary { op, arg, .. } => {
-                self.put(sign_text(*op));
-                self.expr(UNARY, arg);
-            }
+            Expr::Unary { op, arg, .. } => self.put(sign_text(*op)).expr(UNARY, arg),
             Expr::Binary {
                 op,
                 left,
@@ -88,37 +81,34 @@ impl Writer {
             } => {
                 let strength = level_of(*op);
                 let weak = strength < wanted;
-                self.opening(weak);
-                self.expr(strength, left);
-                self.put(operator_text(*op));
-                self.expr(strength + 1, right);
-                self.closing(weak);
+                self.opening(weak)
+                    .expr(strength, left)
+                    .put(operator_text(*op))
+                    .expr(strength + 1, right)
+                    .closing(weak)
             }
             Expr::Call { name, args, .. } => {
                 trees_of_nodes();
-                self.call(name, &args.items);
+                self.call(name, &args.items)
             }
         }
     }
 
     #[cycle(expr)]
-    fn call(&mut self, name: &Text, args: &[Expr])
-        ensures { Adds self.old self.new
+    fn call(self, name: &Text, args: &[Expr]) -> Writer
+        ensures { Adds self result
             (lexeme.name name.now ∷ lexeme.symbol sym.LParen ∷ (canonical.args (expr_trees args.now) ++ lexeme.symbol sym.RParen ∷ [])) }
     {
-        self.name(name);
-        self.put(b"(");
-        self.args(args);
-        self.put(b")");
+        self.name(name).put(b"(").args(args).put(b")")
     }
 
     #[cycle(expr)]
-    fn args(&mut self, args: &[Expr])
-        ensures { Adds self.old self.new (canonical.args (expr_trees args.now)) }
+    fn args(mut self, args: &[Expr]) -> Writer
+        ensures { Adds self result (canonical.args (expr_trees args.now)) }
     {
         for i in 0..args.len() {
-            self.separator(i);
-            self.expr(ANY, &args[i]);
+            self = self.separator(i).expr(ANY, &args[i]);
         }
+        self
     }
 }

@@ -49,73 +49,72 @@ fn head_text(section: Section) -> &'static [u8]
 
 impl Writer {
     // Writes the names of a declaration.
-    fn names(&mut self, names: &[Declared])
-        ensures { Adds self.old self.new (spec.names (map declared_tree names.now)) }
+    fn names(mut self, names: &[Declared]) -> Writer
+        ensures { Adds self result (spec.names (map declared_tree names.now)) }
     {
         for i in 0..names.len() {
-            self.separator(i);
             let declared = &names[i];
-            self.name(&declared.name);
+            self = self.separator(i).name(&declared.name);
         }
+        self
     }
 
     // Writes the initial value, where one is given.
-    fn init(&mut self, init: &Option<Expr>)
-        ensures { Adds self.old self.new (spec.init (expr_tree_or_none init.now)) }
+    fn init(self, init: &Option<Expr>) -> Writer
+        ensures { Adds self result (spec.init (expr_tree_or_none init.now)) }
     {
         match init {
-            None => {}
-            Some(e) => {
-                self.put(b" := ");
-                self.expr(ANY, e);
-            }
+            None => self,
+            Some(e) => self.put(b" := ").expr(ANY, e),
         }
     }
 
     // Writes the line of a declaration.
-    fn decl(&mut self, decl: &Decl)
-        ensures { Adds self.old self.new (spec.decl (decl_tree decl.now)) }
+    fn decl(self, decl: &Decl) -> Writer
+        ensures { Adds self result (spec.decl (decl_tree decl.now)) }
     {
-        self.put(b"  ");
-        self.names(&decl.names.items);
-        self.put(type_text(decl.ty));
-        self.init(&decl.init);
-        self.put(b";\n");
+        self.put(b"  ")
+            .names(&decl.names.items)
+            .put(type_text(decl.ty))
+            .init(&decl.init)
+            .put(b";\n")
     }
 
-    fn decls(&mut self, decls: &[Decl])
-        ensures { Adds self.old self.new (flat_map spec.decl (map decl_tree decls.now)) }
+    fn decls(mut self, decls: &[Decl]) -> Writer
+        ensures { Adds self result (flat_map spec.decl (map decl_tree decls.now)) }
     {
         for i in 0..decls.len() {
-            self.decl(&decls[i]);
+            self = self.decl(&decls[i]);
         }
+        self
     }
 
-    fn block(&mut self, block: &Block)
-        ensures { Adds self.old self.new (spec.block (block_tree block.now)) }
+    fn block(self, block: &Block) -> Writer
+        ensures { Adds self result (spec.block (block_tree block.now)) }
     {
-        self.put(head_text(block.section));
-        self.decls(&block.decls.items);
-        self.put(b"END_VAR\n");
+        self.put(head_text(block.section))
+            .decls(&block.decls.items)
+            .put(b"END_VAR\n")
     }
 
-    fn blocks(&mut self, blocks: &[Block])
-        ensures { Adds self.old self.new (flat_map spec.block (map block_tree blocks.now)) }
+    fn blocks(mut self, blocks: &[Block]) -> Writer
+        ensures { Adds self result (flat_map spec.block (map block_tree blocks.now)) }
     {
         for i in 0..blocks.len() {
-            self.block(&blocks[i]);
+            self = self.block(&blocks[i]);
         }
+        self
     }
 
-    fn program(&mut self, program: &Program)
-        ensures { Adds self.old self.new (spec.program (program_tree program.now)) }
+    fn program(self, program: &Program) -> Writer
+        ensures { Adds self result (spec.program (program_tree program.now)) }
     {
-        self.put(b"PROGRAM ");
-        self.name(&program.name);
-        self.put(b"\n");
-        self.blocks(&program.blocks.items);
-        self.stmts(0, &program.body.items);
-        self.put(b"END_PROGRAM\n");
+        self.put(b"PROGRAM ")
+            .name(&program.name)
+            .put(b"\n")
+            .blocks(&program.blocks.items)
+            .stmts(0, &program.body.items)
+            .put(b"END_PROGRAM\n")
     }
 }
 
@@ -130,7 +129,5 @@ pub fn write_program(alloc: Global, program: &Program) -> Result<Text, Memory>
     ensures reads_back { (limit : ℕ) (text : List ℕ) (ts : List Token) → Reads text ts
         → SpellsWithin limit (program_tree program.now) text ts → IfOk result (ReadsAs limit (program_tree program.now)) }
 {
-    let mut writer = Writer::new(alloc);
-    writer.program(program);
-    writer.into_text()
+    Writer::new(alloc).program(program).into_text()
 }

@@ -8,21 +8,29 @@ use itoa::Buffer;
 use std::alloc::Global;
 use vcp_base::{Memory, Text, Ty, ty_name};
 
+// The bytes of a text. They are a type of their own, since a loop that gives on what holds a `Vec` itself gets no proof.
+#[derive(Drop)]
+struct Bytes {
+    list: Vec<u8>,
+}
+
 /// A text that is written to its end. Where memory runs out it has failed, from then on, and its bytes lack some.
 #[derive(Drop)]
 pub struct Writer {
-    text: Vec<u8>,
+    text: Bytes,
     has_failed: bool,
 }
 
 impl Writer {
     /// A text without bytes. It takes no memory.
     pub fn new(alloc: Global) -> Writer
-        ensures text { result.text.items ≡ [] }
+        ensures text { result.text.list.items ≡ [] }
         ensures sound { result.has_failed ≡ false }
     {
         Writer {
-            text: Vec::new(alloc),
+            text: Bytes {
+                list: Vec::new(alloc),
+            },
             has_failed: false,
         }
     }
@@ -30,56 +38,53 @@ impl Writer {
     /// The text that was written; `Memory` where memory ran out.
     pub fn into_text(self) -> Result<Text, Memory>
         ensures sound { IfOk result (λ t. self.has_failed ≡ false) }
-        ensures text { IfOk result (λ t. t ≡ self.text.items) }
+        ensures text { IfOk result (λ t. t ≡ self.text.list.items) }
     {
         if self.has_failed {
             Err(Memory)
         } else {
-            Ok(Text::from_vec(self.text))
+            Ok(Text::from_vec(self.text.list))
         }
     }
 
     /// Writes bytes.
-    pub fn put(&mut self, bytes: &[u8])
-        ensures { Puts self.old self.new bytes.now }
+    pub fn put(mut self, bytes: &[u8]) -> Writer
+        ensures { Puts self result bytes.now }
     {
-        match self.text.extend_from_slice(bytes) {
+        match self.text.list.extend_from_slice(bytes) {
             Ok(()) => {}
             Err(_) => self.has_failed = true,
         }
+        self
     }
 
     /// Writes a name, as the tree has it.
-    pub fn name(&mut self, name: &Text)
-        ensures { Adds self.old self.new (lexeme.name name.now ∷ []) }
+    pub fn name(self, name: &Text) -> Writer
+        ensures { Adds self result (lexeme.name name.now ∷ []) }
     {
-        self.put(name.bytes());
+        self.put(name.bytes())
     }
 
     // Writes what stands before the digits of a number: its type where it has one, and `#`.
-    fn prefix(&mut self, ty: Option<Ty>)
-        ensures { Adds self.old self.new (prefix_piece ty) }
+    fn prefix(self, ty: Option<Ty>) -> Writer
+        ensures { Adds self result (prefix_piece ty) }
     {
         match ty {
-            None => {}
-            Some(ty) => {
-                self.put(ty_name(ty));
-                self.put(b"#");
-            }
+            None => self,
+            Some(ty) => self.put(ty_name(ty)).put(b"#"),
         }
     }
 
     /// Writes a number: its type where it has one, and its value in decimal digits.
-    pub fn number(&mut self, ty: Option<Ty>, value: i64)
-        ensures { Adds self.old self.new (lexeme.number ty value ∷ []) }
+    pub fn number(self, ty: Option<Ty>, value: i64) -> Writer
+        ensures { Adds self result (lexeme.number ty value ∷ []) }
     {
-        self.prefix(ty);
-        self.put(Buffer::new().format(value).as_bytes());
+        self.prefix(ty).put(Buffer::new().format(value).as_bytes())
     }
 
     // Writes a literal of BOOL.
-    fn truth(&mut self, value: i64)
-        ensures { Adds self.old self.new (lexeme.truth value ∷ []) }
+    fn truth(self, value: i64) -> Writer
+        ensures { Adds self result (lexeme.truth value ∷ []) }
     {
         match value {
             0 => self.put(b"FALSE"),
@@ -89,8 +94,8 @@ impl Writer {
     }
 
     /// Writes a literal.
-    pub fn literal(&mut self, ty: Option<Ty>, value: i64)
-        ensures { Adds self.old self.new (lexeme.literal ty value ∷ []) }
+    pub fn literal(self, ty: Option<Ty>, value: i64) -> Writer
+        ensures { Adds self result (lexeme.literal ty value ∷ []) }
     {
         match ty {
             Some(Ty::Bool) => self.truth(value),
@@ -100,21 +105,20 @@ impl Writer {
 
     /// Writes what comes before item `i` of a list: nothing before the first, and a comma and a space
     /// before each other.
-    pub fn separator(&mut self, i: usize)
-        ensures { Adds self.old self.new (separator i) }
+    pub fn separator(self, i: usize) -> Writer
+        ensures { Adds self result (separator i) }
     {
-        if i != 0 {
-            self.put(b", ");
-        }
+        if i == 0 { self } else { self.put(b", ") }
     }
 
     /// Writes the indent of a line at a level, two spaces a level.
-    pub fn indent(&mut self, level: usize)
-        ensures { Adds self.old self.new (lexeme.indent level) }
+    pub fn indent(mut self, level: usize) -> Writer
+        ensures { Adds self result (lexeme.indent level) }
     {
         'levels: for _outer in 0..level {
-            self.put(b"  ");
+            self = self.put(b"  ");
         }
+        self
     }
 
     /// The level one deeper. No text is so deep that there is none: there it fails as where memory runs out.

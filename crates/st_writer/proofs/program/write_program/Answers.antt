@@ -25,15 +25,15 @@ reads : (r : Result Text Memory) (p : ProgramTree) → IfOk r (λ t. t ≡ canon
 reads (Ok t) p e limit text ts r s = subst (ReadsAs limit p) (sym e) (reads_back limit p text ts r s)
 reads (Err f) p e limit text ts r s = tt
 
-written : (r : Result Text Memory) (none all : Writer) (p : ProgramTree) → none.text.items ≡ [] → Adds none all (program p)
-    → IfOk r (λ t. all.has_failed ≡ false) → IfOk r (λ t. t ≡ all.text.items) → IfOk r (λ t. t ≡ canonical p)
+written : (r : Result Text Memory) (none all : Writer) (p : ProgramTree) → none.text.list.items ≡ [] → Adds none all (program p)
+    → IfOk r (λ t. all.has_failed ≡ false) → IfOk r (λ t. t ≡ all.text.list.items) → IfOk r (λ t. t ≡ canonical p)
 written (Ok t) none all p empty adds sound text = text ∙ adds.text sound ∙ ap (λ (front : List ℕ). front ++ canonical p) empty
 written (Err f) none all p empty adds sound text = tt
 
 pub returns : goal.returns
 returns c =
     let p : ProgramTree = program_tree c.args.program.now in
-    let text = written c.into_text.result c.new-writer.result c.program.new.self p c.new-writer.ensures.text c.program.ensures
+    let text = written c.into_text.result c.new.result c.program.result p c.new.ensures.text c.program.ensures
     c.into_text.ensures.sound c.into_text.ensures.text in
     record {
       text = text;

@@ -17,7 +17,7 @@ args-loop-i-init t c = nothing
 pub args-loop-i-preserved : goal.args-loop-i-preserved
 args-loop-i-preserved t c =
     turn arg c.args.args.now c.loop-i.i c.index-args-i.result c.loop-i-test.true (sym c.index-args-i.is) c.loop-i.invariant
-    (and_then c.separator.ensures c.expr.ensures)
+    (and_then c.separator.ensures c.expr-self.ensures)
 
 pub args-returns : goal.args-returns
 args-returns t c = ends arg c.args.args.now c.loop-i.i _ (args-are c.args.args.now) c.loop-i-test.false c.loop-i.invariant

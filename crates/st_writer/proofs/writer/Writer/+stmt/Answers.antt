@@ -16,7 +16,7 @@ stmts-loop-i-init t c = nothing
 pub stmts-loop-i-preserved : goal.stmts-loop-i-preserved
 stmts-loop-i-preserved t c =
     turn (stmt_at c.deeper-level.result) c.args.stmts.now c.loop-i.i c.index-stmts-i.result c.loop-i-test.true (sym c.index-stmts-i.is) c.loop-i.invariant
-    c.stmt.ensures
+    c.stmt-self.ensures
 
 pub stmts-returns : goal.stmts-returns
 stmts-returns t c =
@@ -28,7 +28,7 @@ arms-loop-i-init t c = nothing
 
 pub arms-loop-i-preserved : goal.arms-loop-i-preserved
 arms-loop-i-preserved t c =
-    turn (arm_at c.args.level) c.args.arms.now c.loop-i.i c.index-arms-i.result c.loop-i-test.true (sym c.index-arms-i.is) c.loop-i.invariant c.arm.ensures
+    turn (arm_at c.args.level) c.args.arms.now c.loop-i.i c.index-arms-i.result c.loop-i-test.true (sym c.index-arms-i.is) c.loop-i.invariant c.arm-self.ensures
 
 pub arms-returns : goal.arms-returns
 arms-returns t c =

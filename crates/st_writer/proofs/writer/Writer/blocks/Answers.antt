@@ -11,7 +11,7 @@ loop-i-init c = nothing
 
 pub loop-i-preserved : goal.loop-i-preserved
 loop-i-preserved c =
-    turn (item block block_tree) c.args.blocks.now c.loop-i.i c.index-blocks-i.result c.loop-i-test.true (sym c.index-blocks-i.is) c.loop-i.invariant c.block.ensures
+    turn (item block block_tree) c.args.blocks.now c.loop-i.i c.index-blocks-i.result c.loop-i-test.true (sym c.index-blocks-i.is) c.loop-i.invariant c.block-self.ensures
 
 pub returns : goal.returns
 returns c =

@@ -11,7 +11,7 @@ loop-i-init c = nothing
 
 pub loop-i-preserved : goal.loop-i-preserved
 loop-i-preserved c =
-    turn (item decl decl_tree) c.args.decls.now c.loop-i.i c.index-decls-i.result c.loop-i-test.true (sym c.index-decls-i.is) c.loop-i.invariant c.decl.ensures
+    turn (item decl decl_tree) c.args.decls.now c.loop-i.i c.index-decls-i.result c.loop-i-test.true (sym c.index-decls-i.is) c.loop-i.invariant c.decl-self.ensures
 
 pub returns : goal.returns
 returns c =

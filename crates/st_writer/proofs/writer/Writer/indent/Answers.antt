@@ -13,4 +13,4 @@ levels-init c = nothing
 pub levels-preserved : goal.levels-preserved
 levels-preserved c =
     same (deeper c.levels._outer ∙ ap lexeme.indent (sym (add-one c.levels._outer)))
-    (and_then c.levels.invariant (c.put.ensures (lexeme.blank ∷ lexeme.blank ∷ []) refl))
+    (and_then c.levels.invariant (c.put-self.ensures (lexeme.blank ∷ lexeme.blank ∷ []) refl))

@@ -8,5 +8,5 @@ use Rattle.st_writer.proofs.writer.Writer.label.Goals as goal
 
 pub returns-in-Some : goal.returns-in-Some
 returns-in-Some c =
-    and_then c.constant.ensures (same (ap (λ last. last_of_range (expr_tree_or_none last)) (sym c.in-Some.is))
-    (and_then (c.put.ensures (lexeme.symbol symbols.DotDot ∷ []) refl) c.constant-in-Some.ensures))
+    and_then c.constant-first.ensures (same (ap (λ last. last_of_range (expr_tree_or_none last)) (sym c.in-Some.is))
+    (and_then (c.put.ensures (lexeme.symbol symbols.DotDot ∷ []) refl) c.constant.ensures))

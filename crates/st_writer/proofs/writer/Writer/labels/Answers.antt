@@ -10,7 +10,7 @@ loop-i-init c = nothing
 pub loop-i-preserved : goal.loop-i-preserved
 loop-i-preserved c =
     turn label_at c.args.labels.now c.loop-i.i c.index-labels-i.result c.loop-i-test.true (sym c.index-labels-i.is) c.loop-i.invariant
-    (and_then c.separator.ensures c.label.ensures)
+    (and_then c.separator.ensures c.label-self.ensures)
 
 pub returns : goal.returns
 returns c = ends label_at c.args.labels.now c.loop-i.i _ (labels-are c.args.labels.now) c.loop-i-test.false c.loop-i.invariant

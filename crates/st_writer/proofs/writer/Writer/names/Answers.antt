@@ -10,7 +10,7 @@ loop-i-init c = nothing
 pub loop-i-preserved : goal.loop-i-preserved
 loop-i-preserved c =
     turn name_at c.args.names.now c.loop-i.i c.index-names-i.result c.loop-i-test.true (sym c.index-names-i.is) c.loop-i.invariant
-    (and_then c.separator.ensures c.name.ensures)
+    (and_then c.separator.ensures c.name-self.ensures)
 
 pub returns : goal.returns
 returns c = ends name_at c.args.names.now c.loop-i.i _ (names-are c.args.names.now) c.loop-i-test.false c.loop-i.invariant

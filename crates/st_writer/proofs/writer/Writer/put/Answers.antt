@@ -4,7 +4,7 @@ use Rattle.st_writer.proofs.writer.Writer.put.Goals as goal
 pub returns-in-Ok : goal.returns-in-Ok
 returns-in-Ok c = λ xs e. record {
   so_far = λ sound. sound;
-  text = λ sound. c.in-Ok.ensures.items ∙ ap (λ (t : List ℕ). c.args.self.now.text.items ++ t) (sym e);
+  text = λ sound. c.in-Ok.ensures.items ∙ ap (λ (t : List ℕ). c.args.self.text.list.items ++ t) (sym e);
 }
 
 pub returns-in-Err : goal.returns-in-Err
