@@ -1,9 +1,10 @@
 -- Places: what stands at one place of a list, and what is read off the places after it.
-use Rattle.std.proofs.Common.{ℕ, zero, suc, ◌+◌, ◌<◌, ◌≡◌, ℤ, pos, negsuc, Bool, Option, refl, sym, ap, ◌∙◌, true, false, cond, List, [], ◌∷◌, ◌++◌, length}
-use Rattle.std.proofs.Common.{map, drop, take, set, slice_get, Some, None, arith, add-one, drop-cons, eq-eqb, append_assoc}
+use Rattle.std.proofs.Common.{ℕ, zero, suc, ◌+◌, ◌<◌, ◌≤◌, ◌≡◌, ℤ, pos, negsuc, Bool, Option, refl, sym, ap, ◌∙◌, true, false, cond, List, [], ◌∷◌, ◌++◌, length}
+use Rattle.std.proofs.Common.{map, drop, take, set, slice_get, Some, None, arith, add-one, subst, drop-cons, eq-eqb, append_assoc}
 use Rattle.std.specs.Prelude.{FitsSigned, unsigned_abs}
 use Rattle.std.specs.Int.{w64}
 use Rattle.std.proofs.Math.Seq.{take-suc-set}
+use Rattle.std.proofs.lemmas.List.{append-nil, drop_all}
 use Rattle.std.proofs.lemmas.Option.{get_or_from_slice_get, slice_get_within}
 use Rattle.std.proofs.lemmas.Bool.{ne_eqb}
 use Rattle.std.proofs.lemmas.Bool.Decides.{nat_tests}
@@ -33,6 +34,11 @@ drop_at xs k x there =
 
 pub map_at : {X Y : Type 0} (f : X → Y) (xs : List X) (k : ℕ) (x : X) → slice_get xs k ≡ Some x → map f (drop k xs) ≡ f x ∷ map f (drop (k + 1) xs)
 map_at f xs k x there = ap (map f) (drop_at xs k x there)
+
+-- nothing is left to map
+pub map_done : {X Y : Type 0} (f : X → Y) (xs : List X) (k n : ℕ) {ys whole : List Y} → whole ≡ ys ++ map f (drop k xs) → n ≡ length xs → n ≤ k → ys ≡ whole
+map_done f xs k n {ys = ys} so_far all ends =
+    sym (so_far ∙ ap (λ rest. ys ++ map f rest) (drop_all k xs (subst (λ m. m ≤ k) all ends)) ∙ append-nil ys)
 
 pub get_there : {X : Type 0} (xs : List X) (i : ℕ) → i < length xs → (x : X) × (slice_get xs i ≡ Some x)
 get_there [] i lt = absurd (omega arith)

@@ -94,7 +94,7 @@ pub fn first_words(alloc: Global, graph: &Graph, table: &Table) -> Result<Vec<Wo
 {
     // The STORE of each cell is an operation.
     entries_keep_their_rules();
-    let mut held = Vec::with_capacity(alloc, graph.cells() as usize)?;
+    let mut held = Vec::new(alloc);
     'cells: for i in 0..graph.cells() {
         held.push(first_word(graph, table, &graph.cell(i)))?;
     }
