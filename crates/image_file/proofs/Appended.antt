@@ -14,7 +14,7 @@ use Rattle.signature_table.specs.Signatures.{correction, corrections_from, store
 pub and_then : {a b c : Writer} {x y : List ℕ} → Writes a b x → Writes b c y → Writes a c (x ++ y)
 and_then {a} {b} {c} {x} {y} first second = record {
   so_far = λ sound. first.so_far (second.so_far sound);
-  adds = λ sound. second.adds sound ∙ ap (λ t. t ++ y) (first.adds (second.so_far sound)) ∙ append_assoc a.bytes.items x y;
+  adds = λ sound. second.adds sound ∙ ap (λ t. t ++ y) (first.adds (second.so_far sound)) ∙ append_assoc a.bytes.list.items x y;
 }
 
 pub ended : {a b : Writer} {x : List ℕ} → Writes a b x → Writes a b (x ++ [])
@@ -23,7 +23,7 @@ ended {a} {b} {x} one = subst (Writes a b) (sym (append-nil x)) one
 pub nothing : {a : Writer} → Writes a a []
 nothing {a} = record {
   so_far = λ sound. sound;
-  adds = λ sound. sym (append-nil a.bytes.items);
+  adds = λ sound. sym (append-nil a.bytes.list.items);
 }
 
 entries_push : {X : Type 0} (spell : List X → X → List ℕ) (before xs : List X) (x : X)

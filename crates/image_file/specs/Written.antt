@@ -15,7 +15,7 @@ use Rattle.image_file.specs.Image.{Said, said, correction_of, op_piece}
 -- Unless memory ran out, now or before, these bytes are appended.
 pub record Writes (old new : Writer) (more : List ℕ) : Type 0 where
   pub so_far : new.has_failed ≡ false → old.has_failed ≡ false
-  pub adds : new.has_failed ≡ false → new.bytes.items ≡ old.bytes.items ++ more
+  pub adds : new.has_failed ≡ false → new.bytes.list.items ≡ old.bytes.list.items ++ more
 
 abbrev pub AddsInput : Writer → Writer → Var → Type 0
 AddsInput old new v = (p : Profile) (names : ℕ) (earlier : List Var) → Writes old new ((input_piece p names earlier).spell v)

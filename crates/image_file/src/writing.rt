@@ -32,151 +32,150 @@ fn version(profile: Profile) -> u16
 }
 
 /// Appends an input.
-fn put_input(out: &mut Writer, v: Var)
-    ensures { AddsInput out.old out.new v }
+fn put_input(out: Writer, v: Var) -> Writer
+    ensures { AddsInput out result v }
 {
-    out.put_u32(v.name);
-    out.put_ty(v.ty);
+    out.put_u32(v.name).put_ty(v.ty)
 }
 
 /// Appends an output.
-fn put_output(out: &mut Writer, v: Outlet)
-    ensures { AddsOutput out.old out.new v }
+fn put_output(out: Writer, v: Outlet) -> Writer
+    ensures { AddsOutput out result v }
 {
-    out.put_u32(v.name);
-    out.put_ty(v.ty);
-    out.put_u32(v.op);
+    out.put_u32(v.name).put_ty(v.ty).put_u32(v.op)
 }
 
 /// Appends a cell.
-fn put_cell(out: &mut Writer, v: Cell)
-    ensures { AddsCell out.old out.new v }
+fn put_cell(out: Writer, v: Cell) -> Writer
+    ensures { AddsCell out result v }
 {
-    out.put_u32(v.name);
-    out.put_ty(v.ty);
-    out.put_i64(v.init);
-    out.put_u32(v.load);
-    out.put_u32(v.store);
+    out.put_u32(v.name)
+        .put_ty(v.ty)
+        .put_i64(v.init)
+        .put_u32(v.load)
+        .put_u32(v.store)
 }
 
 /// Appends a turn node.
-fn put_turn(out: &mut Writer, v: TurnNode)
-    ensures { AddsTurn out.old out.new v }
+fn put_turn(out: Writer, v: TurnNode) -> Writer
+    ensures { AddsTurn out result v }
 {
-    out.put_u32(v.parent);
-    out.put_u32(v.name);
-    out.put_i64(v.value);
+    out.put_u32(v.parent).put_u32(v.name).put_i64(v.value)
 }
 
 /// Appends an operation with its correction.
-fn put_op(out: &mut Writer, profile: Profile, v: Op, correction: Residue)
+fn put_op(out: Writer, profile: Profile, v: Op, correction: Residue) -> Writer
     requires { correction < modulus profile }
-    ensures { AddsOp out.old out.new profile v correction }
+    ensures { AddsOp out result profile v correction }
 {
-    out.put_kind(v.kind);
-    out.put_ty(v.from);
-    out.put_ty(v.ty);
-    out.put_u32(v.a);
-    out.put_u32(v.b);
-    out.put_u32(v.c);
-    out.put_i64(v.imm);
-    out.put_u32(v.spot.line);
-    out.put_u32(v.spot.col);
-    out.put_u32(v.turn);
-    out.put_residue(profile, correction);
+    out.put_kind(v.kind)
+        .put_ty(v.from)
+        .put_ty(v.ty)
+        .put_u32(v.a)
+        .put_u32(v.b)
+        .put_u32(v.c)
+        .put_i64(v.imm)
+        .put_u32(v.spot.line)
+        .put_u32(v.spot.col)
+        .put_u32(v.turn)
+        .put_residue(profile, correction)
 }
 
 /// Appends the inputs.
-fn put_inputs(out: &mut Writer, graph: &Graph)
-    ensures { AddsInputs out.old out.new graph.now.inputs }
+fn put_inputs(mut out: Writer, graph: &Graph) -> Writer
+    ensures { AddsInputs out result graph.now.inputs }
 {
     'entries: for i in 0..graph.inputs() {
-        put_input(out, graph.input(i));
+        out = put_input(out, graph.input(i));
     }
+    out
 }
 
 /// Appends the outputs.
-fn put_outputs(out: &mut Writer, graph: &Graph)
-    ensures { AddsOutputs out.old out.new graph.now.outputs }
+fn put_outputs(mut out: Writer, graph: &Graph) -> Writer
+    ensures { AddsOutputs out result graph.now.outputs }
 {
     'entries: for i in 0..graph.outputs() {
-        put_output(out, graph.output(i));
+        out = put_output(out, graph.output(i));
     }
+    out
 }
 
 /// Appends the cells.
-fn put_cells(out: &mut Writer, graph: &Graph)
-    ensures { AddsCells out.old out.new (cells graph.now) }
+fn put_cells(mut out: Writer, graph: &Graph) -> Writer
+    ensures { AddsCells out result (cells graph.now) }
 {
     'entries: for i in 0..graph.cells() {
-        put_cell(out, graph.cell(i));
+        out = put_cell(out, graph.cell(i));
     }
+    out
 }
 
 /// Appends the turn nodes.
-fn put_turns(out: &mut Writer, graph: &Graph)
-    ensures { AddsTurns out.old out.new graph.now.turn_nodes }
+fn put_turns(mut out: Writer, graph: &Graph) -> Writer
+    ensures { AddsTurns out result graph.now.turn_nodes }
 {
     'entries: for i in 0..graph.turn_nodes() {
-        put_turn(out, graph.turn_node(i + 1));
+        out = put_turn(out, graph.turn_node(i + 1));
     }
+    out
 }
 
 /// Appends the version and the numbers in front.
-fn put_counts(out: &mut Writer, v: Counts)
-    ensures { Writes out.old out.new (counts_piece.spell (head_view v)) }
+fn put_counts(out: Writer, v: Counts) -> Writer
+    ensures { Writes out result (counts_piece.spell (head_view v)) }
 {
-    out.put_u16(version(v.profile));
-    out.put_u16(v.step);
-    out.put_u32(v.seed);
-    out.put_u32(v.names);
-    out.put_u32(v.inputs);
-    out.put_u32(v.outputs);
-    out.put_u32(v.cells);
-    out.put_u32(v.turn_nodes);
-    out.put_u32(v.operations);
+    out.put_u16(version(v.profile))
+        .put_u16(v.step)
+        .put_u32(v.seed)
+        .put_u32(v.names)
+        .put_u32(v.inputs)
+        .put_u32(v.outputs)
+        .put_u32(v.cells)
+        .put_u32(v.turn_nodes)
+        .put_u32(v.operations)
 }
 
 /// Appends the head.
-fn put_head(out: &mut Writer, v: Counts)
-    ensures { Writes out.old out.new (head_piece.spell (head_view v)) }
+fn put_head(out: Writer, v: Counts) -> Writer
+    ensures { Writes out result (head_piece.spell (head_view v)) }
 {
-    out.put(b"VCPANBD\n");
-    put_counts(out, v);
+    put_counts(out.put(b"VCPANBD\n"), v)
 }
 
 /// Appends a name with its length.
-fn put_name(out: &mut Writer, name: &Text)
+fn put_name(out: Writer, name: &Text) -> Writer
     requires { length name.now ≤ most_name_bytes }
-    ensures { (earlier : List (List ℕ)) → Writes out.old out.new ((name_piece earlier).spell name.now) }
+    ensures { (earlier : List (List ℕ)) → Writes out result ((name_piece earlier).spell name.now) }
 {
-    out.put_u32(name.len() as u32);
-    out.put(name.bytes());
+    out.put_u32(name.len() as u32).put(name.bytes())
 }
 
 /// Appends the names.
-fn put_names(out: &mut Writer, graph: &Graph)
+fn put_names(mut out: Writer, graph: &Graph) -> Writer
     requires { IsGraph graph.now }
-    ensures { Writes out.old out.new (entries (λ b. (name_piece b).spell) [] graph.now.names) }
+    ensures { Writes out result (entries (λ b. (name_piece b).spell) [] graph.now.names) }
 {
     'entries: for i in 0..graph.names() {
-        put_name(out, graph.name(i));
+        out = put_name(out, graph.name(i));
     }
+    out
 }
 
 /// Appends the operations.
-fn put_operations(out: &mut Writer, graph: &Graph, table: &Table)
+fn put_operations(mut out: Writer, graph: &Graph, table: &Table) -> Writer
     requires { IsTableOf table.now graph.now }
-    ensures { AddsOperations out.old out.new graph.now table.now.seed table.now.step }
+    ensures { AddsOperations out result graph.now table.now.seed table.now.step }
 {
     'entries: for i in 0..graph.len() {
-        put_op(
+        out = put_op(
             out,
             table.profile(),
             graph.operation(i),
             table.correction(i),
         );
     }
+    out
 }
 
 /// The numbers in front.
@@ -203,18 +202,18 @@ pub fn write_image(alloc: Global, graph: &Graph, table: &Table) -> Result<Text, 
     requires { IsTableOf table.now graph.now }
     ensures { IfOk result (λ t. t ≡ image_of graph.now table.now.seed table.now.step) }
 {
-    let mut out = Writer::new(alloc);
-    put_head(&mut out, counts_of(graph, table));
-    put_names(&mut out, graph);
-    put_inputs(&mut out, graph);
-    put_outputs(&mut out, graph);
-    put_cells(&mut out, graph);
-    put_turns(&mut out, graph);
-    put_operations(&mut out, graph, table);
+    let out = Writer::new(alloc);
+    let out = put_head(out, counts_of(graph, table));
+    let out = put_names(out, graph);
+    let out = put_inputs(out, graph);
+    let out = put_outputs(out, graph);
+    let out = put_cells(out, graph);
+    let out = put_turns(out, graph);
+    let out = put_operations(out, graph, table);
     let Writer { bytes, has_failed } = out;
     if has_failed {
         Err(Memory)
     } else {
-        Ok(Text::from_vec(bytes))
+        Ok(Text::from_vec(bytes.list))
     }
 }

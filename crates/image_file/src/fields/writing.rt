@@ -10,86 +10,88 @@ ghost use Rattle.image_file.specs.Written.{Writes};
 use std::alloc::Global;
 use vcp_base::{Kind, Profile, Residue, Ty, kind_code, ty_code};
 
+/// The bytes of a writer. They are a type of their own, since a loop that gives on what holds a `Vec` itself gets no proof.
+#[derive(Drop)]
+pub struct Bytes {
+    pub(crate) list: Vec<u8>,
+}
+
 /// Bytes that are written field by field. Where memory runs out it has failed, from then on, and its bytes lack some.
 #[derive(Drop)]
 pub struct Writer {
-    pub(crate) bytes: Vec<u8>,
+    pub(crate) bytes: Bytes,
     pub(crate) has_failed: bool,
 }
 
 impl Writer {
     /// No bytes.
     pub fn new(alloc: Global) -> Writer
-        ensures bytes { result.bytes.items ≡ [] }
+        ensures bytes { result.bytes.list.items ≡ [] }
         ensures sound { result.has_failed ≡ false }
     {
         Writer {
-            bytes: Vec::new(alloc),
+            bytes: Bytes {
+                list: Vec::new(alloc),
+            },
             has_failed: false,
         }
     }
 
     /// Appends bytes.
-    pub fn put(&mut self, more: &[u8])
-        ensures { Writes self.old self.new more.now }
+    pub fn put(mut self, more: &[u8]) -> Writer
+        ensures { Writes self result more.now }
     {
-        match self.bytes.extend_from_slice(more) {
+        match self.bytes.list.extend_from_slice(more) {
             Ok(()) => {}
             Err(_) => self.has_failed = true,
         }
+        self
     }
 
     /// Appends the code of a type, one byte.
-    pub fn put_ty(&mut self, ty: Ty)
-        ensures { Writes self.old self.new (ty_code_of ty ∷ []) }
+    pub fn put_ty(self, ty: Ty) -> Writer
+        ensures { Writes self result (ty_code_of ty ∷ []) }
     {
-        self.put(&[ty_code(ty)]);
+        self.put(&[ty_code(ty)])
     }
 
     /// Appends the code of a kind, one byte.
-    pub fn put_kind(&mut self, kind: Kind)
-        ensures { Writes self.old self.new (kind_code_of kind ∷ []) }
+    pub fn put_kind(self, kind: Kind) -> Writer
+        ensures { Writes self result (kind_code_of kind ∷ []) }
     {
-        self.put(&[kind_code(kind)]);
+        self.put(&[kind_code(kind)])
     }
 
     /// Appends a number of two bytes.
-    pub fn put_u16(&mut self, n: u16)
-        ensures { Writes self.old self.new (to_be_bytes w16 n) }
+    pub fn put_u16(self, n: u16) -> Writer
+        ensures { Writes self result (to_be_bytes w16 n) }
     {
-        self.put(&n.to_be_bytes());
+        self.put(&n.to_be_bytes())
     }
 
     /// Appends a number of four bytes.
-    pub fn put_u32(&mut self, n: u32)
-        ensures { Writes self.old self.new (to_be_bytes w32 n) }
+    pub fn put_u32(self, n: u32) -> Writer
+        ensures { Writes self result (to_be_bytes w32 n) }
     {
-        self.put(&n.to_be_bytes());
+        self.put(&n.to_be_bytes())
     }
 
     /// Appends a number with a sign, of eight bytes.
-    pub fn put_i64(&mut self, v: i64)
-        ensures { Writes self.old self.new (to_be_bytes w64 (cast_unsigned w64 v)) }
+    pub fn put_i64(self, v: i64) -> Writer
+        ensures { Writes self result (to_be_bytes w64 (cast_unsigned w64 v)) }
     {
         let n = v.cast_unsigned();
-        self.put(&n.to_be_bytes());
-    }
-
-    /// Appends a number of eight bytes.
-    fn put_u64(&mut self, n: u64)
-        ensures { Writes self.old self.new (to_be_bytes w64 n) }
-    {
-        self.put(&n.to_be_bytes());
+        self.put(&n.to_be_bytes())
     }
 
     /// Appends a residue: four bytes in the narrow code, and eight in the wide one.
-    pub fn put_residue(&mut self, profile: Profile, n: Residue)
+    pub fn put_residue(self, profile: Profile, n: Residue) -> Writer
         requires { n < modulus profile }
-        ensures { Writes self.old self.new (to_be_bytes (correction_width profile) n) }
+        ensures { Writes self result (to_be_bytes (correction_width profile) n) }
     {
         match profile {
             Profile::Narrow => self.put_u32(n as u32),
-            Profile::Wide => self.put_u64(n),
+            Profile::Wide => self.put(&n.to_be_bytes()),
         }
     }
 }

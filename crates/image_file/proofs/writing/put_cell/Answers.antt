@@ -9,7 +9,7 @@ use Rattle.image_file.proofs.writing.put_cell.Goals as goal
 pub returns : goal.returns
 unfolding cell_piece
 returns c = λ p names operations earlier.
-    let number : Writes c.put_ty.new.self c.put_i64.new.self (to_be_bytes w64 (cast_unsigned w64 c.args.v.init)) =
-    subst (λ z. Writes c.put_ty.new.self c.put_i64.new.self (to_be_bytes w64 (cast_unsigned w64 z))) (to_z-of_z w64 c.args.v.init (search rules))
+    let number : Writes c.put_ty.result c.put_i64.result (to_be_bytes w64 (cast_unsigned w64 c.args.v.init)) =
+    subst (λ z. Writes c.put_ty.result c.put_i64.result (to_be_bytes w64 (cast_unsigned w64 z))) (to_z-of_z w64 c.args.v.init (search rules))
     c.put_i64.ensures in
     and_then c.put_u32.ensures (and_then c.put_ty.ensures (and_then number (and_then c.put_u32-2.ensures (ended c.put_u32-3.ensures))))

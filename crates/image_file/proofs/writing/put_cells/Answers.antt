@@ -14,9 +14,9 @@ pub entries-preserved : goal.entries-preserved
 entries-preserved c = λ p names operations.
     next_entry (λ b. (cell_piece p names operations b).spell) (cells c.args.graph.now) c.entries.i c.cell.result c.cell.ensures
     (c.entries.invariant p names operations)
-    (c.put_cell.ensures p names operations (take c.entries.i (cells c.args.graph.now)))
+    (c.put_cell-out.ensures p names operations (take c.entries.i (cells c.args.graph.now)))
 
 pub returns : goal.returns
 returns c = λ p names operations.
-    subst (λ l. Writes c.args.out.now c.entries.out (entries (λ b. (cell_piece p names operations b).spell) [] l))
+    subst (λ l. Writes c.args.out c.entries.out (entries (λ b. (cell_piece p names operations b).spell) [] l))
     (take_all c.entries.i (cells c.args.graph.now) (omega (arith, c.cells-i-end.ensures.count))) (c.entries.invariant p names operations)

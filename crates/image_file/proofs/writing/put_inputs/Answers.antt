@@ -12,9 +12,9 @@ entries-init c = λ p names. nothing
 pub entries-preserved : goal.entries-preserved
 entries-preserved c = λ p names.
     next_entry (λ b. (input_piece p names b).spell) c.args.graph.now.inputs c.entries.i c.input.result c.input.ensures (c.entries.invariant p names)
-    (c.put_input.ensures p names (take c.entries.i c.args.graph.now.inputs))
+    (c.put_input-out.ensures p names (take c.entries.i c.args.graph.now.inputs))
 
 pub returns : goal.returns
 returns c = λ p names.
-    subst (λ l. Writes c.args.out.now c.entries.out (entries (λ b. (input_piece p names b).spell) [] l))
+    subst (λ l. Writes c.args.out c.entries.out (entries (λ b. (input_piece p names b).spell) [] l))
     (take_all c.entries.i c.args.graph.now.inputs (omega (arith, c.inputs-i-end.ensures))) (c.entries.invariant p names)

@@ -30,7 +30,7 @@ entries-preserved c = λ ins outs n.
     (store_of (cells c.args.graph.now) (unsigned_abs c.operation.result.imm)) =
     some_nat _ _ (sym c.correction.ensures.value ∙ ap (λ l. slice_get l c.entries.i) c.requires.1 ∙ there) in
     next_entry (λ b. (op_piece s b).spell) ops c.entries.i c.operation.result c.operation.ensures (c.entries.invariant ins outs n)
-    (c.put_op.ensures s (take c.entries.i ops) (c.profile.ensures ∙ c.requires.0)
+    (c.put_op-out.ensures s (take c.entries.i ops) (c.profile.ensures ∙ c.requires.0)
     (told ∙ ap (λ k. correction c.args.graph.now.profile c.args.table.now.seed c.args.table.now.step k c.operation.result
     (store_of (cells c.args.graph.now) (unsigned_abs c.operation.result.imm))) (sym len)))
 
@@ -38,5 +38,5 @@ pub returns : goal.returns
 returns c = λ ins outs n.
     let s : Said = said c.args.graph.now.profile c.args.table.now.seed c.args.table.now.step ins outs (cells c.args.graph.now) n in
     let ops : List Op = c.args.graph.now.operations in
-    subst (λ l. Writes c.args.out.now c.entries.out (entries (λ b. (op_piece s b).spell) [] l))
+    subst (λ l. Writes c.args.out c.entries.out (entries (λ b. (op_piece s b).spell) [] l))
     (take_all c.entries.i ops (omega (arith, c.len-i-end.ensures.count))) (c.entries.invariant ins outs n)

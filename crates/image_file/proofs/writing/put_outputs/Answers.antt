@@ -13,9 +13,9 @@ pub entries-preserved : goal.entries-preserved
 entries-preserved c = λ p names operations.
     next_entry (λ b. (output_piece p names operations b).spell) c.args.graph.now.outputs c.entries.i c.output.result c.output.ensures
     (c.entries.invariant p names operations)
-    (c.put_output.ensures p names operations (take c.entries.i c.args.graph.now.outputs))
+    (c.put_output-out.ensures p names operations (take c.entries.i c.args.graph.now.outputs))
 
 pub returns : goal.returns
 returns c = λ p names operations.
-    subst (λ l. Writes c.args.out.now c.entries.out (entries (λ b. (output_piece p names operations b).spell) [] l))
+    subst (λ l. Writes c.args.out c.entries.out (entries (λ b. (output_piece p names operations b).spell) [] l))
     (take_all c.entries.i c.args.graph.now.outputs (omega (arith, c.outputs-i-end.ensures))) (c.entries.invariant p names operations)

@@ -9,7 +9,7 @@ use Rattle.image_file.proofs.writing.put_turn.Goals as goal
 pub returns : goal.returns
 unfolding turn_piece
 returns c = λ names earlier.
-    let number : Writes c.put_u32-2.new.self c.put_i64.new.self (to_be_bytes w64 (cast_unsigned w64 c.args.v.value)) =
-    subst (λ z. Writes c.put_u32-2.new.self c.put_i64.new.self (to_be_bytes w64 (cast_unsigned w64 z))) (to_z-of_z w64 c.args.v.value (search rules))
+    let number : Writes c.put_u32-2.result c.put_i64.result (to_be_bytes w64 (cast_unsigned w64 c.args.v.value)) =
+    subst (λ z. Writes c.put_u32-2.result c.put_i64.result (to_be_bytes w64 (cast_unsigned w64 z))) (to_z-of_z w64 c.args.v.value (search rules))
     c.put_i64.ensures in
     and_then c.put_u32.ensures (and_then c.put_u32-2.ensures (ended number))

@@ -10,11 +10,11 @@ unfolding image_piece later_lists
 returns-else-has_failed c =
     let g : Lists = c.args.graph.now in
     let p : Parts = parts_of g c.args.table.now.seed c.args.table.now.step in
-    let first : Writes c.new-out.result c.put_head.new.out (head_piece.spell (head_of p)) =
-    subst (λ h. Writes c.new-out.result c.put_head.new.out (head_piece.spell h)) c.counts_of.ensures.counts c.put_head.ensures in
-    let all : Writes c.new-out.result c.put_operations.new.out (image_of g c.args.table.now.seed c.args.table.now.step) =
-    and_then first (and_then c.put_names.ensures (and_then (c.put_inputs.ensures p.profile (length g.names))
-    (and_then (c.put_outputs.ensures p.profile (length g.names) (length g.operations))
-    (and_then (c.put_cells.ensures p.profile (length g.names) (length g.operations))
-    (and_then (c.put_turns.ensures (length g.names)) (ended (c.put_operations.ensures g.inputs g.outputs (length g.turn_nodes)))))))) in
+    let first : Writes c.new-out.result c.put_head-out.result (head_piece.spell (head_of p)) =
+    subst (λ h. Writes c.new-out.result c.put_head-out.result (head_piece.spell h)) c.counts_of.ensures.counts c.put_head-out.ensures in
+    let all : Writes c.new-out.result c.put_operations-out.result (image_of g c.args.table.now.seed c.args.table.now.step) =
+    and_then first (and_then c.put_names-out.ensures (and_then (c.put_inputs-out.ensures p.profile (length g.names))
+    (and_then (c.put_outputs-out.ensures p.profile (length g.names) (length g.operations))
+    (and_then (c.put_cells-out.ensures p.profile (length g.names) (length g.operations))
+    (and_then (c.put_turns-out.ensures (length g.names)) (ended (c.put_operations-out.ensures g.inputs g.outputs (length g.turn_nodes)))))))) in
     c.from_vec.ensures ∙ all.adds c.if-has_failed.false ∙ ap (λ t. t ++ image_of g c.args.table.now.seed c.args.table.now.step) c.new-out.ensures.bytes
