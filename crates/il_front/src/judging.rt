@@ -16,11 +16,11 @@ ghost use Rattle.il_front.specs.Tables.{Tells};
 ghost use Rattle.il_front.specs.Writings.{AreWords, AreInside, InsideWriting, written_in, line_in};
 
 use crate::fault::IlFault;
-use crate::instruction::Instruction;
+use crate::instruction::{Action, Instruction};
 use crate::line::{FormedLine, Words, is_last_word, line_end, line_of, line_words};
 use crate::operand::{meaning, table_of};
 use crate::operator::sets;
-use crate::types::{action_of, loads, type_behind};
+use crate::types::{action_of, type_behind};
 use st_lexer::Tokens;
 use st_types::Names;
 use std::alloc::Global;
@@ -51,15 +51,15 @@ fn placed(before: Option<Ty>, instruction: Instruction) -> Result<Taken, IlFault
     ensures { Judges result (placed_line before instruction) }
 {
     match before {
-        None => {
-            if loads(instruction.action) {
-                typed_as(Ty::Bool, instruction)
-            } else {
-                Err(IlFault::Empty {
-                    spot: instruction.spot,
-                })
-            }
-        }
+        None => match instruction.action {
+            Action::Load { .. } => typed_as(Ty::Bool, instruction),
+            Action::Store { .. }
+            | Action::Put { .. }
+            | Action::Complement
+            | Action::Combine { .. } => Err(IlFault::Empty {
+                spot: instruction.spot,
+            }),
+        },
         Some(ty) => typed_as(ty, instruction),
     }
 }

@@ -121,24 +121,6 @@ pub fn is_last_word(words: Words) -> bool
 
 // ---- the form of a line
 
-// TRUE and FALSE, which are literals of BOOL.
-fn truth_of(key: Key) -> Option<Writing>
-    ensures value { (text : List ℕ) → option_map (written_in text) result ≡ written_literal (literal_of (tok_.Key key)) }
-    ensures inside { (text : List ℕ) → IfSome result (InsideWriting text) }
-{
-    match key {
-        Key::True => Some(Writing::Number {
-            ty: Some(Ty::Bool),
-            value: 1,
-        }),
-        Key::False => Some(Writing::Number {
-            ty: Some(Ty::Bool),
-            value: 0,
-        }),
-        _ => None,
-    }
-}
-
 // An operand of one token.
 fn written_one(t: Token) -> Option<Writing>
     ensures value { (text : List ℕ) → option_map (written_in text) result ≡ one_of (bytes_in text t) t.tok }
@@ -146,41 +128,30 @@ fn written_one(t: Token) -> Option<Writing>
 {
     match t.tok {
         Tok::Name => Some(Writing::Name(t)),
-        Tok::Key(key) => truth_of(key),
+        Tok::Key(Key::True) => Some(Writing::Number {
+            ty: Some(Ty::Bool),
+            value: 1,
+        }),
+        Tok::Key(Key::False) => Some(Writing::Number {
+            ty: Some(Ty::Bool),
+            value: 0,
+        }),
+        Tok::Key(_) => None,
         Tok::Number { ty, value } => Some(Writing::Number { ty, value }),
         Tok::Sym(_) => None,
     }
 }
 
-// A literal without a type behind `-`.
-fn negative(tok: Tok) -> Option<Writing>
-    ensures value { (text : List ℕ) → option_map (written_in text) result ≡ negative_of (tok_.Sym sym_.Minus) tok }
-    ensures inside { (text : List ℕ) → IfSome result (InsideWriting text) }
-{
-    match tok {
-        Tok::Number { ty: None, value } => Some(Writing::Negative { value }),
-        _ => None,
-    }
-}
-
-// A symbol and the token behind it, as an operand.
-fn signed(sym: Sym, tok: Tok) -> Option<Writing>
-    ensures value { (text : List ℕ) → option_map (written_in text) result ≡ negative_of (tok_.Sym sym) tok }
-    ensures inside { (text : List ℕ) → IfSome result (InsideWriting text) }
-{
-    match sym {
-        Sym::Minus => negative(tok),
-        _ => None,
-    }
-}
-
-// An operand of two tokens.
+// An operand of two tokens: `-` and a literal without a type.
 fn written_two(m: Token, t: Token) -> Option<Writing>
     ensures value { (text : List ℕ) → option_map (written_in text) result ≡ negative_of m.tok t.tok }
     ensures inside { (text : List ℕ) → IfSome result (InsideWriting text) }
 {
     match m.tok {
-        Tok::Sym(sym) => signed(sym, t.tok),
+        Tok::Sym(Sym::Minus) => match t.tok {
+            Tok::Number { ty: None, value } => Some(Writing::Negative { value }),
+            _ => None,
+        },
         _ => None,
     }
 }

@@ -4,7 +4,6 @@ ghost use Rattle.std.specs.Prelude.{◌≡◌, Some};
 ghost use Rattle.std.specs.Str.{str_eq_ignore_ascii_case};
 ghost use Rattle.st_lexer.specs.Reading.{IsInside};
 ghost use Rattle.st_tree.specs.Spelling.{bytes_in};
-ghost use Rattle.il_front.specs.declared.operator.Operator.TheVariants as operator_;
 ghost use Rattle.il_front.specs.Judging.{comparison_named as comparison_of, combining_named as combining_of};
 ghost use Rattle.il_front.specs.Judging.{operator_named as named_of, operator_reserved as reserved_of, operator_of as operator_of_bytes, sets as sets_of};
 
@@ -26,13 +25,6 @@ pub enum Operator {
     Combine { op: BinOp, negated: bool },
 }
 
-// An operator between the result and its operand.
-fn combine(op: BinOp, negated: bool) -> Option<Operator>
-    ensures { result ≡ Some (operator_.Combine op negated) }
-{
-    Some(Operator::Combine { op, negated })
-}
-
 // Whether a name is this word, without regard to case.
 fn is(name: &[u8], word: &[u8]) -> bool
     ensures { result ≡ str_eq_ignore_ascii_case name.now word.now }
@@ -45,17 +37,35 @@ fn comparison_named(name: &[u8]) -> Option<Operator>
     ensures { result ≡ comparison_of name.now }
 {
     if is(name, b"GT") {
-        combine(BinOp::Gt, false)
+        Some(Operator::Combine {
+            op: BinOp::Gt,
+            negated: false,
+        })
     } else if is(name, b"GE") {
-        combine(BinOp::Ge, false)
+        Some(Operator::Combine {
+            op: BinOp::Ge,
+            negated: false,
+        })
     } else if is(name, b"EQ") {
-        combine(BinOp::Eq, false)
+        Some(Operator::Combine {
+            op: BinOp::Eq,
+            negated: false,
+        })
     } else if is(name, b"NE") {
-        combine(BinOp::Ne, false)
+        Some(Operator::Combine {
+            op: BinOp::Ne,
+            negated: false,
+        })
     } else if is(name, b"LE") {
-        combine(BinOp::Le, false)
+        Some(Operator::Combine {
+            op: BinOp::Le,
+            negated: false,
+        })
     } else if is(name, b"LT") {
-        combine(BinOp::Lt, false)
+        Some(Operator::Combine {
+            op: BinOp::Lt,
+            negated: false,
+        })
     } else {
         None
     }
@@ -66,19 +76,40 @@ fn combining_named(name: &[u8]) -> Option<Operator>
     ensures { result ≡ combining_of name.now }
 {
     if is(name, b"ANDN") {
-        combine(BinOp::And, true)
+        Some(Operator::Combine {
+            op: BinOp::And,
+            negated: true,
+        })
     } else if is(name, b"ORN") {
-        combine(BinOp::Or, true)
+        Some(Operator::Combine {
+            op: BinOp::Or,
+            negated: true,
+        })
     } else if is(name, b"XORN") {
-        combine(BinOp::Xor, true)
+        Some(Operator::Combine {
+            op: BinOp::Xor,
+            negated: true,
+        })
     } else if is(name, b"ADD") {
-        combine(BinOp::Add, false)
+        Some(Operator::Combine {
+            op: BinOp::Add,
+            negated: false,
+        })
     } else if is(name, b"SUB") {
-        combine(BinOp::Sub, false)
+        Some(Operator::Combine {
+            op: BinOp::Sub,
+            negated: false,
+        })
     } else if is(name, b"MUL") {
-        combine(BinOp::Mul, false)
+        Some(Operator::Combine {
+            op: BinOp::Mul,
+            negated: false,
+        })
     } else if is(name, b"DIV") {
-        combine(BinOp::Div, false)
+        Some(Operator::Combine {
+            op: BinOp::Div,
+            negated: false,
+        })
     } else {
         comparison_named(name)
     }
@@ -110,10 +141,22 @@ fn operator_reserved(key: Key) -> Option<Operator>
     ensures { result ≡ reserved_of key }
 {
     match key {
-        Key::And => combine(BinOp::And, false),
-        Key::Or => combine(BinOp::Or, false),
-        Key::Xor => combine(BinOp::Xor, false),
-        Key::Mod => combine(BinOp::Mod, false),
+        Key::And => Some(Operator::Combine {
+            op: BinOp::And,
+            negated: false,
+        }),
+        Key::Or => Some(Operator::Combine {
+            op: BinOp::Or,
+            negated: false,
+        }),
+        Key::Xor => Some(Operator::Combine {
+            op: BinOp::Xor,
+            negated: false,
+        }),
+        Key::Mod => Some(Operator::Combine {
+            op: BinOp::Mod,
+            negated: false,
+        }),
         Key::Not => Some(Operator::Complement),
         _ => None,
     }

@@ -4,7 +4,6 @@ ghost use Rattle.std.specs.Prelude.{◌≡◌, ◌+◌, ◌≤◌, [], ◌∷◌
 ghost use Rattle.vcp_base.specs.Limits.{most_names};
 ghost use Rattle.vcp_base.specs.declared.ty.Ty.TheVariants as ty_;
 ghost use Rattle.il_front.specs.TypedForm.{hidden_name as hidden_name_of, hidden_slot as hidden_slot_of, hidden_slots, all_types, uses as uses_of, used_by};
-ghost use Rattle.il_front.specs.TypedForm.{used_before as used_before_of};
 ghost use Rattle.il_front.specs.Places.{used_in, place_in};
 ghost use Rattle.st_types.specs.Full.{UnlessFull};
 
@@ -63,25 +62,19 @@ fn one_if(b: bool) -> u32
 }
 
 impl Places {
-    // How many hidden variables stand before that of the type.
-    fn before(self, ty: Ty) -> u32
-        ensures is { result ≡ used_before_of (used_in self) ty all_types }
-        ensures small { result ≤ 3 }
-    {
-        match ty {
-            Ty::Bool => 0,
-            Ty::Int => one_if(self.bools),
-            Ty::Dint => one_if(self.bools) + one_if(self.ints),
-            Ty::Lint => one_if(self.bools) + one_if(self.ints) + one_if(self.dints),
-        }
-    }
-
     /// The number of the slot that keeps a result of the type.
     pub fn place(self, ty: Ty) -> u32
         requires { self.declared ≤ most_names }
         ensures { result ≡ place_in self ty }
     {
-        self.declared + self.before(ty)
+        match ty {
+            Ty::Bool => self.declared,
+            Ty::Int => self.declared + one_if(self.bools),
+            Ty::Dint => self.declared + one_if(self.bools) + one_if(self.ints),
+            Ty::Lint => {
+                self.declared + one_if(self.bools) + one_if(self.ints) + one_if(self.dints)
+            }
+        }
     }
 }
 

@@ -3,9 +3,9 @@
 ghost use Rattle.std.specs.Prelude.{◌≡◌, option_map, Some, None};
 ghost use Rattle.vcp_typed.specs.Rules.{common as common_of, result as result_of};
 ghost use Rattle.il_front.specs.Accumulator.{operand_type as type_of_operand};
-ghost use Rattle.il_front.specs.Judging.{if_bool as if_bool_of, type_behind as type_behind_of, loads as loads_of};
+ghost use Rattle.il_front.specs.Judging.{if_bool as if_bool_of, type_behind as type_behind_of};
 ghost use Rattle.il_front.specs.Judging.{slot_in as slot_in_of, action_of as action_of_operator};
-ghost use Rattle.il_front.specs.TypedForm.{combined_type as combined_type_of, next_type as next_type_of};
+ghost use Rattle.il_front.specs.TypedForm.{next_type as next_type_of};
 
 use crate::instruction::{Action, Operand};
 use crate::operator::Operator;
@@ -106,29 +106,6 @@ pub fn type_behind(ty: Ty, action: Action) -> Option<Ty>
     }
 }
 
-/// Whether the action loads a result.
-pub fn loads(action: Action) -> bool
-    ensures { result ≡ loads_of action }
-{
-    match action {
-        Action::Load { .. } => true,
-        Action::Store { .. } => false,
-        Action::Put { .. } => false,
-        Action::Complement => false,
-        Action::Combine { .. } => false,
-    }
-}
-
-// The type of the result behind an operator, where there is a common type; else it stays.
-fn combined_type(op: BinOp, ty: Ty, common: Option<Ty>) -> Ty
-    ensures { result ≡ combined_type_of op ty common }
-{
-    match common {
-        None => ty,
-        Some(wide) => result(op, wide),
-    }
-}
-
 /// The type of the result behind an action that takes the types.
 pub fn next_type(ty: Ty, action: Action) -> Ty
     ensures { result ≡ next_type_of ty action }
@@ -138,8 +115,9 @@ pub fn next_type(ty: Ty, action: Action) -> Ty
         Action::Store { .. } => ty,
         Action::Put { .. } => ty,
         Action::Complement => ty,
-        Action::Combine { op, operand, .. } => {
-            combined_type(op, ty, common(op, ty, operand_type(operand)))
-        }
+        Action::Combine { op, operand, .. } => match common(op, ty, operand_type(operand)) {
+            None => ty,
+            Some(wide) => result(op, wide),
+        },
     }
 }
