@@ -65,8 +65,7 @@ fn then_outline<P: Pen>(pen: P, n: u32, look: Look, place: BoxPlace) -> P
 }
 
 /// Draws words inside a box, so far below its upper side.
-fn then_words<P: Pen>(pen: P, place: BoxPlace, below: u64, pieces: &[Piece<'_>]) -> P
-    requires { below ≤ 50 }
+fn then_words<P: Pen>(pen: P, place: BoxPlace, below: u32, pieces: &[Piece<'_>]) -> P
     ensures { Goes (P.seen pen) (P.seen result)
         (element_text (words place below (map piece_bytes pieces.now))) }
 {
@@ -75,7 +74,7 @@ fn then_words<P: Pen>(pen: P, place: BoxPlace, below: u64, pieces: &[Piece<'_>])
         Tag::Text,
         &[
             (Name::X, Piece::Count(left(place) + 5)),
-            (Name::Y, Piece::Count(top(place) + below)),
+            (Name::Y, Piece::Count(top(place) + below as u64)),
         ],
         pieces,
     )

@@ -16,7 +16,6 @@ use vcp_outside::{Name, Pen, Piece, Tag, then_element};
 
 /// Draws the small rectangle of constant `k` in a box at this place, for operand `which`.
 fn then_patch<P: Pen>(pen: P, place: BoxPlace, which: u32, k: u32, look: Look) -> P
-    requires { which < 3 }
     ensures { Goes (P.seen pen) (P.seen result) (element_text (patch place which k look)) }
 {
     then_element(
@@ -37,7 +36,6 @@ fn then_patch<P: Pen>(pen: P, place: BoxPlace, which: u32, k: u32, look: Look) -
 
 /// Draws the value in it.
 fn then_value<P: Pen>(pen: P, place: BoxPlace, which: u32, value: Piece<'_>) -> P
-    requires { which < 3 }
     ensures { Goes (P.seen pen) (P.seen result)
         (element_text (patch_value place which (piece_bytes value.entry))) }
 {
@@ -62,7 +60,6 @@ pub(crate) fn then_constant_at<P: Pen, L: Looks>(
     which: u32,
     k: u32,
 ) -> P
-    requires operand { which < 3 }
     requires names { named op.now which ≡ k }
     requires tells { L.IsFor looks.now graph.now }
     ensures { Goes (P.seen pen) (P.seen result)

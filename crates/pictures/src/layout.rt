@@ -77,12 +77,8 @@ impl GraphLayout {
     }
 }
 
-/// The least width in which the legend has room, and a greater one as it is.
-fn with_legend(width: u64) -> u64
-    ensures { width ≤ result }
-{
-    if width < 980 { 980 } else { width }
-}
+/// The least width in which the legend has room.
+const LEGEND_WIDTH: u64 = 980;
 
 /// The places of the boxes of a graph's operations: in columns by depth, what leaves the cycle in the last one; in the row of the
 /// first operand that is no constant, or below it where boxes of the column are there. Each is inside the picture, but those of constants, which are drawn
@@ -95,7 +91,7 @@ pub fn layout_of(alloc: Global, graph: &Graph) -> Result<GraphLayout, Memory>
     let end = corner(graph, places.as_slice());
     Ok(GraphLayout {
         places,
-        width: with_legend(left(end) + 104),
+        width: (left(end) + 104).max(LEGEND_WIDTH),
         height: top(end) + 58,
     })
 }

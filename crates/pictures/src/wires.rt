@@ -22,7 +22,6 @@ fn then_line<P: Pen>(
     from: BoxPlace,
     to: BoxPlace,
 ) -> P
-    requires { which < 3 }
     ensures { Goes (P.seen pen) (P.seen result)
         (element_text (wire_element (record { operand = operand; reader = reader; which = which; from = from; to = to }))) }
 {
@@ -52,8 +51,7 @@ fn then_wire<P: Pen>(
     j: u32,
     k: u32,
 ) -> P
-    requires operand { j < 3 }
-    requires names { named op.now j ≡ k }
+    requires { named op.now j ≡ k }
     ensures { Goes (P.seen pen) (P.seen result)
         (flat_map element_text (flat_map (wire_elements graph.now) (wire_of layout.now.places n op.now j))) }
 {

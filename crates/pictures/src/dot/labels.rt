@@ -1,8 +1,6 @@
 //! What nodes say.
 
-ghost use Rattle.std.specs.Prelude.{[], ◌∷◌, codes, decimal};
 ghost use Rattle.vcp_outside.specs.Pens.{Goes};
-ghost use Rattle.pictures.specs.Drawn.{own_of};
 ghost use Rattle.pictures.specs.DotText.{written, named, source, blindness, label, constant_label};
 
 use crate::dot::words::has_name;
@@ -77,22 +75,7 @@ pub(crate) fn then_label<P: Pen>(pen: P, graph: &Graph, n: u32, colour: Colour, 
     then_blindness(pen, graph, colour)
 }
 
-/// Goes on with the value of a constant, and the number of it below.
-fn then_value<P: Pen>(pen: P, graph: &Graph, n: u32, op: &Op) -> P
-    ensures { Goes (P.seen pen) (P.seen result)
-        (written (own_of graph.now op.now.kind op.now.imm ∷ codes "\n" ∷ decimal n ∷ [])) }
-{
-    pen.pieces(
-        Escaping::Quoted,
-        &[
-            own_piece(graph, op.kind, op.imm),
-            Piece::Bytes(b"\n"),
-            Piece::Count(n as u64),
-        ],
-    )
-}
-
-/// Goes on with what the node of a constant says, which is operation `n`.
+/// Goes on with what the node of a constant says, which is operation `n`: its value, its number below that, its place and what it is blind for.
 pub(crate) fn then_constant_label<P: Pen>(
     pen: P,
     graph: &Graph,
@@ -102,7 +85,14 @@ pub(crate) fn then_constant_label<P: Pen>(
 ) -> P
     ensures { Goes (P.seen pen) (P.seen result) (written (constant_label graph.now n colour op.now)) }
 {
-    let pen = then_value(pen, graph, n, op);
+    let pen = pen.pieces(
+        Escaping::Quoted,
+        &[
+            own_piece(graph, op.kind, op.imm),
+            Piece::Bytes(b"\n"),
+            Piece::Count(n as u64),
+        ],
+    );
     let pen = then_source(pen, b" ", op.spot);
     then_blindness(pen, graph, colour)
 }

@@ -1,10 +1,10 @@
-//! The style, the cycles, the names, the base lines and the end of a picture.
+//! The cycles, the names, the base lines and the end of a picture.
 
 ghost use Rattle.std.specs.Prelude.{◌≡◌, ◌<◌, length, flat_map};
 ghost use Rattle.vcp_outside.specs.Pens.{Goes};
 ghost use Rattle.vcp_outside.specs.Elements.{element_text};
 ghost use Rattle.vcp_base.specs.Limits.{most_cycles};
-ghost use Rattle.pictures.specs.WavesElements.{style, time_elements, mark_elements};
+ghost use Rattle.pictures.specs.WavesElements.{time_elements, mark_elements};
 ghost use Rattle.pictures.specs.WavesElements.{cycle_elements, cycles_elements, names_elements, bases_elements};
 ghost use Rattle.pictures.specs.WavesElements.{class_of as class_of_mark, ending_elements};
 
@@ -15,17 +15,6 @@ use crate::waves::shapes::{then_line, then_text, then_words};
 use crate::waves::stretches::is_level;
 use crate::waves::times::{Period, drawn_in, thousandths};
 use vcp_outside::{Name, Pen, Piece, Tag, then_element};
-
-/// The rules of style.
-const STYLE: &[u8] =
-    b"text{font:11px monospace}.level,.edge,.ramp{stroke:#000;stroke-width:2}.base{stroke:#999}.number{fill:#dde8f4}.last{text-anchor:end}.again,.time{fill:#666}.cycle{stroke:#ccc}.ended{stroke:#000}.stopped,.refused{stroke:#d00;stroke-width:3}";
-
-/// Goes on with the rules of style.
-pub(crate) fn then_style<P: Pen>(pen: P) -> P
-    ensures { Goes (P.seen pen) (P.seen result) (element_text style) }
-{
-    then_element(pen, Tag::Style, &[], &[Piece::Bytes(STYLE)])
-}
 
 // Writes when a cycle begins, where it is known how long one takes.
 fn then_time<P: Pen>(pen: P, layout: Layout, columns: u32, period: Option<Period>, cycle: u32) -> P
@@ -113,8 +102,7 @@ pub(crate) fn then_cycles<P: Pen>(
 }
 
 /// Writes the names of the columns in a class, so far from the left and below the columns' upper sides.
-pub(crate) fn then_names<P: Pen>(mut pen: P, run: &Run, class: &[u8], x: u64, y: u64) -> P
-    requires { y < 100 }
+pub(crate) fn then_names<P: Pen>(mut pen: P, run: &Run, class: &[u8], x: u64, y: u32) -> P
     ensures { Goes (P.seen pen) (P.seen result)
         (flat_map element_text (names_elements run.now class.now x y (length run.now.names))) }
 {
@@ -126,7 +114,7 @@ pub(crate) fn then_names<P: Pen>(mut pen: P, run: &Run, class: &[u8], x: u64, y:
                 (Name::Column, Piece::Count(column as u64)),
                 (Name::Class, Piece::Bytes(class)),
                 (Name::X, Piece::Count(x)),
-                (Name::Y, Piece::Count(top(column) + y)),
+                (Name::Y, Piece::Count(top(column) + y as u64)),
             ],
             &[Piece::Bytes(run.name(column).bytes())],
         );

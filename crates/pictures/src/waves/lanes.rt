@@ -3,7 +3,6 @@
 ghost use Rattle.std.specs.Prelude.{◌≡◌, ◌<◌, ◌≤◌, ◌+◌, [], ◌∷◌, length, flat_map, cond};
 ghost use Rattle.vcp_outside.specs.Pens.{Goes};
 ghost use Rattle.vcp_outside.specs.Elements.{element_text};
-ghost use Rattle.vcp_base.specs.Limits.{most_cycles};
 ghost use Rattle.pictures.specs.WavesDrawn.{lane, lanes};
 ghost use Rattle.pictures.specs.WavesElements.{top_of, level_of, rises as rises_of, holds as holds_of, level_element, number_element, ramp_element};
 ghost use Rattle.pictures.specs.WavesElements.{value_element, edge_elements, last_element, label_elements, stretch_elements};
@@ -24,8 +23,6 @@ fn level(value: i64) -> u64
 
 // Draws a level.
 fn then_level<P: Pen>(pen: P, layout: Layout, stretch: Stretch) -> P
-    requires some { stretch.start < stretch.end }
-    requires within { stretch.end ≤ most_cycles }
     ensures { Goes (P.seen pen) (P.seen result)
         (element_text (level_element layout stretch)) }
 {
@@ -43,8 +40,7 @@ fn then_level<P: Pen>(pen: P, layout: Layout, stretch: Stretch) -> P
 
 // Draws a number that holds.
 fn then_number<P: Pen>(pen: P, layout: Layout, stretch: Stretch) -> P
-    requires some { stretch.start < stretch.end }
-    requires within { stretch.end ≤ most_cycles }
+    requires { stretch.start < stretch.end }
     ensures { Goes (P.seen pen) (P.seen result)
         (element_text (number_element layout stretch)) }
 {
@@ -73,22 +69,18 @@ fn holds(stretch: Stretch) -> bool
 }
 
 // The distance from above, this far below the column's upper side where a stretch rises, else that far.
-fn height_by(stretch: Stretch, rising: u64, other: u64) -> u64
-    requires rising { rising ≤ 30 }
-    requires other { other ≤ 30 }
+fn height_by(stretch: Stretch, rising: u32, other: u32) -> u64
     ensures { result ≡ top_of stretch.column + cond (rises_of stretch) rising other }
 {
     if stretch.first < stretch.last {
-        top(stretch.column) + rising
+        top(stretch.column) + rising as u64
     } else {
-        top(stretch.column) + other
+        top(stretch.column) + other as u64
     }
 }
 
 // Draws a ramp.
 fn then_ramp<P: Pen>(pen: P, layout: Layout, stretch: Stretch) -> P
-    requires some { stretch.start < stretch.end }
-    requires within { stretch.end ≤ most_cycles }
     ensures { Goes (P.seen pen) (P.seen result)
         (element_text (ramp_element layout stretch)) }
 {
@@ -111,8 +103,7 @@ fn then_ramp<P: Pen>(pen: P, layout: Layout, stretch: Stretch) -> P
 
 // Draws the values of a stretch.
 fn then_value<P: Pen>(pen: P, layout: Layout, stretch: Stretch) -> P
-    requires some { stretch.start < stretch.end }
-    requires within { stretch.end ≤ most_cycles }
+    requires { stretch.start < stretch.end }
     ensures { Goes (P.seen pen) (P.seen result)
         (element_text (value_element layout stretch)) }
 {
@@ -127,8 +118,6 @@ fn then_value<P: Pen>(pen: P, layout: Layout, stretch: Stretch) -> P
 
 // Draws the edge before a stretch, where it stands behind another one.
 fn then_edge<P: Pen>(pen: P, layout: Layout, stretch: Stretch) -> P
-    requires some { stretch.start < stretch.end }
-    requires within { stretch.end ≤ most_cycles }
     ensures { Goes (P.seen pen) (P.seen result)
         (flat_map element_text (edge_elements layout stretch)) }
 {
@@ -154,8 +143,6 @@ fn first_height(stretch: Stretch) -> u64
 
 // Writes the last value of a stretch, where the value doesn't hold.
 fn then_last<P: Pen>(pen: P, layout: Layout, stretch: Stretch) -> P
-    requires some { stretch.start < stretch.end }
-    requires within { stretch.end ≤ most_cycles }
     ensures { Goes (P.seen pen) (P.seen result)
         (flat_map element_text (cond (holds_of stretch) [] (last_element layout stretch ∷ []))) }
 {
@@ -170,8 +157,6 @@ fn then_last<P: Pen>(pen: P, layout: Layout, stretch: Stretch) -> P
 
 // Writes the values at the ends of a stretch that is no level.
 fn then_labels<P: Pen>(pen: P, layout: Layout, stretch: Stretch) -> P
-    requires some { stretch.start < stretch.end }
-    requires within { stretch.end ≤ most_cycles }
     ensures { Goes (P.seen pen) (P.seen result)
         (flat_map element_text (label_elements layout stretch)) }
 {

@@ -2,7 +2,7 @@
 
 ghost use Rattle.std.specs.Fmt.{signed_decimal};
 ghost use Rattle.std.specs.List.{AllByRecursion, concat};
-ghost use Rattle.std.specs.Prelude.{◌≡◌, ◌≤◌, ◌<◌, ◌+◌, ◌*◌, ℕ, IfSome, decimal, length};
+ghost use Rattle.std.specs.Prelude.{◌≡◌, ◌≤◌, ◌<◌, ◌+◌, ◌*◌, ◌^◌, ℕ, IfSome, decimal, length};
 ghost use Rattle.vcp_base.specs.Limits.{most_cycles};
 ghost use Rattle.pictures.specs.WavesDrawn.{lane, lanes};
 ghost use Rattle.pictures.specs.WavesElements.{start_of, top_of, character, text_width as text_width_of, need_of, HasRoom, HaveRoom};
@@ -207,9 +207,8 @@ pub(crate) fn layout_for(run: &Run, period: Option<Period>) -> Layout
 
 /// The distance of a cycle's begin from the left.
 pub(crate) fn start(layout: Layout, cycle: u32) -> u64
-    requires { cycle ≤ most_cycles }
     ensures begin { result ≡ start_of layout cycle }
-    ensures low { result < 100000000000 }
+    ensures low { result < 2 ^ 49 }
 {
     layout.left as u64 + cycle as u64 * layout.cell as u64
 }

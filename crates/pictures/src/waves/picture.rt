@@ -4,12 +4,16 @@ ghost use Rattle.std.specs.Prelude.{◌≡◌, ◌≤◌, ℕ, List};
 ghost use Rattle.vcp_outside.specs.Written.{WritesTo};
 ghost use Rattle.pictures.specs.WavesElements.{height_below as height_below_of, IsPictureOf};
 
-use crate::waves::cycles::{then_bases, then_cycles, then_ending, then_names, then_style};
+use crate::waves::cycles::{then_bases, then_cycles, then_ending, then_names};
 use crate::waves::lanes::then_lanes;
 use crate::waves::layout::{layout_for, start, top};
 use crate::waves::run::Run;
 use crate::waves::times::Period;
-use vcp_outside::{Failed, Sink, begin_picture, end_picture};
+use vcp_outside::{Failed, Piece, Sink, Tag, begin_picture, end_picture, then_element};
+
+/// The rules of style of the picture.
+const STYLE: &[u8] =
+    b"text{font:11px monospace}.level,.edge,.ramp{stroke:#000;stroke-width:2}.base{stroke:#999}.number{fill:#dde8f4}.last{text-anchor:end}.again,.time{fill:#666}.cycle{stroke:#ccc}.ended{stroke:#000}.stopped,.refused{stroke:#d00;stroke-width:3}";
 
 // The height below the columns.
 fn height_below(period: Option<Period>) -> u64
@@ -35,7 +39,7 @@ pub fn write_waves<O: Sink>(out: &mut O, run: &Run, period: Option<Period>) -> R
     let width = start(layout, run.cycles()) + layout.room as u64;
     let height = top(run.columns()) + height_below(period);
     let pen = begin_picture(out, width, height);
-    let pen = then_style(pen);
+    let pen = then_element(pen, Tag::Style, &[], &[Piece::Bytes(STYLE)]);
     let pen = then_cycles(pen, layout, run, period);
     let pen = then_names(pen, run, b"name", 8, 23);
     let pen = then_bases(pen, layout, run);

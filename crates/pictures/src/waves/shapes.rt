@@ -1,10 +1,9 @@
 //! Lines and texts.
 
-ghost use Rattle.std.specs.Prelude.{◌<◌, ◌≤◌, map};
+ghost use Rattle.std.specs.Prelude.{map};
 ghost use Rattle.vcp_outside.specs.Pens.{Goes};
 ghost use Rattle.vcp_outside.specs.Characters.{piece_bytes};
 ghost use Rattle.vcp_outside.specs.Elements.{element_text};
-ghost use Rattle.vcp_base.specs.Limits.{most_cycles};
 ghost use Rattle.pictures.specs.WavesElements.{line_element, text_element, words_element, slope_element};
 
 use crate::waves::layout::{Layout, start};
@@ -69,8 +68,6 @@ pub(crate) fn then_slope<P: Pen>(
     to: u64,
     content: &[Piece<'_>],
 ) -> P
-    requires some { stretch.start < stretch.end }
-    requires within { stretch.end ≤ most_cycles }
     ensures { Goes (P.seen pen) (P.seen result)
         (element_text (slope_element layout stretch class.now from to (map piece_bytes content.now))) }
 {

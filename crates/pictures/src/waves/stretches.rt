@@ -2,7 +2,6 @@
 
 ghost use Rattle.std.specs.Prelude.{◌≡◌, ◌<◌, ◌≤◌, length};
 ghost use Rattle.std.specs.Ordering.{int_eq};
-ghost use Rattle.vcp_base.specs.Limits.{most_cycles};
 ghost use Rattle.pictures.specs.WavesDrawn.{is_bit as is_bit_of, is_level as is_level_of, change_at, step_of, end_of, stretch_of};
 
 use crate::waves::run::Run;
@@ -87,7 +86,6 @@ fn end(run: &Run, column: u32, start: u32) -> u32
     ensures end { result ≡ end_of run.now column start }
     ensures some { start < result }
     ensures within { result ≤ length run.now.rows }
-    ensures few { result ≤ most_cycles }
 {
     let cycles = run.cycles();
     'cycles: for cycle in start + 1..cycles {
@@ -106,7 +104,6 @@ pub(crate) fn stretch_from(run: &Run, column: u32, start: u32, is_level: bool) -
     ensures stretch { result ≡ stretch_of run.now column start }
     ensures begins { result.start ≡ start }
     ensures some { start < result.end }
-    ensures few { result.end ≤ most_cycles }
 {
     let end = end(run, column, start);
     Stretch {

@@ -35,7 +35,7 @@ returns-then-not-is_constant_at g c =
     let is : is_constant_there (slice_get ops c.args.k) ≡ false = sym c.is_constant_at.ensures.value ∙ c.if-not-is_constant_at.true in
     let drawn = rw (c.place.ensures, c.place-then-not-is_constant_at.ensures) at c.then_line.ensures in
     let w : Wire = record { operand = c.args.k; reader = c.args.n; which = c.args.j; from = place_at places c.args.k; to = place_at places c.args.n } in
-    rw (reads, c.requires.names) (same drawn (ap (flat_map element_text) (append-nil (wire_elements c.args.graph.now w) ∙ of_other w (slice_get ops c.args.k) is)
+    rw (reads, c.requires) (same drawn (ap (flat_map element_text) (append-nil (wire_elements c.args.graph.now w) ∙ of_other w (slice_get ops c.args.k) is)
     ∙ one_drawn (wire_element w)))
 
 pub returns-else-not-is_constant_at : goal.returns-else-not-is_constant_at
@@ -46,4 +46,4 @@ returns-else-not-is_constant_at g c =
     let reads : is_some (reads_as op.kind op.from c.args.j) ≡ true = sym (c.reads_operation.ensures op.from) ∙ c.if-not-reads_operation.false in
     let is : is_constant_there (slice_get ops c.args.k) ≡ true = sym c.is_constant_at.ensures.value ∙ c.if-not-is_constant_at.false in
     let w : Wire = record { operand = c.args.k; reader = c.args.n; which = c.args.j; from = place_at places c.args.k; to = place_at places c.args.n } in
-    rw (reads, c.requires.names) (same unmoved (ap (flat_map element_text) (append-nil (wire_elements c.args.graph.now w) ∙ of_constant w (slice_get ops c.args.k) is)))
+    rw (reads, c.requires) (same unmoved (ap (flat_map element_text) (append-nil (wire_elements c.args.graph.now w) ∙ of_constant w (slice_get ops c.args.k) is)))

@@ -28,19 +28,4 @@ returns g c =
     rw (all c.args.run.now c.args.column c.stretches.at i.drawn done i.before) i.text
 
 pub then_value-pen-requires : goal.then_value-pen-requires
-then_value-pen-requires g c = record {
-  some = rw c.stretch_from-stretch.ensures.begins c.stretch_from-stretch.ensures.some;
-  within = c.stretch_from-stretch.ensures.few;
-}
-
-pub then_edge-pen-requires : goal.then_edge-pen-requires
-then_edge-pen-requires g c = record {
-  some = rw c.stretch_from-stretch.ensures.begins c.stretch_from-stretch.ensures.some;
-  within = c.stretch_from-stretch.ensures.few;
-}
-
-pub then_labels-pen-requires : goal.then_labels-pen-requires
-then_labels-pen-requires g c = record {
-  some = rw c.stretch_from-stretch.ensures.begins c.stretch_from-stretch.ensures.some;
-  within = c.stretch_from-stretch.ensures.few;
-}
+then_value-pen-requires g c = rw c.stretch_from-stretch.ensures.begins c.stretch_from-stretch.ensures.some

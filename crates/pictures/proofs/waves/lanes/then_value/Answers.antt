@@ -3,14 +3,8 @@ use Rattle.pictures.specs.WavesElements.{holds, level_element, number_element, r
 use Rattle.pictures.proofs.WavesGoing.{first_text, second_text}
 use Rattle.pictures.proofs.waves.lanes.then_value.Goals as goal
 
-pub then_level-requires : goal.then_level-requires
-then_level-requires g c = c.requires
-
 pub then_number-requires : goal.then_number-requires
 then_number-requires g c = c.requires
-
-pub then_ramp-requires : goal.then_ramp-requires
-then_ramp-requires g c = c.requires
 
 pub returns-then-stretch : goal.returns-then-stretch
 returns-then-stretch g c =

@@ -14,7 +14,7 @@ returns g c =
     let columns = length run.names in
     let cycles = length run.rows in
     let begun = rw (c.start.ensures.begin, c.cycles.ensures.count, c.top.ensures, c.columns.ensures.count, c.height_below.ensures.height) at c.begin_picture-pen.ensures in
-    let named = c.then_names-pen.ensures _ _ _ (c.then_cycles-pen.ensures _ _ _ (c.then_style-pen.ensures _ _ _ begun)) in
+    let named = c.then_names-pen.ensures _ _ _ (c.then_cycles-pen.ensures _ _ _ (c.then_element-pen.ensures _ _ _ begun)) in
     let all = c.then_ending-pen.ensures _ _ _ (c.then_lanes-pen.ensures _ _ _ (c.then_bases-pen.ensures _ _ _ named)) in (
       waves_text l run period,
       record { layout = l; wide = c.layout_for-layout.ensures.room; told = refl },
