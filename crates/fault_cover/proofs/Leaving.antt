@@ -276,7 +276,7 @@ keys_next w past h =
 
 -- n is 1 where the fault is beyond the horizon, else 0
 pub leaves_more : (g : Lists) (old new : Left) (past : List Heard) (h : Heard) (n : ℕ)
-    → (new.lacked ≡ false → (old.lacked ≡ false) × (new.keys.items ≡ old.keys.items ++ key_if (length g.operations) h.told))
+    → (new.keys.lacked ≡ false → (old.keys.lacked ≡ false) × (new.keys.list.items ≡ old.keys.list.items ++ key_if (length g.operations) h.told))
     → one_for (is_beyond h.told) ≡ n → n ≤ 1 → (old.beyond + n < 2 ^ 64 → new.beyond ≡ old.beyond + n) → Leaves g old past
     → Leaves g new (past ++ h ∷ [])
 leaves_more g old new past h n keys one small beyond was = (

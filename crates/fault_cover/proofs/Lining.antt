@@ -19,7 +19,7 @@ few_at covered k few =
 
 -- what is kept of the faults of an operation is what its lines are made of
 pub lines_added : (s : Subject) (classes : List CoverClass) (k : ℕ) (l : Left) (keys : List ℕ) (w : ℕ) (old new : List LeftLine) (heard : List Heard)
-    → l.lacked ≡ false → keys ≡ l.keys.items → w ≡ length s.graph.operations → Leaves s.graph l heard → k < length s.graph.operations
+    → l.keys.lacked ≡ false → keys ≡ l.keys.list.items → w ≡ length s.graph.operations → Leaves s.graph l heard → k < length s.graph.operations
     → AreHeard s (of_classes_at classes s.graph k) heard
     → (h : ℕ) → h ≡ s.horizon → new ≡ old ++ (each_below (key_line k w keys) ((h + 1) * w) ++ beyond_line k l.beyond) → AreLinesAt s classes k
     old new

@@ -31,7 +31,7 @@ count_key keys key = count_by (λ x. x == key) keys
 
 -- what is kept of the faults of an operation, where memory wasn't lacking
 abbrev pub Leaves : Lists → Left → List Heard → Type 0
-Leaves g l heard = (l.lacked ≡ false → l.keys.items ≡ keys_of (length g.operations) heard) × (length heard < 2 ^ 62 → l.beyond ≡ count_told is_beyond heard)
+Leaves g l heard = (l.keys.lacked ≡ false → l.keys.list.items ≡ keys_of (length g.operations) heard) × (length heard < 2 ^ 62 → l.beyond ≡ count_told is_beyond heard)
 
 -- none of a list is as great as `from` and below `most`
 abbrev pub NoneFrom : List ℕ → ℕ → ℕ → Type 0

@@ -2,10 +2,8 @@
 
 ghost use Rattle.std.specs.Prelude.{◌≡◌, ◌+◌, ◌*◌, ◌/◌, ◌%◌, ◌<◌, ◌≤◌, ◌++◌, ◌∷◌, [], false, ℕ, List, Some, IfOk, cond, length};
 ghost use Rattle.range_walk.specs.declared.range.Stops.{Stops};
-ghost use Rattle.op_graph.specs.Lists.{Lists};
 ghost use Rattle.signature_table.specs.Signatures.{IsTableOf};
 ghost use Rattle.fault_cover.specs.Leftovers.{AreLinesAt, AreLinesOf, IsLeast, Leaves, beyond_line, count_key, key_line as key_line_of};
-ghost use Rattle.fault_cover.specs.Leftovers.{run_line};
 ghost use Rattle.fault_cover.specs.Surveys.{IsMapped, IsSurvey};
 ghost use Rattle.fault_cover.specs.Telling.{subject as subject_of};
 ghost use Rattle.fault_sites.specs.Sites.{each_below};
@@ -45,35 +43,40 @@ pub struct LeftLine {
     pub(crate) faults: u64,
 }
 
-/// The faults of an operation that run on, each as the number of its borders and operation, and how many are beyond.
+/// Items as they come, and whether memory was wanting for one of them.
 #[derive(Drop)]
-pub(crate) struct Left {
-    keys: Vec<u64>,
-    beyond: u64,
+pub(crate) struct Kept<T: Copy + Drop> {
+    list: Vec<T>,
     lacked: bool,
 }
 
-impl Left {
+impl<T: Copy + Drop> Kept<T> {
     /// None.
-    fn new(alloc: Global) -> Left
-        ensures { (g : Lists) → Leaves g result [] }
+    fn new(alloc: Global) -> Kept<T>
+        ensures items { result.list.items ≡ [] }
+        ensures lacked { result.lacked ≡ false }
     {
-        Left {
-            keys: Vec::new(alloc),
-            beyond: 0,
+        Kept {
+            list: Vec::new(alloc),
             lacked: false,
         }
     }
 
-    /// One more that runs on.
-    fn push(&mut self, key: u64)
-        ensures pushed { self.new.lacked ≡ false → (self.old.lacked ≡ false) × (self.new.keys.items ≡ self.old.keys.items ++ key ∷ []) }
-        ensures beyond { self.new.beyond ≡ self.old.beyond }
+    /// One more.
+    fn push(&mut self, item: T)
+        ensures { self.new.lacked ≡ false → (self.old.lacked ≡ false) × (self.new.list.items ≡ self.old.list.items ++ item ∷ []) }
     {
-        if self.keys.push(key).is_err() {
+        if self.list.push(item).is_err() {
             self.lacked = true;
         }
     }
+}
+
+/// The faults of an operation that run on, each as the number of its borders and operation, and how many are beyond.
+#[derive(Drop)]
+pub(crate) struct Left {
+    keys: Kept<u64>,
+    beyond: u64,
 }
 
 impl Listener for Left {
@@ -81,8 +84,10 @@ impl Listener for Left {
 
     fn hear(mut self, graph: &Graph, _k: u32, _disturbance: &Disturbance, told: &Effect) -> Self {
         match told {
+            // One number for the borders and the operation.
             Effect::RunsOn { borders, op } => {
-                self.push(key_of(graph.len(), *borders, *op));
+                self.keys
+                    .push(*borders as u64 * graph.len() as u64 + *op as u64);
                 self
             }
             Effect::Beyond => {
@@ -97,13 +102,6 @@ impl Listener for Left {
             } => self,
         }
     }
-}
-
-/// One number for the borders and the operation, of which there are `width`.
-fn key_of(width: u32, borders: u32, op: u32) -> u64
-    ensures { result ≡ borders * width + op }
-{
-    borders as u64 * width as u64 + op as u64
 }
 
 /// 1 where a test holds.
@@ -154,55 +152,29 @@ fn least_from(keys: &[u64], from: u64, most: u64) -> Option<u64>
     best
 }
 
-/// Lines, and whether memory was wanting for one of them.
-#[derive(Drop)]
-struct Lines {
-    list: Vec<LeftLine>,
-    lacked: bool,
-}
-
-impl Lines {
-    /// One more line.
-    fn push(&mut self, line: LeftLine)
-        ensures { self.new.lacked ≡ false → (self.old.lacked ≡ false) × (self.new.list.items ≡ self.old.list.items ++ line ∷ []) }
-    {
-        if self.list.push(line).is_err() {
-            self.lacked = true;
-        }
-    }
-}
-
-/// The line of those that have a number.
-fn key_line(width: u32, keys: &[u64], k: u32, key: u64) -> LeftLine
-    requires { 0 < width }
-    ensures { result ≡ run_line k width keys.now key }
-{
-    let borders = key / width as u64;
-    let op = key % width as u64;
-    let faults = count_of(keys, key);
-    LeftLine {
-        at: k,
-        told: LeftEffect::RunsOn { borders, op },
-        faults,
-    }
-}
-
 /// A line for each number below `most` that any have, in order.
-fn add_key_lines(lines: &mut Lines, k: u32, width: u32, keys: &[u64], most: u64)
+fn add_key_lines(lines: &mut Kept<LeftLine>, k: u32, width: u32, keys: &[u64], most: u64)
     requires { 0 < width }
     ensures { lines.new.lacked ≡ false → (lines.old.lacked ≡ false) × (lines.new.list.items
         ≡ lines.old.list.items ++ each_below (key_line_of k width keys.now) most) }
 {
     let mut next = 0;
     'keys: while let Some(key) = least_from(keys, next, most) {
-        let line = key_line(width, keys, k, key);
-        lines.push(line);
+        let faults = count_of(keys, key);
+        lines.push(LeftLine {
+            at: k,
+            told: LeftEffect::RunsOn {
+                borders: key / width as u64,
+                op: key % width as u64,
+            },
+            faults,
+        });
         next = key + 1;
     }
 }
 
 /// The line of those that are beyond, where there are any.
-fn add_beyond(lines: &mut Lines, k: u32, beyond: u64)
+fn add_beyond(lines: &mut Kept<LeftLine>, k: u32, beyond: u64)
     ensures { lines.new.lacked ≡ false → (lines.old.lacked ≡ false) × (lines.new.list.items ≡ lines.old.list.items ++ beyond_line k beyond) }
 {
     if beyond == 0 {
@@ -215,21 +187,10 @@ fn add_beyond(lines: &mut Lines, k: u32, beyond: u64)
     });
 }
 
-/// The lines of an operation's faults that run on or are beyond.
-fn add_lines(lines: &mut Lines, k: u32, width: u32, horizon: u32, keys: &[u64], beyond: u64)
-    requires { 0 < width }
-    ensures { lines.new.lacked ≡ false → (lines.old.lacked ≡ false) × (lines.new.list.items
-        ≡ lines.old.list.items ++ (each_below (key_line_of k width keys.now) ((horizon + 1) * width) ++ beyond_line k beyond)) }
-{
-    let most = (horizon as u64 + 1) * width as u64;
-    add_key_lines(lines, k, width, keys, most);
-    add_beyond(lines, k, beyond);
-}
-
 /// The lines of operation `k`.
 fn add_lines_at(
     alloc: Global,
-    lines: &mut Lines,
+    lines: &mut Kept<LeftLine>,
     subject: &Subject<'_>,
     classes: &[CoverClass],
     k: u32,
@@ -242,15 +203,21 @@ fn add_lines_at(
         → AreLinesAt (subject_of subject.now.graph.now subject.now.table.now subject.now.survey.now.horizon stops) classes.now k lines.old.list.items
         lines.new.list.items) }
 {
-    let left = then_faults_at(Left::new(alloc), subject, classes, k);
-    if left.lacked {
+    let none = Left {
+        keys: Kept::new(alloc),
+        beyond: 0,
+    };
+    let left = then_faults_at(none, subject, classes, k);
+    if left.keys.lacked {
         lines.lacked = true;
         return;
     }
     let survey = subject.survey;
     let horizon = survey.horizon();
     let width = subject.graph.len();
-    add_lines(lines, k, width, horizon, &left.keys, left.beyond);
+    let most = (horizon as u64 + 1) * width as u64;
+    add_key_lines(lines, k, width, &left.keys.list, most);
+    add_beyond(lines, k, left.beyond);
 }
 
 /// The lines of all operations whose faults run on or are beyond, in order. Nothing is written.
@@ -266,14 +233,11 @@ pub(crate) fn lines_left(
         → AreLinesOf (subject_of subject.now.graph.now subject.now.table.now subject.now.survey.now.horizon stops) classes.now
         (length subject.now.graph.now.operations) lines.items) }
 {
-    let mut lines = Lines {
-        list: Vec::new(alloc),
-        lacked: false,
-    };
+    let mut lines = Kept::new(alloc);
     'operations: for k in 0..subject.graph.len() {
         add_lines_at(alloc, &mut lines, subject, classes, k);
     }
-    let Lines { list, lacked } = lines;
+    let Kept { list, lacked } = lines;
     if lacked {
         return Err(Memory);
     }

@@ -1,7 +1,7 @@
 //! What the later readings of each word come to, for each number of readings that come before.
 
-ghost use Rattle.std.specs.Prelude.{◌≡◌, ◌+◌, ◌-◌, ◌<◌, ◌++◌, ◌∷◌, [], suc, Some, drop, length, slice_get};
-ghost use Rattle.std.specs.Prelude.{IfOk, OnOk};
+ghost use Rattle.std.specs.Prelude.{◌≡◌, ◌-◌, ◌<◌, suc, Some, drop, length, slice_get};
+ghost use Rattle.std.specs.Prelude.{IfOk};
 ghost use Rattle.vcp_base.specs.Code.{modulus as modulus_of};
 ghost use Rattle.op_graph.specs.Rules.{IsGraph};
 ghost use Rattle.fault_cover.specs.declared.nearest.Nearest.{Nearest as Found};
@@ -17,8 +17,7 @@ use coded_unit::words_split_in_one_way;
 use op_graph::{Graph, entries_keep_their_rules};
 use signature_table::constants_are_in_range;
 use std::alloc::Global;
-use std::marker::Model;
-use vcp_base::{Memory, Residue};
+use vcp_base::{CopyList, Memory, Residue};
 use weight_audit::differences_are_superposed;
 
 /// What the readings of a word come to, from one of them on.
@@ -32,46 +31,15 @@ pub(crate) struct Rest {
     pub(crate) sum: Residue,
 }
 
-/// What the readings of a word come to, from the last one on, from the last but one on, and so on.
-#[derive(Drop)]
-pub(crate) struct Rests {
-    list: Vec<Rest>,
-}
+/// What the readings of a word come to, from the last one on, from the last but one on, and so on, seen as a list.
+pub(crate) type Rests = CopyList<Rest>;
 
-impl Model for Rests {
-    ghost use Rattle.std.specs.Prelude.{List};
-    ghost use Rattle.fault_cover.specs.declared.rests.Rest.{Rest};
-
-    ghost Value = { List Rest };
-
-    ghost view = { λ s. s.list.items };
-}
-
-impl Rests {
-    /// None.
-    fn new(alloc: Global) -> Rests
-        ensures { result ≡ [] }
-    {
-        Rests {
-            list: Vec::new(alloc),
-        }
-    }
-
-    /// One more.
-    fn push(&mut self, rest: Rest) -> Result<(), Memory>
-        ensures { OnOk result (self.new ≡ self.old ++ rest ∷ []) }
-    {
-        self.list.push(rest)?;
-        Ok(())
-    }
-
-    /// That of the readings behind so many.
-    pub(crate) fn behind(&self, right: usize) -> Rest
-        requires { right < length self.now }
-        ensures { slice_get self.now (length self.now - suc right) ≡ Some result }
-    {
-        self.list[self.list.len() - 1 - right]
-    }
+/// That of the readings behind so many.
+pub(crate) fn rest_behind(rests: &Rests, right: usize) -> Rest
+    requires { right < length rests.now }
+    ensures { slice_get rests.now (length rests.now - suc right) ≡ Some result }
+{
+    rests.at(rests.len() - 1 - right)
 }
 
 /// What came to the output that is reached first with one more start, from which this is reached first: 0 where it wasn't the first before, since

@@ -23,6 +23,7 @@ use crate::effect::Effect;
 use crate::inverse::{product, refuses};
 use crate::items::item;
 use crate::nearest::{Nearest, further, nearer};
+use crate::rests::rest_behind;
 use crate::starts::{Start, start_of};
 use crate::survey::Survey;
 use coded_unit::{remainder, words_split_in_one_way};
@@ -314,7 +315,7 @@ fn told_of_rest(graph: &Graph, survey: &Survey, k: u32, right: u32) -> Effect
     let starts = survey.readings(k);
     let left = left_of(starts, right as usize);
     let rests = survey.rests(k);
-    let rest = rests.behind(right as usize);
+    let rest = rest_behind(rests, right as usize);
     let outlook = outlook_of(survey.horizon(), rest.output, rest.stop);
     match outlook {
         Outlook::Is(told) => told,

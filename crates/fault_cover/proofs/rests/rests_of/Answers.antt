@@ -29,7 +29,7 @@ readings-preserved c =
     let there : length starts - 1 - done ≡ length starts - suc done = omega (arith, c.readings-test.true) in
     record {
       rest = subst (λ n. IsRest g v (drop n starts) c.then_rest-rest.result) here c.then_rest-rest.ensures;
-      so_far = rests_more g v starts c.readings.rests c.push.new.self done c.then_rest-rest.result c.readings.invariant.so_far c.in_ok-push.ensures
+      so_far = rests_more g v starts c.readings.rests c.push.new.self done c.then_rest-rest.result c.readings.invariant.so_far c.in_ok-push.ensures.ok
           (subst (λ n. IsRest g v (drop n starts) c.then_rest-rest.result) there c.then_rest-rest.ensures);
     }
 

@@ -19,8 +19,8 @@ left_of-left-requires c =
 pub rests-rests-requires : goal.rests-rests-requires
 rests-rests-requires c = omega (arith, c.requires.there, c.requires.mapped.maps.readings.many, c.requires.mapped.rests.many)
 
-pub behind-rest-requires : goal.behind-rest-requires
-behind-rest-requires c =
+pub rest_behind-rest-requires : goal.rest_behind-rest-requires
+rest_behind-rest-requires c =
     let many = many_rests c.args.graph.now c.args.survey.now c.requires.mapped c.args.k c.readings-starts.result.now c.readings-starts.ensures
     c.rests-rests.result.now c.rests-rests.ensures in
     omega (arith, many, c.requires.stands)
@@ -35,20 +35,20 @@ told_of-requires-clause-placed c =
 
 pub refuses-refused-requires : goal.refuses-refused-requires
 refuses-refused-requires c =
-    subst (λ q. c.behind-rest.result.sum < modulus q) (sym c.profile.ensures.value)
+    subst (λ q. c.rest_behind-rest.result.sum < modulus q) (sym c.profile.ensures.value)
     (rest_of_left c.args.graph.now c.args.survey.now c.requires.mapped c.args.k c.readings-starts.result.now c.readings-starts.ensures c.args.right
-    c.left_of-left.result.now c.rests-rests.result.now c.behind-rest.result c.left_of-left.ensures c.rests-rests.ensures c.requires.stands
-    c.behind-rest.ensures).below
+    c.left_of-left.result.now c.rests-rests.result.now c.rest_behind-rest.result c.left_of-left.ensures c.rests-rests.ensures c.requires.stands
+    c.rest_behind-rest.ensures).below
 
 pub returns-in-Is : goal.returns-in-Is
 returns-in-Is c = λ t stops survey.
     let g = c.args.graph.now in
     let v = c.args.survey.now in
-    let x = c.behind-rest.result in
+    let x = c.rest_behind-rest.result in
     let is = left_is g v c.requires.mapped c.args.k c.readings-starts.result.now c.readings-starts.ensures c.args.right c.left_of-left.result.now
     c.left_of-left.ensures in
     let rest = rest_of_left g v c.requires.mapped c.args.k c.readings-starts.result.now c.readings-starts.ensures c.args.right c.left_of-left.result.now
-    c.rests-rests.result.now x c.left_of-left.ensures c.rests-rests.ensures c.requires.stands c.behind-rest.ensures in
+    c.rests-rests.result.now x c.left_of-left.ensures c.rests-rests.ensures c.requires.stands c.rest_behind-rest.ensures in
     told_directly g t stops v survey true (map as_source (drop c.args.right (readings g c.args.k))) c.left_of-left.result.now is v.outputs v.stops refl refl
     x.output x.stop rest.output rest.stop c.outlook_of-outlook.result
     (c.outlook_of-outlook.ensures ∙ ap (λ h. outlook_of h x.output x.stop) c.horizon.ensures) _ c.in-Is.is
@@ -57,12 +57,12 @@ pub returns-then-refused : goal.returns-then-refused
 returns-then-refused c = λ t stops survey.
     let g = c.args.graph.now in
     let v = c.args.survey.now in
-    let x = c.behind-rest.result in
+    let x = c.rest_behind-rest.result in
     let from = map as_source (drop c.args.right (readings g c.args.k)) in
     let is = left_is g v c.requires.mapped c.args.k c.readings-starts.result.now c.readings-starts.ensures c.args.right c.left_of-left.result.now
     c.left_of-left.ensures in
     let rest = rest_of_left g v c.requires.mapped c.args.k c.readings-starts.result.now c.readings-starts.ensures c.args.right c.left_of-left.result.now
-    c.rests-rests.result.now x c.left_of-left.ensures c.rests-rests.ensures c.requires.stands c.behind-rest.ensures in
+    c.rests-rests.result.now x c.left_of-left.ensures c.rests-rests.ensures c.requires.stands c.rest_behind-rest.ensures in
     (sum_refused g t stops v survey from c.left_of-left.result.now is x rest c.outlook_of-outlook.result
     (c.outlook_of-outlook.ensures ∙ ap (λ h. outlook_of h x.output x.stop) c.horizon.ensures) c.in-Outputs.near c.in-Outputs.is
     (c.differences_are_superposed.ensures.unreached g c.requires.graph) (c.words_split_in_one_way.ensures g.profile) c.entries_keep_their_rules.ensures

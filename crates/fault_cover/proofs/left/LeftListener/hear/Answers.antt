@@ -12,16 +12,17 @@ returns-in-RunsOn c = λ start past.
     let w = length c.args.graph.now.operations in
     let borders = c.in-RunsOn.borders in
     let op = c.in-RunsOn.op in
-    let key : c.key_of.result ∷ [] ≡ key_if w c.args.told.now =
-    ap (λ n. n ∷ []) (c.key_of.ensures ∙ ap (λ n. borders * n + op) c.len.ensures.count) ∙ sym (ap (key_if w) c.in-RunsOn.is) in
-    leaves_more c.args.graph.now c.args.self c.push.new.self past (heard_as c.args._k c.args._disturbance.now c.args.told.now) 0
-    (λ none. let pushed = c.push.ensures.pushed none in (pushed.0, pushed.1 ∙ ap (λ xs. c.args.self.keys.items ++ xs) key))
-    (ap (λ t. one_for (is_beyond t)) c.in-RunsOn.is) (omega arith) (λ room. omega (arith, c.push.ensures.beyond))
+    let key : (borders * c.len.result + op) ∷ [] ≡ key_if w c.args.told.now =
+    ap (λ n. (borders * n + op) ∷ []) c.len.ensures.count ∙ sym (ap (key_if w) c.in-RunsOn.is) in
+    let new : Left = record c.args.self { keys = c.push.new.self } in
+    leaves_more c.args.graph.now c.args.self new past (heard_as c.args._k c.args._disturbance.now c.args.told.now) 0
+    (λ none. let pushed = c.push.ensures none in (pushed.0, pushed.1 ∙ ap (λ xs. c.args.self.keys.list.items ++ xs) key))
+    (ap (λ t. one_for (is_beyond t)) c.in-RunsOn.is) (omega arith) (λ room. omega arith)
 
 pub returns-in-Beyond : goal.returns-in-Beyond
 returns-in-Beyond c = λ start past.
     let w = length c.args.graph.now.operations in
-    let items = c.args.self.keys.items in
+    let items = c.args.self.keys.list.items in
     let new : Left = record c.args.self { beyond = c.plus.result } in
     leaves_more c.args.graph.now c.args.self new past (heard_as c.args._k c.args._disturbance.now c.args.told.now) 1
     (λ none. (none, sym (append-nil items) ∙ ap (λ xs. items ++ xs) (sym (ap (key_if w) c.in-Beyond.is))))
