@@ -1,11 +1,10 @@
 //! Weights, as they are kept.
 
-ghost use Rattle.std.specs.Prelude.{◌≡◌, ◌<◌, ◌≤◌, ◌++◌, ◌∷◌, [], Some, false, length, slice_get, slice_index_or, IfOk, OnOk};
+ghost use Rattle.std.specs.Prelude.{◌≡◌, ◌<◌, ◌≤◌, Some, false, length, slice_get, slice_index_or};
 ghost use Rattle.weight_audit.specs.Audit.{IsWhole, distance as distance_of, weight_kept, reached_kept};
 
-use std::alloc::Global;
 use std::marker::Model;
-use vcp_base::{Memory, Residue};
+use vcp_base::{List, Residue};
 
 /// Why weights are not given.
 #[derive(Clone, Copy)]
@@ -80,47 +79,8 @@ impl Distance {
     }
 }
 
-/// The distances of one output, from no border on.
-#[derive(Drop)]
-pub(crate) struct Distances {
-    by_borders: Vec<Distance>,
-}
-
-impl Model for Distances {
-    ghost use Rattle.std.specs.Prelude.{List};
-    ghost use Rattle.weight_audit.specs.Audit.{Distance};
-
-    ghost Value = { List Distance };
-
-    ghost view = { λ d. d.by_borders.items };
-}
-
-impl Distances {
-    /// No distances, with room for so many.
-    pub(crate) fn with_room(alloc: Global, count: u32) -> Result<Distances, Memory>
-        ensures { IfOk result (λ ds. ds ≡ []) }
-    {
-        Ok(Distances {
-            by_borders: Vec::with_capacity(alloc, count as usize)?,
-        })
-    }
-
-    /// Adds the distance of one border more.
-    pub(crate) fn push(&mut self, distance: Distance) -> Result<(), Memory>
-        ensures { OnOk result (self.new ≡ self.old ++ distance ∷ []) }
-    {
-        self.by_borders.push(distance)?;
-        Ok(())
-    }
-
-    /// The distance across so many borders.
-    pub(crate) fn after(&self, borders: u32) -> &Distance
-        requires { borders < length self.now }
-        ensures { slice_get self.now borders ≡ Some result.now }
-    {
-        &self.by_borders[borders as usize]
-    }
-}
+/// The distances of one output, from no border on, seen as a list.
+pub(crate) type Distances = List<Distance>;
 
 /// The weights of a graph's operations at its outputs, after each number of cycle borders up to a
 /// horizon.
@@ -180,7 +140,7 @@ impl Weights {
         ensures weights { length result.now.weights ≡ self.now.operations }
         ensures reached { length result.now.reached ≡ self.now.operations }
     {
-        self.of_output(output).after(after)
+        self.of_output(output).at(after as usize)
     }
 
     /// The weight of an operation at an output after so many cycle borders: the sum, over all data

@@ -118,11 +118,11 @@ fn distances(
     requires horizon { horizon ≤ most_horizon }
     ensures { IfOk result (λ ds. AreDistances graph.now out horizon ds) }
 {
-    let mut distances = Distances::with_room(alloc, horizon + 1)?;
+    let mut distances = Distances::new(alloc);
     let first = distance_at(alloc, graph, profile, out)?;
     distances.push(first)?;
     'borders: for after in 0..horizon {
-        let next = distance_before(alloc, graph, profile, distances.after(after))?;
+        let next = distance_before(alloc, graph, profile, distances.at(after as usize))?;
         distances.push(next)?;
     }
     Ok(distances)
@@ -142,7 +142,7 @@ fn all_weights(
     // The OUT of each output is an operation.
     entries_keep_their_rules();
     let count = graph.len();
-    let mut outputs = Vec::with_capacity(alloc, graph.outputs() as usize)?;
+    let mut outputs = Vec::new(alloc);
     'outputs: for i in 0..graph.outputs() {
         let outlet = graph.output(i);
         let of_output = distances(alloc, graph, profile, outlet.op, horizon)?;

@@ -36,11 +36,8 @@ returns c =
     (is_audit g c.args.horizon c.outputs.outputs.items many c.outputs.invariant.all) in
     rw c.new.ensures is
 
-pub returns-in_err-outputs : goal.returns-in_err-outputs
-returns-in_err-outputs c = IfOk-from_err c.from_residual.result _ c.from_residual.ensures.0
-
 pub returns-in_err-of_output : goal.returns-in_err-of_output
-returns-in_err-of_output c = IfOk-from_err c.from_residual-in_err-of_output.result _ c.from_residual-in_err-of_output.ensures.0
+returns-in_err-of_output c = IfOk-from_err c.from_residual.result _ c.from_residual.ensures.0
 
 pub returns-in_err-push : goal.returns-in_err-push
 returns-in_err-push c = IfOk-from_err c.from_residual-in_err-push.result _ c.from_residual-in_err-push.ensures.0
