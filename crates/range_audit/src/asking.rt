@@ -130,7 +130,7 @@ pub(crate) fn closer_found(
     ensures { IfOk result (IsAllFound cycle.now.graph.now.operations inputs.now (Hold cycle.now.cells.now)) }
 {
     let count = cycle.graph.len();
-    let mut found = Ranges::with_capacity(cycle.alloc, count as usize)?;
+    let mut found = Ranges::new(Vec::new(cycle.alloc), Vec::new(cycle.alloc));
     'operations: for i in 0..count {
         let range = output_range(cycle, told.known(), i, &mut asking.answers);
         let why = stops_of(cycle, inputs, told, i, wanted, done, &mut asking.stops);

@@ -159,7 +159,7 @@ pub(crate) fn stored_cells(
     entries_keep_their_rules();
     let _operations = graph.len();
     let count = cell_count(graph);
-    let mut cells = Vec::with_capacity(alloc, count)?;
+    let mut cells = Vec::new(alloc);
     'cells: for k in 0..count {
         let range = stored_range(graph, ranges, k);
         cells.push(range)?;

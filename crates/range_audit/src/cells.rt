@@ -132,7 +132,7 @@ pub(crate) fn loaded_cells(alloc: Global, graph: &Graph, typed: bool) -> Result<
 {
     let _count = graph.len();
     let count = graph.cells() as usize;
-    let mut cells = Vec::with_capacity(alloc, count)?;
+    let mut cells = Vec::new(alloc);
     'cells: for k in 0..count {
         let load = load_of(graph, k);
         let range = loaded_range(load, typed);

@@ -58,7 +58,7 @@ pub(crate) fn found_by(alloc: Global, both: bool, a: &Ranges, b: &Ranges) -> Res
     ensures { IfOk result (λ r. IsFoundBy both a.now b.now r) }
 {
     let count = a.known().len();
-    let mut found = Ranges::with_capacity(alloc, count)?;
+    let mut found = Ranges::new(Vec::new(alloc), Vec::new(alloc));
     'operations: for i in 0..count {
         let first = a.range_at(i);
         let second = b.range_at(i);

@@ -4,7 +4,7 @@ use Rattle.range_audit.proofs.Steps.{AllAt, none_at, one_more}
 use Rattle.range_audit.proofs.boxes.stored_cells.Goals as goal
 
 pub cells-init : goal.cells-init
-cells-init c = none_at _ _ c.in_ok-cells.ensures.items
+cells-init c = none_at _ _ c.new-cells.ensures.items
 
 pub cells-preserved : goal.cells-preserved
 cells-preserved c =

@@ -9,7 +9,7 @@ use Rattle.range_audit.proofs.Steps.{get_there, none_at, one_more}
 use Rattle.range_audit.proofs.cells.loaded_cells.Goals as goal
 
 pub cells-init : goal.cells-init
-cells-init c = none_at _ _ c.in_ok-cells.ensures.items
+cells-init c = none_at _ _ c.new-cells.ensures.items
 
 pub cells-preserved : goal.cells-preserved
 cells-preserved c =

@@ -7,8 +7,8 @@ use Rattle.range_audit.proofs.naming.found_by.Goals as goal
 
 pub operations-init : goal.operations-init
 operations-init c = record {
-  known = none_at _ _ (ap (λ (r : KnownRanges). r.known) c.in_ok-found.ensures);
-  stops = none_at _ _ (ap (λ (r : KnownRanges). r.stops) c.in_ok-found.ensures);
+  known = none_at _ _ (ap (λ (r : KnownRanges). r.known) c.new-found.ensures ∙ c.new.ensures.items);
+  stops = none_at _ _ (ap (λ (r : KnownRanges). r.stops) c.new-found.ensures ∙ c.new-2.ensures.items);
 }
 
 pub operations-preserved : goal.operations-preserved
