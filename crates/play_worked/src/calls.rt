@@ -12,13 +12,18 @@ mod values;
 mod words;
 
 use crate::sessions::came::Came;
-use crate::texts::{say, word_off};
-use vcp_outside::{Failed, write_all};
+use crate::texts::{behind_word, first_word};
+use crate::told::Told;
+use coded_unit::CpuUnit;
+use steps::NeverFlushed;
+use vcp_outside::{Failed, HostSink, write_all};
 pub use words::tell_answer;
+use words::{numbers_in, u32_of};
 
 /// Makes the single call of these words, and writes what it answers. The status is 0; 6 where the output has no room, or there is nothing to be written.
 pub fn single_call(came: &mut Came, words: &str) -> u8 {
-    let (name, rest) = word_off(words);
+    let name = first_word(words);
+    let rest = behind_word(words);
     let written = match name {
         "element" => elements::write_element(&mut came.out),
         "again" => images::write_again(came, rest),
@@ -32,46 +37,34 @@ pub fn single_call(came: &mut Came, words: &str) -> u8 {
     }
 }
 
-/// Writes what the call of a name answers, which has these words.
+/// Writes what the call of a name answers, which has these words, as whole lines.
 fn write_told(came: &mut Came, name: &str, words: &str) -> Result<(), Failed> {
-    let mut told = String::new(came.alloc);
-    tell(came, name, words, &mut told);
-    if !told.ends_with("\n") {
-        say(&mut told, "\n");
-    }
-    write_all(&mut came.out, told.as_bytes())
+    let told = tell(came, name, words);
+    let told = if told.text.ends_with("\n") {
+        told
+    } else {
+        told.say("\n")
+    };
+    write_all(&mut came.out, told.text.as_bytes())
 }
 
-/// Tells what the call of a name answers, which has these words. Each part of the calls answers whether the name is one of its own.
-fn tell(came: &mut Came, name: &str, words: &str, told: &mut String) {
-    let n = words::numbers_in(words, &[]);
-    let is_made = values::tell_values(name, &n, told)
-        || values::tell_words(name, &n, told)
-        || values::tell_kinds(name, &n, told)
-        || values::tell_texts(came.alloc, name, &n, words, told)
-        || graphs::tell_graphs(came, name, &n, words, told)
-        || tell_others(came, name, &n, words, told);
-    if !is_made {
-        units::tell_units(came, name, &n, words, told);
-    }
-}
-
-/// Tells what the call of a name answers that is of no group.
-fn tell_others(
-    came: &mut Came,
-    name: &str,
-    n: &[i128; 12],
-    words: &str,
-    told: &mut String,
-) -> bool {
+/// Tells what the call of a name answers, which has these words.
+fn tell(came: &mut Came, name: &str, words: &str) -> Told {
+    let told = Told::new(came.alloc);
+    let n = numbers_in(words, &[]);
     match name {
+        "answer" => units::tell_answers(came.alloc, &mut CpuUnit::new(), words, told),
+        "graph" | "by_hand" => graphs::tell_graph(came, name, &n, words, told),
+        "filled" => graphs::tell_filled(came.alloc, told),
         "fronts" => images::tell_fronts(came, words, told),
-        "changes" => images::tell_changes(came, n, words, told),
-        "by_hand" => machines::tell_by_hand(came, n, words, told),
-        "files" | "unflushed" => steps::tell_files(came, words, told),
-        "sink" => steps::tell_sink(came, words, told),
-        "made" => made::tell_made(came.alloc, n[0], told),
-        _ => return false,
+        "changes" => images::tell_changes(came, &n, words, told),
+        "files" => steps::tell_files(came, words, told),
+        "sink" => steps::tell_sink(came.alloc, words, told),
+        "unflushed" => {
+            let mut sink = HostSink::new(NeverFlushed);
+            steps::tell_writes(came.alloc, &mut sink, words, told)
+        }
+        "made" => made::tell_made(came.alloc, u32_of(n[0]), told),
+        _ => values::tell_value(came, name, &n, words, told),
     }
-    true
 }

@@ -11,20 +11,24 @@ mod host;
 mod own_unit;
 mod sessions;
 mod texts;
+mod told;
 
 use host::play_files;
 use std::process::ExitCode;
-use vcp_outside::{HostFiles, HostSink, given_words};
+use vcp_outside::{HostFiles, HostSink, given_words, write_all};
 
 fn main(rt: HostRuntime) -> ExitCode {
     let names = match given_words(&rt) {
         Ok(names) => names,
         Err(_) => return ExitCode::FAILURE,
     };
-    let mut files = HostFiles::new(&rt);
+    let player = play_files(rt.alloc(), &mut HostFiles::new(&rt), &names);
     let mut out = HostSink::new(rt.stdout());
     let mut err = HostSink::new(rt.stderr());
-    if play_files(rt.alloc(), &mut files, &names, &mut out, &mut err) {
+    if write_all(&mut out, player.told.as_bytes()).is_ok()
+        && write_all(&mut err, player.faults.as_bytes()).is_ok()
+        && player.faults.is_empty()
+    {
         return ExitCode::SUCCESS;
     }
     ExitCode::FAILURE

@@ -6,4 +6,4 @@ mod player;
 mod setting;
 mod words;
 
-pub use player::play_session;
+pub use player::Player;

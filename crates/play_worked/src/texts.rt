@@ -1,73 +1,55 @@
-//! Texts: what is told, the words in a text, and the bytes that it spells. Where there is no memory for a part of a text it is lacking, so that the
-//! text is another one than what is wanted.
+//! Texts: their words, and the bytes that they spell. Where there is no memory for a part of a text it is lacking, so that the text is another one than
+//! what is wanted.
 
 use std::alloc::Global;
-use std::fmt::Write;
 use std::str::from_utf8;
-
-/// Appends a text.
-pub fn say(told: &mut String, text: &str) {
-    told.push_str(text).ok();
-}
-
-/// Appends texts, one after another.
-pub fn say_all(told: &mut String, texts: &[&str]) {
-    for text in texts {
-        say(told, text);
-    }
-}
-
-/// Appends a text as a line.
-pub fn say_line(told: &mut String, line: &str) {
-    say(told, line);
-    say(told, "\n");
-}
-
-/// Appends a blank where the text ends in a letter or a digit.
-fn set_apart(told: &mut String) {
-    if let Some(last) = told.as_bytes().last()
-        && last.is_ascii_alphanumeric()
-    {
-        say(told, " ");
-    }
-}
-
-/// Appends an item, with a blank before it where it stands behind a letter or a digit.
-pub fn item(told: &mut String, text: &str) {
-    set_apart(told);
-    say(told, text);
-}
-
-/// Appends numbers as items.
-pub fn numbers(told: &mut String, numbers: &[i128]) {
-    for number in numbers {
-        set_apart(told);
-        write!(told, "{number}").ok();
-    }
-}
+use vcp_base::Words;
 
 /// Bytes as a text, for its reader.
 pub fn text_of(bytes: &[u8]) -> &str {
     from_utf8(bytes).unwrap_or("(bytes that are no text)")
 }
 
-/// A text's first word, and what stands behind the blank after it.
-pub fn word_off(text: &str) -> (&str, &str) {
-    text.split_once(' ').unwrap_or((text, ""))
-}
-
-/// What stands behind so many words of a text.
-pub fn behind(words: &str, count: u32) -> &str {
-    let mut rest = words;
-    for _i in 0..count {
-        rest = word_off(rest).1;
+/// A text's first word.
+pub fn first_word(text: &str) -> &str {
+    match text.split_once(' ') {
+        Some((word, _rest)) => word,
+        None => text,
     }
-    rest
 }
 
-/// The word of this number, from 0; an empty one where there is none.
-pub fn word(words: &str, i: u32) -> &str {
-    word_off(behind(words, i)).0
+/// What stands behind a text's first word and the blank after it.
+pub fn behind_word(text: &str) -> &str {
+    match text.split_once(' ') {
+        Some((_word, rest)) => rest,
+        None => "",
+    }
+}
+
+/// Whether two texts are the same.
+pub fn is(text: &str, other: &str) -> bool {
+    text == other
+}
+
+/// The parts of a text, behind each of which, but for the last one, a separator stands.
+pub fn parts_of(alloc: Global, text: &str, separator: &str) -> Words {
+    let mut parts = Words::new(alloc);
+    let whole = text.strip_suffix(separator).unwrap_or(text);
+    for part in whole.split(separator) {
+        if !text.is_empty() {
+            let _ = parts.push(part.as_bytes());
+        }
+    }
+    parts
+}
+
+/// The part of this number; an empty one where there is none.
+pub fn part(parts: &Words, i: usize) -> &str {
+    if i < parts.len() {
+        text_of(parts.at(i).bytes())
+    } else {
+        ""
+    }
 }
 
 /// The number of 32 bits that is written so; else 0.
@@ -77,7 +59,7 @@ pub fn count(text: &str) -> u32 {
 
 /// Appends these bytes.
 pub fn put(text: &mut Vec<u8>, bytes: &[u8]) {
-    text.extend_from_slice(bytes).ok();
+    let _ = text.extend_from_slice(bytes);
 }
 
 /// A copy of these bytes.

@@ -3,9 +3,11 @@
 ghost use Rattle.std.specs.Prelude.{◌≡◌, ◌<◌, length};
 
 use crate::calls::images::read;
-use crate::calls::words::{truth, u32_of};
+use crate::calls::machines::tell_cycles;
+use crate::calls::words::u32_of;
 use crate::sessions::came::Came;
-use crate::texts::{item, numbers, say, text_of, word};
+use crate::texts::{behind_word, first_word, is};
+use crate::told::Told;
 use graph_passes::{fold, prune, reduce, share};
 use op_graph::{Build, Graph, GraphBuilder, Op};
 use signature_table::Table;
@@ -34,77 +36,54 @@ pub fn graph_in(came: &mut Came, name: &str) -> Option<Graph> {
     }
 }
 
-/// Calls on graphs: on that of an image, and how many operations a builder takes.
-pub fn tell_graphs(
-    came: &mut Came,
-    name: &str,
-    n: &[i128; 12],
-    words: &str,
-    told: &mut String,
-) -> bool {
-    match name {
-        "graph" => match graph_in(came, word(words, 0)) {
-            Some(graph) => tell_graph(came.alloc, word(words, 1), n, graph, told),
-            None => say(told, "no image"),
-        },
-        "filled" => tell_filled(came.alloc, told),
-        _ => return false,
-    }
-    true
-}
-
-/// Calls on a graph: the residue that is expected of an operation; the weights of the operations; and names, cells and operations behind a pass.
-fn tell_graph(alloc: Global, name: &str, n: &[i128; 12], graph: Graph, told: &mut String) {
-    match name {
-        "expected" => tell_expected(alloc, n, graph, told),
-        "weights" => tell_weights(alloc, graph, told),
-        _ => tell_passed(alloc, name, graph, told),
-    }
-}
-
-/// Tells the graph behind the pass of a name.
-fn tell_passed(alloc: Global, name: &str, graph: Graph, told: &mut String) {
-    let passed = match name {
-        "fold" => fold(alloc, graph),
-        "prune" => prune(alloc, graph),
-        "share" => share(alloc, graph),
-        _ => reduce(alloc, graph),
+/// Calls on the graph of an image: three cycles of its machine; the residue that is expected of an operation; the weights of the operations; and names,
+/// cells and operations behind a pass.
+pub fn tell_graph(came: &mut Came, name: &str, n: &[i128; 12], words: &str, told: Told) -> Told {
+    let image = first_word(words);
+    let rest = behind_word(words);
+    let Some(graph) = graph_in(came, image) else {
+        return told.say("no image");
     };
-    match passed {
-        Ok(graph) => tell_operations(&graph, told),
-        Err(Memory) => say(told, "no memory"),
+    if is(name, "by_hand") {
+        return tell_cycles(came.alloc, &graph, &mut came.unit, n, told);
+    }
+    match first_word(rest) {
+        "expected" => tell_expected(came.alloc, n, graph, told),
+        "weights" => tell_weights(came.alloc, &graph, told),
+        "fold" => tell_passed(fold(came.alloc, graph), told),
+        "prune" => tell_passed(prune(came.alloc, graph), told),
+        "share" => tell_passed(share(came.alloc, graph), told),
+        _ => tell_passed(reduce(came.alloc, graph), told),
     }
 }
 
-/// Tells how many names and cells a graph has, and of each operation its kind and types, its operands and its number, and its place.
-fn tell_operations(graph: &Graph, told: &mut String) {
-    numbers(told, &[graph.names() as i128, graph.cells() as i128]);
+/// Tells how many names and cells the graph behind a pass has, and in further lines of each operation the kind and the types, the operands, the number and
+/// the place.
+fn tell_passed(passed: Result<Graph, Memory>, told: Told) -> Told {
+    let Ok(graph) = passed else {
+        return told.say("no memory");
+    };
+    let mut told = told
+        .number(graph.names() as i128)
+        .number(graph.cells() as i128);
     for op in graph.operations() {
-        tell_operation(op, told);
+        told = told
+            .say("\n")
+            .item(kind_name(op.kind))
+            .item(ty_name(op.from))
+            .item(ty_name(op.ty))
+            .number(op.a as i128)
+            .number(op.b as i128)
+            .number(op.c as i128)
+            .number(op.imm as i128)
+            .number(op.spot.line as i128)
+            .number(op.spot.col as i128);
     }
-}
-
-/// Tells an operation in a further line.
-fn tell_operation(op: &Op, told: &mut String) {
-    say(told, "\n");
-    item(told, text_of(kind_name(op.kind)));
-    item(told, text_of(ty_name(op.from)));
-    item(told, text_of(ty_name(op.ty)));
-    numbers(
-        told,
-        &[
-            op.a as i128,
-            op.b as i128,
-            op.c as i128,
-            op.imm as i128,
-            op.spot.line as i128,
-            op.spot.col as i128,
-        ],
-    );
+    told
 }
 
 /// Tells the residue that is expected of an operation of a graph in a cycle, in a code, with a seed and a step.
-fn tell_expected(alloc: Global, n: &[i128; 12], graph: Graph, told: &mut String) {
+fn tell_expected(alloc: Global, n: &[i128; 12], graph: Graph, told: Told) -> Told {
     let graph = if n[2] == 1 { graph.widened() } else { graph };
     let seed = u32_of(n[3]);
     let step = u32_of(n[4]);
@@ -117,40 +96,38 @@ fn tell_expected(alloc: Global, n: &[i128; 12], graph: Graph, told: &mut String)
         && cycle < MOST_CYCLES
         && let Ok(table) = Table::new(alloc, &graph, seed, step as u16)
     {
-        numbers(told, &[table.expected(op, cycle) as i128]);
+        return told.number(table.expected(op, cycle) as i128);
     }
+    told
 }
 
 /// Tells the weights of a graph's operations.
-fn tell_weights(alloc: Global, graph: Graph, told: &mut String) {
+fn tell_weights(alloc: Global, graph: &Graph, told: Told) -> Told {
     if graph.outputs() > 0
-        && let Ok(table) = Table::new(alloc, &graph, 0, 1)
-        && let Ok(audit) = weights(alloc, &graph, &table, 1)
+        && let Ok(table) = Table::new(alloc, graph, 0, 1)
+        && let Ok(audit) = weights(alloc, graph, &table, 1)
     {
-        tell_each_weight(&audit, graph.len(), told);
+        return tell_each_weight(&audit, graph.len(), told);
     }
+    told
 }
 
 /// Tells of each operation its weight at the first output, and whether it is reached, in its own cycle and one cycle later.
-fn tell_each_weight(audit: &Weights, count: u32, told: &mut String)
+fn tell_each_weight(audit: &Weights, count: u32, told: Told) -> Told
     requires operations { count ≡ audit.now.operations }
     requires outputs { 0 < length audit.now.outputs }
     requires horizon { audit.now.horizon ≡ 1 }
 {
+    let mut told = told;
     for op in 0..count {
-        let own = audit.weight(op, 0, 0);
-        let later = audit.weight(op, 0, 1);
-        numbers(
-            told,
-            &[
-                own as i128,
-                truth(audit.reached(op, 0, 0)),
-                later as i128,
-                truth(audit.reached(op, 0, 1)),
-            ],
-        );
-        say(told, "\n");
+        told = told
+            .number(audit.weight(op, 0, 0) as i128)
+            .number(audit.reached(op, 0, 0) as i128)
+            .number(audit.weight(op, 0, 1) as i128)
+            .number(audit.reached(op, 0, 1) as i128)
+            .say("\n");
     }
+    told
 }
 
 /// A constant of DINT outside every FOR.
@@ -171,8 +148,8 @@ fn constant(imm: i64) -> Op
     }
 }
 
-/// Tells how many constants a builder takes, how many of one more are refused, and how many operations its graph has, with the number of the last.
-fn tell_filled(alloc: Global, told: &mut String) {
+/// Tells how many constants a builder takes, how many of one more are refused, how many operations its graph has, and the number of the last.
+pub fn tell_filled(alloc: Global, told: Told) -> Told {
     let mut builder = GraphBuilder::new(alloc, Profile::Narrow);
     let mut refused = 0u32;
     'constants: for _i in 0..65537u32 {
@@ -181,13 +158,10 @@ fn tell_filled(alloc: Global, told: &mut String) {
             Err(Build::Full) => refused = refused.saturating_add(1),
         }
     }
-    numbers(told, &[builder.len() as i128, refused as i128]);
-    tell_last(&builder.finish(), told);
-}
-
-/// Tells how many operations a graph has, and the number of the last.
-fn tell_last(graph: &Graph, told: &mut String) {
-    if let Some(last) = graph.operations().last() {
-        numbers(told, &[graph.len() as i128, last.imm as i128]);
+    let told = told.number(builder.len() as i128).number(refused as i128);
+    let graph = builder.finish();
+    match graph.operations().last() {
+        Some(last) => told.number(graph.len() as i128).number(last.imm as i128),
+        None => told,
     }
 }

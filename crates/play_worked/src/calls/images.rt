@@ -6,12 +6,13 @@ ghost use Rattle.signature_table.specs.Signatures.{IsTableOf};
 use crate::calls::graphs::text_in;
 use crate::calls::words::u32_of;
 use crate::sessions::came::Came;
-use crate::texts::{copy_of, numbers, word};
+use crate::texts::{copy_of, first_word};
+use crate::told::Told;
 use image_file::{ImageFault, read_image, write_image};
 use op_graph::Graph;
 use signature_table::Table;
 use std::alloc::Global;
-use vcp_base::{MOST_IMAGE_BYTES, Memory, Text};
+use vcp_base::{MOST_IMAGE_BYTES, Memory, Text, same_bytes};
 use vcp_outside::{Failed, write_all};
 
 /// The graph and the table of bytes, if they aren't too many.
@@ -45,7 +46,7 @@ pub fn write_again(came: &mut Came, name: &str) -> Result<(), Failed> {
 }
 
 /// Tells how many fronts of a file there are of which is told that they end there, up to the first of which something else is told.
-pub fn tell_fronts(came: &mut Came, name: &str, told: &mut String) {
+pub fn tell_fronts(came: &mut Came, name: &str, told: Told) -> Told {
     let text = text_in(came, name);
     let bytes = text.bytes();
     let mut short = 0u32;
@@ -55,42 +56,34 @@ pub fn tell_fronts(came: &mut Came, name: &str, told: &mut String) {
             _ => break,
         }
     }
-    numbers(told, &[short as i128]);
+    told.number(short as i128)
 }
 
-/// Whether bytes are refused, or are the image of what they read to.
-fn is_refused_or_written(alloc: Global, bytes: &[u8]) -> bool {
-    match written_again(alloc, bytes) {
-        Ok(image) => image.bytes() == bytes,
-        Err(ImageFault::Memory) => false,
-        Err(_) => true,
-    }
-}
-
-/// How many values the byte at a place may have with which the bytes are refused, or are the image of what they read to.
-fn values(alloc: Global, bytes: &[u8], at: usize) -> u32 {
+/// Whether the byte at a place may have each value, and the bytes are refused then, or are the image of what they read to.
+fn may_change(alloc: Global, bytes: &[u8], at: usize) -> bool {
     let mut bytes = copy_of(alloc, bytes);
-    let mut count = 0u32;
+    let mut may = true;
     for value in 0..=255u8 {
         if let Some(byte) = bytes.get_mut(at) {
             *byte = value;
         }
-        if is_refused_or_written(alloc, &bytes) {
-            count = count.saturating_add(1);
+        match written_again(alloc, &bytes) {
+            Ok(image) => may = may && same_bytes(image.bytes(), &bytes),
+            Err(ImageFault::Memory) => may = false,
+            Err(_) => {}
         }
     }
-    count
+    may
 }
 
 /// Tells how many of the bytes of a file, from a place to before another, may have each value and are refused, or are the image of what they read to.
-pub fn tell_changes(came: &mut Came, n: &[i128; 12], words: &str, told: &mut String) {
-    let text = text_in(came, word(words, 0));
-    let bytes = text.bytes();
+pub fn tell_changes(came: &mut Came, n: &[i128; 12], words: &str, told: Told) -> Told {
+    let text = text_in(came, first_word(words));
     let mut places = 0u32;
     for at in u32_of(n[1])..u32_of(n[2]) {
-        if values(came.alloc, bytes, at as usize) == 256 {
+        if may_change(came.alloc, text.bytes(), at as usize) {
             places = places.saturating_add(1);
         }
     }
-    numbers(told, &[places as i128]);
+    told.number(places as i128)
 }

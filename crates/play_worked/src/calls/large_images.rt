@@ -1,16 +1,10 @@
-//! Images that are too large to be written out.
+//! Images that are too large to be written out. They have the seed 0 and the step 1.
 
 use crate::sessions::came::Came;
 use crate::texts::{count, put, spelled};
 use signature_table::signature_of;
-use std::alloc::Global;
 use vcp_base::Profile;
 use vcp_outside::{Failed, write_all};
-
-/// The first 16 bytes of images with the seed 0 and the step 1.
-fn begun(alloc: Global) -> Vec<u8> {
-    spelled(alloc, r"VCPANBD\n\h00010001 00000000")
-}
 
 /// One of 16 letters.
 fn letter(n: u32) -> u8 {
@@ -20,7 +14,7 @@ fn letter(n: u32) -> u8 {
 /// Writes an image of so many names of 2,000 bytes, which differ in their last three alone, up to 4,096.
 pub fn write_names(came: &mut Came, number: &str) -> Result<(), Failed> {
     let count = count(number);
-    let mut bytes = begun(came.alloc);
+    let mut bytes = spelled(came.alloc, r"VCPANBD\n\h00010001 00000000");
     put(&mut bytes, &count.to_be_bytes());
     put(&mut bytes, &[0; 20]);
     for n in 0..count {
@@ -29,13 +23,6 @@ pub fn write_names(came: &mut Came, number: &str) -> Result<(), Failed> {
         put(&mut bytes, &[letter(n), letter(n / 16), letter(n / 256)]);
     }
     write_all(&mut came.out, &bytes)
-}
-
-/// A turn node in the one before, with its number.
-fn put_turn(bytes: &mut Vec<u8>, i: u32) {
-    put(bytes, &i.to_be_bytes());
-    put(bytes, &[0; 8]);
-    put(bytes, &i.to_be_bytes());
 }
 
 /// An operation CONST 0 of DINT in the turn node of its number.
@@ -50,16 +37,17 @@ fn put_constant(bytes: &mut Vec<u8>, i: u32) {
 /// Writes an image of so many turn nodes, each in the one before and with its number from 0, and so many operations CONST 0, each in its node.
 pub fn write_chain(came: &mut Came, number: &str) -> Result<(), Failed> {
     let count = count(number);
-    let mut bytes = begun(came.alloc);
-    put(
-        &mut bytes,
-        &[0, 0, 0, 1, 0, 0, 0, 0, 0, 0, 0, 0, 0, 0, 0, 0],
+    let mut bytes = spelled(
+        came.alloc,
+        r"VCPANBD\n\h00010001 00000000 00000001 00000000 00000000 00000000",
     );
     put(&mut bytes, &count.to_be_bytes());
     put(&mut bytes, &count.to_be_bytes());
     put(&mut bytes, b"\0\0\0\x01x");
     for i in 0..count {
-        put_turn(&mut bytes, i);
+        put(&mut bytes, &i.to_be_bytes());
+        put(&mut bytes, &[0; 8]);
+        put(&mut bytes, &i.to_be_bytes());
     }
     for i in 0..count {
         put_constant(&mut bytes, i);

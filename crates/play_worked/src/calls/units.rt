@@ -4,9 +4,10 @@ ghost use Rattle.std.specs.Prelude.{◌≡◌, length};
 ghost use Rattle.fault_script.specs.Groups.{Apart};
 
 use crate::calls::graphs::{graph_in, text_in};
-use crate::calls::words::{call_in, tell_parts, u32_of, word_of};
+use crate::calls::words::{call_in, tell_parts, u32_of};
 use crate::sessions::came::Came;
-use crate::texts::{behind, numbers, say, text_of, word};
+use crate::texts::{behind_word, first_word, part, parts_of, text_of};
+use crate::told::Told;
 use coded_unit::{Answer, BadUnit, CpuUnit, LogUnit, Unit, Word};
 use fault_injector::{KeptWords, Scripted};
 use fault_script::{Fault, Group, read_script};
@@ -14,36 +15,38 @@ use op_graph::Graph;
 use std::alloc::Global;
 use vcp_base::MOST_SOURCE_BYTES;
 
-/// Calls on units: the right answer to a call; and, to the calls that are the lines of a file, the answers of the processor, of a unit that keeps so
-/// many calls, with these, of the session's unit, and of that under a fault.
-pub fn tell_units(came: &mut Came, name: &str, n: &[i128; 12], words: &str, told: &mut String) {
-    if name == "answer" {
-        return tell_answers(came.alloc, &mut CpuUnit::new(), words, told);
-    }
-    let text = text_in(came, word(words, 0));
+/// Calls on units: to the calls that are the lines of a file, the answers of the processor, of a unit that keeps so many calls, with these, of the
+/// session's unit, and of that under a fault.
+pub fn tell_units(came: &mut Came, name: &str, n: &[i128; 12], words: &str, told: Told) -> Told {
+    let file = first_word(words);
+    let more = behind_word(words);
+    let text = text_in(came, file);
     let calls = text_of(text.bytes());
     match name {
         "cpu" => tell_answers(came.alloc, &mut CpuUnit::new(), calls, told),
         "log" => tell_logged(came.alloc, calls, u32_of(n[1]), told),
         "unit" => tell_answers(came.alloc, &mut came.unit, calls, told),
-        "acts" => tell_acts(came, n, words, calls, told),
-        _ => say(told, "no call of this name"),
+        "acts" => tell_acts(came, more, calls, told),
+        _ => told.say("no call of this name"),
     }
 }
 
 /// Tells a unit's answers to these calls, a line each.
-fn tell_answers<U: Unit>(alloc: Global, unit: &mut U, calls: &str, told: &mut String) {
+pub fn tell_answers<U: Unit>(alloc: Global, unit: &mut U, calls: &str, told: Told) -> Told {
+    let mut told = told;
     let mut answers = Vec::new(alloc);
-    for line in calls.lines() {
-        match call_in(line, &answers) {
+    let lines = parts_of(alloc, calls, "\n");
+    for i in 0..lines.len() {
+        match call_in(part(&lines, i), &answers) {
             Some(call) => {
                 let answer = unit.perform(&call);
-                tell_parts(told, call.profile, &answer);
-                answers.push(word_in(&answer)).ok();
+                told = tell_parts(call.profile, &answer, told);
+                let _ = answers.push(word_in(&answer));
             }
-            None => say(told, "no unit is asked this\n"),
+            None => told = told.say("no unit is asked this\n"),
         }
     }
+    told
 }
 
 /// The word of an answer; 0 where it has none.
@@ -55,17 +58,21 @@ fn word_in(answer: &Answer) -> Word {
 }
 
 /// Tells the answers of a unit that has room for so many calls, and those that it kept.
-fn tell_logged(alloc: Global, calls: &str, room: u32, told: &mut String) {
-    if let Ok(mut unit) = LogUnit::new(alloc, room) {
-        tell_answers(alloc, &mut unit, calls, told);
-        for i in 0..64 {
-            if let Some((call, answer)) = unit.entry(i) {
-                say(told, "kept");
-                numbers(told, &[call.op as i128, word_in(&answer).get()]);
-                say(told, "\n");
-            }
+fn tell_logged(alloc: Global, calls: &str, room: u32, told: Told) -> Told {
+    let Ok(mut unit) = LogUnit::new(alloc, room) else {
+        return told.say("no memory");
+    };
+    let mut told = tell_answers(alloc, &mut unit, calls, told);
+    for i in 0..64 {
+        if let Some((call, answer)) = unit.entry(i) {
+            told = told
+                .say("kept")
+                .number(call.op as i128)
+                .number(word_in(&answer).get())
+                .say("\n");
         }
     }
+    told
 }
 
 /// The first fault of a script over a graph; None where there is none.
@@ -80,18 +87,23 @@ fn first_fault(alloc: Global, graph: &Graph, script: &str) -> Option<Fault> {
     None
 }
 
-/// Tells the answers of a unit to calls under a fault of an image, where a word was kept for it before, or `-` for none, and how many of them are wrong.
-fn tell_acts(came: &mut Came, n: &[i128; 12], words: &str, calls: &str, told: &mut String) {
-    let kept = if word(words, 2) == "-" {
-        None
-    } else {
-        Some(word_of(n[2]))
-    };
-    if let Some(graph) = graph_in(came, word(words, 1))
-        && let Some(fault) = first_fault(came.alloc, &graph, behind(words, 3))
+/// Tells the answers of a unit to calls under a fault of an image, where a word was kept for it before, or `-` for none, and how many of them are
+/// wrong: `M WORD FAULT`.
+fn tell_acts(came: &mut Came, words: &str, calls: &str, told: Told) -> Told {
+    let image = first_word(words);
+    let more = behind_word(words);
+    let word = first_word(more);
+    let fault = behind_word(more);
+    if let Some(graph) = graph_in(came, image)
+        && let Some(fault) = first_fault(came.alloc, &graph, fault)
     {
-        tell_under(came.alloc, &mut came.unit, fault, kept, calls, told);
+        let kept = match word.parse() {
+            Ok(code) => Word::new(code),
+            Err(_) => None,
+        };
+        return tell_under(came.alloc, &mut came.unit, fault, kept, calls, told);
     }
+    told.say("no fault of an image")
 }
 
 /// Tells the answers of a unit under a fault.
@@ -99,34 +111,19 @@ fn tell_under(
     alloc: Global,
     unit: &mut BadUnit,
     fault: Fault,
-    kept: Option<Word>,
+    word: Option<Word>,
     calls: &str,
-    told: &mut String,
-) {
+    told: Told,
+) -> Told {
     let mut group = Group::new(alloc);
     let mut words = KeptWords::new(alloc);
     if let Ok(()) = group.push(fault)
-        && let Ok(()) = words.push(kept)
+        && let Ok(()) = words.push(word)
+        && let Ok(mut scripted) = Scripted::with_kept(alloc, unit, &group, &words)
     {
-        tell_scripted(alloc, unit, &group, &words, calls, told);
+        return tell_answers(alloc, &mut scripted, calls, told)
+            .number(scripted.wrong() as i128)
+            .say(" wrong");
     }
-}
-
-/// Tells the answers of a unit under the faults of a group, for which words are kept.
-fn tell_scripted(
-    alloc: Global,
-    unit: &mut BadUnit,
-    group: &Group,
-    kept: &KeptWords,
-    calls: &str,
-    told: &mut String,
-)
-    requires apart { Apart group.now }
-    requires each { length kept.now ≡ length group.now }
-{
-    if let Ok(mut scripted) = Scripted::with_kept(alloc, unit, group, kept) {
-        tell_answers(alloc, &mut scripted, calls, told);
-        numbers(told, &[scripted.wrong() as i128]);
-        say(told, " wrong");
-    }
+    told.say("no memory")
 }

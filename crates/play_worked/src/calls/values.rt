@@ -1,77 +1,62 @@
 //! Types, kinds, words and numbers.
 
-use crate::calls::words::{i64_of, kind_of, tell_parts, truth, ty_of, u32_of, u64_of, word_of};
-use crate::texts::{behind, item, numbers, say, spelled, text_of};
+use crate::calls::units::tell_units;
+use crate::calls::words::{i64_of, kind_of, tell_parts, ty_of, u32_of, u64_of, word_of};
+use crate::sessions::came::Came;
+use crate::texts::{behind_word, spelled, text_of};
+use crate::told::Told;
 use coded_unit::{Answer, Word};
-use std::alloc::Global;
 use vcp_base::{
     Profile, StopKind, fits, greatest, kind_code, kind_name, kind_of_code, least, multiplier,
     number_in, numeral, operand_type, operands, stop_name, ty_code, ty_name, ty_of_code, within,
     without_first_blanks,
 };
 
-/// Calls on types: a type's code, name and ends; whether a value is of it; and whether its values are within another's.
-pub fn tell_values(name: &str, n: &[i128; 12], told: &mut String) -> bool {
+/// Calls on types and words: a type's code, name and ends; whether a value is of it, and its values are within another's; whether an integer is a word;
+/// the word of a value and a residue in the narrow code, with its parts; and a word that is shifted. Or a call of the next kind.
+pub fn tell_value(came: &mut Came, name: &str, n: &[i128; 12], words: &str, told: Told) -> Told {
     let ty = ty_of(n[0]);
     match name {
-        "type" => {
-            numbers(told, &[ty_code(ty) as i128]);
-            item(told, text_of(ty_name(ty)));
-            numbers(told, &[least(ty) as i128, greatest(ty) as i128]);
-        }
-        "fits" => numbers(told, &[truth(fits(ty, n[1]))]),
-        "within" => numbers(told, &[truth(within(ty, ty_of(n[1])))]),
-        _ => return false,
-    }
-    true
-}
-
-/// Calls on words: whether an integer is a word; the word of a value and a residue in the narrow code, with its parts; and a word that is shifted.
-pub fn tell_words(name: &str, n: &[i128; 12], told: &mut String) -> bool {
-    match name {
-        "word" => numbers(told, &[truth(Word::new(n[0]).is_some())]),
+        "type" => told
+            .number(ty_code(ty) as i128)
+            .item(ty_name(ty))
+            .number(least(ty) as i128)
+            .number(greatest(ty) as i128),
+        "fits" => told.number(fits(ty, n[1]) as i128),
+        "within" => told.number(within(ty, ty_of(n[1])) as i128),
+        "word" => told.number(Word::new(n[0]).is_some() as i128),
         "packed" => {
             let word = Word::packed(Profile::Narrow, i64_of(n[0]) as i128, u64_of(n[1]));
-            tell_parts(told, Profile::Narrow, &Answer::Word(word));
+            tell_parts(Profile::Narrow, &Answer::Word(word), told)
         }
-        "shift" => numbers(told, &[word_of(n[0]).shift(i64_of(n[1])).get()]),
-        _ => return false,
+        "shift" => told.number(word_of(n[0]).shift(i64_of(n[1])).get()),
+        _ => tell_kind(came, name, n, words, told),
     }
-    true
 }
 
 /// Calls on kinds: a kind's code, the number of its operands and their multipliers; the type of an operand; the kind and the type of a code; and the
-/// names of the stops.
-pub fn tell_kinds(name: &str, n: &[i128; 12], told: &mut String) -> bool {
+/// names of the stops. Or a call of the next kind.
+fn tell_kind(came: &mut Came, name: &str, n: &[i128; 12], words: &str, told: Told) -> Told {
     let kind = kind_of(n[0]);
     match name {
-        "kind" => numbers(
-            told,
-            &[
-                kind_code(kind) as i128,
-                operands(kind) as i128,
-                multiplier(kind, 0) as i128,
-                multiplier(kind, 1) as i128,
-                multiplier(kind, 2) as i128,
-            ],
-        ),
-        "operand" => item(
-            told,
-            text_of(ty_name(operand_type(kind, u32_of(n[1]), ty_of(n[2])))),
-        ),
+        "kind" => told
+            .number(kind_code(kind) as i128)
+            .number(operands(kind) as i128)
+            .number(multiplier(kind, 0) as i128)
+            .number(multiplier(kind, 1) as i128)
+            .number(multiplier(kind, 2) as i128),
+        "operand" => told.item(ty_name(operand_type(kind, u32_of(n[1]), ty_of(n[2])))),
         "code" => tell_code(u8::try_from(n[0]).unwrap_or(255), told),
-        "stops" => {
-            item(told, text_of(stop_name(StopKind::Range)));
-            item(told, text_of(stop_name(StopKind::DivZero)));
-            item(told, text_of(stop_name(StopKind::Operand)));
-        }
-        _ => return false,
+        "stops" => told
+            .item(stop_name(StopKind::Range))
+            .item(stop_name(StopKind::DivZero))
+            .item(stop_name(StopKind::Operand)),
+        _ => tell_text(came, name, n, words, told),
     }
-    true
 }
 
 /// Tells the kind and the type of a code.
-fn tell_code(code: u8, told: &mut String) {
+fn tell_code(code: u8, told: Told) -> Told {
     let kind = match kind_of_code(code) {
         Some(kind) => kind_name(kind),
         None => b"none",
@@ -80,33 +65,24 @@ fn tell_code(code: u8, told: &mut String) {
         Some(ty) => ty_name(ty),
         None => b"none",
     };
-    item(told, text_of(kind));
-    item(told, text_of(ty));
+    told.item(kind).item(ty)
 }
 
-/// Calls on texts: the numeral and the number of a type that a text is, and a spelled text without its first blanks, between brackets.
-pub fn tell_texts(
-    alloc: Global,
-    name: &str,
-    n: &[i128; 12],
-    words: &str,
-    told: &mut String,
-) -> bool {
+/// Calls on texts: the numeral and the number of a type that a text is, and a spelled text without its first blanks, between brackets. Or a call on units.
+fn tell_text(came: &mut Came, name: &str, n: &[i128; 12], words: &str, told: Told) -> Told {
     match name {
         "numeral" => match numeral(words.as_bytes()) {
-            Some(number) => numbers(told, &[number as i128]),
-            None => say(told, "none"),
+            Some(number) => told.number(number as i128),
+            None => told.say("none"),
         },
-        "number" => match number_in(ty_of(n[0]), behind(words, 1).as_bytes()) {
-            Some(number) => numbers(told, &[number as i128]),
-            None => say(told, "none"),
+        "number" => match number_in(ty_of(n[0]), behind_word(words).as_bytes()) {
+            Some(number) => told.number(number as i128),
+            None => told.say("none"),
         },
-        "blanks" => {
-            say(told, "[");
-            say(told, text_of(without_first_blanks(&spelled(alloc, words))));
-            say(told, "]");
-        }
-        _ => return false,
+        "blanks" => told
+            .say("[")
+            .say(text_of(without_first_blanks(&spelled(came.alloc, words))))
+            .say("]"),
+        _ => tell_units(came, name, n, words, told),
     }
-    true
 }

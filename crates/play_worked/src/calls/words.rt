@@ -3,10 +3,13 @@
 ghost use Rattle.std.specs.Prelude.{◌≡◌, IfSome, true};
 ghost use Rattle.coded_unit.specs.Asked.{Asked};
 
-use crate::texts::{count, numbers, say, word_off};
+use crate::texts::{behind_word, count, first_word};
+use crate::told::Told;
 use coded_unit::{Answer, Call, Word};
 use fault_script::kind_named;
-use vcp_base::{Kind, MOST_STAMP, Profile, Ty, admits, kind_code, kind_of_code, modulus};
+use vcp_base::{
+    Kind, MOST_STAMP, Profile, StopKind, Ty, admits, kind_code, kind_of_code, modulus, stop_name,
+};
 
 /// The number of 32 bits that this is; else 0.
 pub fn u32_of(number: i128) -> u32 {
@@ -21,11 +24,6 @@ pub fn u64_of(number: i128) -> u64 {
 /// The number of 64 bits with a sign that this is; else 0.
 pub fn i64_of(number: i128) -> i64 {
     i64::try_from(number).unwrap_or(0)
-}
-
-/// 1 where something holds, else 0.
-pub fn truth(holds: bool) -> i128 {
-    if holds { 1 } else { 0 }
 }
 
 /// The word that is this integer; else 0.
@@ -92,7 +90,8 @@ pub fn numbers_in(words: &str, answers: &[Word]) -> [i128; 12] {
     let mut numbers = [0; 12];
     let mut rest = words;
     for i in 0..12 {
-        let (word, more) = word_off(rest);
+        let word = first_word(rest);
+        let more = behind_word(rest);
         rest = more;
         numbers[i] = number_of(word, profile_of(numbers[2]), answers);
     }
@@ -133,24 +132,25 @@ fn is_asked(call: &Call) -> bool
 }
 
 /// Tells an answer: the integer of its word, or the name of its stop.
-pub fn tell_answer(told: &mut String, answer: &Answer) {
-    let stop = match answer {
-        Answer::Word(word) => return numbers(told, &[word.get()]),
-        Answer::Range => "RANGE",
-        Answer::DivZero => "DIVZERO",
-        Answer::Operand => "OPERAND",
+pub fn tell_answer(answer: &Answer, told: Told) -> Told {
+    let kind = match answer {
+        Answer::Word(word) => return told.number(word.get()),
+        Answer::Range => StopKind::Range,
+        Answer::DivZero => StopKind::DivZero,
+        Answer::Operand => StopKind::Operand,
     };
-    say(told, stop);
+    told.item(stop_name(kind))
 }
 
 /// Tells an answer in a line, its word with its value and its residue.
-pub fn tell_parts(told: &mut String, profile: Profile, answer: &Answer) {
-    tell_answer(told, answer);
-    if let Answer::Word(word) = answer {
-        let (value, residue) = word.split(profile);
-        numbers(told, &[value]);
-        say(told, ":");
-        numbers(told, &[residue as i128]);
-    }
-    say(told, "\n");
+pub fn tell_parts(profile: Profile, answer: &Answer, told: Told) -> Told {
+    let told = tell_answer(answer, told);
+    let told = match answer {
+        Answer::Word(word) => {
+            let (value, residue) = word.split(profile);
+            told.number(value).say(":").number(residue as i128)
+        }
+        _ => told,
+    };
+    told.say("\n")
 }

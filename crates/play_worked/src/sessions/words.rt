@@ -1,7 +1,6 @@
-//! Words of a call, as a text.
+//! The words of a call and of its end.
 
-use std::alloc::Global;
-use vcp_base::Words;
+use crate::texts::{behind_word, first_word};
 
 /// The end of a call of `vcp` whose words are none of the forms: status 4 and its line of error.
 const USAGE: &str =
@@ -16,23 +15,23 @@ const STUDY_USAGE: &str =
       sites M ROWS late, sites M ROWS late FROM COUNT, sites M ROWS late --count, sum M SCRIPT VERDICTS .., \
       sum M SCRIPT VERDICTS .. ROWS, faults M SCRIPT VERDICTS, script M NAMED, image P CODE or text P";
 
-/// The end of this call where its words are none of the forms.
-pub fn usage_end(call: &str) -> &'static str {
-    if call.starts_with("vcp_study") {
-        STUDY_USAGE
-    } else {
-        USAGE
+/// The name of another program than `vcp` that stands before a call's command, with the blank behind it, and the words from the command on.
+pub fn program_off(words: &str) -> (&'static str, &str) {
+    let first = first_word(words);
+    let rest = behind_word(words);
+    match first {
+        "vcp_study" => ("vcp_study ", rest),
+        "call" => ("call ", rest),
+        _ => ("", words),
     }
 }
 
-/// The words of a text, with a blank between them; `''` is an empty word.
-pub fn words_of(alloc: Global, text: &str) -> Words {
-    let mut words = Words::new(alloc);
-    for word in text.split(' ') {
-        if !word.is_empty() {
-            let word = if word == "''" { "" } else { word };
-            words.push(word.as_bytes()).ok();
-        }
+/// The end of a call of a program that is written so: status 0 where nothing is written, and the usage line for `usage`.
+pub fn whole_end<'e>(program: &str, end: &'e str) -> &'e str {
+    match end {
+        "" => "0",
+        "usage" if program.is_empty() => USAGE,
+        "usage" => STUDY_USAGE,
+        _ => end,
     }
-    words
 }
