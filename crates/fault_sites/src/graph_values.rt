@@ -1,8 +1,8 @@
 //! The run of a graph on plain integers.
 
-ghost use Rattle.std.specs.Prelude.{◌≡◌, ◌<◌, ◌≤◌, ◌++◌, ◌∷◌, [], None, Ok, IfOk, IfNone, length, vec_capacity};
+ghost use Rattle.std.specs.Prelude.{◌≡◌, ◌<◌, ◌≤◌, ◌++◌, ◌∷◌, [], None, Ok, IfOk, length, vec_capacity};
 ghost use Rattle.vcp_base.specs.Values.{at as at_of};
-ghost use Rattle.op_graph.specs.GraphRun.{cycle as cycle_of, initial, operand as operand_of, outcome_of, own as own_of, read as read_of, stored};
+ghost use Rattle.op_graph.specs.GraphRun.{cycle as cycle_of, initial, operand as operand_of, outcome_of, own as own_of, stored};
 ghost use Rattle.op_graph.specs.Reads.{named as named_of};
 ghost use Rattle.fault_sites.specs.Run.{after, begun};
 ghost use Rattle.fault_sites.specs.Running.{Room, before, moment};

@@ -1,9 +1,9 @@
 //! Words of the cycle before, as operands: what has to be added for each is taken from a run without faults.
 
-ghost use Rattle.std.specs.Prelude.{◌≡◌, ◌<◌, ◌≤◌, ◌+◌, ◌-◌, length, slice_get};
+ghost use Rattle.std.specs.Prelude.{◌≡◌, ◌<◌, ◌+◌, ◌-◌, length, slice_get};
 ghost use Rattle.std.specs.Option.{option_to_list};
 ghost use Rattle.vcp_base.specs.Limits.{most_cycles};
-ghost use Rattle.fault_sites.specs.Late.{late_add, late_addend, late_one, loads_from as loads_from_of};
+ghost use Rattle.fault_sites.specs.Late.{late_addend, late_one};
 ghost use Rattle.fault_sites.specs.Late.{may_be_late as may_be_late_of, read_word as read_word_of};
 ghost use Rattle.fault_sites.specs.RunCycle.{as_cycle};
 
@@ -16,24 +16,20 @@ use op_graph::{Graph, Op, named};
 use signature_table::store_of;
 use vcp_base::{Kind, operand_type, within};
 
-/// Whether a LOAD reads its word of the cycle before from operation `r`.
-fn loads_from(graph: &Graph, op: &Op, r: u32) -> bool
-    ensures { result ≡ loads_from_of graph.now op.now r }
-{
-    match op.kind {
-        Kind::Load => match store_of(graph, op) {
-            Some(store) => store == r,
-            None => false,
-        },
-        _ => false,
-    }
-}
-
 /// Whether operand `j` may be the word of the cycle before of operation `r`, which is `source`: its type goes there, and it isn't what a LOAD reads anyway.
 pub fn may_be_late(graph: &Graph, op: &Op, j: u32, r: u32, source: &Op) -> bool
     ensures { result ≡ may_be_late_of graph.now op.now j r source.now }
 {
-    within(source.ty, operand_type(op.kind, j, op.from)) && !loads_from(graph, op, r)
+    if !within(source.ty, operand_type(op.kind, j, op.from)) {
+        return false;
+    }
+    match op.kind {
+        Kind::Load => match store_of(graph, op) {
+            Some(store) => store != r,
+            None => true,
+        },
+        _ => true,
+    }
 }
 
 /// What operand `j` is: of a LOAD the word of its cell's STORE of the cycle before.
@@ -62,18 +58,8 @@ fn addend(c: &CycleValues<'_>, op: &Op, j: u32, r: u32) -> i128
     past.get() - read_word(c, op, j).get()
 }
 
-/// So much is added to operand `j`, where it isn't 0, which would be no fault, and a line may have it: at most 2^62 in size.
-fn added(j: u32, e: i128) -> Option<Act>
-    ensures { late_add j e ≡ option_to_list result }
-{
-    if 0 < e.unsigned_abs() && -(1 << 62) <= e && e <= 1 << 62 {
-        Some(Act::OperandAdd { j, e: e as i64 })
-    } else {
-        None
-    }
-}
-
-/// Operand `j` as the word of the cycle before of operation `k` or the `i`th behind it, where that may stand for it and a line may have it.
+/// Operand `j` as the word of the cycle before of operation `k` or the `i`th behind it, where that may stand for it and a line may have it: what is
+/// added isn't 0, which would be no fault, and at most 2^62 in size.
 pub(crate) fn late_of(c: &CycleValues<'_>, op: &Op, j: u32, k: u32, i: u32) -> Option<Act>
     requires later { 0 < c.now.cycle }
     requires few { c.now.cycle < most_cycles }
@@ -84,8 +70,12 @@ pub(crate) fn late_of(c: &CycleValues<'_>, op: &Op, j: u32, k: u32, i: u32) -> O
     let _operations = c.graph.len();
     let r = k + i;
     let source = c.graph.operation(r);
-    if may_be_late(c.graph, op, j, r, &source) {
-        added(j, addend(c, op, j, r))
+    if !may_be_late(c.graph, op, j, r, &source) {
+        return None;
+    }
+    let e = addend(c, op, j, r);
+    if 0 < e.unsigned_abs() && -(1 << 62) <= e && e <= 1 << 62 {
+        Some(Act::OperandAdd { j, e: e as i64 })
     } else {
         None
     }

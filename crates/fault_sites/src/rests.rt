@@ -1,6 +1,6 @@
 //! Words that change between two of their readings: the same number is added in each of the later ones.
 
-ghost use Rattle.std.specs.Prelude.{◌≡◌, ◌<◌, ◌≤◌, ◌+◌, ◌*◌, ◌∷◌, [], ℕ, true, false, nat_lt, nat_le, drop, length, slice_get, Some, IfOk};
+ghost use Rattle.std.specs.Prelude.{◌≡◌, ◌<◌, ◌≤◌, ◌+◌, ◌*◌, ◌∷◌, [], ℕ, true, false, nat_le, drop, length, slice_get, Some, IfOk};
 ghost use Rattle.vcp_base.specs.Limits.{most_cycles};
 ghost use Rattle.vcp_outside.specs.Pens.{Goes};
 ghost use Rattle.op_graph.specs.Lists.{Lists};
@@ -8,7 +8,6 @@ ghost use Rattle.op_graph.specs.Rules.{is_out as is_out_of};
 ghost use Rattle.fault_sites.specs.Readings.{AreReadings};
 ghost use Rattle.fault_sites.specs.Counted.{AreCounted, IsCounted};
 ghost use Rattle.fault_sites.specs.Rests.{changed, groups as groups_of_run, groups_at, groups_by, groups_in, groups_of, place as place_of, rises};
-ghost use Rattle.fault_sites.specs.Sites.{addend as addend_of};
 ghost use Rattle.fault_sites.specs.Spending.{fed_groups, within, Spends};
 ghost use Rattle.fault_sites.specs.Telling.{fed_lines};
 

@@ -3,7 +3,6 @@
 ghost use Rattle.std.specs.Prelude.{◌≡◌, ◌<◌, ◌≤◌, All, IfOk, length};
 ghost use Rattle.vcp_base.specs.Limits.{most_cycles};
 ghost use Rattle.fault_sites.specs.Flips.{flips_in};
-ghost use Rattle.fault_sites.specs.Late.{lates_in};
 ghost use Rattle.fault_sites.specs.Run.{begun};
 ghost use Rattle.fault_sites.specs.RunCycle.{as_cycle};
 ghost use Rattle.fault_sites.specs.RunSites.{cycle_of, in_cycle, run_class_name as run_class_name_of, run_class_of, run_sites};
@@ -69,18 +68,6 @@ fn then_flips<P: Pen>(told: Telling<P>, c: &CycleValues<'_>) -> Telling<P>
     then_acts(Telling { pen, part }, c, c.graph, c.cycle)
 }
 
-/// Goes on with the words of the cycle before in a cycle.
-fn then_lates<P: Pen>(told: Telling<P>, c: &CycleValues<'_>) -> Telling<P>
-    requires late { c.now.class ≡ RunClass.Late }
-    requires few { c.now.cycle < most_cycles }
-    ensures { Tells (P.seen told.pen) (P.seen result.pen) told.part result.part (lates_in (as_cycle c.now)) }
-{
-    if c.cycle == 0 {
-        return told;
-    }
-    then_acts(told, c, c.graph, c.cycle)
-}
-
 /// Goes on with the sites of a class in cycle `n`, which is the last one of a run.
 fn then_cycle<P: Pen>(
     told: Telling<P>,
@@ -106,7 +93,12 @@ fn then_cycle<P: Pen>(
     };
     match class {
         RunClass::Flips => then_flips(told, &cycle),
-        RunClass::Late => then_lates(told, &cycle),
+        // There is no cycle before the first.
+        RunClass::Late => if n == 0 {
+            told
+        } else {
+            then_acts(told, &cycle, graph, n)
+        },
     }
 }
 

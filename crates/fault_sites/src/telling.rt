@@ -1,6 +1,6 @@
 //! The lines of the acts that may be at an operation, and at all operations of a cycle.
 
-ghost use Rattle.std.specs.Prelude.{◌≡◌, ◌<◌, ◌∷◌, [], ℕ, List, length};
+ghost use Rattle.std.specs.Prelude.{◌≡◌, ◌<◌, ℕ, List, length};
 ghost use Rattle.std.specs.Option.{option_to_list};
 ghost use Rattle.op_graph.specs.Lists.{Lists};
 ghost use Rattle.op_graph.specs.declared.op.Op.{Op as Operation};

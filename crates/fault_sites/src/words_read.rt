@@ -5,10 +5,10 @@ ghost use Rattle.std.specs.Prelude.{◌≡◌, ◌<◌, ◌++◌, ◌∷◌, [],
 ghost use Rattle.op_graph.specs.Lists.{cells};
 ghost use Rattle.op_graph.specs.Reads.{named as named_of};
 ghost use Rattle.op_graph.specs.Rules.{IsGraph, reads_as};
-ghost use Rattle.fault_sites.specs.Readings.{Adds, AreReadings, reading_as, readings_by, readings_from, reading_across, readings_across, word};
+ghost use Rattle.fault_sites.specs.Readings.{Adds, AreReadings, reading_as, readings_by, readings_from, readings_across, word};
 
 use crate::reading::Reading;
-use op_graph::{Cell, Graph, Op, entries_keep_their_rules, operands_are_there, reads_operation};
+use op_graph::{Graph, Op, entries_keep_their_rules, operands_are_there, reads_operation};
 use std::alloc::Global;
 use vcp_base::{CopyList, Memory, multiplier};
 

@@ -5,7 +5,7 @@ ghost use Rattle.vcp_outside.specs.Written.{WritesTo};
 ghost use Rattle.vcp_outside.specs.Pens.{Goes};
 ghost use Rattle.fault_sites.specs.Part.{kept};
 ghost use Rattle.fault_sites.specs.Sites.{sites, sites_in, sites_of};
-ghost use Rattle.fault_sites.specs.SiteText.{classes_name as classes_name_of, sites_text};
+ghost use Rattle.fault_sites.specs.SiteText.{sites_text};
 ghost use Rattle.fault_sites.specs.Telling.{fed_lines, Tells};
 
 use crate::class::{Class, Classes};

@@ -3,7 +3,7 @@
 ghost use Rattle.std.specs.Prelude.{◌≡◌, ◌<◌, length};
 ghost use Rattle.vcp_base.specs.Words.{words as words_of};
 ghost use Rattle.fault_sites.specs.Sites.{adding as adding_of};
-ghost use Rattle.fault_sites.specs.NamedLines.{act_of, acts_of, ended as ended_of, timed as timed_of};
+ghost use Rattle.fault_sites.specs.NamedLines.{act_of, acts_of, ended as ended_of};
 ghost use Rattle.fault_sites.specs.NamedLines.{meant_of, flips_of};
 ghost use Rattle.fault_sites.specs.declared.named.when.Ending.TheVariants as ending;
 
@@ -128,34 +128,23 @@ fn ended(
     }
 }
 
-/// The same, from the words of the cycles on.
-fn timed(
-    graph: &Graph,
-    doing: Doing,
-    target: Target,
-    words: &mut WordsLeft<'_>,
-) -> Result<Meant, Why>
-    requires { target.op < length graph.now.operations }
-    ensures { result ≡ timed_of graph.now doing target words.old }
-{
-    match when(words) {
-        Ok(span) => match take_ending(words) {
-            Some(ending) => ended(graph, doing, target, span, ending),
-            None => Err(Why::Form),
-        },
-        Err(why) => Err(why),
-    }
-}
-
 /// What a line means, or why it is refused.
 pub fn meaning(graph: &Graph, text: &[u8]) -> Result<Meant, Why>
     ensures { result ≡ meant_of graph.now (words_of text.now) }
 {
     let mut words = WordsLeft::new(text);
-    match take_doing(graph, &mut words) {
-        Ok(doing) => match take_target(graph, &mut words) {
-            Ok(target) => timed(graph, doing, target, &mut words),
-            Err(why) => Err(why),
+    let doing = match take_doing(graph, &mut words) {
+        Ok(doing) => doing,
+        Err(why) => return Err(why),
+    };
+    let target = match take_target(graph, &mut words) {
+        Ok(target) => target,
+        Err(why) => return Err(why),
+    };
+    match when(&mut words) {
+        Ok(span) => match take_ending(&mut words) {
+            Some(ending) => ended(graph, doing, target, span, ending),
+            None => Err(Why::Form),
         },
         Err(why) => Err(why),
     }

@@ -1,11 +1,10 @@
 //! Whether a text of named faults is taken.
 
-ghost use Rattle.std.specs.Prelude.{◌≡◌, ◌≤◌, ◌^◌, Ok, Err, IfOk, IfErr, length, option_map};
+ghost use Rattle.std.specs.Prelude.{◌≡◌, ◌≤◌, ◌^◌, Ok, Err, IfOk, IfErr, length};
 ghost use Rattle.std.specs.Str.Lines.{lines};
 ghost use Rattle.vcp_base.specs.Limits.{most_source_bytes};
-ghost use Rattle.vcp_base.specs.Words.{words as words_of};
 ghost use Rattle.fault_script.specs.ScriptOf.{most_faults};
-ghost use Rattle.fault_sites.specs.NamedEntries.{image_named as image_named_of, names_other as names_other_of};
+ghost use Rattle.fault_sites.specs.NamedEntries.{names_other as names_other_of};
 ghost use Rattle.fault_sites.specs.NamedEntries.{fault_count as fault_count_of, taken as taken_of, lines_checked, checked};
 ghost use Rattle.vcp_base.specs.Lines.{read_lines};
 ghost use Rattle.fault_sites.specs.NamedScript.{cycles_of};
@@ -21,21 +20,7 @@ use vcp_base::{WordsLeft, first_line, first_read};
 /// The most bytes of a text whose script a file can have.
 pub const MOST_NAMED_BYTES: usize = 262_144;
 
-/// The digits of the image that a first line names: `# of DIGEST`.
-fn image_named(line: &[u8]) -> Option<&[u8]>
-    ensures { option_map (λ d. d.now) result ≡ image_named_of (words_of line.now) }
-{
-    let mut words = WordsLeft::new(line);
-    if !next_is(&mut words, b"#") {
-        return None;
-    }
-    if !next_is(&mut words, b"of") {
-        return None;
-    }
-    words.only()
-}
-
-/// Whether the first line of a text names another image.
+/// Whether the first line of a text names another image: `# of DIGEST`.
 fn names_other(digest: &[u8], text: &[u8]) -> bool
     ensures { result ≡ names_other_of digest.now (lines text.now) }
 {
@@ -43,7 +28,14 @@ fn names_other(digest: &[u8], text: &[u8]) -> bool
         return false;
     }
     let (line, _more) = first_line(text);
-    match image_named(line) {
+    let mut words = WordsLeft::new(line);
+    if !next_is(&mut words, b"#") {
+        return false;
+    }
+    if !next_is(&mut words, b"of") {
+        return false;
+    }
+    match words.only() {
         Some(named) => named != digest,
         None => false,
     }

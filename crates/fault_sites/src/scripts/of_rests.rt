@@ -1,6 +1,6 @@
 //! Groups in which a word changes between two of its readings.
 
-ghost use Rattle.std.specs.Prelude.{◌≡◌, ◌≤◌, length, Err};
+ghost use Rattle.std.specs.Prelude.{◌≡◌, ◌≤◌, Err};
 ghost use Rattle.vcp_base.specs.Limits.{most_cycles};
 ghost use Rattle.vcp_outside.specs.Counts.{Rose};
 ghost use Rattle.vcp_outside.specs.Written.{WritesTo};
