@@ -22,29 +22,30 @@ struct Growing {
 pub(crate) fn rough_text(alloc: Global, list: &[u8], program: &Typed) -> Result<Text, Memory>
     requires { length list.now ≤ most_il_bytes }
 {
-    let mut text = Growing {
+    let text = Growing {
         bytes: Vec::new(alloc),
         is_given_up: false,
     };
     let slots = program.slots().items.as_slice();
-    text.put(b"PROGRAM ");
-    text.program_name(alloc, list);
-    text.put(b"\n");
-    text.blocks(slots);
+    let mut text = text
+        .put(b"PROGRAM ")
+        .program_name(alloc, list)
+        .put(b"\n")
+        .blocks(slots);
     for stmt in &program.body().items {
-        match stmt {
+        text = match stmt {
             TStmt::If { arms, .. } => match arms.items.as_slice() {
                 [arm] => text.conditional(slots, arm),
-                _ => {}
+                _ => text,
             },
             _ => text.assignment(slots, stmt),
-        }
+        };
     }
-    text.put(b"END_PROGRAM\n");
-    if text.is_given_up {
+    let Growing { bytes, is_given_up } = text.put(b"END_PROGRAM\n");
+    if is_given_up {
         Err(Memory)
     } else {
-        Ok(Text::from_vec(text.bytes))
+        Ok(Text::from_vec(bytes))
     }
 }
 
@@ -70,18 +71,19 @@ fn has_plain_form(ty: Ty, value: i64) -> bool {
 }
 
 impl Growing {
-    fn put(&mut self, bytes: &[u8]) {
+    fn put(mut self, bytes: &[u8]) -> Growing {
         if self.is_given_up {
-            return;
+            return self;
         }
         match self.bytes.extend_from_slice(bytes) {
             Ok(()) => {}
             Err(_) => self.is_given_up = true,
         }
+        self
     }
 
     /// The name of the program whose text this is: its second word.
-    fn program_name(&mut self, alloc: Global, list: &[u8])
+    fn program_name(mut self, alloc: Global, list: &[u8]) -> Growing
         requires { length list.now ≤ most_il_bytes }
     {
         match lex(alloc, list) {
@@ -89,71 +91,80 @@ impl Growing {
                 let name = tokens.at(1);
                 match list.get(name.from as usize..name.to as usize) {
                     Some(bytes) => self.put(bytes),
-                    None => {}
+                    None => self,
                 }
+            } else {
+                self
             },
-            Err(LexFault::Memory) => self.is_given_up = true,
-            Err(_) => {}
+            Err(LexFault::Memory) => {
+                self.is_given_up = true;
+                self
+            }
+            Err(_) => self,
         }
     }
 
     /// The declarations: a block for variables of one section that follow one another.
-    fn blocks(&mut self, slots: &[Slot]) {
+    fn blocks(self, slots: &[Slot]) -> Growing {
+        let mut text = self;
         let mut open: &'static [u8] = b"";
         for slot in slots {
             let words = block_words(slot.section);
             if words != open {
-                self.end_block(open);
-                self.put(words);
-                self.put(b"\n");
+                text = text.end_block(open).put(words).put(b"\n");
                 open = words;
             }
-            self.declaration(slot);
+            text = text.declaration(slot);
         }
-        self.end_block(open);
+        text.end_block(open)
     }
 
     /// Ends a block, where one is open.
-    fn end_block(&mut self, open: &[u8]) {
-        if !open.is_empty() {
-            self.put(b"END_VAR\n");
+    fn end_block(self, open: &[u8]) -> Growing {
+        if open.is_empty() {
+            self
+        } else {
+            self.put(b"END_VAR\n")
         }
     }
 
     /// A variable with its type and, where that isn't 0, its initial value.
-    fn declaration(&mut self, slot: &Slot) {
-        self.put(slot.name.bytes());
-        self.put(b" : ");
-        self.put(ty_name(slot.ty));
-        if slot.init != 0 {
-            self.put(b" := ");
-            self.literal(slot.ty, slot.init, true);
-        }
-        self.put(b";\n");
+    fn declaration(self, slot: &Slot) -> Growing {
+        let text = self
+            .put(slot.name.bytes())
+            .put(b" : ")
+            .put(ty_name(slot.ty));
+        let text = if slot.init == 0 {
+            text
+        } else {
+            text.put(b" := ").literal(slot.ty, slot.init, true)
+        };
+        text.put(b";\n")
     }
 
     /// A value; without its type where that is plain.
-    fn literal(&mut self, ty: Ty, value: i64, plain: bool) {
+    fn literal(self, ty: Ty, value: i64, plain: bool) -> Growing {
         if ty == Ty::Bool {
             return self.put(if value == 0 { b"FALSE" } else { b"TRUE" });
         }
-        if !plain {
-            self.put(ty_name(ty));
-            self.put(b"#");
-        }
-        self.put(Buffer::new().format(value).as_bytes());
+        let text = if plain {
+            self
+        } else {
+            self.put(ty_name(ty)).put(b"#")
+        };
+        text.put(Buffer::new().format(value).as_bytes())
     }
 
     /// A variable's name.
-    fn variable(&mut self, slots: &[Slot], slot: u32) {
+    fn variable(self, slots: &[Slot], slot: u32) -> Growing {
         match slots.get(slot as usize) {
             Some(slot) => self.put(slot.name.bytes()),
-            None => {}
+            None => self,
         }
     }
 
     /// What is assigned: a variable or a literal, which may be widened or behind a NOT, or an operator between two such operands.
-    fn value(&mut self, slots: &[Slot], value: &TExpr) {
+    fn value(self, slots: &[Slot], value: &TExpr) -> Growing {
         match value {
             TExpr::Lit { ty, value, .. } => self.literal(*ty, *value, has_plain_form(*ty, *value)),
             TExpr::Get { slot, .. } => self.variable(slots, *slot),
@@ -162,45 +173,40 @@ impl Growing {
                 op: UnOp::Not,
                 arg,
                 ..
-            } => {
-                self.put(b"NOT ");
-                self.value(slots, arg);
-            }
+            } => self.put(b"NOT ").value(slots, arg),
             TExpr::Binary {
                 op,
                 left,
                 right,
                 ..
             } => {
-                self.value(slots, left);
-                self.put(operator_text(*op));
-                self.value(slots, right);
+                self.value(slots, left)
+                    .put(operator_text(*op))
+                    .value(slots, right)
             }
-            _ => {}
+            _ => self,
         }
     }
 
     /// An assignment.
-    fn assignment(&mut self, slots: &[Slot], stmt: &TStmt) {
+    fn assignment(self, slots: &[Slot], stmt: &TStmt) -> Growing {
         match stmt {
             TStmt::Assign { slot, value, .. } => {
-                self.variable(slots, *slot);
-                self.put(b" := ");
-                self.value(slots, value);
-                self.put(b";\n");
+                self.variable(slots, *slot)
+                    .put(b" := ")
+                    .value(slots, value)
+                    .put(b";\n")
             }
-            _ => {}
+            _ => self,
         }
     }
 
     /// IF with one condition, and assignments in its body.
-    fn conditional(&mut self, slots: &[Slot], arm: &TArm) {
-        self.put(b"IF ");
-        self.value(slots, &arm.cond);
-        self.put(b" THEN\n");
+    fn conditional(self, slots: &[Slot], arm: &TArm) -> Growing {
+        let mut text = self.put(b"IF ").value(slots, &arm.cond).put(b" THEN\n");
         for stmt in &arm.body.items {
-            self.assignment(slots, stmt);
+            text = text.assignment(slots, stmt);
         }
-        self.put(b"END_IF;\n");
+        text.put(b"END_IF;\n")
     }
 }
