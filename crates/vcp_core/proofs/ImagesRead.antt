@@ -1,8 +1,8 @@
 -- What the commands come to that read an image and ROWS, and how far they come where there is nothing of one.
-use Rattle.std.proofs.Common.{ℕ, ℤ, ◌≡◌, ◌≢◌, inl, inr, true, refl, sym, ap, subst, ◌∙◌, List, [], length, All, Option, Some, Err, IfSome}
+use Rattle.std.proofs.Common.{ℕ, ℤ, ◌≡◌, ◌≢◌, inl, inr, true, refl, sym, ap, subst, ◌∙◌, List, [], length, All, ◌<◌, Option, Some, None, Err, IfSome}
 use Rattle.std.proofs.lemmas.List.{length-map}
 use Rattle.std.specs.Io.KnownBytes.{IsAtEnd}
-use Rattle.vcp_base.specs.Limits.{most_image_bytes}
+use Rattle.vcp_base.specs.Limits.{most_image_bytes, seeds}
 use Rattle.vcp_base.specs.declared.columns.Column.{Column}
 use Rattle.vcp_outside.specs.Counts.{Rose}
 use Rattle.vcp_outside.specs.Held.{Held}
@@ -10,9 +10,11 @@ use Rattle.vcp_outside.specs.Seen.{FilesSeen}
 use Rattle.input_rows.specs.RowsOf.{RowsLeft, through}
 use Rattle.op_graph.specs.Lists.{column}
 use Rattle.coded_machine.specs.Moments.{Moment}
-use Rattle.vcp_inputs.specs.Forms.{AreFew, Form, IsSound, Rows, exec, trace, inject, pair, pairs, image_run}
+use Rattle.vcp_inputs.specs.Forms.{AreFew, Form, IsSound, Rows, exec, trace, inject, pair, pairs, faults_run, image_run, single_run}
 use Rattle.vcp_inputs.specs.declared.words.command.ImageRun.{ImageRun}
 use Rattle.vcp_inputs.specs.declared.words.command.ImageRun.TheVariants as how
+use Rattle.vcp_inputs.specs.declared.words.command.SingleRun.{SingleRun}
+use Rattle.vcp_inputs.specs.declared.words.command.SingleRun.TheVariants as single
 use Rattle.vcp_inputs.specs.Tables.{rows_name}
 use Rattle.vcp_inputs.specs.declared.images.Image.{Image}
 use Rattle.vcp_inputs.specs.declared.refusal.Refusal.{Refusal}
@@ -31,15 +33,15 @@ use Rattle.vcp_inputs.specs.FileTasks.{ImageFile, TakenFile, TakenRows}
 use Rattle.vcp_inputs.specs.Kinds.{Task, runs}
 use Rattle.vcp_inputs.specs.Performing.{Performs}
 use Rattle.vcp_core.specs.declared.image_rows.ImageRows.{ImageRows}
-use Rattle.vcp_core.specs.ImagesRead.{AreImageRows, ImageRowsRead, ReadsImageRows, second_of, executing, tracing, injecting, comparing, pairing}
+use Rattle.vcp_core.specs.ImagesRead.{AreImageRows, ImageRowsRead, IsInRange, ReadsImageRows, second_of, second_of_single, executing, tracing, injecting, comparing, pairing}
 use Rattle.vcp_core.specs.Loading.{FirstRead}
 use Rattle.vcp_core.specs.Tasks.{Apart, Compared, PairsRows, TaskOf, rows_job, table_code, words_job}
-use Rattle.vcp_core.proofs.Facts.{if_some_always, if_some_both, if_some_weaker}
+use Rattle.vcp_core.proofs.Facts.{if_some_always, if_some_both, if_some_weaker, not_none}
 use Rattle.vcp_core.proofs.JudgedTasks.{LoadsAt, OnLeft, rows_named as inject_named}
-use Rattle.vcp_core.proofs.LoadedRows.{rows_unloaded}
+use Rattle.vcp_core.proofs.LoadedRows.{rows_unloaded, rows_unopened}
 use Rattle.vcp_core.proofs.PairsTasks.{OnLeft as OnAllLeft, rows_named as pairs_named}
 use Rattle.vcp_core.proofs.Performing.{files_lost, files_wanted, quiet_lost}
-use Rattle.vcp_core.proofs.TwoChannels.{ApartImage, Comparing, apart_by, apart_comes, file_apart, performs_by, seeds_same}
+use Rattle.vcp_core.proofs.TwoChannels.{ApartImage, Comparing, apart_by, apart_comes, file_apart, performs_by, rows_apart, seeds_same}
 
 -- each of them reads files, M first
 pub some_files : (m : List ℕ) (rows : Rows) (second : Option ℕ) (f : Form) → ReadsImageRows m rows second f → (about f).files ≢ []
@@ -50,20 +52,42 @@ some_files m rows _ _ (comparing seed) = λ none. cc
 some_files m rows _ _ (pairing seed s) = λ none. cc
 
 -- a run of M on ROWS is one of them
+reads_single : (m : List ℕ) (rows : Rows) (run : SingleRun) → ReadsImageRows m rows (second_of_single run) (single_run m rows run)
+reads_single m rows single.Exec = executing
+reads_single m rows (single.Trace n) = tracing n
+reads_single m rows (single.Pair seed) = comparing seed
+
+reads_faults : (m : List ℕ) (rows : Rows) (second : Option ℕ) (f : List ℕ) → ReadsImageRows m rows second (faults_run m rows second f)
+reads_faults m rows None f = injecting f
+reads_faults m rows (Some seed) f = pairing seed f
+
 pub reads_run : (m : List ℕ) (rows : Rows) (run : ImageRun) → ReadsImageRows m rows (second_of run) (image_run m rows run)
-reads_run m rows how.Exec = executing
-reads_run m rows (how.Trace n) = tracing n
-reads_run m rows (how.Inject s) = injecting s.now
-reads_run m rows (how.Pair seed) = comparing seed
-reads_run m rows (how.Pairs seed s) = pairing seed s.now
+reads_run m rows (how.Single run) = reads_single m rows run
+reads_run m rows (how.Faults second f) = reads_faults m rows second f.now
 
 -- and where it is sound its rows are few
+single_few : (m : List ℕ) (rows : Rows) (run : SingleRun) → IsSound (single_run m rows run) → AreFew rows
+single_few m rows single.Exec h = h
+single_few m rows (single.Trace n) h = h.0
+single_few m rows (single.Pair seed) h = h.0
+
+faults_few : (m : List ℕ) (rows : Rows) (second : Option ℕ) (f : List ℕ) → IsSound (faults_run m rows second f) → AreFew rows
+faults_few m rows None f h = h
+faults_few m rows (Some seed) f h = h.0
+
 pub run_few : (m : List ℕ) (rows : Rows) (run : ImageRun) → IsSound (image_run m rows run) → AreFew rows
-run_few m rows how.Exec h = h
-run_few m rows (how.Trace n) h = h.0
-run_few m rows (how.Inject s) h = h
-run_few m rows (how.Pair seed) h = h.0
-run_few m rows (how.Pairs seed s) h = h.0
+run_few m rows (how.Single run) h = single_few m rows run h
+run_few m rows (how.Faults second f) h = faults_few m rows second f.now h
+
+-- and its numbers are in their ranges
+pub single_in_range : (m : List ℕ) (rows : Rows) (run : SingleRun) → IsSound (single_run m rows run) → IsInRange run
+single_in_range m rows single.Exec h = tt
+single_in_range m rows (single.Trace n) h = h.1
+single_in_range m rows (single.Pair seed) h = h.1
+
+pub seed_in_range : (m : List ℕ) (rows : Rows) (second : Option ℕ) (f : List ℕ) → IsSound (faults_run m rows second f) → IfSome second (λ seed. seed < seeds)
+seed_in_range m rows None f h = tt
+seed_in_range m rows (Some seed) f h = h.1
 
 -- the rows have a value for each of the graph's inputs
 pub rows-width : (r : ImageRows) → AreImageRows r → (list : List (List ℤ)) → All (λ row. length row ≡ length r.columns) list
@@ -172,3 +196,20 @@ module _ (m : List ℕ) (rows : Rows) where
       if_some_both files.held files.held _ (λ h. rows_outcome rows h r.columns ≡ source_outcome r.rows r.columns)
       (LoadsAt m rows r.image (source_outcome r.rows r.columns)) refl
       (λ h l is. (l, ap (rows_outcome rows h) (sym fit.columns) ∙ is)) read.file.loads read.rows_are
+
+-- ROWS were loaded, and aren't opened
+pub single_unopened : (m : List ℕ) (rows : Rows) (files later : FilesSeen) (r : ImageRows) → AreImageRows r → ImageRowsRead m rows files later r
+    → (at : Moment) (e : NoInput) → (e ≡ input.Unread → ⊥) → Opens (source_outcome r.rows r.columns) files.broken later.broken (Err e) → IsCaused e
+    → (run : SingleRun) → IfSome (second_of_single run) (λ seed. seed ≢ r.image.table.seed)
+    → Performs (about (single_run m rows run)) (TaskOf (single_run m rows run)) files later at at (input_text (rows_name rows) e) (input_status e)
+single_unopened m rows files later r fit read at e none opens caused single.Exec apart =
+    rows_unopened ImageOf NotImage (λ v. graph_columns v.graph) (about (exec m rows)) (image_word m) rows not_none (inr (inl refl)) (λ w among. inr among)
+    (λ n among. among) (Executed m rows) files later r.image r.columns r.rows fit.columns read at e none opens caused
+single_unopened m rows files later r fit read at e none opens caused (single.Trace n) apart =
+    rows_unopened ImageOf NotImage (λ v. graph_columns v.graph) (about (trace m rows n)) (image_word m) rows not_none (inr (inl refl)) (λ w among. inr among)
+    (λ n among. among) (Traced m rows n) files later r.image r.columns r.rows fit.columns read at e none opens caused
+single_unopened m rows files later r fit read at e none opens caused (single.Pair seed) apart =
+    performs_by (about (pair m rows seed)) _ (TaskOf (pair m rows seed)) (apart_comes m rows seed) files later _ _ _ _
+    (rows_unopened (ApartImage seed) NotImage (λ v. graph_columns v.graph) (about (pair m rows seed)) (image_word m) rows not_none (inr (inl refl))
+    (λ w among. inr among) (λ n among. among) (Comparing rows) files later r.image r.columns r.rows fit.columns
+    (rows_apart m seed rows files later r.image r.columns r.rows apart read) at e none opens caused)

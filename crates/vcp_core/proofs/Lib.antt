@@ -2,6 +2,7 @@ pub mod AuditKinds
 pub mod DemoRun
 pub mod EachTask
 pub mod Facts
+pub mod FaultRuns
 pub mod PairsTasks
 pub mod ImageLoaded
 pub mod ImageTold
@@ -25,6 +26,7 @@ pub mod PlainWorked
 pub mod PrintedRun
 pub mod ProgramsRead
 pub mod ScriptsTold
+pub mod SourceTold
 pub mod StaleShown
 pub mod Traced
 pub mod TwoChannels

@@ -24,16 +24,18 @@ use Rattle.vcp_inputs.specs.FileTasks.{TakenRows}
 use Rattle.vcp_inputs.specs.Listings.{NotListing}
 use Rattle.vcp_inputs.specs.Programs.{NotTyped, TypedOf}
 use Rattle.vcp_inputs.specs.Refusals.{IsCaused}
-use Rattle.vcp_inputs.specs.RowsOutcome.{HasLongFile, Opens, begins, rows_outcome}
+use Rattle.vcp_inputs.specs.RowsOutcome.{HasLongFile, Opens, begins, rows_outcome, source_outcome}
 use Rattle.vcp_inputs.specs.Abouts.{about, listing_word, source_word}
 use Rattle.vcp_inputs.specs.Answer.{source}
 use Rattle.vcp_inputs.specs.Kinds.{Task, answers, runs}
 use Rattle.vcp_inputs.specs.ListRuns.{HasListColumns}
 use Rattle.vcp_inputs.specs.Performing.{Performs}
-use Rattle.vcp_core.specs.ProgramsRead.{Language, NotTypedIn, ProgramRead, ReadsProgramRows, answering, language_of, listing, most_in, running}
+use Rattle.vcp_core.specs.declared.program_rows.ProgramRows.{ProgramRows}
+use Rattle.vcp_core.specs.ProgramsRead.{AreProgramRows, IsCoded, Language, NotTypedIn, ProgramRead, ProgramRowsRead, ReadsProgramRows, answering, language_of, listing, most_in, running}
 use Rattle.vcp_core.specs.Tasks.{TaskOf, plain_answer, rows_job}
 use Rattle.vcp_core.proofs.ListedRuns.{RunsHeld, il_by}
-use Rattle.vcp_core.proofs.LoadedRows.{rows_unloaded}
+use Rattle.vcp_core.proofs.Facts.{not_none}
+use Rattle.vcp_core.proofs.LoadedRows.{rows_unloaded, rows_unopened}
 use Rattle.vcp_core.proofs.Performing.{quiet_lost}
 use Rattle.vcp_core.proofs.TwoChannels.{performs_by}
 
@@ -54,6 +56,12 @@ pub run_few : (p : List ℕ) (rows : Rows) (run : ProgramRun) → IsSound (progr
 run_few p rows how.Plain h = h
 run_few p rows (how.Run code) h = h.0
 run_few p rows (how.Il code) h = h.0
+
+-- and its code is in its ranges
+pub run_coded : (p : List ℕ) (rows : Rows) (run : ProgramRun) → IsSound (program_run p rows run) → IsCoded run
+run_coded p rows how.Plain h = tt
+run_coded p rows (how.Run code) h = h.1
+run_coded p rows (how.Il code) h = h.1
 
 -- what is said of its program's rows
 abbrev pub RunsOnRows : Rows → Code → Held → Program → RowsLeft → Task → Type 0
@@ -103,3 +111,20 @@ module _ (law : HasListColumns) (p : List ℕ) (rows : Rows) (files mid later : 
       (rows_unloaded IsTypedIl NotListing (λ v. input_columns v.slots) (about (il p rows code)) (listing_word p) rows (λ none. cc) (inr (inl refl))
       (λ w among. inr among) (λ n among. among) (λ h v. RunsHeld p rows code h) files mid t columns columns_are read later held_later here e opens begun
       rose stayed rest long caused)
+
+-- ROWS were loaded, and aren't opened
+pub program_unopened : HasListColumns → (p : List ℕ) (rows : Rows) (files later : FilesSeen) (r : ProgramRows) → AreProgramRows r → (at : Moment) (e : NoInput)
+    → (e ≡ input.Unread → ⊥) → Opens (source_outcome r.rows r.columns) files.broken later.broken (Err e) → IsCaused e
+    → (run : ProgramRun) → ProgramRowsRead (language_of run) p rows files later r
+    → Performs (about (program_run p rows run)) (TaskOf (program_run p rows run)) files later at at (input_text (rows_name rows) e) (input_status e)
+program_unopened law p rows files later r fit at e none opens caused how.Plain read =
+    rows_unopened TypedOf NotTyped (λ v. input_columns v.slots) (about (plain p rows)) (source_word p) rows not_none (inr (inl refl))
+    (λ w among. inr among) (λ n among. among) (AnswersOnRows rows) files later r.program r.columns r.rows fit.columns read at e none opens caused
+program_unopened law p rows files later r fit at e none opens caused (how.Run code) read =
+    rows_unopened TypedOf NotTyped (λ v. input_columns v.slots) (about (run p rows (as_code code))) (source_word p) rows not_none (inr (inl refl))
+    (λ w among. inr among) (λ n among. among) (RunsOnRows rows (as_code code)) files later r.program r.columns r.rows fit.columns read at e none opens caused
+program_unopened law p rows files later r fit at e none opens caused (how.Il code) read =
+    performs_by (about (il p rows (as_code code))) _ (TaskOf (il p rows (as_code code))) (il_by law p rows (as_code code)) files later _ _ _ _
+    (rows_unopened IsTypedIl NotListing (λ v. input_columns v.slots) (about (il p rows (as_code code))) (listing_word p) rows not_none (inr (inl refl))
+    (λ w among. inr among) (λ n among. among) (λ h v. RunsHeld p rows (as_code code) h) files later r.program r.columns r.rows fit.columns read at e none opens
+    caused)

@@ -1,12 +1,14 @@
 -- ImagesRead: the commands that read an image and then ROWS, and what stands when both were read.
-use Rattle.std.specs.Prelude.{ℕ, ◌≡◌, ◌≤◌, List, length, Option, Some, None}
-use Rattle.vcp_base.specs.Limits.{most_image_bytes, most_names}
+use Rattle.std.specs.Prelude.{ℕ, ◌≡◌, ◌<◌, ◌≤◌, List, length, Option, Some, None}
+use Rattle.vcp_base.specs.Limits.{most_cycles, most_image_bytes, most_names, seeds}
 use Rattle.vcp_outside.specs.Seen.{FilesSeen}
 use Rattle.signature_table.specs.Signatures.{table_of}
 use Rattle.coded_machine.specs.Moments.{Moment}
 use Rattle.vcp_inputs.specs.Forms.{Form, Rows, exec, trace, inject, pair, pairs}
 use Rattle.vcp_inputs.specs.declared.words.command.ImageRun.{ImageRun}
 use Rattle.vcp_inputs.specs.declared.words.command.ImageRun.TheVariants as how
+use Rattle.vcp_inputs.specs.declared.words.command.SingleRun.{SingleRun}
+use Rattle.vcp_inputs.specs.declared.words.command.SingleRun.TheVariants as single
 use Rattle.vcp_inputs.specs.Images.{ImageOf, NotImage}
 use Rattle.input_rows.specs.Opening.{HasFewCycles}
 use Rattle.vcp_inputs.specs.RowsRead.{graph_columns}
@@ -25,12 +27,20 @@ pub data ReadsImageRows (m : List ℕ) (rows : Rows) : Option ℕ → Form → T
   pairing : (seed : ℕ) (f : List ℕ) → ReadsImageRows m rows (Some seed) (pairs m rows seed f)
 
 -- the seed of the second channel of a run, where it has one
+abbrev pub second_of_single : SingleRun → Option ℕ
+second_of_single single.Exec = None
+second_of_single (single.Trace n) = None
+second_of_single (single.Pair seed) = Some seed
+
 abbrev pub second_of : ImageRun → Option ℕ
-second_of how.Exec = None
-second_of (how.Trace n) = None
-second_of (how.Inject f) = None
-second_of (how.Pair seed) = Some seed
-second_of (how.Pairs seed f) = Some seed
+second_of (how.Single run) = second_of_single run
+second_of (how.Faults second f) = second
+
+-- the cycle of a run, or the seed of its second channel, is in its range
+abbrev pub IsInRange : SingleRun → Type 0
+IsInRange single.Exec = Unit {0}
+IsInRange (single.Trace n) = n < most_cycles
+IsInRange (single.Pair seed) = seed < seeds
 
 -- the columns are those of the graph's inputs, the table is the graph's, and there are few cycles
 pub record AreImageRows (r : ImageRows) : Type 0 where

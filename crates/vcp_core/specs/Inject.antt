@@ -1,5 +1,5 @@
--- Inject: all rows of runs under faults, as they are read before the script.
-use Rattle.std.specs.Prelude.{ℤ, ◌≡◌, ◌≤◌, ◌<◌, ◌*◌, List, length, None}
+-- Inject: all rows of runs under faults, as they are read before the script. On one channel they are few; on two the seed of the second is said.
+use Rattle.std.specs.Prelude.{ℕ, ℤ, ◌≡◌, ◌≤◌, ◌<◌, ◌*◌, List, length, Option, Some, None}
 use Rattle.input_rows.specs.RowsOf.{RowsLeft}
 use Rattle.op_graph.specs.Lists.{Lists}
 use Rattle.vcp_inputs.specs.declared.refusal.NoInput.{NoInput}
@@ -7,7 +7,7 @@ use Rattle.vcp_inputs.specs.declared.refusal.NoInput.TheVariants as input
 use Rattle.vcp_inputs.specs.declared.refusal.Refusal.{Refusal}
 use Rattle.vcp_inputs.specs.declared.refusal.Refusal.TheVariants as refusal
 use Rattle.vcp_inputs.specs.RowsOutcome.{RowsOutcome, opened}
-use Rattle.vcp_inputs.specs.RowsRead.{AllRead, RowsBroken}
+use Rattle.vcp_inputs.specs.RowsRead.{AllRead, NoneRead, RowsBroken}
 use Rattle.vcp_core.specs.Tasks.{most_trace}
 
 -- these are all rows, and few enough
@@ -26,3 +26,12 @@ abbrev pub NoRows : RowsOutcome → Lists → NoInput → Type 0
 NoRows o g (input.Refused r) = RowsRefused o g r
 NoRows o g input.Memory = Unit {0}
 NoRows o g input.Unread = ⊥
+
+-- all rows, by the seed of a second channel, and why there are none
+abbrev pub RowsFor : Option ℕ → RowsOutcome → Lists → List (List ℤ) → Type 0
+RowsFor None o g rows = AllRows o g rows
+RowsFor (Some seed) o g rows = AllRead o rows
+
+abbrev pub NoRowsFor : Option ℕ → RowsOutcome → Lists → NoInput → Type 0
+NoRowsFor None o g e = NoRows o g e
+NoRowsFor (Some seed) o g e = NoneRead o e

@@ -6,7 +6,7 @@ use Rattle.vcp_typed.specs.Fitting.{input_columns}
 use Rattle.vcp_typed.specs.SourceRun.{Program}
 use Rattle.il_front.specs.Answers.{most_il_bytes}
 use Rattle.il_front.specs.Outcomes.{IsTypedIl}
-use Rattle.vcp_inputs.specs.Forms.{Code, Form, Rows, il, plain, run}
+use Rattle.vcp_inputs.specs.Forms.{Code, Form, IsCode, Rows, as_code, il, plain, run}
 use Rattle.vcp_inputs.specs.declared.refusal.Refusal.{Refusal}
 use Rattle.vcp_inputs.specs.declared.words.command.ProgramRun.{ProgramRun}
 use Rattle.vcp_inputs.specs.declared.words.command.ProgramRun.TheVariants as how
@@ -41,10 +41,11 @@ language_of how.Plain = structured_text
 language_of (how.Run code) = structured_text
 language_of (how.Il code) = instruction_list
 
--- the command that runs P
-abbrev pub run_of : Language → List ℕ → Rows → Code → Form
-run_of structured_text p rows code = run p rows code
-run_of instruction_list p rows code = il p rows code
+-- the code of a run is in its ranges, where it has one
+abbrev pub IsCoded : ProgramRun → Type 0
+IsCoded how.Plain = Unit {0}
+IsCoded (how.Run code) = IsCode (as_code code)
+IsCoded (how.Il code) = IsCode (as_code code)
 
 -- the commands that read P and then ROWS
 pub data ReadsProgramRows (p : List ℕ) (rows : Rows) : Language → Form → Type 0 where

@@ -10,17 +10,14 @@ ghost use Rattle.vcp_core.specs.Tasks.{TaskOf};
 ghost use Rattle.vcp_core.specs.Reach.{told_line, told_status};
 
 use crate::ending::Ending;
-use crate::exec::run_image;
 use crate::fault::Fault;
 use crate::image_rows::load_image_rows;
-use crate::inject::inject_image;
-use crate::pair::pair_image;
-use crate::pairs::pairs_image;
-use crate::trace::trace_image;
+use crate::inject::judge_image;
+use crate::single_run::run_image;
 use coded_unit::Unit;
 use std::alloc::Global;
 use vcp_base::Text;
-use vcp_inputs::{ImageRun, RowsWord};
+use vcp_inputs::{ImageRun, RowsWord, SingleRun};
 use vcp_outside::{Files, Sink};
 
 /// The seed of the second channel, where a run has one.
@@ -28,8 +25,10 @@ fn second_of(run: ImageRun<'_>) -> Option<u32>
     ensures { result ≡ second_of_run run.entry }
 {
     match run {
-        ImageRun::Exec | ImageRun::Trace { .. } | ImageRun::Inject { .. } => None,
-        ImageRun::Pair { seed } | ImageRun::Pairs { seed, .. } => Some(seed),
+        ImageRun::Single(SingleRun::Exec) => None,
+        ImageRun::Single(SingleRun::Trace { .. }) => None,
+        ImageRun::Single(SingleRun::Pair { seed }) => Some(seed),
+        ImageRun::Faults { second, .. } => second,
     }
 }
 
@@ -54,12 +53,9 @@ pub fn image_run_command<'a, F: Files, U: Unit, O: Sink>(
         Err(fault) => return Err(fault),
     };
     match run {
-        ImageRun::Exec => run_image(alloc, &loaded, rows, unit, out),
-        ImageRun::Trace { cycle } => trace_image(alloc, &loaded, rows, cycle, unit, out),
-        ImageRun::Inject { script } => inject_image(alloc, &loaded, rows, script, files, unit, out),
-        ImageRun::Pair { seed } => pair_image(alloc, &loaded, rows, seed, unit, out),
-        ImageRun::Pairs { seed, script } => {
-            pairs_image(alloc, &loaded, rows, seed, script, files, unit, out)
-        }
+        ImageRun::Single(single) => run_image(alloc, &loaded, rows, single, unit, out),
+        ImageRun::Faults { second, script } => judge_image(
+            alloc, &loaded, rows, second, script, files, unit, out,
+        ),
     }
 }

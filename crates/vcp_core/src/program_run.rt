@@ -9,7 +9,6 @@ ghost use Rattle.vcp_core.specs.Reach.{told_line, told_status};
 
 use crate::ending::Ending;
 use crate::fault::Fault;
-use crate::plain::plain_rows;
 use crate::program_rows::{load_program, load_program_rows};
 use crate::run::run_rows;
 use coded_unit::Unit;
@@ -42,9 +41,5 @@ pub fn program_run_command<'a, F: Files, U: Unit, O: Sink>(
         Ok(loaded) => loaded,
         Err(fault) => return Err(fault),
     };
-    match run {
-        ProgramRun::Plain => plain_rows(alloc, &loaded, rows, out),
-        ProgramRun::Run(code) => run_rows(alloc, &loaded, rows, code, unit, out),
-        ProgramRun::Il(code) => run_rows(alloc, &loaded, rows, code, unit, out),
-    }
+    run_rows(alloc, &loaded, rows, run, unit, out)
 }

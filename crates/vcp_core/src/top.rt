@@ -12,8 +12,6 @@ ghost use Rattle.vcp_core.specs.Performed.{Performed};
 ghost use Rattle.vcp_core.specs.Tasks.{TaskOf};
 ghost use Rattle.vcp_core.specs.Reach.{told_line, told_status};
 
-use crate::check::check_command;
-use crate::compile::compile_command;
 use crate::demo::demo_command;
 use crate::ending::{Ending, status_of};
 use crate::fault::Fault;
@@ -21,6 +19,7 @@ use crate::format::format_command;
 use crate::image::image_command;
 use crate::image_run::image_run_command;
 use crate::program_run::program_run_command;
+use crate::source::source_command;
 use crate::telling::{fault_status, tell};
 use crate::wire::wire_command;
 use coded_unit::Unit;
@@ -137,9 +136,8 @@ fn perform<'a, F: Files, U: Unit, O: Sink>(
         (told_line result) (told_status result) }
 {
     match command {
-        Command::Check { source } => check_command(alloc, source, files, out),
+        Command::Source { source, text } => source_command(alloc, source, *text, files, out),
         Command::Format { source } => format_command(alloc, source, files, out),
-        Command::Compile { source, code } => compile_command(alloc, source, *code, files, out),
         Command::ProgramRows { source, rows, run } => program_run_command(
             alloc, source, *rows, *run, files, unit, out,
         ),

@@ -1,7 +1,7 @@
 -- RowsLoaded: what the file of ROWS comes to, with columns and without.
 use Rattle.std.proofs.Common.{ℕ, ◌≡◌, ◌≢◌, ◌∙◌, refl, sym, ap, Bool, true, false, cond, nat_lt, List, [], ◌∷◌, length}
 use Rattle.std.proofs.Common.{Option, Some, None, Result, Ok, Err, arith}
-use Rattle.std.specs.Prelude.{IfSome, OnOk}
+use Rattle.std.specs.Prelude.{IfSome}
 use Rattle.std.proofs.lemmas.Bool.{true≢false}
 use Rattle.std.proofs.lemmas.Bool.Decides.{nat_tests}
 use Rattle.vcp_base.specs.Limits.{most_rows_bytes}
@@ -23,11 +23,6 @@ use Rattle.vcp_inputs.specs.declared.refusal.NoInput.TheVariants as input
 pub always : {X : Type 0} (o : Option X) (P : X → Type 0) → ((x : X) → P x) → IfSome o P
 always None P h = tt
 always (Some x) P h = h x
-
--- what is so where a call answers is so there whatever was before
-pub end_stays : {V E : Type 0} (r : Result V E) (P Q : Type 0) → OnOk r Q → OnOk r (P → Q)
-end_stays (Ok v) P Q h = λ before. h
-end_stays (Err e) P Q h = tt
 
 -- without columns the file isn't begun
 pub without_columns : (name : List ℕ) (columns : List Column) → length columns ≡ 0 → begins (file name) columns ≡ false

@@ -11,6 +11,10 @@ use Rattle.vcp_inputs.specs.declared.words.command.ImageText.{ImageText}
 use Rattle.vcp_inputs.specs.declared.words.command.ImageText.TheVariants as text
 use Rattle.vcp_inputs.specs.declared.words.command.ProgramRun.{ProgramRun}
 use Rattle.vcp_inputs.specs.declared.words.command.ProgramRun.TheVariants as program
+use Rattle.vcp_inputs.specs.declared.words.command.SourceText.{SourceText}
+use Rattle.vcp_inputs.specs.declared.words.command.SourceText.TheVariants as of_source
+use Rattle.vcp_inputs.specs.declared.words.command.SingleRun.{SingleRun}
+use Rattle.vcp_inputs.specs.declared.words.command.SingleRun.TheVariants as single
 use Rattle.vcp_inputs.specs.declared.words.command.RowsWord.{RowsWord}
 use Rattle.vcp_inputs.specs.declared.words.command.RowsWord.TheVariants as word
 use Rattle.vcp_base.specs.Numerals.{numeral_of}
@@ -195,7 +199,12 @@ rows_of (word.Cycles n) = cycles n
 abbrev pub as_code : CodeWords → Code
 as_code c = record { seed = c.seed; step = c.step }
 
--- the run of P on ROWS, what is printed of M, and the run of M on ROWS, each as a form
+-- what is written of P, the run of P on ROWS, what is printed of M, and the run of M on ROWS, alone or under the faults of a script, on two channels where the second has a seed:
+-- each as a form
+abbrev pub source_text : List ℕ → SourceText → Form
+source_text p of_source.Size = check p
+source_text p (of_source.Image code) = compile p (as_code code)
+
 abbrev pub program_run : List ℕ → Rows → ProgramRun → Form
 program_run p rows program.Plain = plain p rows
 program_run p rows (program.Run code) = run p rows (as_code code)
@@ -206,18 +215,23 @@ image_text m text.List = list m
 image_text m text.Widen = widen m
 image_text m (text.Audit horizon) = audit m horizon
 
+abbrev pub single_run : List ℕ → Rows → SingleRun → Form
+single_run m rows single.Exec = exec m rows
+single_run m rows (single.Trace cycle) = trace m rows cycle
+single_run m rows (single.Pair seed) = pair m rows seed
+
+abbrev pub faults_run : List ℕ → Rows → Option ℕ → List ℕ → Form
+faults_run m rows None f = inject m rows f
+faults_run m rows (Some seed) f = pairs m rows seed f
+
 abbrev pub image_run : List ℕ → Rows → ImageRun → Form
-image_run m rows image.Exec = exec m rows
-image_run m rows (image.Trace cycle) = trace m rows cycle
-image_run m rows (image.Inject script) = inject m rows script.now
-image_run m rows (image.Pair seed) = pair m rows seed
-image_run m rows (image.Pairs seed script) = pairs m rows seed script.now
+image_run m rows (image.Single how) = single_run m rows how
+image_run m rows (image.Faults second script) = faults_run m rows second script.now
 
 -- a command, as a form
 abbrev pub form : Command → Form
-form (command.Check source) = check source.now
 form (command.Format source) = format source.now
-form (command.Compile source code) = compile source.now (as_code code)
+form (command.Source source which) = source_text source.now which
 form (command.ProgramRows source rows how) = program_run source.now (rows_of rows) how
 form (command.Image source which) = image_text source.now which
 form (command.ImageRows source rows how) = image_run source.now (rows_of rows) how

@@ -1,11 +1,11 @@
 //! Images: the graph that a file says, and its table.
 
-ghost use Rattle.std.specs.Prelude.{◌≡◌, ◌≢◌, ◌≤◌, IfErr, IfOk, IfSome, OnOk, Err, length};
+ghost use Rattle.std.specs.Prelude.{◌≡◌, ◌≢◌, ◌≤◌, IfErr, IfOk, IfSome, OnOk, Err};
 ghost use Rattle.std.specs.Io.KnownBytes.{IsAtEnd};
 ghost use Rattle.vcp_base.specs.Limits.{most_image_bytes};
 ghost use Rattle.vcp_outside.specs.Counts.{Rose};
 ghost use Rattle.signature_table.specs.Signatures.{table_of};
-ghost use Rattle.vcp_inputs.specs.Files.{Untaken, LeavesLong, Loads};
+ghost use Rattle.vcp_inputs.specs.Files.{LeavesLong, Loads};
 ghost use Rattle.vcp_inputs.specs.Images.{ImageOf, NotImage};
 ghost use Rattle.vcp_inputs.specs.Refusals.{IsCaused};
 ghost use Rattle.vcp_inputs.specs.declared.refusal.NoInput.TheVariants as input;
@@ -30,19 +30,6 @@ pub struct Image {
     pub table: Table,
 }
 
-/// The image that a text is.
-fn image_of(alloc: Global, text: &[u8]) -> Result<Image, NoInput>
-    requires short { length text.now ≤ most_image_bytes }
-    ensures ok { IfOk result (ImageOf text.now) }
-    ensures err { IfErr result (Untaken (NotImage text.now)) }
-    ensures caused { IfErr result IsCaused }
-{
-    match read_image(alloc, text) {
-        Ok((graph, table)) => Ok(Image { graph, table }),
-        Err(fault) => Err(NoInput::from(fault)),
-    }
-}
-
 /// The image under a name: the file is read whole, and has at most 16,777,216 bytes. It is that of a graph
 /// with a seed and a step, and what is loaded is that graph and its table; or it is refused: its length, then
 /// its first fault, field by field, with its offset.
@@ -65,7 +52,10 @@ pub fn load_image<F: Files>(alloc: Global, files: &mut F, name: &Text) -> Result
     ensures broken_later { (F.seen files.old).broken ≤ (F.seen files.new).broken }
 {
     match read_file(alloc, files, name, MOST_IMAGE_BYTES) {
-        Ok(text) => image_of(alloc, text.bytes()),
+        Ok(text) => match read_image(alloc, text.bytes()) {
+            Ok((graph, table)) => Ok(Image { graph, table }),
+            Err(fault) => Err(NoInput::from(fault)),
+        },
         Err(input) => Err(input),
     }
 }

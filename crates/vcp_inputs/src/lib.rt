@@ -33,5 +33,5 @@ pub use whole::{graph_columns, whole_rows};
 pub use wires::load_wire;
 pub use words::{
     Code, Command, CommandWords, DEFAULT_CODE, ImageRun, ImageText, ProgramRun, RowsWord,
-    command_of, usage,
+    SingleRun, SourceText, command_of, usage,
 };

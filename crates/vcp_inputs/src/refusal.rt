@@ -2,7 +2,6 @@
 
 ghost use Rattle.std.specs.Prelude.{◌≡◌};
 ghost use Rattle.vcp_inputs.specs.Refusals.{unread, unlexed, unparsed, untyped, unlisted, no_rows, unimaged, unscripted, unwired};
-ghost use Rattle.vcp_inputs.specs.declared.refusal.NoInput.TheVariants as input;
 
 use fault_script::ScriptFault;
 use il_front::IlFault;
@@ -12,7 +11,6 @@ use st_lexer::LexFault;
 use st_parser::SyntaxFault;
 use st_types::TypeFault;
 use telegram::WireFault;
-use vcp_base::Memory;
 use vcp_outside::ReadAll;
 
 /// Why a file is refused. Where its bytes are looked at, the fault is one of the layer that looks, and
@@ -54,14 +52,6 @@ pub enum NoInput {
     Refused(Refusal),
     /// An allocation failed.
     Memory,
-}
-
-impl From<Memory> for NoInput {
-    ghost from_gives = { λ _ e. e ≡ input.Memory };
-
-    fn from(_: Memory) -> NoInput {
-        NoInput::Memory
-    }
 }
 
 impl From<ReadAll> for NoInput {

@@ -7,7 +7,7 @@ ghost use Rattle.vcp_base.specs.Types.{AreIn};
 ghost use Rattle.vcp_outside.specs.Counts.{Rose};
 ghost use Rattle.vcp_outside.specs.Held.{Held};
 ghost use Rattle.input_rows.specs.RowsOf.{IsOfRecord, types_of};
-ghost use Rattle.vcp_inputs.specs.Forms.{rows_of, file, AreFew};
+ghost use Rattle.vcp_inputs.specs.Forms.{rows_of, AreFew};
 ghost use Rattle.input_rows.specs.Opening.{HasFewCycles};
 ghost use Rattle.vcp_inputs.specs.Tables.{rows_name as rows_name_of};
 ghost use Rattle.vcp_inputs.specs.RowsOutcome.{rows_outcome, LoadsRows, begins, HasLongFile};
@@ -21,43 +21,8 @@ use crate::reading::read_file;
 use crate::refusal::{NoInput, Refusal};
 use input_rows::{RowFault, RowsSource};
 use std::alloc::Global;
-use vcp_base::{Columns, MOST_ROWS_BYTES, Text};
+use vcp_base::{Columns, MOST_ROWS_BYTES};
 use vcp_outside::Files;
-
-/// The bytes of the rows file under a name, which isn't begun where there are no columns.
-fn load_file<F: Files>(
-    alloc: Global,
-    files: &mut F,
-    name: &Text,
-    columns: &Columns,
-) -> Result<RowsSource, NoInput>
-    ensures loads { IfSome (F.seen files.old).held
-        (λ h. LoadsRows (rows_outcome (file name.now) h columns.now) columns.now (F.seen files.old).broken (F.seen files.new).broken result) }
-    ensures without_file { begins (file name.now) columns.now ≡ false →
-        (h : Held) → LoadsRows (rows_outcome (file name.now) h columns.now) columns.now (F.seen files.old).broken (F.seen files.new).broken result }
-    ensures few { IfOk result HasFewCycles }
-    ensures unread { result ≡ Err input.Unread → Rose (F.seen files.old).faults (F.seen files.new).faults }
-    ensures caused { IfErr result IsCaused }
-    ensures begun { result ≡ Err input.Unread → begins (file name.now) columns.now ≡ true }
-    ensures refused { (r : RefusalOf) → result ≡ Err (input.Refused r) → begins (file name.now) columns.now ≡ true → r ≡ refusal.Bytes }
-    ensures long { result ≡ Err (input.Refused refusal.Bytes) → IfSome (F.seen files.old).held (HasLongFile (file name.now) (F.seen files.new).rest) }
-    ensures unbegun { begins (file name.now) columns.now ≡ false →
-        ((F.seen files.new).rest ≡ (F.seen files.old).rest) × ((F.seen files.new).faults ≡ (F.seen files.old).faults) × ((F.seen files.new).broken ≡ (F.seen files.old).broken) }
-    ensures ended { OnOk result (IsAtEnd (F.seen files.new).rest) }
-    ensures whole { (r : RefusalOf) → result ≡ Err (input.Refused r) → r ≢ refusal.Bytes → (F.seen files.new).rest ≡ (F.seen files.old).rest }
-    ensures stayed { result ≢ Err input.Unread → (F.seen files.new).faults ≡ (F.seen files.old).faults }
-    ensures held { (F.seen files.new).held ≡ (F.seen files.old).held }
-    ensures later { (F.seen files.old).faults ≤ (F.seen files.new).faults }
-    ensures broken_later { (F.seen files.old).broken ≤ (F.seen files.new).broken }
-{
-    if columns.len() == 0 {
-        return Err(NoInput::Refused(Refusal::Rows(RowFault::Form)));
-    }
-    match read_file(alloc, files, name, MOST_ROWS_BYTES) {
-        Ok(text) => Ok(RowsSource::File(text)),
-        Err(why) => Err(why),
-    }
-}
 
 /// Takes ROWS through their refusals up to their header. `Form` comes for a file where there are no columns,
 /// and nothing is begun then; next `Unread`, and then `Bytes`. `Unread` comes only where a file is begun and
@@ -94,7 +59,15 @@ pub fn load_rows<F: Files>(
     ensures broken_later { (F.seen files.old).broken ≤ (F.seen files.new).broken }
 {
     match rows {
-        RowsWord::File(name) => load_file(alloc, files, name, columns),
+        RowsWord::File(name) => {
+            if columns.len() == 0 {
+                return Err(NoInput::Refused(Refusal::Rows(RowFault::Form)));
+            }
+            match read_file(alloc, files, name, MOST_ROWS_BYTES) {
+                Ok(text) => Ok(RowsSource::File(text)),
+                Err(why) => Err(why),
+            }
+        }
         RowsWord::Cycles(number) => Ok(RowsSource::Cycles(number)),
     }
 }

@@ -6,7 +6,7 @@ ghost use Rattle.vcp_base.specs.Limits.{most_source_bytes};
 ghost use Rattle.vcp_outside.specs.Counts.{Rose};
 ghost use Rattle.fault_script.specs.Groups.{GroupFits};
 ghost use Rattle.fault_script.specs.ScriptOf.{most_faults};
-ghost use Rattle.vcp_inputs.specs.Files.{Untaken, LeavesLong, Loads};
+ghost use Rattle.vcp_inputs.specs.Files.{LeavesLong, Loads};
 ghost use Rattle.vcp_inputs.specs.Scripts.{ScriptOf, NotScript};
 ghost use Rattle.vcp_inputs.specs.Refusals.{IsCaused};
 ghost use Rattle.vcp_inputs.specs.declared.refusal.NoInput.TheVariants as input;
@@ -20,21 +20,6 @@ use op_graph::Graph;
 use std::alloc::Global;
 use vcp_base::{MOST_SOURCE_BYTES, Text};
 use vcp_outside::Files;
-
-/// The script that a text is for a graph.
-fn script_of(alloc: Global, text: &[u8], graph: &Graph) -> Result<Script, NoInput>
-    requires short { length text.now ≤ most_source_bytes }
-    ensures ok { IfOk result (ScriptOf graph.now text.now) }
-    ensures err { IfErr result (Untaken (NotScript graph.now text.now)) }
-    ensures caused { IfErr result IsCaused }
-    ensures fits { IfOk result (λ s. All (GroupFits graph.now) s) }
-    ensures few { IfOk result (λ s. length s ≤ most_faults) }
-{
-    match read_script(alloc, text, graph) {
-        Ok(script) => Ok(script),
-        Err(fault) => Err(NoInput::from(fault)),
-    }
-}
 
 /// The script under a name, for a graph: the file is read whole, and has at most 1,048,576 bytes. What is
 /// loaded are its groups, which fit that graph and have at most 10,000 faults; or it is refused: its length,
@@ -65,7 +50,10 @@ pub fn load_script<F: Files>(
     ensures broken_later { (F.seen files.old).broken ≤ (F.seen files.new).broken }
 {
     match read_file(alloc, files, name, MOST_SOURCE_BYTES) {
-        Ok(text) => script_of(alloc, text.bytes(), graph),
+        Ok(text) => match read_script(alloc, text.bytes(), graph) {
+            Ok(script) => Ok(script),
+            Err(fault) => Err(NoInput::from(fault)),
+        },
         Err(input) => Err(input),
     }
 }

@@ -1,11 +1,11 @@
 //! Scripts of a wire.
 
-ghost use Rattle.std.specs.Prelude.{◌≡◌, ◌≢◌, ◌≤◌, IfErr, IfOk, IfSome, OnOk, Err, length};
+ghost use Rattle.std.specs.Prelude.{◌≡◌, ◌≢◌, ◌≤◌, IfErr, IfOk, IfSome, OnOk, Err};
 ghost use Rattle.std.specs.Io.KnownBytes.{IsAtEnd};
 ghost use Rattle.vcp_base.specs.Limits.{most_source_bytes};
 ghost use Rattle.vcp_outside.specs.Counts.{Rose};
 ghost use Rattle.telegram.specs.ScriptOf.{ScriptFits};
-ghost use Rattle.vcp_inputs.specs.Files.{Untaken, LeavesLong, Loads};
+ghost use Rattle.vcp_inputs.specs.Files.{LeavesLong, Loads};
 ghost use Rattle.vcp_inputs.specs.Wires.{WireOf, NotWire};
 ghost use Rattle.vcp_inputs.specs.Refusals.{IsCaused};
 ghost use Rattle.vcp_inputs.specs.declared.refusal.NoInput.TheVariants as input;
@@ -18,20 +18,6 @@ use std::alloc::Global;
 use telegram::{WireScript, read_wire};
 use vcp_base::{MOST_SOURCE_BYTES, Text};
 use vcp_outside::Files;
-
-/// The script of a wire that a text is.
-fn wire_of(alloc: Global, text: &[u8]) -> Result<WireScript, NoInput>
-    requires short { length text.now ≤ most_source_bytes }
-    ensures ok { IfOk result (WireOf text.now) }
-    ensures err { IfErr result (Untaken (NotWire text.now)) }
-    ensures caused { IfErr result IsCaused }
-    ensures fits { IfOk result ScriptFits }
-{
-    match read_wire(alloc, text) {
-        Ok(script) => Ok(script),
-        Err(fault) => Err(NoInput::from(fault)),
-    }
-}
 
 /// The script of a wire under a name: the file is read whole, and has at most 1,048,576 bytes. Its numbers
 /// are in their ranges, and it hands what was sent; or it is refused: its length, then its first refused line
@@ -56,7 +42,10 @@ pub fn load_wire<F: Files>(alloc: Global, files: &mut F, name: &Text) -> Result<
     ensures broken_later { (F.seen files.old).broken ≤ (F.seen files.new).broken }
 {
     match read_file(alloc, files, name, MOST_SOURCE_BYTES) {
-        Ok(text) => wire_of(alloc, text.bytes()),
+        Ok(text) => match read_wire(alloc, text.bytes()) {
+            Ok(script) => Ok(script),
+            Err(fault) => Err(NoInput::from(fault)),
+        },
         Err(input) => Err(input),
     }
 }

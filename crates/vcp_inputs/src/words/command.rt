@@ -26,6 +26,15 @@ pub const DEFAULT_CODE: Code = Code {
     step: 1,
 };
 
+/// What is written of a program that is checked.
+#[derive(Clone, Copy)]
+pub enum SourceText {
+    /// `check P`: its Size.
+    Size,
+    /// `compile P CODE`: the image of its operations, with the numbers of the code.
+    Image(Code),
+}
+
 /// How a program is run on rows.
 #[derive(Clone, Copy)]
 pub enum ProgramRun {
@@ -51,9 +60,9 @@ pub enum ImageText {
     },
 }
 
-/// How an image is run on rows.
+/// How an image is run on rows alone.
 #[derive(Clone, Copy)]
-pub enum ImageRun<'a> {
+pub enum SingleRun {
     /// `exec M ROWS`: the run of its operations, on a unit.
     Exec,
     /// `trace M ROWS CYCLE`: the words of one cycle of that run.
@@ -61,20 +70,22 @@ pub enum ImageRun<'a> {
         /// The cycle, counted from 0, below 1,000,000.
         cycle: u32,
     },
-    /// `inject M ROWS F`: the verdict of each fault of a script.
-    Inject {
-        /// The name of the script of faults, F.
-        script: &'a Text,
-    },
     /// `pair M ROWS SEED`: the run of its operations on a pair of channels.
     Pair {
         /// The seed of the second channel's signatures, SEED, below 2^30.
         seed: u32,
     },
-    /// `pairs M ROWS SEED F`: what a pair of channels makes of each group of a script of faults.
-    Pairs {
-        /// The seed of the second channel's signatures, SEED, below 2^30.
-        seed: u32,
+}
+
+/// How an image is run on rows.
+#[derive(Clone, Copy)]
+pub enum ImageRun<'a> {
+    /// Once.
+    Single(SingleRun),
+    /// `inject M ROWS F`: the verdict of each fault of a script; or `pairs M ROWS SEED F`: what a pair of channels makes of each group of it.
+    Faults {
+        /// The seed of the second channel's signatures, SEED, below 2^30, where there is a pair.
+        second: Option<u32>,
         /// The name of the script of faults, F.
         script: &'a Text,
     },
@@ -83,22 +94,17 @@ pub enum ImageRun<'a> {
 /// A command, with its own words: those that read the same files are one variant. A name of a file isn't empty and doesn't begin with `-`.
 #[derive(Clone, Copy)]
 pub enum Command<'a> {
-    /// `check P`: whether the file is a program, and its Size.
-    Check {
-        /// The name of the program's source, P.
-        source: &'a Text,
-    },
     /// `format P`: the program's canonical text.
     Format {
         /// The name of the program's source, P.
         source: &'a Text,
     },
-    /// `compile P CODE`: the image of the program's operations, and of a code.
-    Compile {
+    /// What is written of a program that is checked.
+    Source {
         /// The name of the program's source, P.
         source: &'a Text,
-        /// The code, CODE.
-        code: Code,
+        /// What is written.
+        text: SourceText,
     },
     /// A program's run on rows.
     ProgramRows {

@@ -5,7 +5,9 @@ ghost use Rattle.std.specs.Option.{option_map};
 ghost use Rattle.vcp_inputs.specs.Forms.{end_then, form, form_of, image_run, rows_of, usage_text, IsSound, Rows};
 ghost use Rattle.vcp_inputs.specs.FormsByFiles.{form_behind_file, form_behind_rows, form_behind_seed, form_by_files, form_of_image, form_of_image_run};
 
-use crate::words::command::{Command, ImageRun, ImageText, ProgramRun, RowsWord};
+use crate::words::command::{
+    Command, ImageRun, ImageText, ProgramRun, RowsWord, SingleRun, SourceText,
+};
 use crate::words::words_left::CommandWords;
 use vcp_base::{MOST_CYCLES, MOST_HORIZON, SEEDS, Text, Words, same_bytes};
 
@@ -56,7 +58,8 @@ fn file_command<'a>(
     ensures { option_map form result ≡ form_behind_file command.now name.now words.old }
 {
     if same_bytes(command, b"check") {
-        return ended(Command::Check { source: name }, words);
+        let text = SourceText::Size;
+        return ended(Command::Source { source: name, text }, words);
     }
     if same_bytes(command, b"format") {
         return ended(Command::Format { source: name }, words);
@@ -65,7 +68,8 @@ fn file_command<'a>(
         let Some(code) = words.code() else {
             return None;
         };
-        return Some(Command::Compile { source: name, code });
+        let text = SourceText::Image(code);
+        return Some(Command::Source { source: name, text });
     }
     if same_bytes(command, b"wire") {
         return ended(Command::Wire { script: name }, words);
@@ -159,19 +163,20 @@ fn image_run_of<'a>(command: &[u8], words: &mut CommandWords<'a>) -> Option<Imag
     ensures { (m : List ℕ) (rows : Rows) → option_map (image_run m rows) result ≡ form_of_image_run command.now m rows words.old }
 {
     if same_bytes(command, b"exec") {
-        return run_ended(ImageRun::Exec, words);
+        return run_ended(ImageRun::Single(SingleRun::Exec), words);
     }
     if same_bytes(command, b"trace") {
         let Some(cycle) = words.number(0, MOST_CYCLES - 1) else {
             return None;
         };
-        return run_ended(ImageRun::Trace { cycle }, words);
+        return run_ended(ImageRun::Single(SingleRun::Trace { cycle }), words);
     }
     if same_bytes(command, b"inject") {
         let Some(script) = words.name() else {
             return None;
         };
-        return run_ended(ImageRun::Inject { script }, words);
+        let second = None;
+        return run_ended(ImageRun::Faults { second, script }, words);
     }
     let Some(seed) = words.number(0, SEEDS - 1) else {
         return None;
@@ -184,13 +189,14 @@ fn pair_run_of<'a>(command: &[u8], seed: u32, words: &mut CommandWords<'a>) -> O
     ensures { (m : List ℕ) (rows : Rows) → option_map (image_run m rows) result ≡ form_behind_seed command.now m rows seed words.old }
 {
     if same_bytes(command, b"pair") {
-        return run_ended(ImageRun::Pair { seed }, words);
+        return run_ended(ImageRun::Single(SingleRun::Pair { seed }), words);
     }
     if same_bytes(command, b"pairs") {
         let Some(script) = words.name() else {
             return None;
         };
-        return run_ended(ImageRun::Pairs { seed, script }, words);
+        let second = Some(seed);
+        return run_ended(ImageRun::Faults { second, script }, words);
     }
     None
 }

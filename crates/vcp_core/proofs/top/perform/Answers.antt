@@ -1,14 +1,10 @@
 use Rattle.vcp_core.proofs.top.perform.Goals as goal
 
-pub returns-in-Check : goal.returns-in-Check
-returns-in-Check g c = rw c.in-Check.is (c.check_command.ensures (g.U.Unit.seen c.args.unit.now))
+pub returns-in-Source : goal.returns-in-Source
+returns-in-Source g c = rw c.in-Source.is (c.source_command.ensures (g.U.Unit.seen c.args.unit.now))
 
 pub returns-in-Format : goal.returns-in-Format
 returns-in-Format g c = rw c.in-Format.is (c.format_command.ensures (g.U.Unit.seen c.args.unit.now))
-
-pub returns-in-Compile : goal.returns-in-Compile
-returns-in-Compile g c =
-    rw c.in-Compile.is (c.compile_command.ensures (g.U.Unit.seen c.args.unit.now))
 
 pub returns-in-ProgramRows : goal.returns-in-ProgramRows
 returns-in-ProgramRows g c = rw c.in-ProgramRows.is c.program_run_command.ensures

@@ -5,7 +5,7 @@ use Rattle.fault_campaign.specs.GroupLines.{group_text}
 use Rattle.vcp_core.proofs.ImageLoaded.{table-is-of}
 use Rattle.vcp_core.proofs.Facts.{none_before}
 use Rattle.vcp_core.proofs.JudgedTasks.{campaign_unwritten, no_lines_written}
-use Rattle.vcp_core.proofs.pairs.pair_groups.Goals as goal
+use Rattle.vcp_core.proofs.inject.pair_groups.Goals as goal
 
 pub run_pairs-requires-clause-table : goal.run_pairs-requires-clause-table
 run_pairs-requires-clause-table g c = table-is-of c.args.image.now.table c.args.image.now.graph c.requires.table

@@ -1,7 +1,7 @@
 use Rattle.std.proofs.Common.{append_assoc, rules, refl}
 use Rattle.vcp_core.proofs.Written.{writes_same}
 use Rattle.vcp_outside.specs.Pens.{ended}
-use Rattle.vcp_core.proofs.check.ok_line.Goals as goal
+use Rattle.vcp_core.proofs.source.ok_line.Goals as goal
 
 pub returns : goal.returns
 returns g c =
