@@ -19,6 +19,17 @@ failed_row text n row old new before now bytes e (Err f) failed is h =
     subst (λ b. Writes {T = Unit {0}} {E = Failed} old new before now b (Err e)) (is ∙ sym (append-nil (text n row))) h in
     record { whole = tt; part = k.part; cause = record { later = k.cause.later; capped = k.cause.capped; stayed = tt; failed = k.cause.failed } }
 
+-- what is written where they could
+pub released_row : (text : ℕ → List ℤ → List ℕ) (n : ℕ) (row : List ℤ) {old new : Option (List ℕ)} {before now : ℕ} {bytes : List ℕ}
+    {r : Result (Unit {0}) Failed} → r ≡ Ok tt → bytes ≡ text n row → Writes old new before now bytes r
+    → Writes {T = CycleEnd} {E = Failed} old new before now (texts_from text n (row ∷ [])) (Ok end.Released)
+released_row text n row {old = old} {new = new} {before = before} {now = now} {bytes = bytes} done is h =
+    let whole : Writes {T = Unit {0}} {E = Failed} old new before now bytes (Ok tt) =
+    subst (λ q. Writes {T = Unit {0}} {E = Failed} old new before now bytes q) done h in
+    let k : Writes {T = Unit {0}} {E = Failed} old new before now (texts_from text n (row ∷ [])) (Ok tt) =
+    subst (λ b. Writes {T = Unit {0}} {E = Failed} old new before now b (Ok tt)) (is ∙ sym (append-nil (text n row))) whole in
+    record { whole = k.whole; part = tt; cause = record { later = k.cause.later; capped = k.cause.capped; stayed = k.cause.stayed; failed = tt } }
+
 pub failed_released : (q : Result CycleEnd Failed) → IsErr q → cycle_end q ≡ end.Released
 failed_released (Ok e) failed = absurd cc
 failed_released (Err f) failed = refl

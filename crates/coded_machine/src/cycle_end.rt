@@ -2,18 +2,16 @@
 
 ghost use Rattle.std.specs.Prelude.{◌≡◌, ◌≢◌, ◌<◌, ◌≤◌, true, false, length};
 ghost use Rattle.vcp_base.specs.Limits.{most_operations, most_cycles};
-ghost use Rattle.vcp_base.specs.Types.{fits as fits_of};
-ghost use Rattle.coded_unit.specs.Words.{modulo, value_part};
-ghost use Rattle.coded_machine.specs.Calls.{word_at as word_at_of, AllWords};
+ghost use Rattle.coded_machine.specs.Calls.{AllWords};
 ghost use Rattle.coded_machine.specs.CycleEnds.{stop_of as stop_of_answer, first_stop as first_stop_of, first_outside as first_outside_of};
 ghost use Rattle.coded_machine.specs.CycleEnds.{first_refused as first_refused_of, end_of};
 ghost use Rattle.coded_machine.specs.declared.cycle_end.CycleEnd.TheVariants.{Released};
 ghost use Rattle.op_graph.specs.Rules.{IsGraph};
-ghost use Rattle.signature_table.specs.Signatures.{IsTableOf, expected as expected_of};
+ghost use Rattle.signature_table.specs.Signatures.{IsTableOf};
 
 use crate::calling::word_at;
 use coded_unit::Answer;
-use op_graph::{Graph, Outlet, entries_keep_their_rules};
+use op_graph::{Graph, entries_keep_their_rules};
 use signature_table::Table;
 use vcp_base::{Residue, StopKind, fits};
 
@@ -59,7 +57,7 @@ pub fn end_of_answers(
     requires cycle { cycle < most_cycles }
     ensures { result ≡ end_of graph.now table.now cycle answers.now }
 {
-    if let Some(end) = stop_in(answers, halted) {
+    if let Some(end) = first_stop(answers, halted) {
         return end;
     }
     if let Some(end) = first_outside(graph, answers) {
@@ -92,19 +90,14 @@ fn stop_of(answer: &Answer) -> Option<StopKind>
 }
 
 /// The first answer that is a stop, which is looked for only in a cycle that is halted.
-fn stop_in(answers: &[Answer], halted: bool) -> Option<CycleEnd>
+fn first_stop(answers: &[Answer], halted: bool) -> Option<CycleEnd>
     requires few { length answers.now ≤ most_operations }
     requires words { halted ≡ false → AllWords answers.now }
     ensures { result ≡ first_stop_of 0 answers.now }
 {
-    if halted { first_stop(answers) } else { None }
-}
-
-/// The first answer that is a stop.
-fn first_stop(answers: &[Answer]) -> Option<CycleEnd>
-    requires { length answers.now ≤ most_operations }
-    ensures { result ≡ first_stop_of 0 answers.now }
-{
+    if !halted {
+        return None;
+    }
     'answers: for (k, answer) in answers.iter().enumerate() {
         if let Some(kind) = stop_of(answer) {
             return Some(CycleEnd::Stopped { op: k as u32, kind });
@@ -113,23 +106,14 @@ fn first_stop(answers: &[Answer]) -> Option<CycleEnd>
     None
 }
 
-/// Whether the value that an output's OUT answered is in the output's type.
-fn is_inside(graph: &Graph, outlet: &Outlet, answers: &[Answer]) -> bool
-    ensures { result ≡ fits_of outlet.now.ty (value_part graph.now.profile (word_at_of answers.now outlet.now.op)) }
-{
-    fits(
-        outlet.ty,
-        word_at(answers, outlet.op).split(graph.profile()).0,
-    )
-}
-
 /// The first output whose value is outside its type.
 fn first_outside(graph: &Graph, answers: &[Answer]) -> Option<CycleEnd>
     ensures { result ≡ first_outside_of graph.now.profile answers.now graph.now.outputs }
 {
     'outputs: for i in 0..graph.outputs() {
         let outlet = graph.output(i);
-        if !is_inside(graph, &outlet, answers) {
+        let (value, _residue) = word_at(answers, outlet.op).split(graph.profile());
+        if !fits(outlet.ty, value) {
             return Some(CycleEnd::Stopped {
                 op: outlet.op,
                 kind: StopKind::Operand,
@@ -137,23 +121,6 @@ fn first_outside(graph: &Graph, answers: &[Answer]) -> Option<CycleEnd>
         }
     }
     None
-}
-
-/// The residue of the word that operation `k` answered.
-fn residue_at(graph: &Graph, answers: &[Answer], k: u32) -> Residue
-    ensures { result ≡ modulo graph.now.profile (word_at_of answers.now k) }
-{
-    word_at(answers, k).split(graph.profile()).1
-}
-
-/// The residue that the word of operation `k` has in a cycle where nothing is amiss.
-fn expected_at(graph: &Graph, table: &Table, k: u32, cycle: u32) -> Residue
-    requires operation { k < length table.now.corrections }
-    requires table { IsTableOf table.now graph.now }
-    requires cycle { cycle < most_cycles }
-    ensures { result ≡ expected_of graph.now.profile table.now.seed table.now.step k cycle }
-{
-    table.expected(k, cycle)
 }
 
 /// The first output whose residue is not the expected one.
@@ -167,8 +134,8 @@ fn first_refused(graph: &Graph, table: &Table, cycle: u32, answers: &[Answer]) -
     entries_keep_their_rules();
     'outputs: for i in 0..graph.outputs() {
         let outlet = graph.output(i);
-        let found = residue_at(graph, answers, outlet.op);
-        let expected = expected_at(graph, table, outlet.op, cycle);
+        let found = word_at(answers, outlet.op).split(graph.profile()).1;
+        let expected = table.expected(outlet.op, cycle);
         if found != expected {
             return Some(CycleEnd::Refused {
                 output: i,
