@@ -4,7 +4,7 @@ ghost use Rattle.std.specs.Prelude.{◌≡◌, ◌<◌, IfSome, length};
 ghost use Rattle.fault_script.specs.Forms.{number_below};
 ghost use Rattle.fault_injector.specs.Names.{Names};
 ghost use Rattle.verdict_tables.specs.Outcome.{numbers_of, named_then, output_named, shown_of, stop_of};
-ghost use Rattle.verdict_tables.specs.Outcome.{stopped_by, stopped_of, ran_on_of, meant as meant_of};
+ghost use Rattle.verdict_tables.specs.Outcome.{stopped_of, ran_on_of, meant as meant_of};
 
 use fault_injector::Verdict;
 use fault_script::cycle_number;
@@ -142,24 +142,7 @@ fn operation_number(graph: &Graph, word: &[u8]) -> Option<u32>
     }
 }
 
-/// A run stopped, by the words for the cycle, the operation and the kind.
-fn stopped_at(graph: &Graph, n: &[u8], k: &[u8], why: &[u8]) -> Option<Verdict>
-    ensures value { result ≡ stopped_by graph.now n.now k.now why.now }
-    ensures names { IfSome result (Names (length graph.now.outputs) (length graph.now.operations)) }
-{
-    let Some(cycle) = cycle_number(n) else {
-        return None;
-    };
-    let Some(op) = operation_number(graph, k) else {
-        return None;
-    };
-    match stop(why) {
-        Some(kind) => Some(Verdict::Stopped { cycle, op, kind }),
-        None => None,
-    }
-}
-
-/// The words behind `stopped`.
+/// The words behind `stopped`: for the cycle, the operation and the kind.
 fn stopped(graph: &Graph, words: &mut WordsLeft<'_>) -> Option<Verdict>
     ensures value { result ≡ stopped_of graph.now words.old }
     ensures names { IfSome result (Names (length graph.now.outputs) (length graph.now.operations)) }
@@ -170,8 +153,17 @@ fn stopped(graph: &Graph, words: &mut WordsLeft<'_>) -> Option<Verdict>
     let Some(k) = words.next() else {
         return None;
     };
-    match words.next() {
-        Some(why) => stopped_at(graph, n, k, why),
+    let Some(why) = words.next() else {
+        return None;
+    };
+    let Some(cycle) = cycle_number(n) else {
+        return None;
+    };
+    let Some(op) = operation_number(graph, k) else {
+        return None;
+    };
+    match stop(why) {
+        Some(kind) => Some(Verdict::Stopped { cycle, op, kind }),
         None => None,
     }
 }
