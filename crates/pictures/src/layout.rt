@@ -1,6 +1,6 @@
 //! Where the boxes of operations are.
 
-ghost use Rattle.std.specs.Prelude.{◌≡◌, ◌<◌, ◌≤◌, ◌^◌, IfOk};
+ghost use Rattle.std.specs.Prelude.{◌≡◌, ◌<◌, ◌^◌, IfOk};
 ghost use Rattle.pictures.specs.Arrangement.{left_of, top_of, place_at, IsArranged};
 
 use crate::columns::depths_of;

@@ -3,7 +3,6 @@
 ghost use Rattle.vcp_outside.specs.Pens.{Goes};
 ghost use Rattle.pictures.specs.DotText.{written, named, source, blindness, label, constant_label};
 
-use crate::dot::words::has_name;
 use crate::{Colour, own_piece};
 use op_graph::{Graph, Op};
 use run_report::variable_name;
@@ -14,13 +13,12 @@ use vcp_outside::{Escaping, Pen, Piece};
 fn then_named<P: Pen>(pen: P, graph: &Graph, op: &Op) -> P
     ensures { Goes (P.seen pen) (P.seen result) (written (named graph.now op.now)) }
 {
-    if has_name(op.kind) {
-        pen.pieces(
+    match op.kind {
+        Kind::Input | Kind::Load | Kind::Store | Kind::Out => pen.pieces(
             Escaping::Quoted,
             &[Piece::Bytes(b"\n"), own_piece(graph, op.kind, op.imm)],
-        )
-    } else {
-        pen
+        ),
+        _ => pen,
     }
 }
 

@@ -1,20 +1,10 @@
 //! The shapes and the colours of nodes.
 
 ghost use Rattle.std.specs.Prelude.{◌≡◌};
-ghost use Rattle.pictures.specs.DotText.{has_name as has_name_of, shape_of, fill_of};
+ghost use Rattle.pictures.specs.DotText.{shape_of, fill_of};
 
 use crate::Colour;
 use vcp_base::Kind;
-
-/// Whether operations of a kind have a name.
-pub(crate) fn has_name(kind: Kind) -> bool
-    ensures { result ≡ has_name_of kind }
-{
-    match kind {
-        Kind::Input | Kind::Load | Kind::Store | Kind::Out => true,
-        _ => false,
-    }
-}
 
 /// The shape of the node of an operation.
 pub(crate) fn shape(kind: Kind) -> &'static [u8]

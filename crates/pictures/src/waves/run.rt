@@ -5,7 +5,7 @@ ghost use Rattle.csv.specs.Reading.{records, default_config, strip_bom};
 ghost use Rattle.vcp_base.specs.Limits.{most_cycles, most_names};
 ghost use Rattle.pictures.specs.WavesAnswers.{Answers};
 ghost use Rattle.pictures.specs.WavesDrawn.{value_at};
-ghost use Rattle.pictures.specs.RunOf.{run_of, run_of_records, ends_a_line as ends_a_line_of};
+ghost use Rattle.pictures.specs.RunOf.{run_of, run_of_records};
 
 use crate::waves::ending::Ending;
 use crate::waves::fault::RunTextFault;
@@ -47,13 +47,6 @@ impl Drop for Run {
             ending: _,
         } = self;
     }
-}
-
-// Whether the last byte is LF.
-fn ends_a_line(text: &[u8]) -> bool
-    ensures { result ≡ ends_a_line_of text.now }
-{
-    !text.is_empty() && text[text.len() - 1] == b'\n'
 }
 
 /// The run that records tell, each of which is read into `cells`.
@@ -105,7 +98,7 @@ pub fn read_run(alloc: Global, text: &[u8]) -> Result<Run, RunTextFault>
 {
     match read_text(alloc, text) {
         Ok(run) => {
-            if ends_a_line(text) {
+            if !text.is_empty() && text[text.len() - 1] == b'\n' {
                 Ok(run)
             } else {
                 Err(RunTextFault::Cut)
