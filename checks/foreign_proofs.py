@@ -17,13 +17,11 @@ EXPECTED = {
     ("flat_expr", "op_graph::OperandLaw"),
     # the part of a word behind a byte
     ("fault_sites", "vcp_base::Firsts"),
-    # graphs, scripts and verdicts of worked rows
-    ("fault_campaign", "fault_injector::WorkedVerdicts"),
+    # graphs and scripts of worked rows
     ("fault_injector", "run_report::OperationRows"),
-    ("fault_campaign", "fault_injector::WorkedVerdicts"),
     ("verdict_tables", "run_report::OperationRows"),
     # how counts of calls grow, and how the loop over rows goes on
-    ("fault_campaign", "coded_machine::Growth"),
+    ("fault_injector", "coded_machine::Growth"),
     ("pair_channel", "coded_machine::Stopping"),
     ("pair_channel", "coded_machine::UpTo"),
     ("pair_channel", "coded_machine::Writing"),

@@ -27,8 +27,8 @@ use Rattle.fault_script.specs.Changes.{Acts}
 use Rattle.fault_script.specs.Differences.{difference_at, made}
 use Rattle.fault_injector.specs.FaultRun.{operation_stop, outside, stop_under}
 use Rattle.fault_injector.specs.Accepted.{first_unaccepted}
-use Rattle.fault_injector.specs.declared.verdict.Verdict.{Verdict}
-use Rattle.fault_injector.specs.declared.verdict.Verdict.TheVariants as verdict
+use Rattle.fault_injector.specs.declared.verdicts.Verdict.{Verdict}
+use Rattle.fault_injector.specs.declared.verdicts.Verdict.TheVariants as verdict
 use Rattle.fault_injector.specs.Verdicts.{compared, judged, judged_cycle, plain_cycles, stops_alike}
 use Rattle.vcp_base.specs.Differences.{first_difference}
 use Rattle.weight_audit.specs.Paths.{Reached}

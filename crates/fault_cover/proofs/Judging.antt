@@ -12,8 +12,8 @@ use Rattle.signature_table.specs.Signatures.{Numbers, expected}
 use Rattle.fault_script.specs.Changes.{Acts}
 use Rattle.fault_script.specs.Differences.{difference_at}
 use Rattle.fault_injector.specs.Accepted.{RefusedAt, first_unaccepted, residue_under}
-use Rattle.fault_injector.specs.declared.verdict.Verdict.{Verdict}
-use Rattle.fault_injector.specs.declared.verdict.Verdict.TheVariants as verdict
+use Rattle.fault_injector.specs.declared.verdicts.Verdict.{Verdict}
+use Rattle.fault_injector.specs.declared.verdicts.Verdict.TheVariants as verdict
 use Rattle.fault_injector.specs.Verdicts.{compared, judged, judged_cycle, stops_alike, verdict_or}
 use Rattle.fault_cover.specs.Certain.{IsQuiet, IsSafe}
 

@@ -19,8 +19,8 @@ use Rattle.fault_script.specs.Changes.{Acts}
 use Rattle.fault_script.specs.Differences.{difference_at, made, origin}
 use Rattle.fault_injector.specs.FaultRun.{run_under}
 use Rattle.fault_injector.specs.Stepping.{word_of}
-use Rattle.fault_injector.specs.declared.verdict.Verdict.{Verdict}
-use Rattle.fault_injector.specs.declared.verdict.Verdict.TheVariants as verdict
+use Rattle.fault_injector.specs.declared.verdicts.Verdict.{Verdict}
+use Rattle.fault_injector.specs.declared.verdicts.Verdict.TheVariants as verdict
 use Rattle.fault_injector.specs.Verdicts.{compared, plain_cycles}
 use Rattle.fault_cover.specs.declared.disturbance.Disturbance.{Disturbance}
 use Rattle.fault_cover.specs.declared.disturbance.Disturbance.TheVariants as disturbance

@@ -34,7 +34,7 @@ use Rattle.fault_cover.specs.Touched.{UntouchedDifferByNothing}
 use Rattle.coded_unit.specs.Words.{modulo}
 use Rattle.coded_unit.specs.WordLaws.{WordLaws}
 use Rattle.fault_injector.specs.Accepted.{first_unaccepted}
-use Rattle.fault_injector.specs.declared.verdict.Verdict.TheVariants as verdict
+use Rattle.fault_injector.specs.declared.verdicts.Verdict.TheVariants as verdict
 use Rattle.fault_injector.specs.Verdicts.{compared, judged, judged_cycle, plain_cycles, stops_alike, verdict_or}
 use Rattle.vcp_base.specs.Differences.{first_difference}
 use Rattle.fault_cover.specs.declared.disturbance.Disturbance.TheVariants as disturbance

@@ -17,8 +17,8 @@ use Rattle.fault_script.specs.Differences.{Frame, brought, held_after, no_frame}
 use Rattle.fault_injector.specs.Accepted.{RefusedAt}
 use Rattle.fault_injector.specs.FaultRun.{followed, operation_stop, stop_under}
 use Rattle.fault_injector.specs.Stepping.{carry, operand_residue, plain_operand}
-use Rattle.fault_injector.specs.declared.verdict.Verdict.{Verdict}
-use Rattle.fault_injector.specs.declared.verdict.Verdict.TheVariants as verdict
+use Rattle.fault_injector.specs.declared.verdicts.Verdict.{Verdict}
+use Rattle.fault_injector.specs.declared.verdicts.Verdict.TheVariants as verdict
 use Rattle.fault_injector.specs.Verdicts.{judged, plain_cycles, verdict_or}
 
 -- what is added to the words that an operation reads in a cycle: by cycle, operation and operand, 0 where nothing is

@@ -11,8 +11,8 @@ use Rattle.signature_table.specs.Signatures.{signature}
 use Rattle.fault_script.specs.declared.act.Act.{Act}
 use Rattle.fault_script.specs.declared.act.Act.TheVariants as act
 use Rattle.fault_script.specs.declared.act.Fault.{Fault}
-use Rattle.fault_injector.specs.declared.verdict.Verdict.{Verdict}
-use Rattle.fault_injector.specs.declared.verdict.Verdict.TheVariants as verdict
+use Rattle.fault_injector.specs.declared.verdicts.Verdict.{Verdict}
+use Rattle.fault_injector.specs.declared.verdicts.Verdict.TheVariants as verdict
 use Rattle.fault_injector.specs.Verdicts.{verdict_of}
 use Rattle.fault_injector.proofs.WorkedVerdicts.{operation, of_operations, adds_one, counts, narrow, of_seed}
 

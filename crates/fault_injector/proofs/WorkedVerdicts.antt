@@ -13,8 +13,8 @@ use Rattle.op_graph.specs.Lists.{Lists}
 use Rattle.signature_table.specs.Signatures.{Numbers, signature}
 use Rattle.fault_script.specs.declared.act.Act.{Act}
 use Rattle.fault_script.specs.declared.act.Act.TheVariants as act
-use Rattle.fault_injector.specs.declared.verdict.Verdict.{Verdict}
-use Rattle.fault_injector.specs.declared.verdict.Verdict.TheVariants as verdict
+use Rattle.fault_injector.specs.declared.verdicts.Verdict.{Verdict}
+use Rattle.fault_injector.specs.declared.verdicts.Verdict.TheVariants as verdict
 use Rattle.fault_injector.specs.Verdicts.{verdict_of}
 
 abbrev pub operation : Kind → Ty → ℕ → ℕ → ℤ → Op

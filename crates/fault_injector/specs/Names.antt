@@ -1,7 +1,7 @@
 -- Names: which outputs and operations verdicts name.
 use Rattle.std.specs.Prelude.{ℕ, ◌<◌}
-use Rattle.fault_injector.specs.declared.verdict.Verdict.{Verdict}
-use Rattle.fault_injector.specs.declared.verdict.Verdict.TheVariants as verdict
+use Rattle.fault_injector.specs.declared.verdicts.Verdict.{Verdict}
+use Rattle.fault_injector.specs.declared.verdicts.Verdict.TheVariants as verdict
 
 -- the output or the operation that a verdict names is below these numbers of outputs and of operations
 abbrev pub Names : ℕ → ℕ → Verdict → Type 0

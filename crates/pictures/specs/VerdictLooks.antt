@@ -1,7 +1,7 @@
 -- Looks: how operations look by the verdicts of a script's groups.
 use Rattle.std.specs.Prelude.{ℕ, cond, nat_lt, List}
 use Rattle.fault_script.specs.declared.act.Fault.{Fault}
-use Rattle.fault_injector.specs.declared.verdict.Verdict.{Verdict}
+use Rattle.fault_injector.specs.declared.verdicts.Verdict.{Verdict}
 use Rattle.fault_injector.specs.declared.lines.Totals.{Totals}
 use Rattle.fault_injector.specs.FaultLines.{faults as faults_in}
 use Rattle.verdict_tables.specs.declared.tables.Table.TheVariants as table

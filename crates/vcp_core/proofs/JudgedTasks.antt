@@ -13,11 +13,11 @@ use Rattle.input_rows.specs.RowsOf.{RowsLeft}
 use Rattle.op_graph.specs.Lists.{Lists}
 use Rattle.fault_script.specs.declared.act.Fault.{Fault as ScriptedFault}
 use Rattle.fault_script.specs.Groups.{line_of}
-use Rattle.fault_injector.specs.declared.verdict.Verdict.{Verdict}
-use Rattle.fault_campaign.specs.declared.fault.CampaignFault.{CampaignFault}
-use Rattle.fault_campaign.specs.declared.fault.CampaignFault.TheVariants as campaign
-use Rattle.fault_campaign.specs.Campaign.{JudgedOnce, Told, verdict_lines}
-use Rattle.fault_campaign.specs.Written.{EarlierWritten}
+use Rattle.fault_injector.specs.declared.verdicts.Verdict.{Verdict}
+use Rattle.fault_injector.specs.declared.campaign.fault.CampaignFault.{CampaignFault}
+use Rattle.fault_injector.specs.declared.campaign.fault.CampaignFault.TheVariants as campaign
+use Rattle.fault_injector.specs.Campaign.{JudgedOnce, Told, verdict_lines}
+use Rattle.fault_injector.specs.Written.{EarlierWritten}
 use Rattle.fault_injector.specs.FaultLines.{lines_by, verdict_text, totals_of, totals_text}
 use Rattle.fault_injector.specs.Names.{Names}
 use Rattle.vcp_inputs.specs.Forms.{Rows, inject}

@@ -10,13 +10,13 @@ use Rattle.vcp_outside.specs.Seen.{FilesSeen, SinkSeen}
 use Rattle.input_rows.specs.RowsOf.{RowsLeft}
 use Rattle.coded_machine.specs.Moments.{Moment, moment}
 use Rattle.fault_script.specs.declared.act.Fault.{Fault as ScriptedFault}
-use Rattle.fault_campaign.specs.Campaign.{verdicts_of}
-use Rattle.fault_campaign.specs.declared.fault.CampaignFault.{CampaignFault}
-use Rattle.fault_campaign.specs.declared.fault.CampaignFault.TheVariants as campaign
-use Rattle.fault_campaign.specs.declared.pairs.verdict.PairVerdict.{PairVerdict}
-use Rattle.fault_campaign.specs.GroupLines.{group_text, pair_totals_text, totals_of}
-use Rattle.fault_campaign.specs.PairCampaigns.{PairsTold}
-use Rattle.fault_campaign.specs.PairVerdicts.{told_verdict}
+use Rattle.fault_injector.specs.Campaign.{verdicts_of}
+use Rattle.fault_injector.specs.declared.campaign.fault.CampaignFault.{CampaignFault}
+use Rattle.fault_injector.specs.declared.campaign.fault.CampaignFault.TheVariants as campaign
+use Rattle.fault_injector.specs.declared.campaign.pairs.verdict.PairVerdict.{PairVerdict}
+use Rattle.fault_injector.specs.GroupLines.{group_text, pair_totals_text, totals_of}
+use Rattle.fault_injector.specs.PairCampaigns.{PairsTold}
+use Rattle.fault_injector.specs.PairVerdicts.{told_verdict}
 use Rattle.vcp_inputs.specs.Forms.{Rows, pairs}
 use Rattle.vcp_inputs.specs.Tables.{rows_name}
 use Rattle.vcp_inputs.specs.declared.images.Image.{Image}

@@ -1,7 +1,7 @@
 -- Faults: how a command ends whose text or last line was written, or whose faults were judged, or whose script of a wire was run; or not all of it.
 use Rattle.std.specs.Prelude.{Result, Ok, Err}
-use Rattle.fault_campaign.specs.declared.fault.CampaignFault.{CampaignFault}
-use Rattle.fault_campaign.specs.declared.fault.CampaignFault.TheVariants as campaign
+use Rattle.fault_injector.specs.declared.campaign.fault.CampaignFault.{CampaignFault}
+use Rattle.fault_injector.specs.declared.campaign.fault.CampaignFault.TheVariants as campaign
 use Rattle.telegram.specs.declared.runs.wire_end.WireEnd.{WireEnd}
 use Rattle.telegram.specs.declared.runs.wire_end.WireRunFault.{WireRunFault}
 use Rattle.telegram.specs.declared.runs.wire_end.WireRunFault.TheVariants as wire

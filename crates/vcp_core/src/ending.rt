@@ -6,7 +6,7 @@ ghost use Rattle.vcp_core.specs.Reach.{end_status, run_code, run_line, told_line
 
 use crate::fault::Fault;
 use coded_machine::RunFault;
-use fault_campaign::CampaignFault;
+use fault_injector::CampaignFault;
 use vcp_inputs::NoInput;
 use vcp_outside::Failed;
 

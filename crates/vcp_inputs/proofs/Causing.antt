@@ -3,13 +3,13 @@ use Rattle.std.proofs.Common.{ℕ, ◌≡◌, ◌≤◌, lit≤, inl, inr, refl,
 use Rattle.std.specs.Io.KnownBytes.{Appends}
 use Rattle.vcp_outside.specs.Counts.{Rose}
 use Rattle.input_rows.specs.declared.fault.RowFault.{RowFault}
-use Rattle.fault_injector.specs.declared.verdict.Verdict.{Verdict}
+use Rattle.fault_injector.specs.declared.verdicts.Verdict.{Verdict}
 use Rattle.pair_channel.specs.declared.pair_end.PairEnd.{PairEnd}
 use Rattle.pair_channel.specs.declared.pair_end.PairEnd.TheVariants as pair
 use Rattle.pair_channel.specs.PairRuns.{PairOutcome}
 use Rattle.vcp_inputs.specs.Answer.{Answer}
 use Rattle.vcp_inputs.specs.CampaignKind.{pairs_answer, verdicts_answer}
-use Rattle.fault_campaign.specs.declared.pairs.verdict.PairVerdict.{PairVerdict}
+use Rattle.fault_injector.specs.declared.campaign.pairs.verdict.PairVerdict.{PairVerdict}
 use Rattle.vcp_inputs.specs.PairKind.{pair_answer, pair_read, pair_status}
 use Rattle.vcp_inputs.specs.Printing.{Report}
 use Rattle.vcp_inputs.specs.Endings.{TellsLine, ended, cut, wanting, unread, unmade, Given, Causes, NothingFailed, HasOwnStatus, DoneHasStatus, DoneIsMeant, EndingsHaveCauses, GivingUpHasCauses}

@@ -11,13 +11,13 @@
 -- Where no answer was wrong, each verdict of `pairs` is the defined one of its group, as a pair tells it; of
 -- groups that were cut off, a part of what is printed of these is there.
 use Rattle.std.specs.Prelude.{◌≡◌, ◌≤◌, ◌+◌, ℕ, List, ◌++◌, length, All}
-use Rattle.fault_injector.specs.declared.verdict.Verdict.{Verdict}
+use Rattle.fault_injector.specs.declared.verdicts.Verdict.{Verdict}
 use Rattle.fault_injector.specs.Names.{Names}
-use Rattle.fault_campaign.specs.declared.pairs.verdict.PairVerdict.{PairVerdict}
-use Rattle.fault_campaign.specs.Campaign.{campaign_text, verdicts_of, JudgedOnce}
-use Rattle.fault_campaign.specs.PairCampaigns.{GroupsRan, pairs_text}
-use Rattle.fault_campaign.specs.PairVerdicts.{told_verdicts}
-use Rattle.fault_campaign.specs.Written.{EarlierWritten}
+use Rattle.fault_injector.specs.declared.campaign.pairs.verdict.PairVerdict.{PairVerdict}
+use Rattle.fault_injector.specs.Campaign.{campaign_text, verdicts_of, JudgedOnce}
+use Rattle.fault_injector.specs.PairCampaigns.{GroupsRan, pairs_text}
+use Rattle.fault_injector.specs.PairVerdicts.{told_verdicts}
+use Rattle.fault_injector.specs.Written.{EarlierWritten}
 use Rattle.vcp_inputs.specs.Answer.{Answer, Campaign, printed}
 use Rattle.coded_unit.specs.Seen.{UnitSeen, StaysHonest}
 use Rattle.coded_machine.specs.Moments.{Moment}

@@ -17,8 +17,8 @@ use Rattle.coded_unit.specs.Seen.{UnitSeen}
 use Rattle.coded_machine.specs.Moments.{Moment}
 use Rattle.vcp_inputs.specs.Seen.{Appending}
 use Rattle.vcp_inputs.specs.RunKind.{Job, RunDone, RunLeft, meant_answer}
-use Rattle.fault_campaign.specs.Campaign.{verdict_lines}
-use Rattle.fault_campaign.specs.PairCampaigns.{group_lines}
+use Rattle.fault_injector.specs.Campaign.{verdict_lines}
+use Rattle.fault_injector.specs.PairCampaigns.{group_lines}
 use Rattle.vcp_inputs.specs.CampaignKind.{GroupsDone, GroupsLeft, RerunsAsked, PairRunsAsked, verdicts_answer, verdicts_meant, pairs_answer, pairs_meant}
 use Rattle.telegram.specs.declared.script.script.WireScript.{WireScript}
 use Rattle.vcp_inputs.specs.WireKind.{WireDone, WireLeft, wire_meant}

@@ -7,7 +7,7 @@ use Rattle.fault_script.specs.declared.act.Fault.{Fault as FaultOf}
 use Rattle.fault_script.specs.declared.script_fault.ScriptFault.{ScriptFault}
 use Rattle.fault_script.specs.declared.script_fault.ScriptFault.TheVariants as script_fault
 use Rattle.fault_script.specs.ScriptOf.{script_of}
-use Rattle.fault_injector.specs.declared.verdict.Verdict.{Verdict}
+use Rattle.fault_injector.specs.declared.verdicts.Verdict.{Verdict}
 use Rattle.verdict_tables.specs.declared.parts.Part.{Part}
 use Rattle.verdict_tables.specs.Remark.{is_for}
 use Rattle.pictures.specs.Arrangement.{Arrangement, IsArranged}

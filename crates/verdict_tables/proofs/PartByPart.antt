@@ -3,7 +3,7 @@ use Rattle.std.proofs.Common.{◌≡◌, ℕ, zero, suc, ◌+◌, ◌≤◌, ◌
 use Rattle.std.proofs.lemmas.List.{append-nil, drop_all}
 use Rattle.std.proofs.lemmas.List.Elements.{All-cons, All-nil}
 use Rattle.fault_script.specs.ScriptOf.{most_faults}
-use Rattle.fault_injector.specs.declared.verdict.Verdict.{Verdict}
+use Rattle.fault_injector.specs.declared.verdicts.Verdict.{Verdict}
 use Rattle.fault_injector.specs.declared.lines.Totals.{Totals}
 use Rattle.fault_injector.specs.FaultLines.{counted, totals_after}
 use Rattle.verdict_tables.specs.declared.endless.ending.SameEnding.{SameEnding}

@@ -5,8 +5,8 @@ use Rattle.std.proofs.lemmas.List.{append-nil, drop_all}
 use Rattle.std.proofs.lemmas.List.Elements.{All-get_or}
 use Rattle.std.proofs.lemmas.Option.{get_or_from_slice_get, slice_get_within}
 use Rattle.fault_script.specs.declared.act.Fault.{Fault}
-use Rattle.fault_injector.specs.declared.verdict.Verdict.{Verdict}
-use Rattle.fault_injector.specs.declared.verdict.Verdict.TheVariants as verdict
+use Rattle.fault_injector.specs.declared.verdicts.Verdict.{Verdict}
+use Rattle.fault_injector.specs.declared.verdicts.Verdict.TheVariants as verdict
 use Rattle.fault_injector.specs.declared.lines.Totals.{Totals}
 use Rattle.fault_injector.specs.FaultLines.{faults as faults_of, counted, totals_after}
 use Rattle.verdict_tables.specs.declared.tables.Table.{Table}

@@ -7,7 +7,7 @@ use Rattle.op_graph.specs.Lists.{Lists}
 use Rattle.vcp_base.specs.Words.{words}
 use Rattle.fault_script.specs.declared.act.Fault.{Fault}
 use Rattle.fault_script.specs.Groups.{line_of}
-use Rattle.fault_injector.specs.declared.verdict.Verdict.{Verdict}
+use Rattle.fault_injector.specs.declared.verdicts.Verdict.{Verdict}
 use Rattle.fault_injector.specs.declared.lines.Totals.{Totals}
 use Rattle.fault_injector.specs.FaultLines.{verdict_text, verdict_lines, campaign_text, counted, no_verdicts, totals_after, totals_text}
 use Rattle.verdict_tables.specs.declared.fault.VerdictsFault.{VerdictsFault}

@@ -8,8 +8,8 @@ use Rattle.vcp_base.specs.Spellings.{stop_name}
 use Rattle.op_graph.specs.Lists.{Lists}
 use Rattle.run_report.specs.Variables.{output_name}
 use Rattle.fault_script.specs.Forms.{number_below, cycle_of}
-use Rattle.fault_injector.specs.declared.verdict.Verdict.{Verdict}
-use Rattle.fault_injector.specs.declared.verdict.Verdict.TheVariants as verdict
+use Rattle.fault_injector.specs.declared.verdicts.Verdict.{Verdict}
+use Rattle.fault_injector.specs.declared.verdicts.Verdict.TheVariants as verdict
 use Rattle.verdict_tables.specs.declared.words.Numbers.{Numbers}
 use Rattle.verdict_tables.specs.declared.words.Shown.{Shown}
 

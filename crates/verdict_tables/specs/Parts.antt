@@ -3,7 +3,7 @@ use Rattle.std.specs.Prelude.{ℕ, ◌≡◌, ◌≤◌, ◌+◌, ◌==◌, cond
 use Rattle.op_graph.specs.Lists.{Lists}
 use Rattle.fault_script.specs.Groups.{GroupFits}
 use Rattle.fault_script.specs.ScriptOf.{most_faults}
-use Rattle.fault_injector.specs.declared.verdict.Verdict.{Verdict}
+use Rattle.fault_injector.specs.declared.verdicts.Verdict.{Verdict}
 use Rattle.fault_injector.specs.declared.lines.Totals.{Totals}
 use Rattle.fault_injector.specs.FaultLines.{totals_of}
 use Rattle.fault_injector.specs.Names.{Names}

@@ -6,8 +6,8 @@ use Rattle.op_graph.specs.Lists.{Lists}
 use Rattle.fault_script.specs.declared.act.Act.{Act}
 use Rattle.fault_script.specs.declared.act.Act.TheVariants as act
 use Rattle.fault_script.specs.declared.act.Fault.{Fault}
-use Rattle.fault_injector.specs.declared.verdict.Verdict.{Verdict}
-use Rattle.fault_injector.specs.declared.verdict.Verdict.TheVariants as verdict
+use Rattle.fault_injector.specs.declared.verdicts.Verdict.{Verdict}
+use Rattle.fault_injector.specs.declared.verdicts.Verdict.TheVariants as verdict
 use Rattle.fault_injector.specs.declared.lines.Totals.{Totals}
 use Rattle.fault_injector.specs.FaultLines.{totals_of}
 use Rattle.verdict_tables.specs.declared.tables.Table.{Table}

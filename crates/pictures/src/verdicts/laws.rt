@@ -4,7 +4,7 @@ ghost use Rattle.std.specs.Prelude.{List};
 ghost use Rattle.op_graph.specs.Lists.{Lists};
 ghost use Rattle.vcp_outside.specs.WellFormed.{IsDocument};
 ghost use Rattle.fault_script.specs.declared.act.Fault.{Fault as FaultOf};
-ghost use Rattle.fault_injector.specs.declared.verdict.Verdict.{Verdict as VerdictOf};
+ghost use Rattle.fault_injector.specs.declared.verdicts.Verdict.{Verdict as VerdictOf};
 ghost use Rattle.pictures.specs.declared.layout.BoxPlace.{BoxPlace as PlaceOf};
 ghost use Rattle.pictures.specs.Arrangement.{Arrangement};
 ghost use Rattle.pictures.specs.Drawn.{drawing};

@@ -1,7 +1,7 @@
 use Rattle.std.proofs.Common.{◌∙◌, ◌≤◌, ap, refl, subst, sym, []}
 use Rattle.vcp_base.specs.Limits.{most_step}
 use Rattle.signature_table.specs.Signatures.{Numbers}
-use Rattle.fault_campaign.specs.GroupLines.{group_text}
+use Rattle.fault_injector.specs.GroupLines.{group_text}
 use Rattle.vcp_core.proofs.ImageLoaded.{table-is-of}
 use Rattle.vcp_core.proofs.Facts.{none_before}
 use Rattle.vcp_core.proofs.JudgedTasks.{campaign_unwritten, no_lines_written}

@@ -1,5 +1,0 @@
-use Rattle.std.proofs.Common.{rules}
-use Rattle.fault_campaign.proofs.reruns.again.answer_again.Goals as goal
-
-pub call_again-call-requires : goal.call_again-call-requires
-call_again-call-requires g c = search rules

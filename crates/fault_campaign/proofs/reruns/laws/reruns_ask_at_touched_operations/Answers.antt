@@ -1,5 +1,0 @@
-use Rattle.fault_campaign.proofs.Asking.{asks_at_touched, keeps_untouched}
-use Rattle.fault_campaign.proofs.reruns.laws.reruns_ask_at_touched_operations.Goals as goal
-
-pub returns : goal.returns
-returns c = record { calls = asks_at_touched; kept = keeps_untouched }

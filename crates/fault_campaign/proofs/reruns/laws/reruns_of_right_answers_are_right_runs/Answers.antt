@@ -1,5 +1,0 @@
-use Rattle.fault_campaign.proofs.RunRight.{reruns_are_right}
-use Rattle.fault_campaign.proofs.reruns.laws.reruns_of_right_answers_are_right_runs.Goals as goal
-
-pub returns : goal.returns
-returns c = reruns_are_right c.operands_are_there.ensures

@@ -1,5 +1,0 @@
-use Rattle.fault_campaign.proofs.TouchedOutputs.{outputs_same, words_follow}
-use Rattle.fault_campaign.proofs.reruns.laws.untouched_outputs_differ_in_nothing.Goals as goal
-
-pub returns : goal.returns
-returns c = record { words = words_follow; outputs = outputs_same }

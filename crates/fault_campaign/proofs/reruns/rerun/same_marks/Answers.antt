@@ -1,6 +1,0 @@
-use Rattle.std.proofs.Common.{◌∙◌, sym}
-use Rattle.fault_campaign.proofs.ListsOfReruns.{same_bools}
-use Rattle.fault_campaign.proofs.reruns.rerun.same_marks.Goals as goal
-
-pub returns : goal.returns
-returns c = λ same. same_bools c.args.marks.now c.args.others.now (sym c.eq.ensures ∙ same)
