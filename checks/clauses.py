@@ -18,7 +18,7 @@ from textwrap import wrap
 
 sys.dont_write_bytecode = True
 from cited_modules import Definitions, modules_of  # noqa: E402
-from sources import CRATES, TOP, is_for_tests, listed_crates, read_crates  # noqa: E402
+from sources import CRATES, TOP, listed_crates, read_crates  # noqa: E402
 
 PAGE = TOP / "docs" / "CLAUSES.md"
 HEAD = """# Clauses: what each public call promises, crate by crate
@@ -210,7 +210,7 @@ class Page:
         for crate in reversed(self.order):
             if crate in self.used:
                 self.used |= set(below[crate])
-        shown = [crate for crate in self.crates.values() if not is_for_tests(crate.name) and any(item.clauses for item in crate.items)]
+        shown = [crate for crate in self.crates.values() if any(item.clauses for item in crate.items)]
         sections = [(crate, self.section(crate)) for crate in shown]
         head = HEAD.replace("TRIED", str(self.marks.edits[""])).replace("BY_HAND", str(self.marks.edits["by hand"]))
         rows = [head, "## Contents", "", "| crate | public items with an annex | without an edit | without a test | without either |", "|---|---|---|---|---|"]

@@ -1,17 +1,17 @@
 #!/usr/bin/env python3
-"""How many worked rows there are in the sessions that play_worked plays.
+"""How many worked rows there are in the sessions of crates/vcp_study/data, which `vcp_study play` plays.
 
     checks/count_rows.py [--write]
 
 Of each: its calls, `$ plain,run ..` as two, and the lines that say what they have to give.
 
 It reads the texts alone. Run it before and after a change of them, to see that no row was lost. With `--write` it writes the files args and
-stdout of the program anew, by the texts that are there: their names, and how many calls each has.
+stdout of the program anew, by the texts that are there: `play` and their names, and how many calls each has.
 """
 import sys
 from pathlib import Path
 
-CRATE = Path(__file__).resolve().parent.parent / "crates" / "play_worked"
+CRATE = Path(__file__).resolve().parent.parent / "crates" / "vcp_study"
 MARKS = ("#", "<", "+", "~", "@", "%", "!", "$")
 
 
@@ -38,7 +38,7 @@ def main():
         print(f"  {name}: {made}, {wanted}")
     print(f"all: {sum(made for made, _ in counts.values())}, {sum(wanted for _, wanted in counts.values())}")
     if "--write" in sys.argv[1:]:
-        (CRATE / "args").write_text("".join(f"{name}\n" for name in counts))
+        (CRATE / "args").write_text("".join(f"{word}\n" for word in ("play", *counts)))
         (CRATE / "stdout").write_text("".join(f"{name}: {made} calls\n" for name, (made, _) in counts.items()))
 
 

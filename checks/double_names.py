@@ -17,7 +17,7 @@ import sys
 
 sys.dont_write_bytecode = True
 from cited_modules import Reading  # noqa: E402
-from sources import TOP, is_for_tests, read_crates  # noqa: E402
+from sources import TOP, read_crates  # noqa: E402
 
 GLOSSARY = TOP / "docs" / "GLOSSARY.md"
 TOP_CALLS = (("vcp_core", "vcp"), ("vcp_study_core", "vcp_study"), ("coded_unit", "Unit"))
@@ -33,10 +33,9 @@ def types_of_two_crates(crates):
     """The types and traits that more than one crate exports, each with its crates."""
     found = {}
     for crate in crates.values():
-        if not is_for_tests(crate.name):
-            for item in crate.items:
-                if item.kind in ("type", "trait"):
-                    found.setdefault(item.path.split("::")[-1], set()).add(crate.name)
+        for item in crate.items:
+            if item.kind in ("type", "trait"):
+                found.setdefault(item.path.split("::")[-1], set()).add(crate.name)
     return of_two(found)
 
 

@@ -6,12 +6,12 @@
 
 Of docs/PROMISES.md: as many contracts of C functions are named as are counted. Of each claim: its clauses and its edits are there, named with their crates, an edit that the gate doesn't try is called so, and the
 definitions to be read have so many lines; and all that is named so elsewhere on that page is there.
-Of crates/play_worked: each text of data/ is in args, and stdout has its line.
+Of crates/vcp_study: each session of data/ is in args, behind `play`, and stdout has its line.
 Of docs/dev/ARCHITECTURE.md: each crate stands in a layer and on none above it, and has its row in the table of crates and, but for those of tests,
 in that of main contracts; each name of a crate, a file or a definition is there; and the list of
 modules is the one that checks/cited_modules.py prints.
 Of docs/GLOSSARY.md: the names in the last column are there (of names that two crates have, checks/double_names.py tells).
-Of docs/UNITS.md: each line of code that it shows is a line of coded_unit, or of own_unit of play_worked.
+Of docs/UNITS.md: each line of code that it shows is a line of coded_unit, or of own_unit of vcp_study.
 Of docs/PROMISES.md, 'The order of reading' and 'What the gate shows': each family of commands has as many lines of definitions as it says; each step of the
 order names modules that are there, and has as many lines as the top call rests on in its crates, or, of a crate that stands in several steps, in the modules
 that it names; each crate that the top call rests on has a step, or is named after them; and there are as many edits as it says.
@@ -29,7 +29,7 @@ from datetime import datetime
 
 sys.dont_write_bytecode = True
 from cited_modules import lines_read  # noqa: E402
-from sources import CRATES, TOP, is_for_tests, listed_crates, read_crates  # noqa: E402
+from sources import CRATES, TOP, listed_crates, read_crates  # noqa: E402
 
 CHECKS = TOP / "checks"
 PROMISES = TOP / "docs" / "PROMISES.md"
@@ -211,7 +211,7 @@ def faults_of_layers(text, crates):
     lines = re.findall(r"^    .*", text.partition("\n## The layers\n")[2].partition("\n## ")[0], re.M)
     layer_of = {crate: number for number, line in enumerate(lines) for crate in crates if re.search(rf"\b{crate}\b", line)}
     for crate, others in crates.items():
-        if crate not in layer_of and not is_for_tests(crate):
+        if crate not in layer_of:
             yield f"the crate `{crate}` stands in no layer"
         for other in others:
             if layer_of.get(crate, 0) > layer_of.get(other, len(lines)):
@@ -226,7 +226,7 @@ def faults_of_architecture(crates, names):
             yield f"the crate `{crate}` has no row"
     contracts = text.partition("\n## The main contract of each crate\n")[2].partition("\n## ")[0]
     for crate in crates:
-        if not re.search(rf"^\|[^|]*`{crate}`", contracts, re.M) and not is_for_tests(crate):
+        if not re.search(rf"^\|[^|]*`{crate}`", contracts, re.M):
             yield f"the crate `{crate}` has no main contract"
     yield from faults_of_layers(text, crates)
     # The modules of the kit's crates are no files of the repository; that they are the present ones is compared below.
@@ -240,12 +240,12 @@ def faults_of_architecture(crates, names):
 
 def faults_of_rows():
     """Whether each session is given to the program that plays it, and has its line of what is wanted."""
-    crate = CRATES / "play_worked"
+    crate = CRATES / "vcp_study"
     wanted = [file.name for file in sorted((crate / "data").glob("*.session"))]
-    if (crate / "args").read_text().split("\n")[:-1] != wanted:
-        yield "play_worked: args differs from the names of data/, in their order"
+    if (crate / "args").read_text().split("\n")[:-1] != ["play", *wanted]:
+        yield "vcp_study: args differs from `play` and the names of data/, in their order"
     if [line.partition(":")[0] for line in (crate / "stdout").read_text().split("\n")[:-1]] != wanted:
-        yield "play_worked: stdout has not one line for each name of data/, in their order"
+        yield "vcp_study: stdout has not one line for each name of data/, in their order"
 
 
 def faults_of_glossary(crates, names):
@@ -256,7 +256,7 @@ def faults_of_glossary(crates, names):
 
 
 def faults_of_units():
-    files = [*(CRATES / "coded_unit" / "src").glob("**/*.rt"), *(CRATES / "play_worked" / "src" / "own_unit").glob("*.rt")]
+    files = [*(CRATES / "coded_unit" / "src").glob("**/*.rt"), *(CRATES / "vcp_study" / "src" / "own_unit").glob("*.rt")]
     code = {line.strip() for file in files for line in file.read_text().split("\n")}
     for line in (TOP / "docs" / "UNITS.md").read_text().split("\n"):
         if line.startswith("    ") and line.strip() not in code:

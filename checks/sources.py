@@ -18,10 +18,6 @@ def listed_crates():
     return {line.split(":")[0].split()[0]: line.partition(":")[2].split() for line in lines if line.strip()}
 
 
-def is_for_tests(crate):
-    return crate == "play_worked"
-
-
 def imports_of(text, keyword):
     """What each name of a file's imports stands for: a module's path and a name in it, or a module alone."""
     names = {}

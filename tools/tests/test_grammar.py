@@ -144,7 +144,7 @@ def texts_of_sessions() -> list[bytes]:
     """Each file of the sessions, whatever it is, but for a few of more than MOST_BYTES bytes: docs/dev/SESSIONS.md has their form."""
     spelled = {b"n": b"\n", b"r": b"\r", b"t": b"\t", b"\\": b"\\"}
     found: dict[bytes, None] = {}
-    for file in sorted((TOP / "crates/play_worked/data").glob("*.session")):
+    for file in sorted((TOP / "crates/vcp_study/data").glob("*.session")):
         files: dict[bytes, bytes] = {}
         for line in file.read_bytes().split(b"\n"):
             if line[:2] not in (b"< ", b"+ "):

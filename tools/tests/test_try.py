@@ -18,9 +18,9 @@ class Tests(InFolder):
     def play(self, printed: str, *names: str, status: int = 0, said: str = "") -> subprocess.CompletedProcess[str]:
         """What `try` does where `rt` prints this, says this on standard error and ends so; the words that it got are in the file `words`."""
         top = self.folder / "top"
-        (top / "crates/play_worked/data").mkdir(parents=True, exist_ok=True)
+        (top / "crates/vcp_study/data").mkdir(parents=True, exist_ok=True)
         for name in ("one.session", "some.session", "two.session", "failing_calls.session"):
-            (top / f"crates/play_worked/data/{name}").touch()
+            (top / f"crates/vcp_study/data/{name}").touch()
         (top / "try").write_bytes((TOP / "try").read_bytes())
         (top / "try").chmod(0o755)
         self.write("printed", printed)
@@ -37,7 +37,7 @@ class Tests(InFolder):
         self.assertIn("without failing_calls.session", done.stderr)
         words = (self.folder / "words").read_text(encoding="utf-8")
         self.assertTrue(words.endswith("--data one.session=data/one.session --data some.session=data/some.session --data two.session=data/two.session"
-                                       " -- one.session some.session two.session\n"), words)
+                                       " -- play one.session some.session two.session\n"), words)
 
     def test_one_call_gives_something_else(self) -> None:
         done = self.play(OTHERWISE, status=1, said="one.session, line 7: wanted 0, got 1\n")

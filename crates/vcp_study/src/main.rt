@@ -1,9 +1,21 @@
-//! The program `vcp_study`: reads the words, and runs the top call over the runtime's files and streams.
+//! The program `vcp_study`: reads the words, and runs the top call over the runtime's files and streams. Behind the word `play` the words name sessions,
+//! and it plays these, which is no command of the top call. The worked rows of both programs are such sessions: this program's `args` and `stdout`, which
+//! `checks/count_rows.py --write` writes, have all of them played.
 #![tactic(auto)]
 
+mod own_unit;
+mod play;
+
+use play::play_sessions;
 use std::process::ExitCode;
+use vcp_base::Words;
 use vcp_outside::{HostFiles, HostSink, given_words, status_without_words};
 use vcp_study_core::vcp_study;
+
+// Whether the words behind the first one name sessions.
+fn is_play(words: &Words) -> bool {
+    words.len() > 0 && words.at(0).bytes() == b"play"
+}
 
 fn main(rt: HostRuntime) -> ExitCode {
     let words = match given_words(&rt) {
@@ -13,5 +25,10 @@ fn main(rt: HostRuntime) -> ExitCode {
     let mut files = HostFiles::new(&rt);
     let mut out = HostSink::new(rt.stdout());
     let mut err = HostSink::new(rt.stderr());
-    ExitCode::from(vcp_study(rt.alloc(), &words, &mut files, &mut out, &mut err))
+    let status = if is_play(&words) {
+        play_sessions(rt.alloc(), &mut files, &words, &mut out, &mut err)
+    } else {
+        vcp_study(rt.alloc(), &words, &mut files, &mut out, &mut err)
+    };
+    ExitCode::from(status)
 }

@@ -1,9 +1,0 @@
-use Rattle.std.proofs.Common.{ap, ◌∙◌}
-use Rattle.coded_machine.specs.State.{State}
-use Rattle.play_worked.proofs.calls.machines.perform_calls.Goals as goal
-
-pub calls-preserved : goal.calls-preserved
-calls-preserved c = record {
-  graph = ap (λ (s : State). s.graph) c.put.ensures ∙ c.calls.invariant.graph;
-  cycles = ap (λ (s : State). s.cycles) c.put.ensures ∙ c.calls.invariant.cycles;
-}
