@@ -14,7 +14,7 @@ use vcp_study_core::vcp_study;
 
 // Whether the words behind the first one name sessions.
 fn is_play(words: &Words) -> bool {
-    words.len() > 0 && words.at(0).bytes() == b"play"
+    words.len() > 0 && words.at(0).bytes() == b"play".as_slice()
 }
 
 fn main(rt: HostRuntime) -> ExitCode {
