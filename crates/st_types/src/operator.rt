@@ -1,11 +1,11 @@
 //! The types of operators.
 
 ghost use Rattle.std.specs.Prelude.{◌≡◌, IfOk, option_map};
-ghost use Rattle.vcp_typed.specs.Rules.{widens as widens_of, joined as joined_of, both_bool as both_bool_of, joined_or_bool as joined_or_bool_of};
+ghost use Rattle.vcp_typed.specs.Rules.{joined as joined_of, both_bool as both_bool_of, joined_or_bool as joined_or_bool_of};
 ghost use Rattle.vcp_typed.specs.Rules.{common as common_of, signed as signed_of};
 ghost use Rattle.vcp_typed.specs.TExprViews.{texpr_tree};
 ghost use Rattle.vcp_typed.specs.Checked.{ty_of as type_of_value};
-ghost use Rattle.st_types.specs.ExprTyping.{widened as widened_of, as_type as as_type_of};
+ghost use Rattle.st_types.specs.ExprTyping.{widened as widened_of};
 
 use st_tree::{BinOp, UnOp};
 use std::alloc::Global;
@@ -85,38 +85,17 @@ pub(crate) fn type_of(e: &Option<TExpr>) -> Option<Ty>
     }
 }
 
-// Whether values of the first type widen to the second, another one.
-fn widens(from: Ty, to: Ty) -> bool
-    ensures { result ≡ widens_of from to }
-{
-    match (from, to) {
-        (Ty::Bool, Ty::Bool | Ty::Int | Ty::Dint | Ty::Lint) => false,
-        (Ty::Int, Ty::Bool | Ty::Int) => false,
-        (Ty::Int, Ty::Dint | Ty::Lint) => true,
-        (Ty::Dint, Ty::Bool | Ty::Int | Ty::Dint) => false,
-        (Ty::Dint, Ty::Lint) => true,
-        (Ty::Lint, Ty::Bool | Ty::Int | Ty::Dint | Ty::Lint) => false,
-    }
-}
-
-// An expression as one of the wider type; a literal becomes one of that type.
-fn as_type(alloc: Global, ty: Ty, e: TExpr) -> Result<TExpr, Memory>
-    ensures { IfOk result (λ r. texpr_tree r ≡ as_type_of ty (texpr_tree e)) }
-{
-    match e {
-        TExpr::Lit { value, spot, .. } => Ok(TExpr::Lit { ty, value, spot }),
-        _ => TExpr::widen(alloc, ty, e),
-    }
-}
-
 /// The expression, whose type is `from`, where one of type `ty` is wanted: widened where `from` widens to that one.
 pub fn widened_from(alloc: Global, ty: Ty, from: Ty, e: TExpr) -> Result<TExpr, Memory>
     ensures { IfOk result (λ r. texpr_tree r ≡ widened_of ty from (texpr_tree e)) }
 {
-    if widens(from, ty) {
-        as_type(alloc, ty, e)
-    } else {
-        Ok(e)
+    match (from, ty) {
+        (Ty::Int, Ty::Dint | Ty::Lint) | (Ty::Dint, Ty::Lint) => match e {
+            // A literal becomes one of the wider type.
+            TExpr::Lit { value, spot, .. } => Ok(TExpr::Lit { ty, value, spot }),
+            _ => TExpr::widen(alloc, ty, e),
+        },
+        _ => Ok(e),
     }
 }
 
