@@ -8,7 +8,7 @@ ghost use Rattle.st_lexer.specs.Reading.{IsInside};
 ghost use Rattle.st_tree.specs.Spelling.{bytes_in};
 ghost use Rattle.st_tree.specs.Expressions.{literal_of};
 ghost use Rattle.il_front.specs.Lines.{is_end_program as is_end_program_of, lines_of};
-ghost use Rattle.il_front.specs.Judging.{written_one as one_of, written_literal, written_negative as negative_of, takes as takes_of};
+ghost use Rattle.il_front.specs.Judging.{written_one as one_of, written_literal, written_negative as negative_of};
 ghost use Rattle.il_front.specs.Judging.{line_with, line_of as line_of_tokens, is_last_word as is_last_word_of};
 ghost use Rattle.il_front.specs.Writings.{goes_on as goes_on_of, AreWords, AreInside, InsideWriting, written_in, line_in};
 
@@ -156,18 +156,6 @@ fn written_two(m: Token, t: Token) -> Option<Writing>
     }
 }
 
-// NOT has no operand, and every other operator has one.
-fn takes(operator: Operator, operand: Writing) -> bool
-    ensures { (text : List ℕ) → result ≡ takes_of operator (written_in text operand) }
-{
-    match (operator, operand) {
-        (Operator::Complement, Writing::Nothing) => true,
-        (Operator::Complement, _) => false,
-        (_, Writing::Nothing) => false,
-        (_, _) => true,
-    }
-}
-
 // A line of an operator and an operand at these spots, where both are there and go together.
 fn formed(
     spot: Spot,
@@ -184,16 +172,18 @@ fn formed(
     let Some(operand) = operand else {
         return None;
     };
-    if takes(operator, operand) {
-        Some(FormedLine {
-            operator,
-            operand,
-            spot,
-            at,
-        })
-    } else {
-        None
+    match (operator, operand) {
+        // NOT has no operand, and every other operator has one.
+        (Operator::Complement, Writing::Nothing) => {}
+        (Operator::Complement, _) | (_, Writing::Nothing) => return None,
+        (_, _) => {}
     }
+    Some(FormedLine {
+        operator,
+        operand,
+        spot,
+        at,
+    })
 }
 
 /// The line that these tokens of the text are; none where they have no form of an instruction.

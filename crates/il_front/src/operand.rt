@@ -1,6 +1,6 @@
 //! What operands mean.
 
-ghost use Rattle.std.specs.Prelude.{◌≡◌, ◌≤◌, [], IfOk, ℤ, neg_ℤ, List, option_map, length};
+ghost use Rattle.std.specs.Prelude.{◌≡◌, ◌≤◌, [], IfOk, List, option_map, length};
 ghost use Rattle.vcp_base.specs.Limits.{most_names};
 ghost use Rattle.st_types.specs.ExprTyping.{literal_type as literal_type_of};
 ghost use Rattle.vcp_typed.specs.declared.slot.Slot.{Slot as SlotOf};
@@ -78,16 +78,6 @@ fn number(ty: Option<Ty>, value: i64) -> Option<Meant>
     }
 }
 
-// A literal without a type behind `-`; none where it is outside all types.
-fn negative(value: i64) -> Option<Meant>
-    ensures { result ≡ option_map (meant_number_of (neg_ℤ value)) (literal_type_of None (neg_ℤ value)) }
-{
-    match value.checked_neg() {
-        None => None,
-        Some(value) => number(None, value),
-    }
-}
-
 /// What a written operand means; none where its name is no variable, or its literal isn't in its type.
 pub fn meaning(text: &[u8], names: &Names, operand: Writing) -> Option<Meant>
     requires { InsideWriting text.now operand }
@@ -103,6 +93,9 @@ pub fn meaning(text: &[u8], names: &Names, operand: Writing) -> Option<Meant>
         }),
         Writing::Name(t) => variable(names, &text[t.from as usize..t.to as usize]),
         Writing::Number { ty, value } => number(ty, value),
-        Writing::Negative { value } => negative(value),
+        Writing::Negative { value } => match value.checked_neg() {
+            None => None,
+            Some(value) => number(None, value),
+        },
     }
 }

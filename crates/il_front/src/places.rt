@@ -3,7 +3,7 @@
 ghost use Rattle.std.specs.Prelude.{◌≡◌, ◌+◌, ◌≤◌, [], ◌∷◌, ◌++◌, cond};
 ghost use Rattle.vcp_base.specs.Limits.{most_names};
 ghost use Rattle.vcp_base.specs.declared.ty.Ty.TheVariants as ty_;
-ghost use Rattle.il_front.specs.TypedForm.{hidden_name as hidden_name_of, hidden_slot as hidden_slot_of, hidden_slots, all_types, uses as uses_of, used_by};
+ghost use Rattle.il_front.specs.TypedForm.{hidden_slot as hidden_slot_of, hidden_slots, all_types, uses as uses_of, used_by};
 ghost use Rattle.il_front.specs.Places.{used_in, place_in};
 ghost use Rattle.st_types.specs.Full.{UnlessFull};
 
@@ -78,18 +78,6 @@ impl Places {
     }
 }
 
-// The name of the variable that keeps a result of the type.
-fn hidden_name(ty: Ty) -> &'static [u8]
-    ensures { result.now ≡ hidden_name_of ty }
-{
-    match ty {
-        Ty::Bool => b"_acc_bool",
-        Ty::Int => b"_acc_int",
-        Ty::Dint => b"_acc_dint",
-        Ty::Lint => b"_acc_lint",
-    }
-}
-
 // Appends the variable that keeps a result of the type, where it is used.
 fn add_hidden(alloc: Global, slots: &mut Slots, used: bool, ty: Ty, full: &mut bool)
     ensures { UnlessFull full.old full.new
@@ -98,7 +86,13 @@ fn add_hidden(alloc: Global, slots: &mut Slots, used: bool, ty: Ty, full: &mut b
     if !used {
         return;
     }
-    match Text::copy_of(alloc, hidden_name(ty)) {
+    let name: &[u8] = match ty {
+        Ty::Bool => b"_acc_bool",
+        Ty::Int => b"_acc_int",
+        Ty::Dint => b"_acc_dint",
+        Ty::Lint => b"_acc_lint",
+    };
+    match Text::copy_of(alloc, name) {
         Ok(name) => match slots.push(Slot {
             name,
             spot: Spot { line: 0, col: 0 },

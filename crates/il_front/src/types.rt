@@ -1,7 +1,6 @@
 //! The types of results and operands.
 
-ghost use Rattle.std.specs.Prelude.{◌≡◌, option_map, Some, None};
-ghost use Rattle.vcp_typed.specs.Rules.{common as common_of, result as result_of};
+ghost use Rattle.std.specs.Prelude.{◌≡◌};
 ghost use Rattle.il_front.specs.Accumulator.{operand_type as type_of_operand};
 ghost use Rattle.il_front.specs.Judging.{if_bool as if_bool_of, type_behind as type_behind_of};
 ghost use Rattle.il_front.specs.Judging.{slot_in as slot_in_of, action_of as action_of_operator};
@@ -9,7 +8,6 @@ ghost use Rattle.il_front.specs.TypedForm.{next_type as next_type_of};
 
 use crate::instruction::{Action, Operand};
 use crate::operator::Operator;
-use st_tree::BinOp;
 use st_types::common;
 use vcp_base::{Ty, is_bool, within};
 use vcp_typed::result;
@@ -66,16 +64,6 @@ fn if_bool(must: bool, ty: Ty, then: Option<Ty>) -> Option<Ty>
     if must && !is_bool(ty) { None } else { then }
 }
 
-// The type of an operator's value, where it takes operands of these types.
-fn combined(op: BinOp, a: Ty, b: Ty) -> Option<Ty>
-    ensures { result ≡ option_map (result_of op) (common_of op a b) }
-{
-    match common(op, a, b) {
-        None => None,
-        Some(wide) => Some(result(op, wide)),
-    }
-}
-
 /// The type of the result behind an action; none where the action doesn't take the types.
 pub fn type_behind(ty: Ty, action: Action) -> Option<Ty>
     ensures { result ≡ type_behind_of ty action }
@@ -98,11 +86,14 @@ pub fn type_behind(ty: Ty, action: Action) -> Option<Ty>
             op,
             negated,
             operand,
-        } => if_bool(
-            negated,
-            operand_type(operand),
-            combined(op, ty, operand_type(operand)),
-        ),
+        } => {
+            let of = operand_type(operand);
+            let combined = match common(op, ty, of) {
+                None => None,
+                Some(wide) => Some(result(op, wide)),
+            };
+            if_bool(negated, of, combined)
+        }
     }
 }
 
