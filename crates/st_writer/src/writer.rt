@@ -82,23 +82,16 @@ impl Writer {
         self.prefix(ty).put(Buffer::new().format(value).as_bytes())
     }
 
-    // Writes a literal of BOOL.
-    fn truth(self, value: i64) -> Writer
-        ensures { Adds self result (lexeme.truth value ∷ []) }
-    {
-        match value {
-            0 => self.put(b"FALSE"),
-            1 => self.put(b"TRUE"),
-            _ => self.number(Some(Ty::Bool), value),
-        }
-    }
-
     /// Writes a literal.
     pub fn literal(self, ty: Option<Ty>, value: i64) -> Writer
         ensures { Adds self result (lexeme.literal ty value ∷ []) }
     {
         match ty {
-            Some(Ty::Bool) => self.truth(value),
+            Some(Ty::Bool) => match value {
+                0 => self.put(b"FALSE"),
+                1 => self.put(b"TRUE"),
+                _ => self.number(ty, value),
+            },
             Some(Ty::Int | Ty::Dint | Ty::Lint) | None => self.number(ty, value),
         }
     }
