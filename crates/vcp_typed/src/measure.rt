@@ -1,8 +1,7 @@
 //! The Size of a checked program, up to the first that is too large, and whether it has values of LINT: one walk finds both.
 
-ghost use Rattle.std.specs.Prelude.{◌≡◌, ◌≤◌, ◌<◌, ◌+◌, ◌*◌, ◌||◌, false, sum_by};
+ghost use Rattle.std.specs.Prelude.{◌≡◌, ◌<◌, ◌+◌, ◌*◌, ◌||◌, false, sum_by};
 ghost use Rattle.std.specs.List.{list_any};
-ghost use Rattle.vcp_base.specs.Limits.{most_size};
 ghost use Rattle.vcp_typed.specs.Measures.{Grows};
 ghost use Rattle.vcp_typed.specs.Size.{cut, operator_size, function_size, expr_size, exprs_size, label_size, stmt_size, stmts_size, arms_size, branches_size};
 ghost use Rattle.vcp_typed.specs.Size.{other_size, section_size, size};
@@ -54,7 +53,8 @@ fn repeated(turns: u128, body: u32) -> u32
     if turns == 0 {
         2
     } else {
-        times(turns, plus(2, body))
+        let turns = turns.min(u128::from(TOO_LARGE)) as u32;
+        (u64::from(turns) * u64::from(plus(2, body))).min(u64::from(TOO_LARGE)) as u32
     }
 }
 
@@ -63,15 +63,6 @@ fn plus(a: u32, b: u32) -> u32
     ensures { result ≡ cut (a + b) }
 {
     a.saturating_add(b).min(TOO_LARGE)
-}
-
-/// A Size so many times, cut at the first that is too large.
-fn times(n: u128, a: u32) -> u32
-    requires { a ≤ most_size + 1 }
-    ensures { result ≡ cut (n * a) }
-{
-    let n = n.min(u128::from(TOO_LARGE)) as u32;
-    (u64::from(n) * u64::from(a)).min(u64::from(TOO_LARGE)) as u32
 }
 
 fn operator_size(op: BinOp) -> u32

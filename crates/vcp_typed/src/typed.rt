@@ -2,7 +2,7 @@
 
 ghost use Rattle.std.specs.Prelude.{◌≡◌, [], ◌∷◌, ◌++◌, IfOk, OnOk};
 ghost use Rattle.vcp_typed.specs.Checked.{IsChecked};
-ghost use Rattle.vcp_typed.specs.Fitting.{columns_in, input_columns, is_of, output_columns as output_columns_of};
+ghost use Rattle.vcp_typed.specs.Fitting.{columns_in, input_columns, output_columns as output_columns_of};
 ghost use Rattle.vcp_typed.specs.Size.{size};
 ghost use Rattle.vcp_typed.specs.Wide.{wide};
 ghost use Rattle.vcp_typed.specs.TStmtViews.{tstmt_trees};
@@ -122,17 +122,6 @@ impl Typed {
     }
 }
 
-/// Whether the section is the wanted one, that of inputs or of outputs.
-fn is_of(wanted: Section, section: Section) -> bool
-    ensures { result ≡ is_of wanted section }
-{
-    match wanted {
-        Section::Input => matches!(section, Section::Input),
-        Section::Output => matches!(section, Section::Output),
-        _ => false,
-    }
-}
-
 /// The columns of the inputs, or of the outputs, among the slots.
 fn columns_of(alloc: Global, slots: &[Slot], wanted: Section) -> Result<Columns, Memory>
     ensures { IfOk result (λ columns. columns ≡ columns_in wanted slots.now) }
@@ -153,12 +142,13 @@ fn add_column(
 ) -> Result<(), Memory>
     ensures { OnOk result (columns.new ≡ columns.old ++ columns_in wanted (slot.now ∷ [])) }
 {
-    if is_of(wanted, slot.section) {
-        columns.push(Column {
-            name: Text::copy_of(alloc, slot.name.bytes())?,
-            ty: slot.ty,
-        })
-    } else {
-        Ok(())
+    match (wanted, slot.section) {
+        (Section::Input, Section::Input) | (Section::Output, Section::Output) => {
+            columns.push(Column {
+                name: Text::copy_of(alloc, slot.name.bytes())?,
+                ty: slot.ty,
+            })
+        }
+        _ => Ok(()),
     }
 }
