@@ -134,23 +134,20 @@ fn go_on(
         (spec.whole_before (goes t.tok) (view.forms forms.old.items) (expr_tree have))
         (spec.go_on (goes t.tok) (view.forms forms.old.items) (expr_tree have) t) }
 {
-    match goes_by(t.tok) {
-        Goes::Joins(op) => match close(alloc, forms, level_of(op), have) {
-            Ok(left) => opens(forms, Form::Left(op, left, t.spot)),
-            Err(Memory) => Err(SyntaxFault::Memory),
-        },
-        Goes::Closes => match close(alloc, forms, ANY_LEVEL, have) {
-            Ok(e) => close_at(forms, e, t),
-            Err(Memory) => Err(SyntaxFault::Memory),
-        },
-        Goes::Parts => match close(alloc, forms, ANY_LEVEL, have) {
-            Ok(e) => part_at(forms, e, t),
-            Err(Memory) => Err(SyntaxFault::Memory),
-        },
-        Goes::Ends => match close(alloc, forms, ANY_LEVEL, have) {
-            Ok(e) => end_at(forms, e, t),
-            Err(Memory) => Err(SyntaxFault::Memory),
-        },
+    let goes = goes_by(t.tok);
+    let level = match goes {
+        Goes::Joins(op) => level_of(op),
+        Goes::Closes | Goes::Parts | Goes::Ends => ANY_LEVEL,
+    };
+    let whole = match close(alloc, forms, level, have) {
+        Ok(e) => e,
+        Err(Memory) => return Err(SyntaxFault::Memory),
+    };
+    match goes {
+        Goes::Joins(op) => opens(forms, Form::Left(op, whole, t.spot)),
+        Goes::Closes => close_at(forms, whole, t),
+        Goes::Parts => part_at(forms, whole, t),
+        Goes::Ends => end_at(forms, whole, t),
     }
 }
 
