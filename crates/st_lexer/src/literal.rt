@@ -105,24 +105,15 @@ fn plain(ty: Option<Ty>, run: &[u8]) -> Option<u64>
     }
 }
 
-fn takes_sign(ty: Option<Ty>) -> bool
-    ensures { result ≡ spec.takes_sign ty }
-{
-    match ty {
-        Some(Ty::Int) => true,
-        Some(Ty::Dint) => true,
-        Some(Ty::Lint) => true,
-        Some(Ty::Bool) => false,
-        None => false,
-    }
-}
-
 // Whether the text, behind a prefix, begins with a sign that belongs to the literal.
 fn is_signed(ty: Option<Ty>, rest: &[u8]) -> bool
     ensures { result ≡ spec.signed ty rest.now }
 {
     let first = first(rest);
-    takes_sign(ty) && (first == b'+' || first == b'-')
+    match ty {
+        Some(Ty::Int | Ty::Dint | Ty::Lint) => first == b'+' || first == b'-',
+        Some(Ty::Bool) | None => false,
+    }
 }
 
 // The longest run at the front.
@@ -136,17 +127,6 @@ fn run(rest: &[u8]) -> &[u8]
     front(rest, n)
 }
 
-fn with_sign(sign: u8, number: u64) -> i64
-    requires { number < 2 ^ 63 }
-    ensures { result ≡ spec.with_sign sign number }
-{
-    if sign == b'-' {
-        -(number as i64)
-    } else {
-        number as i64
-    }
-}
-
 // The literal behind a sign that belongs to it.
 #[tactic(auto, unfolding(crate::specs::Literals::literal_at))]
 fn signed_literal(ty: Option<Ty>, rest: &[u8]) -> Option<Literal>
@@ -155,10 +135,14 @@ fn signed_literal(ty: Option<Ty>, rest: &[u8]) -> Option<Literal>
 {
     let run = run(behind(rest, 1));
     match digits(10, run) {
-        Some(number) => Some(Literal {
-            value: with_sign(first(rest), number),
-            len: run.len() + 1,
-        }),
+        Some(number) => {
+            let number = number as i64;
+            let value = if first(rest) == b'-' { -number } else { number };
+            Some(Literal {
+                value,
+                len: run.len() + 1,
+            })
+        }
         None => None,
     }
 }

@@ -1,13 +1,11 @@
 //! What is at a place of a text.
 
-ghost use Rattle.std.specs.Prelude.{◌≡◌, ◌==◌, ◌&&◌, ◌∷◌, ◌+◌, ◌<◌, ◌≤◌, ℕ, length, take, IfSome, IfNone, Some, None};
+ghost use Rattle.std.specs.Prelude.{◌≡◌, ◌∷◌, ◌+◌, ◌<◌, ◌≤◌, ℕ, length, take, IfSome, IfNone, Some, None};
 ghost use Rattle.std.specs.List.{prefix_len};
 ghost use Rattle.std.specs.Str.{str_eq_ignore_ascii_case};
 ghost use Rattle.vcp_base.specs.Names.{is_letter_or_digit as is_word_byte};
-ghost use Rattle.st_lexer.specs.Literals.{prefix};
 ghost use Rattle.st_lexer.specs.Spots.{is_not_lf};
-ghost use Rattle.st_lexer.specs.Symbols.{all_symbols, symbol_among, begins as begins_with};
-ghost use Rattle.st_lexer.specs.declared.piece.Opening.TheVariants.{Comment, Word, Literal};
+ghost use Rattle.st_lexer.specs.declared.piece.Opening.TheVariants.{Literal};
 ghost use Rattle.st_lexer.specs.Pieces as pieces;
 ghost use Rattle.st_lexer.specs.Reading as spec;
 
@@ -47,12 +45,6 @@ pub enum Found {
     Refused(Reason),
 }
 
-fn is_blank(b: u8) -> bool
-    ensures { result ≡ spec.is_blank b }
-{
-    b == b' ' || b == b'\t' || b == b'\r' || b == b'\n'
-}
-
 // Whether the text begins with the word, without regard to case.
 fn begins(rest: &[u8], word: &[u8]) -> bool
     ensures { result ≡ str_eq_ignore_ascii_case (take (length word.now) rest.now) word.now }
@@ -78,53 +70,15 @@ fn type_at(rest: &[u8]) -> Option<Ty>
     }
 }
 
-// How many bytes stand before a literal of the type.
-fn prefix_len_of(ty: Option<Ty>) -> usize
-    ensures value { result ≡ length (prefix ty) }
-    ensures small { result ≤ 5 }
-{
-    match ty {
-        None => 0,
-        Some(Ty::Bool) => 5,
-        Some(Ty::Int) => 4,
-        Some(Ty::Dint) => 5,
-        Some(Ty::Lint) => 5,
-    }
-}
-
-fn word_opening(rest: &[u8]) -> Opening
-    ensures { result ≡ pieces.word_opening (pieces.type_at rest.now) }
-{
-    match type_at(rest) {
-        Some(ty) => Opening::Literal(Some(ty)),
-        None => Opening::Word,
-    }
-}
-
-fn symbol_opening(rest: &[u8]) -> Opening
-    ensures { result ≡ pieces.symbol_opening (symbol_among all_symbols rest.now) }
-{
-    match symbol_of(rest) {
-        Some(symbol) => Opening::Symbol(symbol),
-        None => Opening::Nothing,
-    }
-}
-
-fn begins_order_mark(at: usize, rest: &[u8]) -> bool
-    ensures { result ≡ (begins_with spec.order_mark rest.now && at == 0) }
-{
-    rest.starts_with(&[0xef, 0xbb, 0xbf]) && at == 0
-}
-
 /// What begins at place `at` of a text; `rest` is the text from there on.
 #[tactic(auto, unfolding(crate::specs::Pieces::opening))]
 fn opening_at(at: usize, rest: &[u8]) -> Opening
     ensures { result ≡ pieces.opening at rest.now }
 {
     let first = first(rest);
-    if is_blank(first) {
+    if first == b' ' || first == b'\t' || first == b'\r' || first == b'\n' {
         Opening::Blank
-    } else if begins_order_mark(at, rest) {
+    } else if rest.starts_with(&[0xef, 0xbb, 0xbf]) && at == 0 {
         Opening::OrderMark
     } else if rest.starts_with(b"(*") {
         Opening::Comment(b')')
@@ -133,13 +87,19 @@ fn opening_at(at: usize, rest: &[u8]) -> Opening
     } else if rest.starts_with(b"//") {
         Opening::LineComment
     } else if is_letter(first) {
-        word_opening(rest)
+        match type_at(rest) {
+            Some(ty) => Opening::Literal(Some(ty)),
+            None => Opening::Word,
+        }
     } else if first.is_ascii_digit() {
         Opening::Literal(None)
     } else if first == b'&' {
         Opening::Ampersand
     } else {
-        symbol_opening(rest)
+        match symbol_of(rest) {
+            Some(symbol) => Opening::Symbol(symbol),
+            None => Opening::Nothing,
+        }
     }
 }
 
@@ -178,26 +138,15 @@ fn comment_end(last: u8, rest: &[u8]) -> Option<usize>
     None
 }
 
-fn comment_piece(last: u8, rest: &[u8]) -> Found
-    ensures { pieces.Finds (Comment last) rest.now result }
-{
-    match comment_end(last, rest) {
-        Some(n) => Found::Piece(None, n),
-        None => Found::Refused(Reason::Comment),
-    }
-}
-
-fn word_piece(rest: &[u8]) -> Found
-    ensures { pieces.Finds Word rest.now result }
-{
-    let n = word_len(rest);
-    Found::Piece(Some(word_token(front(rest, n))), n)
-}
-
 fn literal_piece(ty: Option<Ty>, rest: &[u8]) -> Found
     ensures { pieces.Finds (Literal ty) rest.now result }
 {
-    let skipped = prefix_len_of(ty);
+    // The type with its `#`.
+    let skipped = match ty {
+        None => 0,
+        Some(Ty::Int) => 4,
+        Some(Ty::Bool | Ty::Dint | Ty::Lint) => 5,
+    };
     match literal_at(ty, behind(rest, skipped)) {
         Some(literal) => {
             let value = literal.value;
@@ -213,9 +162,15 @@ fn found_at(at: usize, rest: &[u8]) -> Found
     match opening_at(at, rest) {
         Opening::Blank => Found::Piece(None, 1),
         Opening::OrderMark => Found::Piece(None, 3),
-        Opening::Comment(last) => comment_piece(last, rest),
+        Opening::Comment(last) => match comment_end(last, rest) {
+            Some(n) => Found::Piece(None, n),
+            None => Found::Refused(Reason::Comment),
+        },
         Opening::LineComment => Found::Piece(None, line_len(rest)),
-        Opening::Word => word_piece(rest),
+        Opening::Word => {
+            let n = word_len(rest);
+            Found::Piece(Some(word_token(front(rest, n))), n)
+        }
         Opening::Literal(ty) => literal_piece(ty, rest),
         Opening::Ampersand => Found::Piece(Some(Tok::Key(Key::And)), 1),
         Opening::Symbol(symbol) => Found::Piece(Some(Tok::Sym(symbol)), spelling(symbol).len()),
