@@ -3,7 +3,7 @@
 ghost use Rattle.std.specs.Prelude.{◌≡◌, ◌<◌, length, slice_get};
 ghost use Rattle.std.specs.Option.{option_to_list};
 ghost use Rattle.vcp_base.specs.Spellings.{kinds};
-ghost use Rattle.fault_sites.specs.Sites.{reads as reads_of, from_one, operator_one};
+ghost use Rattle.fault_sites.specs.Sites.{from_one, operator_one};
 ghost use Rattle.fault_sites.specs.Acts.{act_at, columns as columns_of_class, rows as rows_of_class};
 
 use crate::class::Class;
@@ -16,23 +16,18 @@ use vcp_base::{Kind, kind_code, kind_of_code, operand_type, operands, within};
 /// How many kinds there are.
 pub const KINDS: u8 = 19;
 
-/// Whether operand `j` is the word of operation `r`. A LOAD reads its cell, and no operation.
-fn reads(op: &Op, j: u32, r: u32) -> bool
-    ensures { result ≡ reads_of op.now j r }
-{
-    match op.kind {
-        Kind::Load => false,
-        _ => named(op, j) == r,
-    }
-}
-
 /// Operand `j` as the word of operation `r`, where that may take its place: its type goes there, and it isn't the one that is read anyway.
 pub fn from_of(graph: &Graph, op: &Op, j: u32, r: u32) -> Option<Act>
     requires { r < length graph.now.operations }
     ensures { from_one op.now j r (slice_get graph.now.operations r) ≡ option_to_list result }
 {
     let source = graph.operation(r);
-    if within(source.ty, operand_type(op.kind, j, op.from)) && !reads(op, j, r) {
+    // A LOAD reads its cell, and no operation.
+    let reads = match op.kind {
+        Kind::Load => false,
+        _ => named(op, j) == r,
+    };
+    if within(source.ty, operand_type(op.kind, j, op.from)) && !reads {
         Some(Act::OperandFrom { j, r })
     } else {
         None

@@ -48,7 +48,6 @@ pub use named::{
     meaning, operation_named, write_script,
 };
 pub use next_word::next_is;
-pub use nowhere::Nowhere;
 pub use part::Part;
 pub use reading::Reading;
 pub use rests::is_out;

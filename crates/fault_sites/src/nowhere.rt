@@ -6,7 +6,7 @@ use vcp_outside::{Failed, Sink};
 
 /// Takes all that is written, and keeps nothing of it: what would be written is looked at before it is. It takes no memory, and never fails.
 #[derive(Drop)]
-pub struct Nowhere {}
+pub(crate) struct Nowhere {}
 
 impl Sink for Nowhere {
     ghost seen = { λ _. record { written = None; faults = 0 } };

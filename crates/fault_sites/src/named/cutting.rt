@@ -1,28 +1,18 @@
 //! What single words write.
 
-ghost use Rattle.std.specs.Prelude.{◌≡◌, ◌==◌, ◌≤◌, length, option_map};
-ghost use Rattle.std.specs.List.{position_or_len};
+ghost use Rattle.std.specs.Prelude.{◌≡◌, option_map};
 ghost use Rattle.fault_sites.specs.NamedWords.{cut, spot_of};
 
 use fault_script::index_number;
 use memchr::memchr;
 use vcp_base::Spot;
 
-/// How many bytes are before the first such byte, or in the whole word.
-#[tactic(auto, using(vcp_base::proofs::Firsts::first_place))]
-fn front_length(word: &[u8], byte: u8) -> usize
-    ensures place { result ≡ position_or_len (λ b. b == byte) word.now }
-    ensures bound { result ≤ length word.now }
-{
-    memchr(byte, word).unwrap_or(word.len())
-}
-
 /// What is before and behind the first such byte of a word.
-#[tactic(auto, using(crate::proofs::Cuts::cut_is, crate::proofs::Cuts::no_cut))]
+#[tactic(auto, using(vcp_base::proofs::Firsts::first_place, crate::proofs::Cuts::cut_is, crate::proofs::Cuts::no_cut))]
 pub(crate) fn cut_at(word: &[u8], byte: u8) -> Option<(&[u8], &[u8])>
     ensures { option_map (λ r. (r.0.now, r.1.now)) result ≡ cut byte word.now }
 {
-    let place = front_length(word, byte);
+    let place = memchr(byte, word).unwrap_or(word.len());
     if place == word.len() {
         return None;
     }

@@ -4,11 +4,10 @@ ghost use Rattle.std.specs.Prelude.{◌≡◌, ◌<◌, length};
 ghost use Rattle.vcp_base.specs.Words.{words as words_of};
 ghost use Rattle.fault_sites.specs.Sites.{adding as adding_of};
 ghost use Rattle.fault_sites.specs.NamedLines.{act_of, acts_of, ended as ended_of};
-ghost use Rattle.fault_sites.specs.NamedLines.{meant_of, flips_of};
-ghost use Rattle.fault_sites.specs.declared.named.when.Ending.TheVariants as ending;
+ghost use Rattle.fault_sites.specs.NamedLines.{meant_of};
 
 use crate::named::doing::{Doing, Target, take_doing, take_target};
-use crate::named::fitting::unfit_acts;
+use crate::named::fitting::unfit;
 use crate::named::refused::Why;
 use crate::named::when::{Ending, Span, is_together, take_ending, when};
 use crate::power;
@@ -68,27 +67,16 @@ fn act(doing: Doing, place: Option<u32>) -> Option<Act>
     }
 }
 
-/// The acts of `flip` of a bit.
-fn flips(place: Option<u32>, b: u32) -> Option<Acts>
-    ensures { result ≡ flips_of place (ending.Bit b) }
-{
-    if b < 62 {
-        Some(Acts {
-            act: adding(place, power(b)),
-            other: Some(adding(place, -power(b))),
-        })
-    } else {
-        None
-    }
-}
-
 /// The acts of a line.
 fn acts_said(doing: Doing, place: Option<u32>, ending: Ending) -> Option<Acts>
     ensures { result ≡ acts_of doing place ending }
 {
     match ending {
         Ending::Bit { b } => match doing {
-            Doing::Flip => flips(place, b),
+            Doing::Flip if b < 62 => Some(Acts {
+                act: adding(place, power(b)),
+                other: Some(adding(place, -power(b))),
+            }),
             _ => None,
         },
         Ending::Alone | Ending::Together => match act(doing, place) {
@@ -112,20 +100,21 @@ fn ended(
     let Some(acts) = acts_said(doing, target.operand, ending) else {
         return Err(Why::Form);
     };
-    match unfit_acts(
-        graph.operation(target.op).kind,
-        target.op,
-        span.first,
-        &acts,
-    ) {
-        Some(why) => Err(why),
-        None => Ok(Meant {
-            op: target.op,
-            span,
-            together: is_together(ending),
-            acts,
-        }),
+    let kind = graph.operation(target.op).kind;
+    if let Some(why) = unfit(kind, target.op, span.first, &acts.act) {
+        return Err(why);
     }
+    if let Some(other) = acts.other
+        && let Some(why) = unfit(kind, target.op, span.first, &other)
+    {
+        return Err(why);
+    }
+    Ok(Meant {
+        op: target.op,
+        span,
+        together: is_together(ending),
+        acts,
+    })
 }
 
 /// What a line means, or why it is refused.
