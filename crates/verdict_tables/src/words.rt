@@ -1,7 +1,6 @@
 //! Which verdict the words of a line may mean.
 
 ghost use Rattle.std.specs.Prelude.{◌≡◌, ◌<◌, IfSome, length};
-ghost use Rattle.fault_script.specs.Forms.{number_below};
 ghost use Rattle.fault_injector.specs.Names.{Names};
 ghost use Rattle.verdict_tables.specs.Outcome.{numbers_of, named_then, output_named, shown_of, stop_of};
 ghost use Rattle.verdict_tables.specs.Outcome.{stopped_of, ran_on_of, meant as meant_of};
@@ -127,21 +126,6 @@ fn stop(word: &[u8]) -> Option<StopKind>
     None
 }
 
-/// The operation of a graph whose number a word writes.
-fn operation_number(graph: &Graph, word: &[u8]) -> Option<u32>
-    ensures value { result ≡ number_below (length graph.now.operations) word.now }
-    ensures there { IfSome result (λ n. n < length graph.now.operations) }
-{
-    match numeral(word) {
-        Some(number) => if number < graph.len() as u64 {
-            Some(number as u32)
-        } else {
-            None
-        },
-        None => None,
-    }
-}
-
 /// The words behind `stopped`: for the cycle, the operation and the kind.
 fn stopped(graph: &Graph, words: &mut WordsLeft<'_>) -> Option<Verdict>
     ensures value { result ≡ stopped_of graph.now words.old }
@@ -159,11 +143,18 @@ fn stopped(graph: &Graph, words: &mut WordsLeft<'_>) -> Option<Verdict>
     let Some(cycle) = cycle_number(n) else {
         return None;
     };
-    let Some(op) = operation_number(graph, k) else {
+    let Some(op) = numeral(k) else {
         return None;
     };
+    if op >= graph.len() as u64 {
+        return None;
+    }
     match stop(why) {
-        Some(kind) => Some(Verdict::Stopped { cycle, op, kind }),
+        Some(kind) => Some(Verdict::Stopped {
+            cycle,
+            op: op as u32,
+            kind,
+        }),
         None => None,
     }
 }

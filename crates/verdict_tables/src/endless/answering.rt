@@ -2,15 +2,13 @@
 
 ghost use Rattle.std.specs.Prelude.{◌≡◌, ◌<◌, ◌≤◌, ◌==◌, ◌&&◌, Some, length, slice_get};
 ghost use Rattle.vcp_base.specs.Limits.{most_cycles, most_operations};
-ghost use Rattle.coded_unit.specs.Asked.{Asked};
 ghost use Rattle.signature_table.specs.Signatures.{IsTableOf};
 ghost use Rattle.fault_script.specs.Changes.{acts_of};
-ghost use Rattle.fault_injector.specs.Scripts.{right_by};
 ghost use Rattle.verdict_tables.specs.AnswersOver.{next_answer as next_answer_of};
 ghost use Rattle.verdict_tables.specs.Begun.{setting, acts, past};
 
 use coded_machine::{Setting, call_after};
-use coded_unit::{Answer, Call, Word, table};
+use coded_unit::{Answer, table};
 use fault_injector::{Past, answered, changed, taken};
 use fault_script::{Act, Fault, Group};
 use op_graph::Op;
@@ -46,18 +44,7 @@ fn act_at(group: &Group, cycle: u32, op: u32) -> Option<Act>
     None
 }
 
-/// The right answer to a call, but for the change of an act that takes this word.
-fn right_answer(act: &Option<Act>, word: &Word, call: &Call) -> Answer
-    requires { Asked call.now }
-    ensures { result ≡ right_by act.now word.now call.now }
-{
-    match act {
-        Some(act) => answered(act, word, &table::answer(&changed(act, word, call))),
-        None => table::answer(call),
-    }
-}
-
-/// The answer of operation `op`, which comes behind these answers.
+/// The answer of operation `op`, which comes behind these answers: the right one, but for the change of an act that is there.
 pub(crate) fn next_answer(b: &Begun<'_>, op: &Op, own: &[Answer]) -> Answer
     requires here { slice_get b.now.setting.graph.now.operations (length own.now) ≡ Some op.now }
     requires few { length own.now ≤ most_operations }
@@ -68,5 +55,8 @@ pub(crate) fn next_answer(b: &Begun<'_>, op: &Op, own: &[Answer]) -> Answer
     let act = act_at(b.group, b.setting.cycle, own.len() as u32);
     let word = taken(&b.past, own, op, &act);
     let call = call_after(&b.setting, op, own);
-    right_answer(&act, &word, &call)
+    match &act {
+        Some(act) => answered(act, &word, &table::answer(&changed(act, &word, &call))),
+        None => table::answer(&call),
+    }
 }

@@ -5,7 +5,7 @@ ghost use Rattle.vcp_base.specs.Limits.{most_cycles};
 ghost use Rattle.signature_table.specs.Signatures.{IsTableOf};
 ghost use Rattle.fault_script.specs.Changes.{acts_of};
 ghost use Rattle.verdict_tables.specs.AnswersOver.{held_at_end};
-ghost use Rattle.verdict_tables.specs.Endings.{words_differ as words_differ_of, ending_by as ending_by_of, ending_of};
+ghost use Rattle.verdict_tables.specs.Endings.{words_differ as words_differ_of, ending_of};
 
 use crate::endless::run::run_group;
 use coded_unit::Word;
@@ -39,17 +39,6 @@ fn words_differ(words: &[Word], others: &[Word]) -> bool
     false
 }
 
-/// The ending of a group that is reached or not, where the words of the cells differ at the end or not.
-fn ending_by(reached: bool, differs: bool) -> SameEnding
-    ensures { result ≡ ending_by_of reached differs }
-{
-    match (reached, differs) {
-        (false, _) => SameEnding::NeverReached,
-        (true, false) => SameEnding::DiedOut,
-        (true, true) => SameEnding::Stands,
-    }
-}
-
 /// How the run over rows with a group of faults ends beside the run without, of which `without` are the words of the cells at its end, as `words_left`
 /// gives them. `Memory` where there is no room for the work of a run.
 ///
@@ -71,7 +60,11 @@ pub fn group_ending(
     ensures { IfOk result (λ e. e ≡ ending_of table.now graph.now group.now rows.now) }
 {
     match run_group(alloc, graph, table, rows, group) {
-        Ok(work) => Ok(ending_by(work.reached, words_differ(&work.held, without))),
+        Ok(work) => Ok(match (work.reached, words_differ(&work.held, without)) {
+            (false, _) => SameEnding::NeverReached,
+            (true, false) => SameEnding::DiedOut,
+            (true, true) => SameEnding::Stands,
+        }),
         Err(Memory) => Err(Memory),
     }
 }
