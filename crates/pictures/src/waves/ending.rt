@@ -2,7 +2,7 @@
 
 ghost use Rattle.std.specs.Prelude.{◌≡◌, codes, option_map, option_and_then};
 ghost use Rattle.std.specs.Option.{is_some};
-ghost use Rattle.pictures.specs.Ending.{rest_behind as rest_behind_of, rest_behind_number as rest_behind_number_of, is_end as is_end_of};
+ghost use Rattle.pictures.specs.Ending.{rest_behind as rest_behind_of, rest_behind_number as rest_behind_number_of};
 ghost use Rattle.pictures.specs.Ending.{mark_of as mark_of_text};
 
 use itoa::Buffer;
@@ -45,16 +45,6 @@ fn rest_behind_number<'a>(word: &[u8], n: u32, text: &'a [u8]) -> Option<&'a [u8
     }
 }
 
-// Whether the text is the end of a run over so many rows.
-fn is_end(rows: u32, text: &[u8]) -> bool
-    ensures { result ≡ is_end_of rows text.now }
-{
-    match rest_behind_number(b"end ", rows, text) {
-        Some(rest) => rest.is_empty(),
-        None => false,
-    }
-}
-
 // Whether the text begins with the word, the number and a space.
 fn is_numbered(word: &[u8], n: u32, text: &[u8]) -> bool
     ensures { result ≡ is_some (option_and_then (rest_behind_of (codes " ")) (rest_behind_number_of word.now n text.now)) }
@@ -70,7 +60,9 @@ fn is_numbered(word: &[u8], n: u32, text: &[u8]) -> bool
 pub(crate) fn mark_of(cycle: u32, text: &[u8]) -> Option<Mark>
     ensures { result ≡ mark_of_text cycle text.now }
 {
-    if is_end(cycle, text) {
+    if let Some(rest) = rest_behind_number(b"end ", cycle, text)
+        && rest.is_empty()
+    {
         return Some(Mark::Ended);
     }
     if is_numbered(b"stop ", cycle, text) {
