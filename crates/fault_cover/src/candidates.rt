@@ -3,7 +3,7 @@
 ghost use Rattle.std.specs.Option.{option_to_list};
 ghost use Rattle.std.specs.Prelude.{◌≡◌, ◌<◌, ◌+◌, ◌^◌, ◌-◌, cond, length, map, slice_get};
 ghost use Rattle.op_graph.specs.Rules.{is_out as is_out_of};
-ghost use Rattle.fault_cover.specs.Candidates.{addition as addition_of, candidate as candidate_of, columns as columns_of, rows as rows_of};
+ghost use Rattle.fault_cover.specs.Candidates.{candidate as candidate_of, columns as columns_of, rows as rows_of};
 ghost use Rattle.fault_cover.specs.Classes.{late_one};
 ghost use Rattle.fault_cover.specs.Sources.{readings};
 ghost use Rattle.fault_cover.specs.Surveys.{IsMapped};
@@ -58,17 +58,6 @@ pub(crate) fn columns(graph: &Graph, survey: &Survey, class: CoverClass, k: u32,
     }
 }
 
-/// A number is added to the result, or to an operand.
-fn addition(j: u32) -> Disturbance
-    ensures { result ≡ addition_of j }
-{
-    if j == 0 {
-        Disturbance::AddToResult
-    } else {
-        Disturbance::AddToOperand { j: j - 1 }
-    }
-}
-
 /// An act that may be there.
 fn does(act: Option<Act>) -> Option<Disturbance>
     ensures { option_to_list result ≡ map disturbance.Does (option_to_list act) }
@@ -110,7 +99,8 @@ pub(crate) fn candidate(
     ensures { candidate_of class graph.now k op.now j i ≡ option_to_list result }
 {
     match class {
-        CoverClass::Add => Some(addition(j)),
+        CoverClass::Add if j == 0 => Some(Disturbance::AddToResult),
+        CoverClass::Add => Some(Disturbance::AddToOperand { j: j - 1 }),
         CoverClass::Rest => Some(Disturbance::AddToRest { right: i + 1 }),
         CoverClass::Stale => Some(Disturbance::Does(Act::OperandStale { j })),
         CoverClass::Skip => Some(Disturbance::Does(Act::Skip)),

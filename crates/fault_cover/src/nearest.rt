@@ -4,7 +4,7 @@
 //! so far, one border further. So it ends behind as many borders as there are cells, and says what is reached across any number.
 
 ghost use Rattle.std.specs.Option.{is_some, is_none};
-ghost use Rattle.std.specs.Prelude.{◌≡◌, ◌≢◌, ◌+◌, ◌<◌, ◌≤◌, ◌^◌, ◌&&◌, ℕ, List, Bool, true, false, Some, length, IfOk, slice_get};
+ghost use Rattle.std.specs.Prelude.{◌≡◌, ◌≢◌, ◌+◌, ◌<◌, ◌^◌, ◌&&◌, ℕ, List, Bool, true, false, Some, length, IfOk, slice_get};
 ghost use Rattle.op_graph.specs.declared.op.Op.{Op as Operation};
 ghost use Rattle.fault_cover.specs.declared.nearest.Nearest.{Nearest as Found};
 ghost use Rattle.op_graph.specs.Reads.{named, Reads};
@@ -125,24 +125,6 @@ fn sweep(graph: &Graph, found: &mut [Option<Nearest>])
     }
 }
 
-/// What is found, where it is across no more borders than these.
-fn found_within(near: Option<Nearest>, borders: u32) -> Option<Nearest>
-    ensures value { result ≡ up_to borders near }
-    ensures few { (n : Found) → result ≡ Some n → n.borders ≤ borders }
-{
-    match near {
-        None => None,
-        Some(found) => if found.borders <= borders { near } else { None },
-    }
-}
-
-/// Whether the first isn't there, and the second is.
-fn is_first(one: Option<Nearest>, other: Option<Nearest>) -> bool
-    ensures { result ≡ (is_none one && is_some other) }
-{
-    one.is_none() && other.is_some()
-}
-
 /// Hands what is reached from the LOAD of a cell on to its STORE, across one border more; whether nothing was found there before. What is reached
 /// across more than so many borders was found meanwhile, and is passed over.
 fn cross(cell: &Cell, borders: u32, found: &mut [Option<Nearest>]) -> bool
@@ -154,8 +136,12 @@ fn cross(cell: &Cell, borders: u32, found: &mut [Option<Nearest>]) -> bool
     ensures other { (k : ℕ) → k ≢ cell.now.store → kept found.new k ≡ kept found.old k }
     ensures first { result ≡ (is_none (kept found.old cell.now.store) && is_some (up_to borders (kept found.old cell.now.load))) }
 {
-    let load = found_within(found[cell.load as usize], borders);
-    let first = is_first(found[cell.store as usize], load);
+    let near = found[cell.load as usize];
+    let load = match near {
+        Some(at) if at.borders <= borders => near,
+        _ => None,
+    };
+    let first = found[cell.store as usize].is_none() && load.is_some();
     offer(found, cell.store, further(load, 1));
     first
 }
