@@ -9,7 +9,7 @@ ghost use Rattle.fault_sites.specs.NamedLines.{meant_of};
 use crate::named::doing::{Doing, Target, take_doing, take_target};
 use crate::named::fitting::unfit;
 use crate::named::refused::Why;
-use crate::named::when::{Ending, Span, is_together, take_ending, when};
+use crate::named::when::{Ending, Span, take_ending, when};
 use crate::power;
 use fault_script::Act;
 use op_graph::Graph;
@@ -112,7 +112,7 @@ fn ended(
     Ok(Meant {
         op: target.op,
         span,
-        together: is_together(ending),
+        together: matches!(ending, Ending::Together),
         acts,
     })
 }

@@ -3,7 +3,7 @@
 ghost use Rattle.std.specs.Prelude.{◌≡◌, ◌<◌, ◌≤◌, IfSome, IfOk};
 ghost use Rattle.vcp_base.specs.Limits.{most_cycles};
 ghost use Rattle.fault_sites.specs.NamedWords.{span_of};
-ghost use Rattle.fault_sites.specs.NamedLines.{ending_of, when_of, with_rest, is_together as is_together_of};
+ghost use Rattle.fault_sites.specs.NamedLines.{ending_of, when_of, with_rest};
 
 use crate::named::cutting::cut_at;
 use crate::named::refused::Why;
@@ -100,15 +100,5 @@ pub(crate) fn when(words: &mut WordsLeft<'_>) -> Result<Span, Why>
     match cycles_said(cycles) {
         Some(span) => Ok(span),
         None => Err(Why::Form),
-    }
-}
-
-/// Whether the cycles are one group.
-pub(crate) fn is_together(ending: Ending) -> bool
-    ensures { result ≡ is_together_of ending }
-{
-    match ending {
-        Ending::Together => true,
-        Ending::Alone | Ending::Bit { b: _ } => false,
     }
 }
