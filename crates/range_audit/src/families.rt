@@ -217,16 +217,6 @@ fn empty_boxes(alloc: Global, graph: &Graph, count: u32, effort: &mut Effort) ->
     boxes
 }
 
-/// The number of the box for ranges of cells. One box is that of all values.
-fn box_number(cells: &[Range], values: Values) -> usize {
-    match cells.get(values.place) {
-        Some(range) if values.count != 1 => {
-            range.low.saturating_sub(values.least).unsigned_abs() as usize
-        }
-        _ => 0,
-    }
-}
-
 /// The type of cell `j`.
 fn cell_type(graph: &Graph, j: usize) -> Ty {
     match graph.loads().get(j) {
@@ -245,7 +235,7 @@ fn grow_box(graph: &Graph, cells: &mut [Range], more: &[Range], step: Step, numb
     }
 }
 
-/// Widens the boxes by the ranges that are missed.
+/// Widens the boxes by the ranges that are missed: for each of these the one of its value. One box is that of all values.
 fn grow(
     graph: &Graph,
     boxes: &mut Boxes,
@@ -256,7 +246,12 @@ fn grow(
 ) {
     'missed: for i in 0..missed.len() {
         let more = missed.at(i);
-        let k = box_number(more, values);
+        let k = match more.get(values.place) {
+            Some(range) if values.count != 1 => {
+                range.low.saturating_sub(values.least).unsigned_abs() as usize
+            }
+            _ => 0,
+        };
         if k < boxes.len() {
             grow_box(graph, &mut boxes.list[k], more, step, numbers);
         }
@@ -400,23 +395,6 @@ fn names_any(stops: &[Stops]) -> bool {
     false
 }
 
-/// The range of the cell at `place`.
-fn cell_range(graph: &Graph, known: &[Range], place: usize) -> Range {
-    match graph.loads().get(place) {
-        Some(load) => range_or(known, load.load as usize),
-        None => Range::of_type(Ty::Lint),
-    }
-}
-
-/// How many values a range has; 0 where these are too many to be told apart.
-fn values_of(range: Range) -> u32 {
-    let past = range.high.saturating_sub(range.low);
-    if past < 0 || past >= VALUES as i64 {
-        return 0;
-    }
-    past as u32 + 1
-}
-
 /// Appends values, unless memory is lacking.
 fn push_try(tries: &mut Vec<Values>, values: Values, effort: &mut Effort) {
     if tries.push(values).is_err() {
@@ -433,20 +411,19 @@ fn push_tries(
     effort: &mut Effort,
 ) {
     'cells: for place in 0..cell_count(graph) {
-        let range = cell_range(graph, known, place);
-        let count = values_of(range);
+        let range = match graph.loads().get(place) {
+            Some(load) => range_or(known, load.load as usize),
+            None => Range::of_type(Ty::Lint),
+        };
+        let past = range.high.saturating_sub(range.low);
         let is_bool = matches!(cell_type(graph, place), Ty::Bool);
-        if is_bool == bools && count >= 2 {
-            let least = range.low;
-            push_try(
-                tries,
-                Values {
-                    place,
-                    least,
-                    count,
-                },
-                effort,
-            );
+        if is_bool == bools && past > 0 && past < VALUES as i64 {
+            let values = Values {
+                place,
+                least: range.low,
+                count: past as u32 + 1,
+            };
+            push_try(tries, values, effort);
         }
     }
 }
