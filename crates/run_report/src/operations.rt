@@ -1,12 +1,12 @@
 //! The lines on a graph's operations: a listing, and a trace of a cycle. They are made from the graph
 //! and its table, and take no memory.
 
-ghost use Rattle.std.specs.Prelude.{◌≡◌, ◌<◌, ◌≤◌, ◌++◌, IfSome, length, slice_get, take, flat_map};
+ghost use Rattle.std.specs.Prelude.{◌<◌, ◌++◌, IfSome, length, slice_get, take, flat_map};
 ghost use Rattle.std.specs.Fmt.{signed_decimal};
 ghost use Rattle.vcp_base.specs.Limits.{most_cycles};
 ghost use Rattle.vcp_outside.specs.Written.{WritesTo};
 ghost use Rattle.vcp_outside.specs.Pens.{penned, HasWritten, Goes};
-ghost use Rattle.run_report.specs.OperationLines.{shown_operands as shown_operands_of, number_cell, operands_text, own_text, operation_front, code_text};
+ghost use Rattle.run_report.specs.OperationLines.{number_cell, operands_text, own_text, operation_front, code_text};
 ghost use Rattle.run_report.specs.OperationLines.{source_text, list_text, parts_text, trace_text};
 
 use crate::graph_stop::then_turns_round;
@@ -28,17 +28,6 @@ fn begin_operation<'o, O: Sink>(out: &'o mut O, i: u32, op: &Op) -> LinePen<'o, 
         .texts(b" ", ty_name(op.ty))
 }
 
-// How many operands a listing shows.
-fn shown_operands(kind: Kind) -> u32
-    ensures value { result ≡ shown_operands_of kind }
-    ensures few { result ≤ 3 }
-{
-    match kind {
-        Kind::Load => 0,
-        _ => operands(kind),
-    }
-}
-
 // Goes on with numbers, each after a space.
 fn then_numbers<P: Pen>(mut pen: P, numbers: &[u32]) -> P
     ensures { Goes (P.seen pen) (P.seen result) (flat_map number_cell numbers.now) }
@@ -49,12 +38,16 @@ fn then_numbers<P: Pen>(mut pen: P, numbers: &[u32]) -> P
     pen
 }
 
-// Goes on with the operations that the operands read.
+// Goes on with the operations that the operands read. A LOAD reads its cell, and none.
 fn then_operands<P: Pen>(pen: P, op: &Op) -> P
     ensures { Goes (P.seen pen) (P.seen result) (operands_text op.now) }
 {
     let read = [op.a, op.b, op.c];
-    then_numbers(pen, &read[..shown_operands(op.kind) as usize])
+    let count = match op.kind {
+        Kind::Load => 0,
+        _ => operands(op.kind),
+    };
+    then_numbers(pen, &read[..count as usize])
 }
 
 // Goes on with a word and a number.

@@ -1,7 +1,7 @@
 //! The names of a graph's inputs, cells and outputs.
 
 ghost use Rattle.std.specs.Prelude.{◌≡◌, ◌<◌, [], length, slice_index_or};
-ghost use Rattle.run_report.specs.Variables.{input_name as input_name_of, cell_name as cell_name_of, output_name as output_name_of};
+ghost use Rattle.run_report.specs.Variables.{output_name as output_name_of};
 ghost use Rattle.run_report.specs.Variables.{variable_name as variable_name_of};
 
 use op_graph::{Graph, entries_keep_their_rules};
@@ -18,28 +18,6 @@ fn name_at(graph: &Graph, n: u32) -> &[u8]
     }
 }
 
-/// The name of input `n`, and nothing where there is no such input.
-fn input_name(graph: &Graph, n: u64) -> &[u8]
-    ensures { result.now ≡ input_name_of graph.now n }
-{
-    if n < graph.inputs() as u64 {
-        name_at(graph, graph.input(n as u32).name)
-    } else {
-        b""
-    }
-}
-
-/// The name of cell `n`, and nothing where there is no such cell.
-fn cell_name(graph: &Graph, n: u64) -> &[u8]
-    ensures { result.now ≡ cell_name_of graph.now n }
-{
-    if n < graph.cells() as u64 {
-        name_at(graph, graph.cell(n as u32).name)
-    } else {
-        b""
-    }
-}
-
 /// The name of output `i`, where `i` is below the number of outputs.
 pub fn output_name(graph: &Graph, i: u32) -> &Text
     requires { i < length graph.now.outputs }
@@ -51,25 +29,16 @@ pub fn output_name(graph: &Graph, i: u32) -> &Text
     graph.name(graph.output(i).name)
 }
 
-/// The name of output `n`, and nothing where there is no such output.
-fn any_output_name(graph: &Graph, n: u64) -> &[u8]
-    ensures { result.now ≡ output_name_of graph.now n }
-{
-    if n < graph.outputs() as u64 {
-        output_name(graph, n as u32).bytes()
-    } else {
-        b""
-    }
-}
-
 /// The name of input, cell or output `n`, as an operation of this kind has one. Nothing for the other kinds, and where there is no such number.
 pub fn variable_name(graph: &Graph, kind: Kind, n: u64) -> &[u8]
     ensures { result.now ≡ variable_name_of graph.now kind n }
 {
     match kind {
-        Kind::Input => input_name(graph, n),
-        Kind::Load | Kind::Store => cell_name(graph, n),
-        Kind::Out => any_output_name(graph, n),
+        Kind::Input if n < graph.inputs() as u64 => { name_at(graph, graph.input(n as u32).name) }
+        Kind::Load | Kind::Store if n < graph.cells() as u64 => {
+            name_at(graph, graph.cell(n as u32).name)
+        }
+        Kind::Out if n < graph.outputs() as u64 => output_name(graph, n as u32).bytes(),
         _ => b"",
     }
 }
