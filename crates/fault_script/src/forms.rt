@@ -1,13 +1,12 @@
 //! What the words of a line say.
 
-ghost use Rattle.std.specs.Prelude.{◌≡◌, ◌<◌, ◌∷◌, true, IfSome, option_map, option_and_then};
+ghost use Rattle.std.specs.Prelude.{◌≡◌, ◌<◌, ◌∷◌, true, IfSome, option_and_then};
 ghost use Rattle.vcp_base.specs.Limits.{most_cycles};
 ghost use Rattle.fault_script.specs.Forms.{operand_change as operand_change_of, operand_act as operand_act_of, result_act as result_act_of};
 ghost use Rattle.fault_script.specs.Forms.{operator_act as operator_act_of, act_of, change_of};
-ghost use Rattle.fault_script.specs.Forms.{addend_of, index_of};
-ghost use Rattle.fault_script.specs.declared.act.Act.TheVariants as act;
+ghost use Rattle.fault_script.specs.Forms.{addend_of};
 ghost use Rattle.vcp_base.specs.Words.{only, words as words_of};
-ghost use Rattle.fault_script.specs.Forms.{mark_named as mark_named_of, mark_of};
+ghost use Rattle.fault_script.specs.Forms.{mark_of};
 ghost use Rattle.fault_script.specs.Fits.{is_moderate};
 
 use crate::act::Act;
@@ -51,38 +50,24 @@ fn operand_change(j: u32, how: &[u8], more: &mut WordsLeft<'_>) -> Option<Act>
     ensures { result ≡ operand_change_of j how.now more.old }
 {
     if same_bytes(how, b"add") {
-        return added_to(j, more);
+        return match last_addend(more) {
+            Some(e) => Some(Act::OperandAdd { j, e }),
+            None => None,
+        };
     }
     if same_bytes(how, b"from") {
-        return read_from(j, more);
+        let Some(word) = more.only() else {
+            return None;
+        };
+        return match index_number(word) {
+            Some(r) => Some(Act::OperandFrom { j, r }),
+            None => None,
+        };
     }
     if same_bytes(how, b"stale") && more.is_end() {
         return Some(Act::OperandStale { j });
     }
     None
-}
-
-// A number is added to operand j, as the last word.
-fn added_to(j: u32, more: &mut WordsLeft<'_>) -> Option<Act>
-    ensures { result ≡ option_map (λ e. act.OperandAdd j e) (option_and_then addend_of (only more.old)) }
-{
-    match last_addend(more) {
-        Some(e) => Some(Act::OperandAdd { j, e }),
-        None => None,
-    }
-}
-
-// Operand j is that of a register, as the last word.
-fn read_from(j: u32, more: &mut WordsLeft<'_>) -> Option<Act>
-    ensures { result ≡ option_map (λ r. act.OperandFrom j r) (option_and_then index_of (only more.old)) }
-{
-    let Some(word) = more.only() else {
-        return None;
-    };
-    match index_number(word) {
-        Some(r) => Some(Act::OperandFrom { j, r }),
-        None => None,
-    }
 }
 
 // The act of the words behind `operand n k`.
@@ -186,26 +171,14 @@ pub fn change_of_line(line: &[u8]) -> Option<Change>
     }
 }
 
-// What a line is that has this one word.
-fn mark_named(word: &[u8]) -> Mark
-    ensures { result ≡ mark_named_of word.now }
-{
-    if same_bytes(word, b"begin") {
-        return Mark::Begin;
-    }
-    if same_bytes(word, b"end") {
-        return Mark::End;
-    }
-    Mark::Fault
-}
-
 /// What a line is: `begin` or `end`, each alone, or else a fault line.
 pub fn mark_of_line(line: &[u8]) -> Mark
     ensures { result ≡ mark_of (words_of line.now) }
 {
     let mut words = WordsLeft::new(line);
     match words.only() {
-        Some(word) => mark_named(word),
-        None => Mark::Fault,
+        Some(word) if same_bytes(word, b"begin") => Mark::Begin,
+        Some(word) if same_bytes(word, b"end") => Mark::End,
+        _ => Mark::Fault,
     }
 }
