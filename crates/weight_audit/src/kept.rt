@@ -1,6 +1,6 @@
 //! Weights, as they are kept.
 
-ghost use Rattle.std.specs.Prelude.{◌≡◌, ◌<◌, ◌≤◌, Some, false, length, slice_get, slice_index_or};
+ghost use Rattle.std.specs.Prelude.{◌≡◌, ◌<◌, ◌≤◌, Some, length, slice_get};
 ghost use Rattle.weight_audit.specs.Audit.{IsWhole, distance as distance_of, weight_kept, reached_kept};
 
 use std::marker::Model;
@@ -60,22 +60,6 @@ impl Distance {
         ensures { result.now ≡ self.now.reached }
     {
         &self.reached
-    }
-
-    /// The weight of an operation.
-    fn weight(&self, op: u32) -> Residue
-        requires { op < length self.now.weights }
-        ensures { result ≡ slice_index_or self.now.weights op 0 }
-    {
-        self.weights[op as usize]
-    }
-
-    /// Whether a path leads from an operation.
-    fn is_reached(&self, op: u32) -> bool
-        requires { op < length self.now.reached }
-        ensures { result ≡ slice_index_or self.now.reached op false }
-    {
-        self.reached[op as usize]
     }
 }
 
@@ -153,7 +137,7 @@ impl Weights {
         requires after { after ≤ self.now.horizon }
         ensures { result ≡ weight_kept self.now op output after }
     {
-        self.distance(output, after).weight(op)
+        self.distance(output, after).weights[op as usize]
     }
 
     /// Whether a data path leads from an operation to an output's OUT across exactly so many cycle borders.
@@ -166,6 +150,6 @@ impl Weights {
         requires after { after ≤ self.now.horizon }
         ensures { result ≡ reached_kept self.now op output after }
     {
-        self.distance(output, after).is_reached(op)
+        self.distance(output, after).reached[op as usize]
     }
 }
