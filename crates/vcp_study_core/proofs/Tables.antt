@@ -1,11 +1,17 @@
 -- Tables: the ranges of inputs that a file tells.
-use Rattle.std.proofs.Common.{inl, inr, ℕ, List, Ok, refl, subst}
+use Rattle.std.proofs.Common.{◌≡◌, ◌≢◌, inl, inr, ℕ, List, Ok, Err, refl, subst}
+use Rattle.vcp_base.specs.declared.columns.Column.{Column}
 use Rattle.vcp_outside.specs.Held.{Held}
+use Rattle.input_rows.specs.declared.fault.RowFault.{RowFault}
+use Rattle.input_rows.specs.declared.fault.RowFault.TheVariants as row
+use Rattle.range_walk.specs.RangeTable.{ranges_of_table}
 use Rattle.vcp_inputs.specs.declared.refusal.NoInput.{NoInput}
 use Rattle.vcp_inputs.specs.declared.refusal.NoInput.TheVariants as input
 use Rattle.vcp_inputs.specs.declared.refusal.Refusal.{Refusal}
 use Rattle.vcp_inputs.specs.Files.{FileRead, Loads, NotLoaded, Never, IsRefused, long, short, Untaken}
 use Rattle.vcp_inputs.specs.Answer.{Answer}
+use Rattle.vcp_inputs.specs.Refusals.{no_rows}
+use Rattle.vcp_study_core.specs.Parts.{NotTable}
 use Rattle.vcp_study_core.specs.FromFiles.{got, ends_by, input_answer, OfLoads}
 use Rattle.vcp_study_core.proofs.Carrying.{IsQuiet}
 
@@ -38,3 +44,14 @@ pub untaken_quiet : (V : Type 0) (Why : Refusal → Type 0) (name : List ℕ) (i
 untaken_quiet V Why name input.Unread why = absurd why
 untaken_quiet V Why name (input.Refused r) why = (refl, inl refl)
 untaken_quiet V Why name input.Memory why = (refl, inr (inl refl))
+
+-- the fault of a text that is no table is told
+pub table_refused : (columns : List Column) (text : List ℕ) (f : RowFault) → (f ≢ row.Memory → ranges_of_table columns text ≡ Err f)
+    → Untaken (NotTable columns text) (no_rows f)
+table_refused columns text row.Header is = is (λ e. cc)
+table_refused columns text (row.Width n) is = is (λ e. cc)
+table_refused columns text (row.Cell n column) is = is (λ e. cc)
+table_refused columns text row.Form is = is (λ e. cc)
+table_refused columns text row.Cycles is = is (λ e. cc)
+table_refused columns text row.Cycle is = is (λ e. cc)
+table_refused columns text row.Memory is = tt

@@ -1,5 +1,7 @@
 -- Weights: an image whose graph has too many weights.
 use Rattle.std.proofs.Common.{◌≤◌, inl, inr, ℕ, Bool, List, refl}
+use Rattle.vcp_base.specs.Limits.{most_horizon}
+use Rattle.vcp_outside.specs.Held.{Held}
 use Rattle.vcp_outside.specs.Seen.{SinkSeen}
 use Rattle.op_graph.specs.Lists.{Lists}
 use Rattle.weight_audit.specs.Audit.{Audit, IsAudit, most_weights, weights_up_to}
@@ -14,7 +16,11 @@ use Rattle.vcp_inputs.specs.Lines.{input_text, input_status}
 use Rattle.vcp_inputs.specs.Weights.{NoWeights}
 use Rattle.vcp_study_core.specs.CarriedOut.{WritesSo, CarriedOut, done, cut, unmade}
 use Rattle.vcp_study_core.specs.FromFiles.{input_answer}
-use Rattle.vcp_study_core.specs.Texts.{WritesOne, Weighed, too_large, few}
+use Rattle.vcp_study_core.specs.Forms.{IsSoundStudy, drawn}
+use Rattle.vcp_study_core.specs.Tasks.{StudyOf}
+use Rattle.vcp_study_core.specs.Texts.{Draws, WritesOne, Weighed, too_large, few}
+use Rattle.vcp_study_core.specs.declared.command.Drawing.{Drawing}
+use Rattle.vcp_study_core.specs.declared.command.Drawing.TheVariants as drawing
 use Rattle.vcp_study_core.proofs.Carrying.{no_memory, refused}
 use Rattle.vcp_study_core.proofs.Facts.{appends-nothing}
 
@@ -42,3 +48,14 @@ picture g horizon a is l arranged = record { audit = a; is = is; arrangement = l
 
 pub dot_of : (g : Lists) (horizon : ℕ) (a : Audit) → IsAudit g horizon a → IsDotOf g horizon (dot_text g a horizon)
 dot_of g horizon a is = record { audit = a; is = is; told = refl }
+
+-- a horizon that is sound is one that an audit may have
+pub drawn_horizon : (horizon : ℕ) (how : Drawing) → IsSoundStudy (drawn horizon how) → horizon ≤ most_horizon
+drawn_horizon horizon drawing.Picture h = h
+drawn_horizon horizon drawing.Dot h = h
+
+-- a graph that has too many weights isn't drawn in either way
+pub undrawn : (horizon : ℕ) (how : Drawing) (m : List ℕ) (i : Image) (h : Held) (b n : ℕ) (old : SinkSeen) (e : NoInput) → NoWeights i horizon e
+    → WritesSo (StudyOf (drawn horizon how) m i h b n) old old (input_text m e) (input_status e)
+undrawn horizon drawing.Picture m i h b n old e none = unweighed horizon m i (Draws (IsGraphPicture i.graph horizon)) old e none
+undrawn horizon drawing.Dot m i h b n old e none = unweighed horizon m i (Draws (IsDotOf i.graph horizon)) old e none

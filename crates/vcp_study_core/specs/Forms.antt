@@ -17,6 +17,10 @@ use Rattle.pictures.specs.declared.waves.times.Period.{Period}
 use Rattle.pictures.specs.Times.{period_of}
 use Rattle.vcp_study_core.specs.declared.command.StudyCommand.{StudyCommand}
 use Rattle.vcp_study_core.specs.declared.command.StudyCommand.TheVariants as command
+use Rattle.vcp_study_core.specs.declared.command.ListStudy.{ListStudy}
+use Rattle.vcp_study_core.specs.declared.command.ListStudy.TheVariants as of_list
+use Rattle.vcp_study_core.specs.declared.command.Drawing.{Drawing}
+use Rattle.vcp_study_core.specs.declared.command.Drawing.TheVariants as drawing
 use Rattle.vcp_study_core.specs.declared.command.AloneStudy.{AloneStudy}
 use Rattle.vcp_study_core.specs.declared.command.AloneStudy.TheVariants as by_itself
 use Rattle.vcp_study_core.specs.declared.command.ImageStudy.{ImageStudy}
@@ -238,9 +242,12 @@ as_names n = record { script = n.script.now; verdicts = n.verdicts.now }
 abbrev pub names_of : PartWords → List PartNames
 names_of p = names_in p.left (drop p.at p.words.now)
 
+abbrev pub drawn : ℕ → Drawing → Study
+drawn horizon drawing.Picture = graph horizon
+drawn horizon drawing.Dot = dot horizon
+
 abbrev pub alone : AloneStudy → Study
-alone (by_itself.Graph horizon) = graph horizon
-alone (by_itself.Dot horizon) = dot horizon
+alone (by_itself.Drawn horizon how) = drawn horizon how
 alone (by_itself.Cover horizon classes) = cover horizon classes
 alone (by_itself.Sites cycles classes which) = sites cycles classes which
 alone (by_itself.RestSites cycles which) = rest_sites cycles which
@@ -253,10 +260,13 @@ study (image.Sum parts rows) = sum_with (names_of parts) (option_map rows_of row
 study (image.Faults names) = faults (as_names names)
 study (image.Script named) = script_named named.now
 
+abbrev pub list_form : List ℕ → ListStudy → Form
+list_form p (of_list.Image code) = list_image p (as_code code)
+list_form p of_list.Text = list_text p
+
 abbrev pub form : StudyCommand → Form
 form (command.Waves file period) = waves file.now period
-form (command.ListImage source code) = list_image source.now (as_code code)
-form (command.ListText source) = list_text source.now
+form (command.List source made) = list_form source.now made
 form (command.On m s) = on m.now (study s)
 
 -- a horizon, a code, and the numbers of cycles and of parts, are within their limits

@@ -17,17 +17,12 @@ pub enum StudyCommand<'a> {
         /// How long a cycle takes, TIME.
         period: Option<Period>,
     },
-    /// `image P CODE`: the image of an instruction list.
-    ListImage {
+    /// What is made of an instruction list.
+    List {
         /// The name of the instruction list, P.
         source: &'a Text,
-        /// The code, CODE.
-        code: Code,
-    },
-    /// `text P`: an instruction list as a program in Structured Text.
-    ListText {
-        /// The name of the instruction list, P.
-        source: &'a Text,
+        /// What is made of it.
+        study: ListStudy,
     },
     /// A study of an image.
     On {
@@ -38,18 +33,33 @@ pub enum StudyCommand<'a> {
     },
 }
 
+/// What is made of an instruction list.
+#[derive(Clone, Copy)]
+pub enum ListStudy {
+    /// `image P CODE`: its image, with the numbers of the code, CODE.
+    Image(Code),
+    /// `text P`: a program in Structured Text.
+    Text,
+}
+
+/// How a graph is drawn.
+#[derive(Clone, Copy)]
+pub enum Drawing {
+    /// As a picture: `graph`.
+    Picture,
+    /// As a text for Graphviz: `dot`.
+    Dot,
+}
+
 /// What is done with an image for which no other file is read.
 #[derive(Clone, Copy)]
 pub enum AloneStudy {
-    /// `graph M HORIZON`: the picture of its graph.
-    Graph {
+    /// `graph M HORIZON` and `dot M HORIZON`: its graph.
+    Drawn {
         /// The greatest number of cycle borders, at most 1000.
         horizon: u32,
-    },
-    /// `dot M HORIZON`: its graph as a text for Graphviz.
-    Dot {
-        /// The greatest number of cycle borders, at most 1000.
-        horizon: u32,
+        /// How it is drawn.
+        drawing: Drawing,
     },
     /// `cover M HORIZON CLASS`: what becomes of the faults of a class in every run.
     Cover {

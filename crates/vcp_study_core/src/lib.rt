@@ -24,7 +24,7 @@ mod top;
 mod waves;
 mod words;
 
-pub use command::{AloneStudy, ImageStudy, StudyCommand};
+pub use command::{AloneStudy, Drawing, ImageStudy, ListStudy, StudyCommand};
 pub use part_words::{Named, PartWords};
 pub use top::vcp_study;
 pub use words::command_of;

@@ -1,29 +1,25 @@
 //! The command `ranges`, behind its image.
 
-ghost use Rattle.std.specs.Prelude.{ℕ, List, ◌≤◌, Some, IfOk, IfErr, length};
+ghost use Rattle.std.specs.Prelude.{ℕ, List};
 ghost use Rattle.std.specs.Option.{option_map};
 ghost use Rattle.std.specs.Io.KnownBytes.{IsAtEnd};
-ghost use Rattle.vcp_base.specs.Limits.{most_names};
-ghost use Rattle.vcp_inputs.specs.Files.{Untaken};
 ghost use Rattle.vcp_study_core.specs.CarriedOut.{Fetches, Studies, WritesSo, told_line, told_status};
 ghost use Rattle.vcp_study_core.specs.Forms.{ranges};
 ghost use Rattle.vcp_study_core.specs.FromFiles.{as_found_by};
-ghost use Rattle.vcp_study_core.specs.Parts.{NotTable, RangesFrom, TellsRanges};
+ghost use Rattle.vcp_study_core.specs.Parts.{RangesFrom};
 ghost use Rattle.vcp_study_core.specs.Tasks.{StudyOf};
 ghost use Rattle.vcp_study_core.specs.Texts.{IsRanged, WritesOne};
-ghost use Rattle.vcp_study_core.specs.declared.fault.Fault.TheVariants as fault;
 
 use crate::fault::{Fault, told};
 use crate::loading::bytes_under;
-use input_rows::RowFault;
 use op_graph::Graph;
 use range_audit::{
     all_rows_are_in_no_ranges, count_named, ranges_within, write_ranges as write_ranges_text,
 };
 use range_walk::{Range, ranges_of_table};
 use std::alloc::Global;
-use vcp_base::{Columns, MOST_SOURCE_BYTES, Memory, Text};
-use vcp_inputs::{Image, NoInput, Refusal, graph_columns};
+use vcp_base::{MOST_SOURCE_BYTES, Memory, Text};
+use vcp_inputs::{Image, NoInput, graph_columns};
 use vcp_outside::{Files, Sink};
 
 /// Writes which operations of a graph may stop, on rows whose inputs are in these ranges; whether one may.
@@ -46,19 +42,6 @@ fn write_ranges<'a, O: Sink>(
     }
 }
 
-/// The ranges that a table's bytes give for these inputs.
-fn table_in(alloc: Global, text: &[u8], columns: &Columns) -> Result<Vec<Range>, NoInput>
-    requires narrow { length columns.now ≤ most_names }
-    ensures ok { IfOk result (λ inputs. TellsRanges columns.now text.now inputs.items) }
-    ensures err { IfErr result (Untaken (NotTable columns.now text.now)) }
-{
-    match ranges_of_table(alloc, text, columns) {
-        Ok(inputs) => Ok(inputs),
-        Err(RowFault::Memory) => Err(NoInput::Memory),
-        Err(why) => Err(NoInput::Refused(Refusal::Rows(why))),
-    }
-}
-
 /// The ranges that the table under a name tells of an image's inputs.
 fn load_table<'a, F: Files>(
     alloc: Global,
@@ -77,11 +60,11 @@ fn load_table<'a, F: Files>(
         Ok(text) => text,
         Err(why) => return Err(why),
     };
-    match table_in(alloc, text.bytes(), &columns) {
+    match ranges_of_table(alloc, text.bytes(), &columns) {
         Ok(inputs) => Ok(inputs),
-        Err(input) => Err(Fault::Input {
+        Err(fault) => Err(Fault::Input {
             name: name.bytes(),
-            input,
+            input: NoInput::from(fault),
         }),
     }
 }

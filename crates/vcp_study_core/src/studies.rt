@@ -11,7 +11,7 @@ ghost use Rattle.vcp_study_core.specs.Tasks.{StudyOf, TaskOf};
 use crate::command::{AloneStudy, ImageStudy};
 use crate::cover::write_cover;
 use crate::fault::Fault;
-use crate::graph::{write_dot, write_graph};
+use crate::graph::write_graph;
 use crate::parts::faults_of_image;
 use crate::ranges::ranges_of_image;
 use crate::script::script_of_image;
@@ -36,8 +36,9 @@ fn study_alone<'a, O: Sink>(
         (told_line result) (told_status result) }
 {
     match study {
-        AloneStudy::Graph { horizon } => write_graph(alloc, name, image, *horizon, out),
-        AloneStudy::Dot { horizon } => write_dot(alloc, name, image, *horizon, out),
+        AloneStudy::Drawn { horizon, drawing } => write_graph(
+            alloc, name, image, *horizon, *drawing, out,
+        ),
         AloneStudy::Cover { horizon, classes } => write_cover(
             alloc, name, image, *horizon, *classes, out,
         ),

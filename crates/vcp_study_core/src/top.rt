@@ -8,7 +8,7 @@ ghost use Rattle.vcp_study_core.specs.Tasks.{TaskOf};
 
 use crate::command::StudyCommand;
 use crate::fault::Fault;
-use crate::lists::{list_image_command, list_text_command};
+use crate::lists::list_command;
 use crate::studies::image_command;
 use crate::telling::{fault_status, tell, tell_usage};
 use crate::waves::waves_command;
@@ -96,10 +96,7 @@ fn perform<'a, F: Files, O: Sink>(
 {
     match command {
         StudyCommand::Waves { file, period } => waves_command(alloc, file, *period, files, out),
-        StudyCommand::ListImage { source, code } => list_image_command(
-            alloc, source, *code, files, out,
-        ),
-        StudyCommand::ListText { source } => list_text_command(alloc, source, files, out),
+        StudyCommand::List { source, study } => list_command(alloc, source, *study, files, out),
         StudyCommand::On { image, study } => image_command(alloc, image, study, files, out),
     }
 }

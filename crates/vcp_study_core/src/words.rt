@@ -12,7 +12,7 @@ ghost use Rattle.vcp_study_core.specs.SumSteps.{as_next, as_behind, ended_of, Is
 ghost use Rattle.verdict_tables.specs.Parts.{most_parts};
 ghost use Rattle.vcp_inputs.specs.Forms.{rows_of, AreFew};
 
-use crate::command::{AloneStudy, ImageStudy, StudyCommand};
+use crate::command::{AloneStudy, Drawing, ImageStudy, ListStudy, StudyCommand};
 use crate::part_words::{Named, PartWords};
 use fault_cover::classes_named as cover_classes_named;
 use fault_sites::{Chosen, Part, classes_named, run_class_named};
@@ -55,13 +55,19 @@ fn named_words<'a>(
     }
     if same_bytes(command, b"image") {
         return match words.code() {
-            Some(code) => Some(StudyCommand::ListImage { source: name, code }),
+            Some(code) => Some(StudyCommand::List {
+                source: name,
+                study: ListStudy::Image(code),
+            }),
             None => None,
         };
     }
     if same_bytes(command, b"text") {
         return if words.is_end() {
-            Some(StudyCommand::ListText { source: name })
+            Some(StudyCommand::List {
+                source: name,
+                study: ListStudy::Text,
+            })
         } else {
             None
         };
@@ -107,13 +113,19 @@ fn study_words<'a>(
 {
     if same_bytes(command, b"graph") {
         return match last_horizon(words) {
-            Some(horizon) => Some(ImageStudy::Alone(AloneStudy::Graph { horizon })),
+            Some(horizon) => Some(ImageStudy::Alone(AloneStudy::Drawn {
+                horizon,
+                drawing: Drawing::Picture,
+            })),
             None => None,
         };
     }
     if same_bytes(command, b"dot") {
         return match last_horizon(words) {
-            Some(horizon) => Some(ImageStudy::Alone(AloneStudy::Dot { horizon })),
+            Some(horizon) => Some(ImageStudy::Alone(AloneStudy::Drawn {
+                horizon,
+                drawing: Drawing::Dot,
+            })),
             None => None,
         };
     }

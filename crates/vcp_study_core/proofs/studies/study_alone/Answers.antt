@@ -1,10 +1,11 @@
+use Rattle.vcp_study_core.proofs.Weights.{drawn_horizon}
 use Rattle.vcp_study_core.proofs.studies.study_alone.Goals as goal
 
-pub returns-in-Graph : goal.returns-in-Graph
-returns-in-Graph g c = rw c.in-Graph.is (λ h b n. c.write_graph.ensures)
+pub write_graph-requires-clause-horizon : goal.write_graph-requires-clause-horizon
+write_graph-requires-clause-horizon g c = drawn_horizon c.in-Drawn.horizon c.in-Drawn.drawing (rw c.in-Drawn.is at c.requires.sound)
 
-pub returns-in-Dot : goal.returns-in-Dot
-returns-in-Dot g c = rw c.in-Dot.is (λ h b n. c.write_dot.ensures)
+pub returns-in-Drawn : goal.returns-in-Drawn
+returns-in-Drawn g c = rw c.in-Drawn.is c.write_graph.ensures
 
 pub returns-in-Cover : goal.returns-in-Cover
 returns-in-Cover g c = rw c.in-Cover.is (λ h b n. c.write_cover.ensures)
