@@ -1,10 +1,13 @@
 -- Weights: an image whose graph has too many weights.
-use Rattle.std.proofs.Common.{◌≤◌, inl, inr, ℕ, Bool, List, refl}
+use Rattle.std.proofs.Common.{◌≡◌, ◌<◌, ◌≤◌, inl, inr, ℕ, suc, Bool, List, Ok, Err, refl, arith}
+use Rattle.std.proofs.Math.Nat.{lt_of_not-le}
 use Rattle.vcp_base.specs.Limits.{most_horizon}
 use Rattle.vcp_outside.specs.Held.{Held}
 use Rattle.vcp_outside.specs.Seen.{SinkSeen}
 use Rattle.op_graph.specs.Lists.{Lists}
 use Rattle.weight_audit.specs.Audit.{Audit, IsAudit, most_weights, weights_up_to}
+use Rattle.weight_audit.specs.declared.kept.AuditFault.{AuditFault}
+use Rattle.weight_audit.specs.declared.kept.AuditFault.TheVariants as audit_fault
 use Rattle.pictures.specs.Arrangement.{Arrangement, IsArranged}
 use Rattle.pictures.specs.Elements.{IsGraphPicture, graph_text}
 use Rattle.pictures.specs.DotText.{IsDotOf, dot_text}
@@ -30,6 +33,19 @@ pub unweighed : (horizon : ℕ) (m : List ℕ) (i : Image) (Is : List ℕ → Bo
 unweighed horizon m i Is old e (inl memory) = rw memory (no_memory (Weighed horizon m i Is) old old (appends-nothing old.written))
 unweighed horizon m i Is old e (inr (audit, more)) =
     rw audit (refused (Weighed horizon m i Is) old old (input_answer m (input.Refused refusal.Audit)) (too_large more refl) refl refl (appends-nothing old.written))
+
+-- what is made where there aren't too many is made of few, and what is refused as too large has more
+clash : {T E : Type 0} (v : T) (e : E) → Ok v ≡ Err e → ⊥
+clash v e is = cc
+
+pub few_where : {T E : Type 0} (n most : ℕ) (v : T) (e : E) → (most < n → Ok v ≡ Err e) → n ≤ most
+few_where n most v e is = let below : n < suc most = lt_of_not-le (λ more. clash v e (is more)) in omega (arith, below)
+
+pub many_where : (n most : ℕ) (e : AuditFault) → (n ≤ most → e ≡ audit_fault.Memory) → (cells : ℕ) → e ≡ audit_fault.TooLarge cells → most < n
+many_where n most e unless cells is = lt_of_not-le (λ le. differ e cells is (unless le))
+  where
+    differ : (e : AuditFault) (cells : ℕ) → e ≡ audit_fault.TooLarge cells → e ≡ audit_fault.Memory → ⊥
+    differ e cells is memory = cc
 
 -- they are few enough, and a text is written
 pub weighed : (horizon : ℕ) (m : List ℕ) (i : Image) (Is : List ℕ → Bool → Type 0) (old new : SinkSeen) (line : List ℕ) (code : ℕ)

@@ -1,12 +1,9 @@
 //! The command `cover`, behind its image.
 
-ghost use Rattle.std.specs.Prelude.{◌≡◌, ◌⊎◌, ◌<◌, ◌≤◌, IfOk, IfErr, OnOk};
+ghost use Rattle.std.specs.Prelude.{◌≡◌, ◌≤◌};
 ghost use Rattle.vcp_base.specs.Limits.{most_horizon};
 ghost use Rattle.signature_table.specs.Signatures.{table_of};
-ghost use Rattle.weight_audit.specs.Audit.{most_weights, weights_up_to};
 ghost use Rattle.fault_cover.specs.Surveys.{IsMapped, IsSurveyOf};
-ghost use Rattle.vcp_inputs.specs.declared.refusal.NoInput.TheVariants as input;
-ghost use Rattle.vcp_inputs.specs.declared.refusal.Refusal.TheVariants as refusal;
 ghost use Rattle.vcp_study_core.specs.CarriedOut.{WritesSo, told_line, told_status};
 ghost use Rattle.vcp_study_core.specs.Texts.{IsCover, WritesOne, Weighed};
 
@@ -21,23 +18,6 @@ use vcp_base::Text;
 use vcp_inputs::{Image, NoInput, Refusal};
 use vcp_outside::Sink;
 use weight_audit::AuditFault;
-
-/// What the faults of an image are judged by, unless there are too many weights.
-fn surveyed(alloc: Global, image: &Image, horizon: u32) -> Result<Survey, NoInput>
-    requires table { image.now.table ≡ table_of image.now.table.seed image.now.table.step image.now.graph }
-    requires horizon { horizon ≤ most_horizon }
-    ensures survey { IfOk result (λ v. IsSurveyOf image.now.graph horizon v) }
-    ensures mapped { IfOk result (λ v. IsMapped image.now.graph v) }
-    ensures few { OnOk result (weights_up_to image.now.graph horizon ≤ most_weights) }
-    ensures fault { IfErr result (λ e. (e ≡ input.Memory)
-        ⊎ ((e ≡ input.Refused refusal.Audit) × (most_weights < weights_up_to image.now.graph horizon))) }
-{
-    match survey_of(alloc, &image.graph, &image.table, horizon) {
-        Ok(survey) => Ok(survey),
-        Err(AuditFault::TooLarge { .. }) => Err(NoInput::Refused(Refusal::Audit)),
-        Err(AuditFault::Memory) => Err(NoInput::Memory),
-    }
-}
 
 /// Writes the cover of a surveyed image; whether a fault is reported neither as refused nor as nothing.
 fn write_survey<'a, O: Sink>(
@@ -86,11 +66,12 @@ pub(crate) fn write_cover<'a, O: Sink>(
     ensures { WritesSo (Weighed horizon name.now image.now (IsCover image.now horizon classes))
         (O.seen out.old) (O.seen out.new) (told_line result) (told_status result) }
 {
-    match surveyed(alloc, image, horizon) {
+    match survey_of(alloc, &image.graph, &image.table, horizon) {
         Ok(survey) => write_survey(alloc, image, horizon, &survey, classes, out),
-        Err(input) => Err(Fault::Input {
+        Err(AuditFault::TooLarge { .. }) => Err(Fault::Input {
             name: name.bytes(),
-            input,
+            input: NoInput::Refused(Refusal::Audit),
         }),
+        Err(AuditFault::Memory) => Err(Fault::Memory),
     }
 }

@@ -64,31 +64,26 @@ fn has_same_graph(alloc: Global, text: &Text, program: &Typed) -> Result<bool, M
     }
 }
 
-/// A text, where it is the canonical text of a program with this one's graph, but for places, as far as is found; None where it isn't.
-fn if_text_for(alloc: Global, text: Text, program: &Typed) -> Result<Option<Text>, Memory>
+/// The canonical text of a program in Structured Text that has the run of a list with this text and this typed program; None where none is found.
+pub(crate) fn text_for(alloc: Global, list: &[u8], program: &Typed) -> Result<Option<Text>, Memory>
+    requires { length list.now ≤ most_il_bytes }
     ensures { IfOk result (λ found. IfSome found (IsTextFor program.now)) }
 {
+    let rough = match rough_text(alloc, list, program) {
+        Ok(rough) => rough,
+        Err(Memory) => return Err(Memory),
+    };
+    let text = match canonical_of(alloc, &rough) {
+        Ok(Some(text)) => text,
+        Ok(None) => return Ok(None),
+        Err(Memory) => return Err(Memory),
+    };
     if !is_canonical(alloc, &text)? {
         return Ok(None);
     }
     match has_same_graph(alloc, &text, program) {
         Ok(true) => Ok(Some(text)),
         Ok(false) => Ok(None),
-        Err(Memory) => Err(Memory),
-    }
-}
-
-/// The canonical text of a program in Structured Text that has the run of a list with this text and this typed program; None where none is found.
-pub(crate) fn text_for(alloc: Global, list: &[u8], program: &Typed) -> Result<Option<Text>, Memory>
-    requires { length list.now ≤ most_il_bytes }
-    ensures { IfOk result (λ found. IfSome found (IsTextFor program.now)) }
-{
-    match rough_text(alloc, list, program) {
-        Ok(rough) => match canonical_of(alloc, &rough) {
-            Ok(Some(text)) => if_text_for(alloc, text, program),
-            Ok(None) => Ok(None),
-            Err(Memory) => Err(Memory),
-        },
         Err(Memory) => Err(Memory),
     }
 }

@@ -49,27 +49,6 @@ pub(crate) fn rough_text(alloc: Global, list: &[u8], program: &Typed) -> Result<
     }
 }
 
-/// The words with which the block of a section begins.
-fn block_words(section: Section) -> &'static [u8] {
-    match section {
-        Section::Input => b"VAR_INPUT",
-        Section::Output => b"VAR_OUTPUT",
-        Section::Local => b"VAR",
-        Section::Retain => b"VAR RETAIN",
-        Section::Constant => b"VAR CONSTANT",
-    }
-}
-
-/// Whether a literal of the value that is written without a type has this one.
-fn has_plain_form(ty: Ty, value: i64) -> bool {
-    match ty {
-        Ty::Bool => false,
-        Ty::Int => true,
-        Ty::Dint => value < -32768 || value > 32767,
-        Ty::Lint => value < -2147483648 || value > 2147483647,
-    }
-}
-
 impl Growing {
     fn put(mut self, bytes: &[u8]) -> Growing {
         if self.is_given_up {
@@ -109,7 +88,13 @@ impl Growing {
         let mut text = self;
         let mut open: &'static [u8] = b"";
         for slot in slots {
-            let words = block_words(slot.section);
+            let words: &'static [u8] = match slot.section {
+                Section::Input => b"VAR_INPUT",
+                Section::Output => b"VAR_OUTPUT",
+                Section::Local => b"VAR",
+                Section::Retain => b"VAR RETAIN",
+                Section::Constant => b"VAR CONSTANT",
+            };
             if words != open {
                 text = text.end_block(open).put(words).put(b"\n");
                 open = words;
@@ -166,7 +151,16 @@ impl Growing {
     /// What is assigned: a variable or a literal, which may be widened or behind a NOT, or an operator between two such operands.
     fn value(self, slots: &[Slot], value: &TExpr) -> Growing {
         match value {
-            TExpr::Lit { ty, value, .. } => self.literal(*ty, *value, has_plain_form(*ty, *value)),
+            TExpr::Lit { ty, value, .. } => {
+                // Whether a literal of the value that is written without a type has this one.
+                let is_plain = match *ty {
+                    Ty::Bool => false,
+                    Ty::Int => true,
+                    Ty::Dint => *value < -32768 || *value > 32767,
+                    Ty::Lint => *value < -2147483648 || *value > 2147483647,
+                };
+                self.literal(*ty, *value, is_plain)
+            }
             TExpr::Get { slot, .. } => self.variable(slots, *slot),
             TExpr::Widen { arg, .. } => self.value(slots, arg),
             TExpr::Unary {
