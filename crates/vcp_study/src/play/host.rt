@@ -18,14 +18,26 @@ fn is_lacking_told<F: Files>(files: &mut F, name: &str) -> bool {
         && files.begin(b"\xff").is_err()
 }
 
+/// Notes what is said of a file.
+fn note(player: &mut Player, name: &str, said: &str) {
+    let _ = player.faults.push_str(name);
+    let _ = player.faults.push_str(said);
+}
+
 /// Plays the file of a name.
 fn play_file<F: Files>(alloc: Global, files: &mut F, name: &str, player: &mut Player) {
     match read_all(alloc, files, name.as_bytes(), MOST_BYTES) {
         Ok(text) if is_lacking_told(files, name) => player.play(name, text_of(text.bytes())),
-        _ => {
-            let fault = "a file of the host isn't read as it is\n";
-            let _ = player.faults.push_str(fault);
-        }
+        Ok(_) => note(
+            player,
+            name,
+            ": the host's files don't answer as they have to\n",
+        ),
+        Err(_) => note(
+            player,
+            name,
+            ": no session is read: it is lacking, fails or is too long\n",
+        ),
     }
 }
 
