@@ -1,9 +1,11 @@
 -- InRange: numbers that are tested for their ranges, one after another.
-use Rattle.std.proofs.Common.{◌≡◌, ℕ, ◌≤◌, Bool, true, false, cond, Option, Some, None, option_and_then, option_map, ℤ, unsigned_abs, sym, ap, ◌∙◌, arith, to_z, of_z, to_z-of_z, SFits, w64}
-use Rattle.std.proofs.lemmas.Int.{ints}
+use Rattle.std.proofs.Common.{◌≡◌, ℕ, ◌≤◌, ◌<◌, Bool, true, false, cond, Option, Some, None, option_and_then, option_map, ℤ, unsigned_abs, pos, refl, sym, ap, ◌∙◌, arith, to_z, of_z, to_z-of_z, Fits, SFits, w32, w64}
+use Rattle.std.specs.Int.Signed.{non_neg, yes_non_neg}
+use Rattle.std.proofs.Math.Dec.{T}
+use Rattle.std.proofs.lemmas.Int.{ints, to_z_pos}
 use Rattle.vcp_base.specs.Limits.{seeds, most_step, most_cycles}
 use Rattle.telegram.specs.Sendings.{most_senders}
-use Rattle.telegram.specs.Forms.{is_between, number_between, number_below, wire_with}
+use Rattle.telegram.specs.Forms.{is_between, is_below, number_between, number_below, wire_with}
 
 -- a number is what its 64 bits say
 pub same : (v : ℤ) → SFits w64 v → to_z w64 (of_z w64 v) ≡ v
@@ -41,6 +43,47 @@ between_least least most w b is holds = let h : is_between least most w ≡ true
 
 pub between_most : (least most : ℕ) (w : ℤ) (b : Bool) → b ≡ is_between least most w → b ≡ true → unsigned_abs w ≤ most
 between_most least most w b is holds = let h : is_between least most w ≡ true = sym is ∙ holds in grind (arith, ints)
+
+-- a number of 32 bits is itself with a sign
+whole : (n : ℕ) → Fits w32 n → to_z w64 n ≡ pos n
+whole n fits = to_z_pos w64 n (let low : n < 4294967296 = fits.fits in omega arith)
+
+is_below_by : (many : ℕ) (w : ℤ) (b c : Bool) → Fits w32 many → b ≡ is_below (to_z w64 many) w → b ≡ c → is_below (pos many) w ≡ c
+is_below_by many w b c fits is e = ap (λ (m : ℤ). is_below m w) (sym (whole many fits)) ∙ (sym is ∙ e)
+
+pub below_some : (many : ℕ) (v : ℤ) (b : Bool) → Fits w32 many → SFits w64 v → b ≡ is_below (to_z w64 many) (to_z w64 (of_z w64 v)) → b ≡ true
+    → Some (unsigned_abs (to_z w64 (of_z w64 v))) ≡ number_below many v
+below_some many v b small fits is holds =
+    let w = to_z w64 (of_z w64 v) in
+    sym (some_if (is_below (pos many) w) (is_below (pos many) w) (unsigned_abs w) refl (is_below_by many w b true small is holds))
+    ∙ ap (number_below many) (same v fits)
+
+pub below_none : (many : ℕ) (v : ℤ) (b : Bool) → Fits w32 many → SFits w64 v → b ≡ is_below (to_z w64 many) (to_z w64 (of_z w64 v)) → b ≡ false
+    → None ≡ number_below many v
+below_none many v b small fits is fails =
+    let w = to_z w64 (of_z w64 v) in
+    sym (none_if (is_below (pos many) w) (is_below (pos many) w) (unsigned_abs w) refl (is_below_by many w b false small is fails))
+    ∙ ap (number_below many) (same v fits)
+
+pub below_most : (many : ℕ) (v : ℤ) (b : Bool) → Fits w32 many → b ≡ is_below (to_z w64 many) (to_z w64 (of_z w64 v)) → b ≡ true
+    → unsigned_abs (to_z w64 (of_z w64 v)) < many
+below_most many v b small is holds =
+    let w = to_z w64 (of_z w64 v) in
+    let h : is_below (pos many) w ≡ true = is_below_by many w b true small is holds in grind (arith, ints)
+
+-- what is at least 0 and at most a number of 32 bits is cast to 32 bits as it is
+natural : (w : ℤ) (most : ℕ) → Fits w32 most → T (non_neg w) → unsigned_abs w ≤ most → T (non_neg w) × Fits w32 (unsigned_abs w)
+natural w most small sign is = (sign, record { fits = let top : most < 4294967296 = small.fits in omega arith })
+
+pub below_cast : (many : ℕ) (w : ℤ) (b : Bool) → Fits w32 many → b ≡ is_below (to_z w64 many) w → b ≡ true → T (non_neg w) × Fits w32 (unsigned_abs w)
+below_cast many w b small is holds =
+    let h : is_below (pos many) w ≡ true = is_below_by many w b true small is holds in
+    natural w many small (yes_non_neg (grind (arith, ints))) (grind (arith, ints))
+
+pub between_cast : (least most : ℕ) (w : ℤ) (b : Bool) → Fits w32 most → b ≡ is_between least most w → b ≡ true → T (non_neg w) × Fits w32 (unsigned_abs w)
+between_cast least most w b small is holds =
+    let h : is_between least most w ≡ true = sym is ∙ holds in
+    natural w most small (yes_non_neg (grind (arith, ints))) (between_most least most w b is holds)
 
 -- ---- the five of a wire
 

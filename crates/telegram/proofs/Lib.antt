@@ -13,6 +13,7 @@ pub mod LinesFit
 pub mod NumbersRead
 pub mod Reading
 pub mod Counting
+pub mod Delivering
 pub mod Ends
 pub mod Growing
 pub mod RunLookups

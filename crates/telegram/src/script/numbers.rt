@@ -10,7 +10,6 @@ use std::alloc::Global;
 use vcp_base::{Memory, Row, WordsLeft, integer};
 
 /// The numbers that the words that are left of a line write; the line is refused where one writes none.
-#[tactic(auto, using(crate::proofs::NumbersRead::one_more))]
 pub fn numbers(alloc: Global, line: u32, words: &mut WordsLeft<'_>) -> Result<Row, WireFault>
     ensures numbers { IfOk result (λ row. integers_of words.old ≡ Some row) }
     ensures refusal { IfErr result (λ f. f ≢ refusal.Memory → integers_of words.old ≡ None) }

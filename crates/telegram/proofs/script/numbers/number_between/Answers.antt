@@ -1,5 +1,8 @@
-use Rattle.telegram.proofs.InRange.{between_some, between_none, between_least, between_most}
+use Rattle.telegram.proofs.InRange.{between_some, between_none, between_least, between_most, between_cast}
 use Rattle.telegram.proofs.script.numbers.number_between.Goals as goal
+
+pub overflow_cast-result : goal.overflow_cast-result
+overflow_cast-result c = between_cast c.args.least c.args.most _ c.is_between.result c.ranges.most c.is_between.ensures c.if-is_between.true
 
 pub returns-then-is_between : goal.returns-then-is_between
 returns-then-is_between c = record {
