@@ -5,7 +5,7 @@ ghost use Rattle.coded_unit.specs.Asked.{Asked};
 ghost use Rattle.coded_unit.specs.Log.{GrowsBy, Counts};
 ghost use Rattle.coded_unit.specs.Right.{Right};
 ghost use Rattle.fault_script.specs.Changes.{operand_word as operand_word_of, with_operand as with_operand_of, changed as changed_of, answered as answered_of};
-ghost use Rattle.fault_script.specs.Changes.{takes_word as takes_word_of, is_skip as is_skip_of, word_of, is_call_of as is_call_of_of};
+ghost use Rattle.fault_script.specs.Changes.{is_skip as is_skip_of, word_of, is_call_of as is_call_of_of};
 ghost use Rattle.fault_script.specs.Changes.{is_call_before as is_call_before_of, kept_by as kept_by_of, kept_after as kept_after_of, none_kept};
 ghost use Rattle.fault_script.specs.Changes.{act_at_call, act_with};
 ghost use Rattle.fault_script.specs.Groups.{Apart};
@@ -221,18 +221,17 @@ fn done_by(one: &Carried) -> Option<Doing>
     ensures some { IfSome result (λ d. (act_with one.now.fault.act one.now.kept ≡ Some d.act) × (word one.now.kept ≡ d.word)) }
 {
     let act = one.fault.act;
-    match one.kept {
-        Some(word) => Some(Doing { act, word }),
-        None => {
-            if takes_word(&act) {
+    let word = match one.kept {
+        Some(word) => word,
+        None => match act {
+            // These take a word of an earlier call.
+            Act::OperandFrom { j: _, r: _ } | Act::OperandStale { j: _ } | Act::Skip => {
                 return None;
             }
-            Some(Doing {
-                act,
-                word: Word::ZERO,
-            })
-        }
-    }
+            _ => Word::ZERO,
+        },
+    };
+    Some(Doing { act, word })
 }
 
 /// Keeps what each fault takes of a call with this answer.
@@ -252,18 +251,6 @@ fn kept_on(one: &Carried, call: &Call, given: &Answer) -> Carried
     Carried {
         fault: one.fault,
         kept: kept_by(&one.fault, &one.kept, call, given),
-    }
-}
-
-/// Whether the act takes a word of an earlier call.
-fn takes_word(act: &Act) -> bool
-    ensures { result ≡ takes_word_of act.now }
-{
-    match act {
-        Act::OperandFrom { j: _, r: _ } | Act::OperandStale { j: _ } | Act::Skip => true,
-        Act::OperandAdd { j: _, e: _ } | Act::ResultAdd { e: _ } | Act::Operator { kind: _ } => {
-            false
-        }
     }
 }
 
