@@ -3,7 +3,7 @@
 ghost use Rattle.std.specs.Prelude.{◌≡◌, ◌<◌, [], ◌∷◌, ◌++◌, Some, OnOk, OnErr, length, slice_get};
 
 use std::alloc::Global;
-use vcp_base::Memory;
+use vcp_base::{Memory, append};
 
 /// Nodes in their order, none of which holds such a list.
 pub struct Nodes<T: Drop> {
@@ -31,8 +31,7 @@ impl<T: Drop> Nodes<T> {
         ensures items { OnOk result (self.new.items.items ≡ self.old.items.items ++ item ∷ []) }
         ensures unchanged { OnErr result (self.new.items.items ≡ self.old.items.items) }
     {
-        self.items.push(item)?;
-        Ok(())
+        append(&mut self.items, item)
     }
 
     /// How many nodes there are.
