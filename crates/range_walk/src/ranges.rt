@@ -3,7 +3,6 @@
 ghost use Rattle.std.specs.Prelude.{◌≡◌, ◌<◌, [], ◌∷◌, ◌++◌, length, slice_get, Some, IfOk};
 
 use crate::range::{Range, Stops, range_at};
-use std::alloc::Global;
 use std::marker::Model;
 use vcp_base::Memory;
 
@@ -34,15 +33,6 @@ impl Ranges {
         ensures { result ≡ record { known = known.items; stops = stops.items } }
     {
         Ranges { known, stops }
-    }
-
-    /// Nothing of no operation, with room for so many.
-    pub fn with_capacity(alloc: Global, count: usize) -> Result<Ranges, Memory>
-        ensures { IfOk result (λ r. r ≡ record { known = []; stops = [] }) }
-    {
-        let known = Vec::with_capacity(alloc, count)?;
-        let stops = Vec::with_capacity(alloc, count)?;
-        Ok(Ranges { known, stops })
     }
 
     /// Appends what is found of the next operation. After `Memory` the two lists may differ in their lengths.
