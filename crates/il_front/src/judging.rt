@@ -9,15 +9,15 @@ ghost use Rattle.vcp_typed.specs.declared.slot.Slot.{Slot as SlotOf};
 ghost use Rattle.vcp_typed.specs.Checked.{SlotsFit};
 ghost use Rattle.il_front.specs.declared.fault.IlFault.TheVariants as fault_;
 ghost use Rattle.il_front.specs.Judging.{type_behind as type_behind_of, typed_line, placed_line, judged as judged_of};
-ghost use Rattle.il_front.specs.Judging.{meant as meant_of, meant_line, listed as listed_of};
+ghost use Rattle.il_front.specs.Judging.{listed as listed_of};
 ghost use Rattle.il_front.specs.Lines.{lines_of};
 ghost use Rattle.il_front.specs.Outcomes.{Judges};
 ghost use Rattle.il_front.specs.Tables.{Tells};
-ghost use Rattle.il_front.specs.Writings.{AreWords, AreInside, InsideWriting, written_in, line_in};
+ghost use Rattle.il_front.specs.Writings.{AreWords, AreInside};
 
 use crate::fault::IlFault;
 use crate::instruction::{Action, Instruction};
-use crate::line::{FormedLine, Words, is_last_word, line_end, line_of, line_words};
+use crate::line::{Words, is_last_word, line_end, line_of, line_words};
 use crate::operand::{meaning, table_of};
 use crate::operator::sets;
 use crate::types::{action_of, type_behind};
@@ -64,17 +64,20 @@ fn placed(before: Option<Ty>, instruction: Instruction) -> Result<Taken, IlFault
     }
 }
 
-// A line that has the form of an instruction.
-fn with_operand(
+// A line of these tokens, the first of which stands at `spot`.
+fn judged(
     text: &[u8],
     names: &Names,
     before: Option<Ty>,
-    line: FormedLine,
+    words: Words,
+    spot: Spot,
 ) -> Result<Taken, IlFault>
-    requires { InsideWriting text.now line.operand }
-    ensures { (slots : List SlotOf) → Tells names.now slots
-        → Judges result (meant_line before (line_in text.now line) (meant_of slots (written_in text.now line.operand))) }
+    requires { AreInside text.now words }
+    ensures { (slots : List SlotOf) (l : List TokenOf) → Tells names.now slots → AreWords words l → Judges result (judged_of text.now slots before spot l) }
 {
+    let Some(line) = line_of(text, words) else {
+        return Err(IlFault::Instruction { spot });
+    };
     let Some(meant) = meaning(text, names, line.operand) else {
         return Err(IlFault::Operand { spot: line.at });
     };
@@ -89,23 +92,6 @@ fn with_operand(
             at: line.at,
         },
     )
-}
-
-// A line of these tokens, the first of which stands at `spot`.
-fn judged(
-    text: &[u8],
-    names: &Names,
-    before: Option<Ty>,
-    words: Words,
-    spot: Spot,
-) -> Result<Taken, IlFault>
-    requires { AreInside text.now words }
-    ensures { (slots : List SlotOf) (l : List TokenOf) → Tells names.now slots → AreWords words l → Judges result (judged_of text.now slots before spot l) }
-{
-    match line_of(text, words) {
-        None => Err(IlFault::Instruction { spot }),
-        Some(line) => with_operand(text, names, before, line),
-    }
 }
 
 // Appends the instructions of the lines of the tokens from place `from` on.
