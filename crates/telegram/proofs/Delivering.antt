@@ -26,7 +26,7 @@ same_number false n m e = search rules
 pub no_addend : (w : Wire) (begun line : ℕ) (id n alter : ℤ) → is_addend alter ≡ false → Err (refusal.Range line) ≡ delivery_if w begun line id n alter
 no_addend w begun line id n alter far = sym (ap (λ (b : Bool). cond b
     (cond (is_below (pos w.senders) id && is_below (pos begun) n)
-        (Ok (event.Deliver line (unsigned_abs id) (unsigned_abs n) alter)) (Err (refusal.Unsent line)))
+    (Ok (event.Deliver line (unsigned_abs id) (unsigned_abs n) alter)) (Err (refusal.Unsent line)))
     (Err (refusal.Range line))) far)
 
 added : (w : Wire) (begun line : ℕ) (id n alter : ℤ) → is_addend alter ≡ true →
@@ -34,7 +34,7 @@ added : (w : Wire) (begun line : ℕ) (id n alter : ℤ) → is_addend alter ≡
     cond (is_below (pos w.senders) id && is_below (pos begun) n) (Ok (event.Deliver line (unsigned_abs id) (unsigned_abs n) alter)) (Err (refusal.Unsent line))
 added w begun line id n alter near = ap (λ (b : Bool). cond b
     (cond (is_below (pos w.senders) id && is_below (pos begun) n)
-        (Ok (event.Deliver line (unsigned_abs id) (unsigned_abs n) alter)) (Err (refusal.Unsent line)))
+    (Ok (event.Deliver line (unsigned_abs id) (unsigned_abs n) alter)) (Err (refusal.Unsent line)))
     (Err (refusal.Range line))) near
 
 one_of_them : (w : Wire) (begun line : ℕ) (id n alter : ℤ) → is_addend alter ≡ true → is_below (pos w.senders) id ≡ true →
@@ -55,7 +55,7 @@ pub not_begun : (w : Wire) (begun line : ℕ) (id n alter : ℤ) (i : ℕ) → i
 not_begun w begun line id n alter i near some none = sym (one_of_them w begun line id n alter near
     (holds (is_below (pos w.senders) id) (unsigned_abs id) i some)
     ∙ ap (λ (b : Bool). cond b (Ok (event.Deliver line (unsigned_abs id) (unsigned_abs n) alter)) (Err (refusal.Unsent line)))
-      (fails (is_below (pos begun) n) (unsigned_abs n) none))
+    (fails (is_below (pos begun) n) (unsigned_abs n) none))
 
 -- the delivery
 pub delivered : (w : Wire) (begun line : ℕ) (id n alter z : ℤ) (i k : ℕ) → is_addend alter ≡ true → number_below w.senders id ≡ Some i
@@ -63,7 +63,7 @@ pub delivered : (w : Wire) (begun line : ℕ) (id n alter z : ℤ) (i k : ℕ) �
 delivered w begun line id n alter z i k near some one is = sym (one_of_them w begun line id n alter near
     (holds (is_below (pos w.senders) id) (unsigned_abs id) i some)
     ∙ ap (λ (b : Bool). cond b (Ok (event.Deliver line (unsigned_abs id) (unsigned_abs n) alter)) (Err (refusal.Unsent line)))
-      (holds (is_below (pos begun) n) (unsigned_abs n) k one)
+    (holds (is_below (pos begun) n) (unsigned_abs n) k one)
     ∙ ap (λ (m : ℕ). Ok (event.Deliver line m (unsigned_abs n) alter)) (same_number (is_below (pos w.senders) id) (unsigned_abs id) i some)
     ∙ ap (λ (m : ℕ). Ok (event.Deliver line i m alter)) (same_number (is_below (pos begun) n) (unsigned_abs n) k one)
     ∙ ap (λ (v : ℤ). Ok (event.Deliver line i k v)) (sym is))
