@@ -1,7 +1,7 @@
 //! The numbers of a line.
 
 ghost use Rattle.std.specs.Prelude.{◌≡◌, ◌≢◌, ◌≤◌, ◌<◌, Some, None, IfOk, IfErr, IfSome};
-ghost use Rattle.telegram.specs.Forms.{integers_of, is_between as is_between_of, number_between as number_between_of};
+ghost use Rattle.telegram.specs.Forms.{integers_of, is_between as is_between_of, is_below as is_below_of, number_between as number_between_of};
 ghost use Rattle.telegram.specs.Forms.{number_below as number_below_of};
 ghost use Rattle.telegram.specs.declared.script.wire_fault.WireFault.TheVariants as refusal;
 
@@ -35,6 +35,13 @@ fn is_between(least: u32, most: u32, v: i64) -> bool
     least as i64 <= v && v <= most as i64
 }
 
+// Whether a number is one of so many, counted from 0.
+fn is_below(many: i64, v: i64) -> bool
+    ensures { result ≡ is_below_of many v }
+{
+    0 <= v && v < many
+}
+
 /// The number, where it is at least the one and at most the other.
 pub fn number_between(least: u32, most: u32, v: i64) -> Option<u32>
     ensures number { result ≡ number_between_of least most v }
@@ -53,7 +60,7 @@ pub fn number_below(many: u32, v: i64) -> Option<u32>
     ensures number { result ≡ number_below_of many v }
     ensures below { IfSome result (λ n. n < many) }
 {
-    if 0 <= v && v < many as i64 {
+    if is_below(many as i64, v) {
         Some(v as u32)
     } else {
         None
