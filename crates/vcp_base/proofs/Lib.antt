@@ -4,3 +4,5 @@ pub mod Worked
 pub mod Firsts
 pub mod LinesRead
 pub mod Written
+pub mod IntegerTexts
+pub mod Divisions

@@ -1,5 +1,5 @@
 -- Numerals: which number a text writes in decimal digits.
-use Rattle.std.specs.Prelude.{ℕ, ◌+◌, ◌-◌, ◌*◌, ◌==◌, cond, ◌&&◌, nat_le, List, [], ◌∷◌, length, fold, Option, Some, None, option_map, ℤ, pos, neg_ℤ}
+use Rattle.std.specs.Prelude.{ℕ, ◌+◌, ◌-◌, ◌*◌, ◌^◌, min, ◌==◌, cond, ◌&&◌, nat_le, List, [], ◌∷◌, length, fold, Option, Some, None, option_map, ℤ, pos, neg_ℤ}
 use Rattle.std.specs.Char.{is_ascii_digit}
 use Rattle.std.specs.List.{list_all}
 use Rattle.std.specs.Str.{all_ascii_digits}
@@ -19,6 +19,10 @@ number_of digits = fold (λ n digit. n * 10 + (digit - 48)) 0 digits
 abbrev pub natural_of : List ℕ → Option ℕ
 natural_of [] = None
 natural_of (c ∷ text) = cond (list_all is_ascii_digit (c ∷ text)) (Some (number_of (c ∷ text))) None
+
+-- a number as an integer, cut to one that no type has
+abbrev pub cut_natural : Option ℕ → Option ℤ
+cut_natural o = option_map (λ n. pos (min n (2 ^ 64))) o
 
 -- an optional `+` or `-`, and one or more decimal digits
 abbrev pub integer_of : List ℕ → Option ℤ

@@ -1,7 +1,7 @@
 //! Integers with an optional sign.
 
-ghost use Rattle.std.specs.Prelude.{◌≡◌, ◌≤◌, ◌^◌, min, pos, neg_ℤ, IfSome, option_map, option_and_then};
-ghost use Rattle.vcp_base.specs.Numerals.{natural_of, integer_of, in_type};
+ghost use Rattle.std.specs.Prelude.{◌≡◌, ◌≤ℤ◌, pos, neg_ℤ, IfSome, option_map, option_and_then};
+ghost use Rattle.vcp_base.specs.Numerals.{natural_of, cut_natural, integer_of, in_type};
 
 use crate::{Ty, fits};
 
@@ -10,11 +10,11 @@ use crate::{Ty, fits};
 const BEYOND: u128 = 18_446_744_073_709_551_616;
 
 // The number that decimal digits spell, or `BEYOND` if it is greater; `None` if they are no digits.
-fn natural(digits: &[u8]) -> Option<u128>
-    ensures value { result ≡ option_map (λ n. min n (2 ^ 64)) (natural_of digits.now) }
-    ensures low { IfSome result (λ n. n ≤ 2 ^ 64) }
+fn natural(digits: &[u8]) -> Option<i128>
+    ensures value { result ≡ cut_natural (natural_of digits.now) }
+    ensures no_sign { IfSome result (λ v. pos 0 ≤ℤ v) }
 {
-    let mut number = 0;
+    let mut number = 0u128;
     'digits: for digit in digits {
         if !digit.is_ascii_digit() {
             return None;
@@ -24,7 +24,7 @@ fn natural(digits: &[u8]) -> Option<u128>
     if digits.is_empty() {
         return None;
     }
-    Some(number)
+    Some(number as i128)
 }
 
 // The value that an optional sign and digits spell, if there is a type that has it; else one that no
@@ -36,30 +36,22 @@ fn integer(text: &[u8]) -> Option<i128>
         [] => None,
         [first, digits @ ..] => {
             if *first == b'+' {
-                plus(natural(digits))
+                natural(digits)
             } else if *first == b'-' {
                 minus(natural(digits))
             } else {
-                plus(natural(text))
+                natural(text)
             }
         }
     }
 }
 
-// The number, as an integer.
-fn plus(number: Option<u128>) -> Option<i128>
-    requires { IfSome number (λ n. n ≤ 2 ^ 64) }
-    ensures { result ≡ option_map pos number }
-{
-    Some(number? as i128)
-}
-
 // The number with a minus sign.
-fn minus(number: Option<u128>) -> Option<i128>
-    requires { IfSome number (λ n. n ≤ 2 ^ 64) }
-    ensures { result ≡ option_map (λ n. neg_ℤ (pos n)) number }
+fn minus(number: Option<i128>) -> Option<i128>
+    requires { IfSome number (λ v. pos 0 ≤ℤ v) }
+    ensures { result ≡ option_map neg_ℤ number }
 {
-    Some(-(number? as i128))
+    Some(-number?)
 }
 
 /// The value that an optional sign and decimal digits spell, if it is one of the type.

@@ -108,7 +108,7 @@ fn told(ty: Ty, fit: bool, v: i128) -> Result<i64, StopKind>
     if !fit {
         return Err(StopKind::Operand);
     }
-    if is_value(ty, v) {
+    if fits(ty, v) {
         Ok(v as i64)
     } else {
         Err(StopKind::Range)
@@ -150,20 +150,6 @@ fn are_in(ty: Ty, v: i64, w: i64) -> bool
     is_in(ty, v) && is_in(ty, w)
 }
 
-/// Whether `v`, which may have more than 64 bits, is a value of the type.
-#[inline(always)]
-fn is_value(ty: Ty, v: i128) -> bool
-    ensures value { result ≡ fits_of ty v }
-    ensures width { result ≡ true → FitsSigned w64 v }
-{
-    match ty {
-        Ty::Bool => 0 <= v && v <= 1,
-        Ty::Int => -32768 <= v && v <= 32767,
-        Ty::Dint => -2147483648 <= v && v <= 2147483647,
-        Ty::Lint => i64::MIN as i128 <= v && v <= i64::MAX as i128,
-    }
-}
-
 /// The quotient, cut towards zero, of 64 bits where it has no more; 0 where the divisor is 0.
 #[inline(always)]
 fn quotient(a: i64, b: i64) -> i128
@@ -172,7 +158,7 @@ fn quotient(a: i64, b: i64) -> i128
     if b == 0 {
         0
     } else if b == -1 {
-        -(a as i128)
+        negated(a)
     } else {
         (a / b) as i128
     }

@@ -82,4 +82,19 @@ impl Row {
     {
         self.values[i as usize] = v;
     }
+
+    /// All values, in order.
+    pub fn all(&self) -> &[i64]
+        ensures { result.now ≡ self.now }
+    {
+        &self.values
+    }
+
+    /// Sets the values to these, of which there are as many.
+    pub fn copy_from(&mut self, values: &[i64])
+        requires { length values.now ≡ length self.old }
+        ensures { self.new ≡ values.now }
+    {
+        self.values.copy_from_slice(values);
+    }
 }

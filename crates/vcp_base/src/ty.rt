@@ -43,11 +43,17 @@ pub fn greatest(ty: Ty) -> i64
 }
 
 /// Whether `v` is a value of the type, from its least to its greatest. Each value of a type has 64 bits.
+#[inline(always)]
 pub fn fits(ty: Ty, v: i128) -> bool
     ensures value { result ≡ fits_of ty v }
     ensures width { result ≡ true → FitsSigned w64 v }
 {
-    least(ty) as i128 <= v && v <= greatest(ty) as i128
+    match ty {
+        Ty::Bool => 0 <= v && v <= 1,
+        Ty::Int => -32768 <= v && v <= 32767,
+        Ty::Dint => -2147483648 <= v && v <= 2147483647,
+        Ty::Lint => i64::MIN as i128 <= v && v <= i64::MAX as i128,
+    }
 }
 
 /// Whether each value of the first type is accepted where the second is wanted, without conversion: the
