@@ -1,5 +1,5 @@
 -- Bits: what is computed on integers that are read back from their bits is what is computed on the integers.
-use Rattle.std.proofs.Common.{◌≡◌, ℕ, ◌<◌, ℤ, pos, negsuc, ◌+ℤ◌, ◌-ℤ◌, ◌*ℤ◌, ◌≤ℤ◌, ◌<ℤ◌, ◌+◌, ◌-◌, ◌^◌, unsigned_abs, sym, ap, subst, ◌∙◌, to_z, of_z, SFits, w64, arith}
+use Rattle.std.proofs.Common.{◌≡◌, ◌⊎◌, inl, inr, ℕ, ◌<◌, ℤ, pos, negsuc, ◌+ℤ◌, ◌-ℤ◌, ◌*ℤ◌, ◌≤ℤ◌, ◌<ℤ◌, ◌+◌, ◌-◌, ◌^◌, unsigned_abs, sym, ap, subst, ◌∙◌, to_z, of_z, SFits, w64, arith}
 use mir.Syntax.{Width, w128}
 use Rattle.std.specs.Int.{int_div_euclid}
 use Rattle.std.proofs.Math.IntN.{*ℤ_comm}
@@ -7,6 +7,7 @@ use Rattle.std.proofs.lemmas.Int.{ints, to_z-of_z, to_z_pos}
 use Rattle.vcp_base.specs.declared.code.Profile.{Profile}
 use Rattle.vcp_base.specs.Code.{modulus}
 use Rattle.vcp_base.specs.declared.kind.Kind.{Kind}
+use Rattle.vcp_base.specs.declared.kind.Kind.TheVariants as kind
 use Rattle.vcp_base.specs.Kinds.{value}
 use Rattle.coded_unit.specs.Words.{coded, Short, Middle, Small}
 use Rattle.coded_unit.specs.Multiples.{multiple, Wide}
@@ -51,6 +52,16 @@ middle_fits z h =
 
 pub low_fits : (l : ℤ) → pos 0 ≤ℤ l → l ≤ℤ pos (2 ^ 61 - 1) → SFits w64 l
 low_fits l low high = omega (arith, ints)
+
+-- an integer of 64 bits has 128, too, and is read back from each
+pub widened : (z : ℤ) → SFits w64 z → SFits w128 z
+widened z f = omega (arith, ints)
+
+pub read_fits : (z : ℤ) → SFits w64 z → SFits w128 (back w64 z)
+read_fits z f = subst (SFits w128) (sym (to_z-of_z w64 z f)) (widened z f)
+
+pub read_twice : (z : ℤ) → SFits w64 z → back w128 (back w64 z) ≡ z
+read_twice z f = ap (back w128) (to_z-of_z w64 z f) ∙ to_z-of_z w128 z (widened z f)
 
 -- ---- an integer cut at a power of two
 
@@ -232,3 +243,15 @@ cut_twice z h l s m r v x a b d e f = omega (arith, ints)
 pub given_by : (p : Profile) (k known : Kind) (imm a b c z : ℤ) → SFits w128 z → k ≡ known → z ≡ multiple p (value known imm a b c)
     → back w128 z ≡ multiple p (value k imm a b c)
 given_by p k known imm a b c z fits is e = to_z-of_z w128 z fits ∙ e ∙ ap (λ kind. multiple p (value kind imm a b c)) (sym is)
+
+-- a fact of what a kind gives, where the kind is known
+pub of_kind : (P : ℤ → Type 0) (k known : Kind) (imm a b c : ℤ) → k ≡ known → P (value k imm a b c) → P (value known imm a b c)
+of_kind P k known imm a b c is h = subst (λ kind. P (value kind imm a b c)) is h
+
+-- a kind that gives its first operand
+pub gives_first : (p : Profile) (k : Kind) (imm a b c z : ℤ) → (k ≡ kind.Load) ⊎ ((k ≡ kind.Store) ⊎ ((k ≡ kind.Out) ⊎ (k ≡ kind.Conv))) → z ≡ multiple p a
+    → z ≡ multiple p (value k imm a b c)
+gives_first p k imm a b c z (inl is) e = e ∙ ap (λ kind. multiple p (value kind imm a b c)) (sym is)
+gives_first p k imm a b c z (inr (inl is)) e = e ∙ ap (λ kind. multiple p (value kind imm a b c)) (sym is)
+gives_first p k imm a b c z (inr (inr (inl is))) e = e ∙ ap (λ kind. multiple p (value kind imm a b c)) (sym is)
+gives_first p k imm a b c z (inr (inr (inr is))) e = e ∙ ap (λ kind. multiple p (value kind imm a b c)) (sym is)

@@ -1,6 +1,7 @@
 mod Bits
 pub mod Modular
 mod Multiples
+mod Parts
 pub mod Replacements
 pub mod Shifts
 pub mod Sizes

@@ -1,10 +1,11 @@
 -- Multiples: values times the constant of a code, and what the kinds give of them.
-use Rattle.std.proofs.Common.{refl, Ok, Err, ℕ, suc, zero, ◌≡◌, ◌<◌, ◌^◌, ◌*◌, ◌/◌, Bool, true, false, cond, ◌&&◌, ℤ, pos, negsuc, neg_ℤ, ◌+ℤ◌, ◌-ℤ◌, ◌*ℤ◌, ◌≤ℤ◌, ◌<ℤ◌, T, ap, sym, subst, ◌∙◌, arith, to_z, of_z, w64}
+use Rattle.std.proofs.Common.{refl, Ok, Err, ℕ, suc, zero, ◌≡◌, ◌<◌, ◌^◌, ◌*◌, ◌/◌, Bool, true, false, cond, not, ◌&&◌, ℤ, pos, negsuc, neg_ℤ, ◌+ℤ◌, ◌-ℤ◌, ◌*ℤ◌, ◌≤ℤ◌, ◌<ℤ◌, T, ap, sym, subst, ◌∙◌, arith, to_z, of_z, SFits, w64}
 use mir.Syntax.{w128}
 use Rattle.std.specs.Prelude.{int_le, int_lt, int_div, int_rem, FitsSigned}
 use Rattle.std.proofs.Math.Nat.{div-div-eq-div-mul, mul-div_cancel_left, div-zero, zero-div, mul_assoc}
 use Rattle.std.proofs.Math.IntN.{*ℤ_comm}
-use Rattle.std.proofs.lemmas.Int.{ints, quot-rem, to_z-of_z}
+use Rattle.std.specs.Int.Signed.{lt_z_no}
+use Rattle.std.proofs.lemmas.Int.{ints, quot-rem, to_z-of_z, by_lt_z}
 use Rattle.vcp_base.specs.declared.code.Profile.{Profile}
 use Rattle.vcp_base.specs.declared.code.Profile.TheVariants as profile
 use Rattle.vcp_base.specs.Code.{modulus}
@@ -37,6 +38,14 @@ read_back p z v e low high =
 -- the multiple of an operand, as it is read back
 pub of_operand : (p : Profile) (m v : ℤ) → IsMultiple p m v → to_z w128 (of_z w128 m) ≡ multiple p v
 of_operand p m v h = kept m h.1 ∙ h.0
+
+-- it is far from the ends, as it is read back
+pub operand_wide : (p : Profile) (m v : ℤ) → IsMultiple p m v → Wide (to_z w128 (of_z w128 m))
+operand_wide p m v h = subst Wide (sym (kept m h.1)) h.1
+
+-- a number between the ends of 64 bits has 128
+pub number_fits : (z : ℤ) → negsuc (2 ^ 63) ≤ℤ z → z ≤ℤ pos (2 ^ 63) → SFits w128 z
+number_fits z low high = omega (arith, ints)
 
 -- a word less its residue is that of its value
 pub less_residue : (p : Profile) (w v : ℤ) (r : ℕ) → v ≡ value_part p w → r ≡ modulo p w → w -ℤ pos r ≡ multiple p v
@@ -195,8 +204,22 @@ same_multiples p x y =
 pub equal : (p : Profile) (x y m n : ℤ) → m ≡ multiple p x → n ≡ multiple p y → same m n ≡ same x y
 equal p x y m n e f = ap (λ z. same z n) e ∙ ap (same (multiple p x)) f ∙ same_multiples p x y
 
-is_below : (x y : ℤ) → int_lt x y ≡ true → x <ℤ y
+pub is_below : (x y : ℤ) → int_lt x y ≡ true → x <ℤ y
 is_below x y h = record { lt = holds (int_lt x y) h }
+
+-- a test that failed
+fails : (b : Bool) → b ≡ false → T (not b)
+fails true h = absurd cc
+fails false h = tt
+
+pub not_below : (x y : ℤ) → int_lt x y ≡ false → y ≤ℤ x
+not_below x y h = lt_z_no (fails (int_lt x y) h)
+
+pub at_least : (x y : ℤ) → int_le x y ≡ true → x ≤ℤ y
+at_least x y h = at_most x y h
+
+pub not_at_least : (x y : ℤ) → int_le x y ≡ false → y <ℤ x
+not_at_least x y h = by_lt_z y x (λ k. k) (λ k. let e : false ≡ true = sym h ∙ is_at_most x y k in absurd cc)
 
 is_less : (x y : ℤ) → x <ℤ y → int_lt x y ≡ true
 is_less x y h = is_true (int_lt x y) h.lt

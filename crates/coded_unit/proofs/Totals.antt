@@ -1,9 +1,12 @@
 -- Totals: the terms of a residue and their sum, as they are computed in their bits.
-use Rattle.std.proofs.Common.{◌≡◌, ℕ, ◌<◌, ℤ, pos, negsuc, ◌+ℤ◌, ◌*ℤ◌, ◌≤ℤ◌, ◌^◌, sym, ap, subst, ◌∙◌, to_z, SFits, w32, w64, arith}
+use Rattle.std.proofs.Common.{◌≡◌, ℕ, ◌<◌, ℤ, pos, negsuc, ◌+ℤ◌, ◌-ℤ◌, ◌*ℤ◌, ◌≤ℤ◌, ◌^◌, sym, ap, subst, ◌∙◌, to_z, SFits, w32, w64, arith}
 use mir.Syntax.{Width, w128}
 use Rattle.std.proofs.lemmas.Int.{ints, to_z-of_z, to_z_pos}
 use Rattle.std.proofs.lemmas.Grind.{common_steps}
+use Rattle.vcp_base.specs.declared.kind.Kind.{Kind}
+use Rattle.vcp_base.specs.Kinds.{multiplier}
 use Rattle.coded_unit.specs.Words.{Short, Small}
+use Rattle.coded_unit.specs.Right.{stamp_share}
 use Rattle.coded_unit.proofs.Bits.{back, short_fits, small_fits}
 
 -- ---- a factor times a residue
@@ -52,6 +55,81 @@ factor_read f fits low high =
 
 pub share_read : (f : ℤ) → SFits w32 f → negsuc 60 ≤ℤ f → f ≤ℤ pos 61 → (negsuc 60 ≤ℤ back w32 f) × (back w32 f ≤ℤ pos 61)
 share_read f fits low high = subst (λ x. (negsuc 60 ≤ℤ x) × (x ≤ℤ pos 61)) (sym (to_z-of_z w32 f fits)) (low, high)
+
+-- ---- how often the stamp is added
+
+-- 1 less three multipliers, as it is computed
+pub record Share (k : Kind) (a b c : ℤ) : Type 0 where
+  pub three : SFits w32 (back w32 (back w32 (pos 1 -ℤ back w32 a) -ℤ back w32 b) -ℤ back w32 c)
+  pub is : back w32 (back w32 (back w32 (pos 1 -ℤ back w32 a) -ℤ back w32 b) -ℤ back w32 c) ≡ stamp_share k
+  pub low : negsuc 60 ≤ℤ (back w32 (back w32 (back w32 (pos 1 -ℤ back w32 a) -ℤ back w32 b) -ℤ back w32 c))
+  pub high : (back w32 (back w32 (back w32 (pos 1 -ℤ back w32 a) -ℤ back w32 b) -ℤ back w32 c)) ≤ℤ pos 61
+
+-- a multiplier
+abbrev pub Few : ℤ → Type 0
+Few f = (negsuc 1 ≤ℤ f) × (f ≤ℤ pos 20)
+
+few_fits : (f : ℤ) → Few f → SFits w32 f
+few_fits f h =
+    let low = h.0 in
+    let high = h.1 in
+    omega (arith, ints)
+
+less_one : (a : ℤ) → Few a → SFits w32 (pos 1 -ℤ a)
+less_one a h =
+    let low = h.0 in
+    let high = h.1 in
+    omega (arith, ints)
+
+less_two : (a b : ℤ) → Few a → Few b → SFits w32 (pos 1 -ℤ a -ℤ b)
+less_two a b ha hb =
+    let a0 = ha.0 in
+    let a1 = ha.1 in
+    let b0 = hb.0 in
+    let b1 = hb.1 in
+    omega (arith, ints)
+
+one_is : (a : ℤ) → Few a → pos 1 -ℤ back w32 a ≡ pos 1 -ℤ a
+one_is a h = ap (λ x. pos 1 -ℤ x) (to_z-of_z w32 a (few_fits a h))
+
+two_is : (a b : ℤ) → Few a → Few b → back w32 (pos 1 -ℤ back w32 a) -ℤ back w32 b ≡ pos 1 -ℤ a -ℤ b
+two_is a b ha hb =
+    ap (λ x. back w32 x -ℤ back w32 b) (one_is a ha) ∙ ap (λ x. x -ℤ back w32 b) (to_z-of_z w32 (pos 1 -ℤ a) (less_one a ha))
+    ∙ ap (λ x. pos 1 -ℤ a -ℤ x) (to_z-of_z w32 b (few_fits b hb))
+
+pub one_fits : (a : ℤ) → Few a → SFits w32 (pos 1 -ℤ back w32 a)
+one_fits a h = subst (SFits w32) (sym (one_is a h)) (less_one a h)
+
+pub two_fits : (a b : ℤ) → Few a → Few b → SFits w32 (back w32 (pos 1 -ℤ back w32 a) -ℤ back w32 b)
+two_fits a b ha hb = subst (SFits w32) (sym (two_is a b ha hb)) (less_two a b ha hb)
+
+share_within : (a b c : ℤ) → Few a → Few b → Few c → (negsuc 60 ≤ℤ (pos 1 -ℤ a -ℤ b -ℤ c)) × ((pos 1 -ℤ a -ℤ b -ℤ c) ≤ℤ pos 61)
+    × SFits w32 (pos 1 -ℤ a -ℤ b -ℤ c)
+share_within a b c ha hb hc =
+    let a0 = ha.0 in
+    let a1 = ha.1 in
+    let b0 = hb.0 in
+    let b1 = hb.1 in
+    let c0 = hc.0 in
+    let c1 = hc.1 in
+    (omega (arith, ints), omega (arith, ints), omega (arith, ints))
+
+pub share : (k : Kind) (a b c : ℤ) → a ≡ multiplier k 0 → b ≡ multiplier k 1 → c ≡ multiplier k 2 → Few a → Few b → Few c → Share k a b c
+share k a b c ea eb ec ha hb hc =
+    let all = share_within a b c ha hb hc in
+    let three : back w32 (back w32 (pos 1 -ℤ back w32 a) -ℤ back w32 b) -ℤ back w32 c ≡ pos 1 -ℤ a -ℤ b -ℤ c =
+    ap (λ x. back w32 x -ℤ back w32 c) (two_is a b ha hb) ∙ ap (λ x. x -ℤ back w32 c) (to_z-of_z w32 (pos 1 -ℤ a -ℤ b) (less_two a b ha hb))
+    ∙ ap (λ x. pos 1 -ℤ a -ℤ b -ℤ x) (to_z-of_z w32 c (few_fits c hc)) in
+    let read : back w32 (back w32 (back w32 (pos 1 -ℤ back w32 a) -ℤ back w32 b) -ℤ back w32 c) ≡ pos 1 -ℤ a -ℤ b -ℤ c =
+    ap (back w32) three ∙ to_z-of_z w32 (pos 1 -ℤ a -ℤ b -ℤ c) all.2 in
+    record {
+      three = subst (SFits w32) (sym three) all.2;
+      is =
+          read ∙ ap (λ x. pos 1 -ℤ x -ℤ b -ℤ c) ea ∙ ap (λ x. pos 1 -ℤ multiplier k 0 -ℤ x -ℤ c) eb
+          ∙ ap (λ x. pos 1 -ℤ multiplier k 0 -ℤ multiplier k 1 -ℤ x) ec;
+      low = subst (λ x. negsuc 60 ≤ℤ x) (sym read) all.0;
+      high = subst (λ x. x ≤ℤ pos 61) (sym read) all.1;
+    }
 
 -- ---- the sum of four terms and a correction
 

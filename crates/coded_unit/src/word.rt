@@ -74,7 +74,6 @@ impl Word {
 
     /// The value and the residue of the word in a code with the constant `A`: the one `(v, r)` with
     /// `w = A*v + r` and `r < A`. The value lies between -2^96 and 2^96.
-    #[tactic(auto, unfolding(crate::specs::Words::modulo, crate::specs::Words::value_part, crate::specs::Words::coded))]
     pub fn split(self, profile: Profile) -> (i128, Residue)
         ensures value { result.0 ≡ value_part profile self }
         ensures residue { result.1 ≡ modulo profile self }
@@ -142,7 +141,6 @@ impl Word {
 
 /// The value part and the residue of an integer in the narrow code, by 64 bits where they are
 /// enough, which divide faster than 128.
-#[tactic(auto, unfolding(crate::specs::Words::value_part, crate::specs::Words::modulo))]
 fn narrow_parts(code: i128) -> (i128, Residue)
     ensures value { result.0 ≡ value_part Profile.Narrow code }
     ensures residue { result.1 ≡ modulo Profile.Narrow code }

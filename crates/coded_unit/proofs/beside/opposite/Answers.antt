@@ -1,4 +1,4 @@
-use Rattle.std.proofs.Common.{◌≡◌, ◌∙◌, pos, to_z, of_z, arith}
+use Rattle.std.proofs.Common.{◌≡◌, ◌∙◌, pos, to_z, of_z}
 use mir.Syntax.{w128}
 use Rattle.std.proofs.lemmas.Int.{to_z-of_z}
 use Rattle.coded_unit.proofs.Multiples.{difference, of_operand}
@@ -6,7 +6,7 @@ use Rattle.coded_unit.proofs.beside.opposite.Goals as goal
 
 pub returns : goal.returns
 returns c =
-    let v : to_z w128 (of_z w128 c.minus.result) ≡ c.minus.result = grind (arith, to_z-of_z) in
+    let v : to_z w128 (of_z w128 c.minus.result) ≡ c.minus.result = to_z-of_z w128 c.minus.result record { sfits = c.minus.type_inv } in
     v ∙ c.minus.ensures
     ∙ difference c.args.profile (pos 1) c.args.first.value _ _ (of_operand c.args.profile c.own.result (pos 1) c.own.ensures)
     (of_operand c.args.profile c.args.first.multiple c.args.first.value c.requires)

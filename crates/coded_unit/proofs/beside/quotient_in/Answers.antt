@@ -1,4 +1,4 @@
-use Rattle.std.proofs.Common.{refl, ◌≡◌, ap, sym, ◌∙◌, pos, to_z, of_z, arith}
+use Rattle.std.proofs.Common.{refl, ◌≡◌, ap, sym, ◌∙◌, pos, to_z, of_z}
 use mir.Syntax.{w128}
 use Rattle.vcp_base.specs.Kinds.{same}
 use Rattle.std.proofs.lemmas.Int.{to_z-of_z}
@@ -7,7 +7,7 @@ use Rattle.coded_unit.proofs.beside.quotient_in.Goals as goal
 
 pub returns : goal.returns
 returns c =
-    let v : to_z w128 (of_z w128 c.divided.result) ≡ c.divided.result = grind (arith, to_z-of_z) in
+    let v : to_z w128 (of_z w128 c.divided.result) ≡ c.divided.result = to_z-of_z w128 c.divided.result record { sfits = c.divided.type_inv } in
     v ∙ c.divided.ensures ∙ quotient c.args.profile c.args.first.value c.args.second.value _ _ (of_operand c.args.profile c.args.first.multiple c.args.first.value c.requires.first) (of_operand c.args.profile c.args.second.multiple c.args.second.value c.requires.second)
 
 pub divided-requires-clause-divisor : goal.divided-requires-clause-divisor

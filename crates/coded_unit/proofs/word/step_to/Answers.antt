@@ -1,0 +1,44 @@
+use Rattle.std.proofs.Common.{pos, ◌+ℤ◌, ◌-ℤ◌, arith}
+use mir.Syntax.{w128}
+use Rattle.coded_unit.proofs.Bits.{back}
+use Rattle.coded_unit.proofs.Parts.{Stepped, step_down, step_up, step_none, wide_room}
+use Rattle.coded_unit.proofs.word.step_to.Goals as goal
+
+below : (c : goal.Then-rest-lt0) → Stepped w128 2305843009213693951 c.args.value c.args.rest (back w128 c.args.value -ℤ pos 1) (back w128 c.args.rest +ℤ pos 2305843009213693951)
+below c = step_down w128 2305843009213693951 c.args.value c.args.rest c.ranges.value c.ranges.rest (wide_room c.args.value c.args.rest c.requires.value_low c.requires.value_high c.requires.rest_low c.requires.rest_high) c.if-rest-lt0.true
+
+above : (c : goal.Then-rest-ge-WIDE) → Stepped w128 2305843009213693951 c.args.value c.args.rest (back w128 c.args.value +ℤ pos 1) (back w128 c.args.rest -ℤ pos 2305843009213693951)
+above c = step_up w128 2305843009213693951 c.args.value c.args.rest c.ranges.value c.ranges.rest (wide_room c.args.value c.args.rest c.requires.value_low c.requires.value_high c.requires.rest_low c.requires.rest_high) c.if-rest-ge-WIDE.true
+
+between : (c : goal.Else-rest-ge-WIDE) → Stepped w128 2305843009213693951 c.args.value c.args.rest c.args.value c.args.rest
+between c = step_none w128 2305843009213693951 c.args.value c.args.rest c.ranges.value c.ranges.rest (omega arith) c.if-rest-lt0.false c.if-rest-ge-WIDE.false
+
+pub overflow_sub-result : goal.overflow_sub-result
+overflow_sub-result c = (below c).value
+
+pub overflow_add-result : goal.overflow_add-result
+overflow_add-result c = (below c).rest
+
+pub overflow_cast-result : goal.overflow_cast-result
+overflow_cast-result c = (below c).cast
+
+pub overflow_add-result-then-rest-ge-WIDE : goal.overflow_add-result-then-rest-ge-WIDE
+overflow_add-result-then-rest-ge-WIDE c = (above c).value
+
+pub overflow_sub-result-then-rest-ge-WIDE : goal.overflow_sub-result-then-rest-ge-WIDE
+overflow_sub-result-then-rest-ge-WIDE c = (above c).rest
+
+pub overflow_cast-result-then-rest-ge-WIDE : goal.overflow_cast-result-then-rest-ge-WIDE
+overflow_cast-result-then-rest-ge-WIDE c = (above c).cast
+
+pub overflow_cast-result-else-rest-ge-WIDE : goal.overflow_cast-result-else-rest-ge-WIDE
+overflow_cast-result-else-rest-ge-WIDE c = (between c).cast
+
+pub returns-then-rest-lt0 : goal.returns-then-rest-lt0
+returns-then-rest-lt0 c = record { whole = (below c).whole; below = (below c).below }
+
+pub returns-then-rest-ge-WIDE : goal.returns-then-rest-ge-WIDE
+returns-then-rest-ge-WIDE c = record { whole = (above c).whole; below = (above c).below }
+
+pub returns-else-rest-ge-WIDE : goal.returns-else-rest-ge-WIDE
+returns-else-rest-ge-WIDE c = record { whole = (between c).whole; below = (between c).below }
