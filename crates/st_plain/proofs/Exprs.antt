@@ -10,17 +10,18 @@ use Rattle.vcp_base.specs.declared.ty.Ty.TheVariants as ty
 use Rattle.vcp_base.specs.Types.{fits}
 use Rattle.st_tree.specs.declared.expr.UnOp.{UnOp}
 use Rattle.st_tree.specs.declared.expr.UnOp.TheVariants as un
+use Rattle.st_tree.specs.declared.expr.BinOp.{BinOp}
 use Rattle.vcp_typed.specs.declared.expr.Fun.{Fun}
 use Rattle.vcp_typed.specs.declared.expr.Fun.TheVariants as fun
 use Rattle.vcp_typed.specs.declared.expr.TExpr.{TExpr, Call}
 use Rattle.vcp_typed.specs.declared.expr.TExprs.{TExprs}
 use Rattle.vcp_typed.specs.declared.slot.Slot.{Slot}
-use Rattle.vcp_typed.specs.TExprTree.{TExprTree, TExprTrees, get, unary, call, no_texprs, and_texpr}
+use Rattle.vcp_typed.specs.TExprTree.{TExprTree, TExprTrees, get, widen, unary, binary, call, no_texprs, and_texpr}
 use Rattle.vcp_typed.specs.TExprViews.{texpr_tree, texpr_trees}
 use Rattle.vcp_typed.specs.Rules.{signed, arguments}
 use Rattle.vcp_typed.specs.Checked.{ty_of, tys_of, HasType, IsExpr, AreExprs}
 use Rattle.vcp_typed.specs.Fitting.{AreFit}
-use Rattle.vcp_typed.specs.Meaning.{Stop, and_then, apply, value, values}
+use Rattle.vcp_typed.specs.Meaning.{Stop, and_then, apply, operate, sign, value, values}
 use Rattle.vcp_base.specs.Values.{at}
 use Rattle.st_plain.specs.Arguments.{argument_at}
 use Rattle.st_plain.specs.Sound.{SoundExpr, SoundExprs}
@@ -48,6 +49,53 @@ pub value-of-slot : (e : TExprTree) (n : ℕ) (t : Ty) (m : List ℤ) (v : ℤ) 
 value-of-slot e n t m v is h =
     let read : at m n ≡ v = get_or_from_slice_get m n v (pos 0) h in
     ap (λ x. Ok x) (sym read) ∙ ap (λ x. value [] x m) (sym is)
+
+-- ---- operands
+
+pub widen-sound : (e : TExprTree) (t : Ty) (a : TExprTree) (m : List ℤ) → e ≡ widen t a → SoundExpr e m → SoundExpr a m
+widen-sound e t a m is h =
+    let typed : IsExpr h.slots (widen t a) = subst (λ x. IsExpr h.slots x) is h.typed in
+    record { slots = h.slots; typed = typed.0; fit = h.fit }
+
+pub unary-sound : (e : TExprTree) (op : UnOp) (t : Ty) (a : TExprTree) (s : Spot) (m : List ℤ) → e ≡ unary op t a s → SoundExpr e m → SoundExpr a m
+unary-sound e op t a s m is h =
+    let typed : IsExpr h.slots (unary op t a s) = subst (λ x. IsExpr h.slots x) is h.typed in
+    record { slots = h.slots; typed = typed.0; fit = h.fit }
+
+pub left-sound : (e : TExprTree) (op : BinOp) (t : Ty) (a b : TExprTree) (s : Spot) (m : List ℤ) → e ≡ binary op t a b s → SoundExpr e m → SoundExpr a m
+left-sound e op t a b s m is h =
+    let typed : IsExpr h.slots (binary op t a b s) = subst (λ x. IsExpr h.slots x) is h.typed in
+    record { slots = h.slots; typed = typed.0; fit = h.fit }
+
+pub right-sound : (e : TExprTree) (op : BinOp) (t : Ty) (a b : TExprTree) (s : Spot) (m : List ℤ) → e ≡ binary op t a b s → SoundExpr e m → SoundExpr b m
+right-sound e op t a b s m is h =
+    let typed : IsExpr h.slots (binary op t a b s) = subst (λ x. IsExpr h.slots x) is h.typed in
+    record { slots = h.slots; typed = typed.1; fit = h.fit }
+
+pub unary-stops : (e : TExprTree) (op : UnOp) (t : Ty) (a : TExprTree) (s : Spot) (m : List ℤ) (d : Stop) → e ≡ unary op t a s → Err d ≡ value [] a m
+    → Err d ≡ value [] e m
+unary-stops e op t a s m d is h = ap (λ r. and_then r (λ x. sign op t s [] x)) h ∙ sym (ap (λ x. value [] x m) is)
+
+pub left-stops : (e : TExprTree) (op : BinOp) (t : Ty) (a b : TExprTree) (s : Spot) (m : List ℤ) (d : Stop) → e ≡ binary op t a b s → Err d ≡ value [] a m
+    → Err d ≡ value [] e m
+left-stops e op t a b s m d is h =
+    ap (λ r. and_then r (λ x. and_then (value [] b m) (λ y. operate op t s [] x y))) h ∙ sym (ap (λ x. value [] x m) is)
+
+pub right-stops : (e : TExprTree) (op : BinOp) (t : Ty) (a b : TExprTree) (s : Spot) (m : List ℤ) (x : ℤ) (d : Stop) → e ≡ binary op t a b s
+    → Ok x ≡ value [] a m → Err d ≡ value [] b m → Err d ≡ value [] e m
+right-stops e op t a b s m x d is first second =
+    ap (λ r. and_then r (λ y. operate op t s [] x y)) second
+    ∙ (ap (λ r. and_then r (λ x. and_then (value [] b m) (λ y. operate op t s [] x y))) first ∙ sym (ap (λ x. value [] x m) is))
+
+pub unary-is : (e : TExprTree) (op : UnOp) (t : Ty) (a : TExprTree) (s : Spot) (m : List ℤ) (x : ℤ) → e ≡ unary op t a s → Ok x ≡ value [] a m
+    → sign op t s [] x ≡ value [] e m
+unary-is e op t a s m x is h = ap (λ r. and_then r (λ x. sign op t s [] x)) h ∙ sym (ap (λ x. value [] x m) is)
+
+pub binary-is : (e : TExprTree) (op : BinOp) (t : Ty) (a b : TExprTree) (s : Spot) (m : List ℤ) (x y : ℤ) → e ≡ binary op t a b s
+    → Ok x ≡ value [] a m → Ok y ≡ value [] b m → operate op t s [] x y ≡ value [] e m
+binary-is e op t a b s m x y is first second =
+    ap (λ r. and_then r (λ y. operate op t s [] x y)) second
+    ∙ (ap (λ r. and_then r (λ x. and_then (value [] b m) (λ y. operate op t s [] x y))) first ∙ sym (ap (λ x. value [] x m) is))
 
 -- ---- NOT
 

@@ -136,6 +136,11 @@ assign-inside s slot e sp m is h =
     let typed : IsStmt h.slots h.held (assign slot e sp) = subst (λ x. IsStmt h.slots h.held x) is h.typed in
     fit-inside h.slots m slot typed.0.of typed.0.there h.fit
 
+pub assign-sound : (s : TStmtTree) (slot : ℕ) (e : TExprTree) (sp : Spot) (m : List ℤ) → s ≡ assign slot e sp → SoundStmt s m → SoundExpr e m
+assign-sound s slot e sp m is h =
+    let typed : IsStmt h.slots h.held (assign slot e sp) = subst (λ x. IsStmt h.slots h.held x) is h.typed in
+    record { slots = h.slots; typed = typed.1; fit = h.fit }
+
 pub assign-ok : (turns : List Turn) (s : TStmtTree) (slot : ℕ) (e : TExprTree) (sp : Spot) (m : List ℤ) (v : ℤ) → s ≡ assign slot e sp → Ok v ≡ value [] e m
     → Ok (slice_set m slot v) ≡ do_stmt turns s m
 assign-ok turns s slot e sp m v is h =
@@ -161,6 +166,12 @@ if-other s arms o m is h =
 pub if-is : (turns : List Turn) (s : TStmtTree) (arms : TArmTrees) (o : TOtherTree) (m : List ℤ) (r : Result (List ℤ) Stop) → s ≡ if_ arms o
     → r ≡ do_arms turns arms (do_other turns o) m → r ≡ do_stmt turns s m
 if-is turns s arms o m r is h = h ∙ sym (ap (λ x. do_stmt turns x m) is)
+
+pub case-sound : (s : TStmtTree) (e : TExprTree) (b : TBranchTrees) (o : TOtherTree) (sp : Spot) (m : List ℤ) → s ≡ case e b o sp → SoundStmt s m
+    → SoundExpr e m
+case-sound s e b o sp m is h =
+    let typed : IsStmt h.slots h.held (case e b o sp) = subst (λ x. IsStmt h.slots h.held x) is h.typed in
+    record { slots = h.slots; typed = typed.0; fit = h.fit }
 
 pub case-branches : (s : TStmtTree) (e : TExprTree) (b : TBranchTrees) (o : TOtherTree) (sp : Spot) (m : List ℤ) → s ≡ case e b o sp → SoundStmt s m
     → SoundBranches b m
@@ -252,6 +263,10 @@ stmts-rest law turns all s ss m next is h e =
 pub stmts-next : (turns : List Turn) (all : TStmtTrees) (s : TStmtTree) (ss : TStmtTrees) (m next : List ℤ) (w : Result (List ℤ) Stop) → all ≡ and_tstmt s ss
     → do_stmts turns all m ≡ w → Ok next ≡ do_stmt turns s m → do_stmts turns ss next ≡ w
 stmts-next turns all s ss m next w is h e = ap (λ r. and_then r (λ x. do_stmts turns ss x)) e ∙ sym (ap (λ x. do_stmts turns x m) is) ∙ h
+
+pub stmts-stop : (turns : List Turn) (all : TStmtTrees) (s : TStmtTree) (ss : TStmtTrees) (m : List ℤ) (d : Stop) → all ≡ and_tstmt s ss
+    → Err d ≡ do_stmt turns s m → Err d ≡ do_stmts turns all m
+stmts-stop turns all s ss m d is h = ap (λ r. and_then r (λ x. do_stmts turns ss x)) h ∙ sym (ap (λ x. do_stmts turns x m) is)
 
 -- ---- the arms of an IF
 
@@ -521,6 +536,15 @@ turns-next slot by f n k v w m next all is h done e =
     over-next slot by f k v w next e
     ∙ ap (λ r. and_then r (λ x. turns_from slot by f k (v +ℤ by) x)) done
     ∙ sym (ap (λ x. turns_from slot by f x v m) is) ∙ h
+
+pub turns-stop : (slot : ℕ) (by : ℤ) (f : ℤ → Doing) (n k : ℕ) (v : ℤ) (m : List ℤ) (d : Stop) (all : Result (List ℤ) Stop) → n ≡ suc k
+    → turns_from slot by f n v m ≡ all → Err d ≡ f v (slice_set m slot v) → Err d ≡ all
+turns-stop slot by f n k v m d all is h stops =
+    ap (λ r. and_then r (λ x. turns_from slot by f k (v +ℤ by) x)) stops ∙ sym (ap (λ x. turns_from slot by f x v m) is) ∙ h
+
+pub turns-none : (slot : ℕ) (by : ℤ) (f : ℤ → Doing) (n : ℕ) (v : ℤ) (m : List ℤ) (all : Result (List ℤ) Stop) → n ≡ 0 → turns_from slot by f n v m ≡ all
+    → Ok m ≡ all
+turns-none slot by f n v m all none h = ap (λ k. turns_from slot by f k v m) (sym none) ∙ h
 
 -- the meaning of a turn's body, at the turns and the values with which it is entered
 pub body-at : (t u : List Turn) (slot : ℕ) (v : ℤ) (entered : List Turn) (body : TStmtTrees) (m set : List ℤ) (r : Result (List ℤ) Stop) → t ≡ u
