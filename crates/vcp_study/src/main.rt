@@ -8,14 +8,9 @@ mod play;
 
 use play::play_sessions;
 use std::process::ExitCode;
-use vcp_base::Words;
+use vcp_base::same_bytes;
 use vcp_outside::{HostFiles, HostSink, given_words, status_without_words};
 use vcp_study_core::vcp_study;
-
-// Whether the words behind the first one name sessions.
-fn is_play(words: &Words) -> bool {
-    words.len() > 0 && words.at(0).bytes() == b"play".as_slice()
-}
 
 fn main(rt: HostRuntime) -> ExitCode {
     let words = match given_words(&rt) {
@@ -25,7 +20,8 @@ fn main(rt: HostRuntime) -> ExitCode {
     let mut files = HostFiles::new(&rt);
     let mut out = HostSink::new(rt.stdout());
     let mut err = HostSink::new(rt.stderr());
-    let status = if is_play(&words) {
+    // The words behind `play` name sessions.
+    let status = if words.len() > 0 && same_bytes(words.at(0).bytes(), b"play") {
         play_sessions(rt.alloc(), &mut files, &words, &mut out, &mut err)
     } else {
         vcp_study(rt.alloc(), &words, &mut files, &mut out, &mut err)

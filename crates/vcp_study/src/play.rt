@@ -7,7 +7,8 @@ mod sessions;
 mod texts;
 mod told;
 
-use host::play_files;
+use host::play_file;
+use sessions::Player;
 use std::alloc::Global;
 use vcp_base::Words;
 use vcp_outside::{Files, Sink, write_all};
@@ -21,9 +22,11 @@ pub fn play_sessions<F: Files, O: Sink, E: Sink>(
     out: &mut O,
     err: &mut E,
 ) -> u8 {
-    let player = play_files(alloc, files, words);
-    let is_written = write_all(out, player.told.as_bytes()).is_ok()
-        && write_all(err, player.faults.as_bytes()).is_ok();
+    let mut player = Player::new(alloc);
+    for i in 1..words.len() {
+        play_file(alloc, files, words.at(i).bytes(), &mut player);
+    }
+    let is_written = write_all(out, &player.told).is_ok() && write_all(err, &player.faults).is_ok();
     if is_written && player.faults.is_empty() {
         0
     } else {

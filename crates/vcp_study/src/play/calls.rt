@@ -12,24 +12,29 @@ mod values;
 mod words;
 
 use crate::play::sessions::came::Came;
-use crate::play::texts::{behind_word, first_word};
+use crate::play::texts::{behind, count, word};
 use crate::play::told::Told;
 use coded_unit::CpuUnit;
 use steps::NeverFlushed;
+use vcp_base::same_bytes;
 use vcp_outside::{Failed, HostSink, write_all};
+use words::numbers_in;
 pub use words::tell_answer;
-use words::{numbers_in, u32_of};
 
-/// Makes the single call of these words, and writes what it answers. The status is 0; 6 where the output has no room, or there is nothing to be written.
-pub fn single_call(came: &mut Came, words: &str) -> u8 {
-    let name = first_word(words);
-    let rest = behind_word(words);
-    let written = match name {
-        "element" => elements::write_element(&mut came.out),
-        "again" => images::write_again(came, rest),
-        "names" => large_images::write_names(came, rest),
-        "chain" => large_images::write_chain(came, rest),
-        _ => write_told(came, name, rest),
+/// Makes the single call of these words, and writes what it answers: that of `sink` on the errors, since it writes its texts to the output. The status is
+/// 0; 6 where there is no room.
+pub fn single_call(came: &mut Came, words: &[u8]) -> u8 {
+    let name = word(words, 0);
+    let rest = behind(words, 1);
+    let told = Told::new(came.alloc);
+    let written = if same_bytes(name, b"element") {
+        elements::write_element(&mut came.out)
+    } else if same_bytes(name, b"sink") {
+        let told = steps::tell_writes(came.alloc, &mut came.out, rest, told);
+        write_all(&mut came.err, &told.say(b"\n").text)
+    } else {
+        let told = tell(came, name, rest, told);
+        write_all(&mut came.out, &told.text)
     };
     match written {
         Ok(()) => 0,
@@ -37,34 +42,41 @@ pub fn single_call(came: &mut Came, words: &str) -> u8 {
     }
 }
 
-/// Writes what the call of a name answers, which has these words, as whole lines.
-fn write_told(came: &mut Came, name: &str, words: &str) -> Result<(), Failed> {
-    let told = tell(came, name, words);
-    let told = if told.text.ends_with("\n") {
-        told
+/// Tells what the call of a name answers, which has these words: an image, or lines.
+fn tell(came: &mut Came, name: &[u8], words: &[u8], told: Told) -> Told {
+    let n = numbers_in(words, &[]);
+    if same_bytes(name, b"answer") {
+        units::tell_answers(came.alloc, &mut CpuUnit::new(), words, told)
+    } else if same_bytes(name, b"again") {
+        images::tell_again(came, words, told)
+    } else if same_bytes(name, b"names") {
+        large_images::tell_names(count(words), told)
+    } else if same_bytes(name, b"chain") {
+        large_images::tell_chain(count(words), told)
+    } else if same_bytes(name, b"graph") {
+        graphs::tell_graph(came, &n, words, told)
+    } else if same_bytes(name, b"units") {
+        units::tell_units(came, &n, words, told)
     } else {
-        told.say("\n")
-    };
-    write_all(&mut came.out, told.text.as_bytes())
+        tell_line(came, name, &n, words, told).say(b"\n")
+    }
 }
 
-/// Tells what the call of a name answers, which has these words.
-fn tell(came: &mut Came, name: &str, words: &str) -> Told {
-    let told = Told::new(came.alloc);
-    let n = numbers_in(words, &[]);
-    match name {
-        "answer" => units::tell_answers(came.alloc, &mut CpuUnit::new(), words, told),
-        "graph" | "by_hand" => graphs::tell_graph(came, name, &n, words, told),
-        "filled" => graphs::tell_filled(came.alloc, told),
-        "fronts" => images::tell_fronts(came, words, told),
-        "changes" => images::tell_changes(came, &n, words, told),
-        "files" => steps::tell_files(came, words, told),
-        "sink" => steps::tell_sink(came.alloc, words, told),
-        "unflushed" => {
-            let mut sink = HostSink::new(NeverFlushed);
-            steps::tell_writes(came.alloc, &mut sink, words, told)
-        }
-        "made" => made::tell_made(came.alloc, u32_of(n[0]), told),
-        _ => values::tell_value(came, name, &n, words, told),
+/// Tells what the call of a name answers that answers one line.
+fn tell_line(came: &mut Came, name: &[u8], n: &[i128; 12], words: &[u8], told: Told) -> Told {
+    if same_bytes(name, b"places") {
+        images::tell_places(came, n, words, told)
+    } else if same_bytes(name, b"files") {
+        steps::tell_files(came, words, told)
+    } else if same_bytes(name, b"read_all") {
+        steps::tell_read_all(came, words, told)
+    } else if same_bytes(name, b"unflushed") {
+        steps::tell_writes(came.alloc, &mut HostSink::new(NeverFlushed), words, told)
+    } else if same_bytes(name, b"filled") {
+        graphs::tell_filled(came.alloc, told)
+    } else if same_bytes(name, b"made") {
+        made::tell_made(came.alloc, count(words), told)
+    } else {
+        values::tell_value(came, name, n, words, told)
     }
 }

@@ -5,56 +5,62 @@ use std::alloc::Global;
 use std::str::from_utf8;
 use vcp_base::Words;
 
-/// Bytes as a text, for its reader.
-pub fn text_of(bytes: &[u8]) -> &str {
-    from_utf8(bytes).unwrap_or("(bytes that are no text)")
-}
-
-/// A text's first word.
-pub fn first_word(text: &str) -> &str {
-    match text.split_once(' ') {
-        Some((word, _rest)) => word,
-        None => text,
-    }
-}
-
-/// What stands behind a text's first word and the blank after it.
-pub fn behind_word(text: &str) -> &str {
-    match text.split_once(' ') {
-        Some((_word, rest)) => rest,
-        None => "",
-    }
-}
-
-/// Whether two texts are the same.
-pub fn is(text: &str, other: &str) -> bool {
-    text == other
-}
-
-/// The parts of a text, behind each of which, but for the last one, a separator stands.
-pub fn parts_of(alloc: Global, text: &str, separator: &str) -> Words {
-    let mut parts = Words::new(alloc);
-    let whole = text.strip_suffix(separator).unwrap_or(text);
-    for part in whole.split(separator) {
-        if !text.is_empty() {
-            let _ = parts.push(part.as_bytes());
+/// What stands behind a text's first words, of this number, and the blank after each of them.
+pub fn behind(text: &[u8], words: usize) -> &[u8] {
+    let mut left = words;
+    for i in 0..text.len() {
+        if left == 0 {
+            return text.get(i..).unwrap_or(b"");
+        }
+        if text[i] == b' ' {
+            left -= 1;
         }
     }
+    b""
+}
+
+/// A text's word of this number, from 0; an empty one where there is none.
+pub fn word(text: &[u8], number: usize) -> &[u8] {
+    let rest = behind(text, number);
+    for i in 0..rest.len() {
+        if rest[i] == b' ' {
+            return rest.get(..i).unwrap_or(b"");
+        }
+    }
+    rest
+}
+
+/// The parts of a text between which a separator stands: one more than it stands there.
+pub fn parts_of(alloc: Global, text: &[u8], separator: &[u8]) -> Words {
+    let mut parts = Words::new(alloc);
+    let mut start = 0usize;
+    for i in 0..text.len() {
+        if start <= i && text.get(i..).unwrap_or(b"").starts_with(separator) {
+            let _ = parts.push(text.get(start..i).unwrap_or(b""));
+            start = i.saturating_add(separator.len());
+        }
+    }
+    let _ = parts.push(text.get(start..).unwrap_or(b""));
     parts
 }
 
 /// The part of this number; an empty one where there is none.
-pub fn part(parts: &Words, i: usize) -> &str {
+pub fn part(parts: &Words, i: usize) -> &[u8] {
     if i < parts.len() {
-        text_of(parts.at(i).bytes())
+        parts.at(i).bytes()
     } else {
-        ""
+        b""
     }
 }
 
+/// The integer that is written so; else 0.
+pub fn integer(text: &[u8]) -> i128 {
+    from_utf8(text).unwrap_or("").parse().unwrap_or(0)
+}
+
 /// The number of 32 bits that is written so; else 0.
-pub fn count(text: &str) -> u32 {
-    text.parse().unwrap_or(0)
+pub fn count(text: &[u8]) -> u32 {
+    u32::try_from(integer(text)).unwrap_or(0)
 }
 
 /// Appends these bytes.
@@ -91,10 +97,10 @@ fn digit(byte: u8) -> u8 {
 
 /// The bytes that a text spells: in it `\n`, `\r`, `\t` and `\xHH` stand for one byte each, `\h` says that hexadecimal digits follow to the end,
 /// with blanks between them or not, and `\` stands before another byte for that byte.
-pub fn spelled(alloc: Global, text: &str) -> Vec<u8> {
+pub fn spelled(alloc: Global, text: &[u8]) -> Vec<u8> {
     let mut bytes = Vec::new(alloc);
     let mut escape = Escape::Outside;
-    for byte in text.as_bytes() {
+    for byte in text {
         escape = after(&mut bytes, escape, *byte);
     }
     bytes

@@ -6,29 +6,30 @@ use crate::play::calls::images::read;
 use crate::play::calls::machines::tell_cycles;
 use crate::play::calls::words::u32_of;
 use crate::play::sessions::came::Came;
-use crate::play::texts::{behind_word, first_word, is};
+use crate::play::texts::word;
 use crate::play::told::Told;
 use graph_passes::{fold, prune, reduce, share};
 use op_graph::{Build, Graph, GraphBuilder, Op};
 use signature_table::Table;
 use std::alloc::Global;
 use vcp_base::{
-    Kind, MOST_CYCLES, MOST_STEP, Memory, Profile, SEEDS, Spot, Text, Ty, kind_name, ty_name,
+    Kind, MOST_CYCLES, MOST_STEP, Memory, Profile, SEEDS, Spot, Text, Ty, kind_name, same_bytes,
+    ty_name,
 };
 use vcp_outside::read_all;
 use weight_audit::Weights;
 use weight_audit::weigh::weights;
 
 /// What the file of a name has; nothing where it isn't read.
-pub fn text_in(came: &mut Came, name: &str) -> Text {
-    match read_all(came.alloc, &mut came.files, name.as_bytes(), 1 << 24) {
+pub fn text_in(came: &mut Came, name: &[u8]) -> Text {
+    match read_all(came.alloc, &mut came.files, name, 1 << 24) {
         Ok(text) => text,
         Err(_) => Text::from_vec(Vec::new(came.alloc)),
     }
 }
 
 /// The graph of the image of a name; None where it is none.
-pub fn graph_in(came: &mut Came, name: &str) -> Option<Graph> {
+pub fn graph_in(came: &mut Came, name: &[u8]) -> Option<Graph> {
     let text = text_in(came, name);
     match read(came.alloc, text.bytes()) {
         Ok((graph, _table)) => Some(graph),
@@ -38,22 +39,25 @@ pub fn graph_in(came: &mut Came, name: &str) -> Option<Graph> {
 
 /// Calls on the graph of an image: three cycles of its machine; the residue that is expected of an operation; the weights of the operations; and names,
 /// cells and operations behind a pass.
-pub fn tell_graph(came: &mut Came, name: &str, n: &[i128; 12], words: &str, told: Told) -> Told {
-    let image = first_word(words);
-    let rest = behind_word(words);
-    let Some(graph) = graph_in(came, image) else {
-        return told.say("no image");
+pub fn tell_graph(came: &mut Came, n: &[i128; 12], words: &[u8], told: Told) -> Told {
+    let call = word(words, 1);
+    let Some(graph) = graph_in(came, word(words, 0)) else {
+        return told.say(b"no image");
     };
-    if is(name, "by_hand") {
-        return tell_cycles(came.alloc, &graph, &mut came.unit, n, told);
-    }
-    match first_word(rest) {
-        "expected" => tell_expected(came.alloc, n, graph, told),
-        "weights" => tell_weights(came.alloc, &graph, told),
-        "fold" => tell_passed(fold(came.alloc, graph), told),
-        "prune" => tell_passed(prune(came.alloc, graph), told),
-        "share" => tell_passed(share(came.alloc, graph), told),
-        _ => tell_passed(reduce(came.alloc, graph), told),
+    if same_bytes(call, b"by_hand") {
+        tell_cycles(came.alloc, &graph, &mut came.unit, n, told)
+    } else if same_bytes(call, b"expected") {
+        tell_expected(came.alloc, n, graph, told)
+    } else if same_bytes(call, b"weights") {
+        tell_weights(came.alloc, &graph, told)
+    } else if same_bytes(call, b"fold") {
+        tell_passed(fold(came.alloc, graph), told)
+    } else if same_bytes(call, b"prune") {
+        tell_passed(prune(came.alloc, graph), told)
+    } else if same_bytes(call, b"share") {
+        tell_passed(share(came.alloc, graph), told)
+    } else {
+        tell_passed(reduce(came.alloc, graph), told)
     }
 }
 
@@ -61,14 +65,14 @@ pub fn tell_graph(came: &mut Came, name: &str, n: &[i128; 12], words: &str, told
 /// the place.
 fn tell_passed(passed: Result<Graph, Memory>, told: Told) -> Told {
     let Ok(graph) = passed else {
-        return told.say("no memory");
+        return told.say(b"no memory");
     };
     let mut told = told
         .number(graph.names() as i128)
-        .number(graph.cells() as i128);
+        .number(graph.cells() as i128)
+        .say(b"\n");
     for op in graph.operations() {
         told = told
-            .say("\n")
             .item(kind_name(op.kind))
             .item(ty_name(op.from))
             .item(ty_name(op.ty))
@@ -77,7 +81,8 @@ fn tell_passed(passed: Result<Graph, Memory>, told: Told) -> Told {
             .number(op.c as i128)
             .number(op.imm as i128)
             .number(op.spot.line as i128)
-            .number(op.spot.col as i128);
+            .number(op.spot.col as i128)
+            .say(b"\n");
     }
     told
 }
@@ -96,7 +101,7 @@ fn tell_expected(alloc: Global, n: &[i128; 12], graph: Graph, told: Told) -> Tol
         && cycle < MOST_CYCLES
         && let Ok(table) = Table::new(alloc, &graph, seed, step as u16)
     {
-        return told.number(table.expected(op, cycle) as i128);
+        return told.number(table.expected(op, cycle) as i128).say(b"\n");
     }
     told
 }
@@ -125,7 +130,7 @@ fn tell_each_weight(audit: &Weights, count: u32, told: Told) -> Told
             .number(audit.reached(op, 0, 0) as i128)
             .number(audit.weight(op, 0, 1) as i128)
             .number(audit.reached(op, 0, 1) as i128)
-            .say("\n");
+            .say(b"\n");
     }
     told
 }

@@ -25,14 +25,14 @@ pub fn tell_cycles(
         && let Ok(mut machine) = Machine::new(alloc, graph, &table)
         && let Ok(mut out) = Row::zeros(alloc, 1)
     {
-        let told = tell_cycle(alloc, &mut machine, unit, &mut out, i64_of(n[1]), told);
         let told = tell_cycle(alloc, &mut machine, unit, &mut out, i64_of(n[2]), told);
-        return tell_cycle(alloc, &mut machine, unit, &mut out, i64_of(n[3]), told);
+        let told = tell_cycle(alloc, &mut machine, unit, &mut out, i64_of(n[3]), told);
+        return tell_cycle(alloc, &mut machine, unit, &mut out, i64_of(n[4]), told);
     }
     told
 }
 
-/// Tells the end of a cycle on a row of one value, the value of the output, and after a release the first five words that were answered.
+/// Tells the value of the output behind a cycle on a row of one value, and the cycle's end, after a release with the first five words that were answered.
 fn tell_cycle(
     alloc: Global,
     machine: &mut Machine<'_>,
@@ -54,12 +54,7 @@ fn tell_cycle(
     let _ = inputs.push(value);
     perform_calls(machine, unit, &inputs);
     let end = machine.end(out);
-    let told = tell_end(end, told).number(out.at(0) as i128);
-    let told = match end {
-        CycleEnd::Released => tell_words(machine, told),
-        _ => told,
-    };
-    told.say("\n")
+    tell_end(machine, end, told.number(out.at(0) as i128))
 }
 
 /// Has a unit answer the calls of a cycle on a row.
@@ -74,12 +69,12 @@ fn perform_calls(machine: &mut Machine<'_>, unit: &mut BadUnit, inputs: &Row)
     }
 }
 
-/// Tells the end of a cycle.
-fn tell_end(end: CycleEnd, told: Told) -> Told {
-    match end {
-        CycleEnd::Released => told.say("released"),
+/// Tells the end of a cycle in the rest of a line, after a release with the first five words, 0 where there is none.
+fn tell_end(machine: &Machine<'_>, end: CycleEnd, told: Told) -> Told {
+    let told = match end {
+        CycleEnd::Released => tell_words(machine, told.item(b"released")),
         CycleEnd::Stopped { op, kind } => told
-            .say("stopped")
+            .item(b"stopped")
             .number(op as i128)
             .item(stop_name(kind)),
         CycleEnd::Refused {
@@ -87,16 +82,17 @@ fn tell_end(end: CycleEnd, told: Told) -> Told {
             found,
             expected,
         } => told
-            .say("refused")
+            .item(b"refused")
             .number(output as i128)
             .number(found as i128)
             .number(expected as i128),
-    }
+    };
+    told.say(b"\n")
 }
 
 /// Tells the first five words that were answered, 0 where there is none.
 fn tell_words(machine: &Machine<'_>, told: Told) -> Told {
-    let mut told = told.say(": ");
+    let mut told = told;
     for i in 0..5 {
         told = match machine.word(i) {
             Some(word) => told.number(word.get()),

@@ -18,6 +18,6 @@ fn tell_sum(bytes: &[u8], told: Told) -> Told {
 pub fn tell_made(alloc: Global, number: u32, told: Told) -> Told {
     match make(alloc, number) {
         Ok(made) => tell_sum(made.rows.bytes(), tell_sum(made.source.bytes(), told)),
-        Err(Memory) => told.say("no memory"),
+        Err(Memory) => told.say(b"no memory"),
     }
 }

@@ -1,119 +1,87 @@
 //! Calls of files and of sinks, one after another.
 
 use crate::play::sessions::came::Came;
-use crate::play::texts::{behind_word, count, first_word, part, parts_of, spelled, text_of};
+use crate::play::texts::{behind, count, part, parts_of, word};
 use crate::play::told::Told;
 use std::alloc::Global;
 use std::io::{self, Write};
-use vcp_base::Text;
-use vcp_outside::{Failed, Files, MemFiles, MemSink, ReadAll, Sink, read_all, write_all};
+use vcp_base::same_bytes;
+use vcp_outside::{Failed, Files, MemFiles, ReadAll, Sink, read_all, write_all};
 
-/// Tells what files in memory answer to these steps, between which `; ` stands.
-pub fn tell_files(came: &mut Came, steps: &str, told: Told) -> Told {
+/// Tells what files in memory answer to these steps, between which `;` stands.
+pub fn tell_files(came: &mut Came, steps: &[u8], told: Told) -> Told {
     let mut told = told;
-    let steps = parts_of(came.alloc, steps, "; ");
+    let steps = parts_of(came.alloc, steps, b";");
     for i in 0..steps.len() {
-        told = tell_file_step(came.alloc, &mut came.files, part(&steps, i), told);
+        told = tell_file_step(&mut came.files, part(&steps, i), told);
     }
     told
 }
 
-/// Tells what files answer to a step, in brackets: to `begin NAME` and to `read N` with room for 1, 2 or 8 bytes, and to `read_all NAME LIMIT` how many
-/// bytes there are. `put NAME TEXT` and `fail_call N` answer nothing.
-fn tell_file_step(alloc: Global, files: &mut MemFiles, step: &str, told: Told) -> Told {
-    let call = first_word(step);
-    let words = behind_word(step);
-    let first = first_word(words);
-    let more = behind_word(words);
-    match call {
-        "put" => {
-            let _ = files.put(first.as_bytes(), more.as_bytes());
-        }
-        "fail_call" => {
-            let _ = files.fail_call(count(first) as u64);
-        }
-        "begin" => match files.begin(&spelled(alloc, words)) {
-            Ok(()) => return told.say("[begun]"),
-            Err(Failed) => return told.say("[failed]"),
-        },
-        "read" => return tell_read(files, first, told),
-        _ => return tell_read_all(
-            read_all(alloc, files, first.as_bytes(), count(more) as u64),
-            told,
-        ),
+/// Tells what files answer to a step: to `begin NAME`, and to `read N` with room for 2 or 8 bytes. `put NAME TEXT` answers nothing.
+fn tell_file_step(files: &mut MemFiles, step: &[u8], told: Told) -> Told {
+    let call = word(step, 0);
+    let name = word(step, 1);
+    if same_bytes(call, b"read") {
+        return tell_read(files, name, told);
     }
-    told
-}
-
-/// Tells how many bytes were read or written.
-fn tell_count(count: Result<usize, Failed>, told: Told) -> Told {
-    match count {
-        Ok(count) => told.say("[").number(count as i128).say("]"),
-        Err(Failed) => told.say("[failed]"),
+    if same_bytes(call, b"put") {
+        let _ = files.put(name, behind(step, 2));
+        return told;
+    }
+    match files.begin(name) {
+        Ok(()) => told.item(b"begun"),
+        Err(Failed) => told.item(b"failed"),
     }
 }
 
-/// Tells what is read, where there is room for this number of bytes.
-fn tell_read(files: &mut MemFiles, room: &str, told: Told) -> Told {
+/// Tells what is read and how many bytes it has, where there is room for 2 or for 8.
+fn tell_read(files: &mut MemFiles, room: &[u8], told: Told) -> Told {
     let mut buf = [0u8; 8];
-    let read = match room {
-        "1" => files.read(&mut buf[..1]),
-        "2" => files.read(&mut buf[..2]),
-        _ => files.read(&mut buf),
+    let read = if same_bytes(room, b"2") {
+        files.read(&mut buf[..2])
+    } else {
+        files.read(&mut buf)
     };
     match read {
         Ok(count) => told
-            .say("[")
-            .say(text_of(buf.get(..count).unwrap_or(b"")))
-            .say("]"),
-        Err(Failed) => told.say("[failed]"),
+            .item(buf.get(..count).unwrap_or(b""))
+            .number(count as i128),
+        Err(Failed) => told.item(b"failed"),
     }
 }
 
-/// Tells how many bytes a file has that is read, or why it isn't.
-fn tell_read_all(read: Result<Text, ReadAll>, told: Told) -> Told {
-    match read {
-        Ok(text) => tell_count(Ok(text.len()), told),
-        Err(ReadAll::Failed) => told.say("[failed]"),
-        Err(ReadAll::TooLong) => told.say("[too long]"),
-        Err(ReadAll::Memory) => told.say("[no memory]"),
+/// Tells how many bytes a file has that is read up to a limit, or why it isn't: `NAME LIMIT`.
+pub fn tell_read_all(came: &mut Came, words: &[u8], told: Told) -> Told {
+    let limit = count(word(words, 1)) as u64;
+    match read_all(came.alloc, &mut came.files, word(words, 0), limit) {
+        Ok(text) => told.number(text.len() as i128),
+        Err(ReadAll::Failed) => told.say(b"failed"),
+        Err(ReadAll::TooLong) => told.say(b"too long"),
+        Err(ReadAll::Memory) => told.say(b"no memory"),
     }
 }
 
-/// Tells how many bytes a sink writes at each of these steps, in brackets: `write TEXT` or `write_all TEXT`. Another step answers nothing.
-pub fn tell_writes<O: Sink>(alloc: Global, sink: &mut O, steps: &str, told: Told) -> Told {
+/// Tells how many bytes a sink writes at each of these steps, between which `;` stands: `write TEXT` or `write_all TEXT`.
+pub fn tell_writes<O: Sink>(alloc: Global, sink: &mut O, steps: &[u8], told: Told) -> Told {
     let mut told = told;
-    let steps = parts_of(alloc, steps, "; ");
+    let steps = parts_of(alloc, steps, b";");
     for i in 0..steps.len() {
-        let text = behind_word(part(&steps, i));
-        told = match first_word(part(&steps, i)) {
-            "write" => tell_count(sink.write(text.as_bytes()), told),
-            "write_all" => match write_all(sink, text.as_bytes()) {
-                Ok(()) => told.say("[").number(text.len() as i128).say("]"),
-                Err(Failed) => told.say("[failed]"),
-            },
-            _ => told,
+        let text = behind(part(&steps, i), 1);
+        let written = if same_bytes(word(part(&steps, i), 0), b"write") {
+            sink.write(text)
+        } else {
+            match write_all(sink, text) {
+                Ok(()) => Ok(text.len()),
+                Err(Failed) => Err(Failed),
+            }
+        };
+        told = match written {
+            Ok(count) => told.number(count as i128),
+            Err(Failed) => told.item(b"failed"),
         };
     }
     told
-}
-
-/// Tells what a sink in memory with this room answers to the steps behind it, and what was written to it. Its call of a number fails where the first step
-/// is `fail_call N`.
-pub fn tell_sink(alloc: Global, words: &str, told: Told) -> Told {
-    let room = first_word(words);
-    let steps = behind_word(words);
-    let Ok(mut sink) = MemSink::new(alloc, count(room)) else {
-        return told.say("no memory");
-    };
-    if let Some(more) = steps.strip_prefix("fail_call ") {
-        let (number, _rest) = more.split_once("; ").unwrap_or((more, ""));
-        let _ = sink.fail_call(count(number) as u64);
-    }
-    tell_writes(alloc, &mut sink, steps, told)
-        .say(": [")
-        .say(text_of(sink.bytes()))
-        .say("]")
 }
 
 /// A writer that takes all bytes, and whose flush fails.

@@ -1,84 +1,74 @@
 //! Units, asked one call after another.
 
-ghost use Rattle.std.specs.Prelude.{◌≡◌, length};
-ghost use Rattle.fault_script.specs.Groups.{Apart};
-
 use crate::play::calls::graphs::{graph_in, text_in};
-use crate::play::calls::words::{call_in, tell_parts, u32_of};
+use crate::play::calls::words::{call_in, tell_parts, u32_of, word_in};
 use crate::play::sessions::came::Came;
-use crate::play::texts::{behind_word, first_word, part, parts_of, text_of};
+use crate::play::texts::{behind, integer, part, parts_of, word};
 use crate::play::told::Told;
-use coded_unit::{Answer, BadUnit, CpuUnit, LogUnit, Unit, Word};
+use coded_unit::{BadUnit, CpuUnit, LogUnit, Unit, Word};
 use fault_injector::{KeptWords, Scripted};
 use fault_script::{Fault, Group, read_script};
 use op_graph::Graph;
 use std::alloc::Global;
-use vcp_base::MOST_SOURCE_BYTES;
+use vcp_base::{MOST_SOURCE_BYTES, same_bytes};
 
 /// Calls on units: to the calls that are the lines of a file, the answers of the processor, of a unit that keeps so many calls, with these, of the
 /// session's unit, and of that under a fault.
-pub fn tell_units(came: &mut Came, name: &str, n: &[i128; 12], words: &str, told: Told) -> Told {
-    let file = first_word(words);
-    let more = behind_word(words);
-    let text = text_in(came, file);
-    let calls = text_of(text.bytes());
-    match name {
-        "cpu" => tell_answers(came.alloc, &mut CpuUnit::new(), calls, told),
-        "log" => tell_logged(came.alloc, calls, u32_of(n[1]), told),
-        "unit" => tell_answers(came.alloc, &mut came.unit, calls, told),
-        "acts" => tell_acts(came, more, calls, told),
-        _ => told.say("no call of this name"),
+pub fn tell_units(came: &mut Came, n: &[i128; 12], words: &[u8], told: Told) -> Told {
+    let text = text_in(came, word(words, 0));
+    let calls = text.bytes();
+    let unit = word(words, 1);
+    if same_bytes(unit, b"cpu") {
+        tell_answers(came.alloc, &mut CpuUnit::new(), calls, told)
+    } else if same_bytes(unit, b"log") {
+        tell_logged(came.alloc, calls, u32_of(n[2]), told)
+    } else if same_bytes(unit, b"acts") {
+        tell_acts(came, behind(words, 2), calls, told)
+    } else {
+        tell_answers(came.alloc, &mut came.unit, calls, told)
     }
 }
 
 /// Tells a unit's answers to these calls, a line each.
-pub fn tell_answers<U: Unit>(alloc: Global, unit: &mut U, calls: &str, told: Told) -> Told {
+pub fn tell_answers<U: Unit>(alloc: Global, unit: &mut U, calls: &[u8], told: Told) -> Told {
     let mut told = told;
     let mut answers = Vec::new(alloc);
-    let lines = parts_of(alloc, calls, "\n");
+    let lines = parts_of(alloc, calls, b"\n");
     for i in 0..lines.len() {
-        match call_in(part(&lines, i), &answers) {
-            Some(call) => {
-                let answer = unit.perform(&call);
-                told = tell_parts(call.profile, &answer, told);
-                let _ = answers.push(word_in(&answer));
-            }
-            None => told = told.say("no unit is asked this\n"),
+        let line = part(&lines, i);
+        if !line.is_empty()
+            && let Some(call) = call_in(line, &answers)
+        {
+            let answer = unit.perform(&call);
+            told = tell_parts(call.profile, &answer, told).say(b"\n");
+            let _ = answers.push(word_in(&answer));
         }
     }
     told
 }
 
-/// The word of an answer; 0 where it has none.
-fn word_in(answer: &Answer) -> Word {
-    match answer {
-        Answer::Word(word) => *word,
-        _ => Word::ZERO,
-    }
-}
-
 /// Tells the answers of a unit that has room for so many calls, and those that it kept.
-fn tell_logged(alloc: Global, calls: &str, room: u32, told: Told) -> Told {
+fn tell_logged(alloc: Global, calls: &[u8], room: u32, told: Told) -> Told {
     let Ok(mut unit) = LogUnit::new(alloc, room) else {
-        return told.say("no memory");
+        return told.say(b"no memory");
     };
     let mut told = tell_answers(alloc, &mut unit, calls, told);
     for i in 0..64 {
         if let Some((call, answer)) = unit.entry(i) {
             told = told
-                .say("kept")
+                .say(b"kept")
                 .number(call.op as i128)
                 .number(word_in(&answer).get())
-                .say("\n");
+                .say(b"\n");
         }
     }
     told
 }
 
 /// The first fault of a script over a graph; None where there is none.
-fn first_fault(alloc: Global, graph: &Graph, script: &str) -> Option<Fault> {
+fn first_fault(alloc: Global, graph: &Graph, script: &[u8]) -> Option<Fault> {
     if script.len() as u64 <= MOST_SOURCE_BYTES
-        && let Ok(script) = read_script(alloc, script.as_bytes(), graph)
+        && let Ok(script) = read_script(alloc, script, graph)
         && script.len() > 0
         && script.at(0).len() > 0
     {
@@ -87,23 +77,21 @@ fn first_fault(alloc: Global, graph: &Graph, script: &str) -> Option<Fault> {
     None
 }
 
-/// Tells the answers of a unit to calls under a fault of an image, where a word was kept for it before, or `-` for none, and how many of them are
-/// wrong: `M WORD FAULT`.
-fn tell_acts(came: &mut Came, words: &str, calls: &str, told: Told) -> Told {
-    let image = first_word(words);
-    let more = behind_word(words);
-    let word = first_word(more);
-    let fault = behind_word(more);
-    if let Some(graph) = graph_in(came, image)
-        && let Some(fault) = first_fault(came.alloc, &graph, fault)
+/// Tells the answers of the session's unit to calls under a fault of an image, where a word was kept for it before, or `-` for none, and how many of them
+/// are wrong: `M WORD FAULT`.
+fn tell_acts(came: &mut Came, words: &[u8], calls: &[u8], told: Told) -> Told {
+    let kept = word(words, 1);
+    let kept = if same_bytes(kept, b"-") {
+        None
+    } else {
+        Word::new(integer(kept))
+    };
+    if let Some(graph) = graph_in(came, word(words, 0))
+        && let Some(fault) = first_fault(came.alloc, &graph, behind(words, 2))
     {
-        let kept = match word.parse() {
-            Ok(code) => Word::new(code),
-            Err(_) => None,
-        };
         return tell_under(came.alloc, &mut came.unit, fault, kept, calls, told);
     }
-    told.say("no fault of an image")
+    told.say(b"no fault of an image")
 }
 
 /// Tells the answers of a unit under a fault.
@@ -112,7 +100,7 @@ fn tell_under(
     unit: &mut BadUnit,
     fault: Fault,
     word: Option<Word>,
-    calls: &str,
+    calls: &[u8],
     told: Told,
 ) -> Told {
     let mut group = Group::new(alloc);
@@ -123,7 +111,7 @@ fn tell_under(
     {
         return tell_answers(alloc, &mut scripted, calls, told)
             .number(scripted.wrong() as i128)
-            .say(" wrong");
+            .say(b" wrong\n");
     }
-    told.say("no memory")
+    told.say(b"no memory")
 }

@@ -3,12 +3,13 @@
 ghost use Rattle.std.specs.Prelude.{◌≡◌, IfSome, true};
 ghost use Rattle.coded_unit.specs.Asked.{Asked};
 
-use crate::play::texts::{behind_word, count, first_word};
+use crate::play::texts::{count, integer, word};
 use crate::play::told::Told;
 use coded_unit::{Answer, Call, Word};
 use fault_script::kind_named;
 use vcp_base::{
-    Kind, MOST_STAMP, Profile, StopKind, Ty, admits, kind_code, kind_of_code, modulus, stop_name,
+    Kind, MOST_STAMP, Profile, StopKind, Ty, admits, kind_code, kind_of_code, modulus, same_bytes,
+    stop_name,
 };
 
 /// The number of 32 bits that this is; else 0.
@@ -47,32 +48,40 @@ pub fn kind_of(code: i128) -> Kind {
 }
 
 /// The code of the code of words, the type or the kind of this name; 0 of another.
-fn code_named(name: &str) -> i128 {
-    match name {
-        "INT" | "wide" => 1,
-        "DINT" => 2,
-        "LINT" => 3,
-        _ => match kind_named(name.as_bytes()) {
+fn code_named(name: &[u8]) -> i128 {
+    if same_bytes(name, b"INT") || same_bytes(name, b"wide") {
+        1
+    } else if same_bytes(name, b"DINT") {
+        2
+    } else if same_bytes(name, b"LINT") {
+        3
+    } else {
+        match kind_named(name) {
             Some(kind) => kind_code(kind) as i128,
             None => 0,
-        },
+        }
     }
 }
 
 /// The number that is written so: as an integer, as the value and the residue of its word with `:` between them, as `@` and the number of an earlier
 /// answer, or as a name.
-fn number_of(word: &str, profile: Profile, answers: &[Word]) -> i128 {
-    if let Some(earlier) = word.strip_prefix("@") {
+fn number_of(word: &[u8], profile: Profile, answers: &[Word]) -> i128 {
+    if let [b'@', earlier @ ..] = word {
         return match answers.get(count(earlier) as usize) {
             Some(word) => word.get(),
             None => 0,
         };
     }
-    match word.split_once(':') {
-        Some((value, residue)) => (modulus(profile) as i128)
-            .wrapping_mul(value.parse().unwrap_or(0))
-            .wrapping_add(residue.parse().unwrap_or(0)),
-        None => word.parse().unwrap_or(code_named(word)),
+    for i in 0..word.len() {
+        if word[i] == b':' {
+            return (modulus(profile) as i128)
+                .wrapping_mul(integer(word.get(..i).unwrap_or(b"")))
+                .wrapping_add(integer(word.get(i + 1..).unwrap_or(b"")));
+        }
+    }
+    match code_named(word) {
+        0 => integer(word),
+        code => code,
     }
 }
 
@@ -86,21 +95,17 @@ fn profile_of(code: i128) -> Profile {
 }
 
 /// The first words as numbers, with 0 for those that are lacking. The third says in which code the words behind it are.
-pub fn numbers_in(words: &str, answers: &[Word]) -> [i128; 12] {
+pub fn numbers_in(words: &[u8], answers: &[Word]) -> [i128; 12] {
     let mut numbers = [0; 12];
-    let mut rest = words;
     for i in 0..12 {
-        let word = first_word(rest);
-        let more = behind_word(rest);
-        rest = more;
-        numbers[i] = number_of(word, profile_of(numbers[2]), answers);
+        numbers[i] = number_of(word(words, i), profile_of(numbers[2]), answers);
     }
     numbers
 }
 
 /// The call that these words say: its operation and cycle, its code, kind and types, the words of its operands, its number, its correction and its
 /// stamp; None where no unit is asked it.
-pub fn call_in(words: &str, answers: &[Word]) -> Option<Call>
+pub fn call_in(words: &[u8], answers: &[Word]) -> Option<Call>
     ensures { IfSome result (λ call. Asked call) }
 {
     let n = numbers_in(words, answers);
@@ -142,15 +147,22 @@ pub fn tell_answer(answer: &Answer, told: Told) -> Told {
     told.item(stop_name(kind))
 }
 
-/// Tells an answer in a line, its word with its value and its residue.
+/// Tells an answer, its word with its value and its residue.
 pub fn tell_parts(profile: Profile, answer: &Answer, told: Told) -> Told {
     let told = tell_answer(answer, told);
-    let told = match answer {
+    match answer {
         Answer::Word(word) => {
             let (value, residue) = word.split(profile);
-            told.number(value).say(":").number(residue as i128)
+            told.number(value).say(b":").number(residue as i128)
         }
         _ => told,
-    };
-    told.say("\n")
+    }
+}
+
+/// The word of an answer; 0 where it has none.
+pub fn word_in(answer: &Answer) -> Word {
+    match answer {
+        Answer::Word(word) => *word,
+        _ => Word::ZERO,
+    }
 }

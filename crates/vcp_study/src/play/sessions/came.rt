@@ -2,7 +2,7 @@
 
 use crate::play::calls::{single_call, tell_answer};
 use crate::play::sessions::setting::Outside;
-use crate::play::texts::{behind_word, first_word, is, part, parts_of, spelled, text_of};
+use crate::play::texts::{behind, copy_of, part, parts_of, put, spelled, word};
 use crate::play::told::Told;
 use coded_unit::BadUnit;
 use std::alloc::Global;
@@ -19,8 +19,6 @@ pub struct Came {
     pub out: MemSink,
     pub err: MemSink,
     pub status: u8,
-    /// How many calls of the unit were compared with wanted ones.
-    pub asked: u32,
 }
 
 impl Drop for Came {
@@ -32,7 +30,6 @@ impl Drop for Came {
             out: _,
             err: _,
             status: _,
-            asked: _,
         } = self;
     }
 }
@@ -49,84 +46,81 @@ impl Came {
     }
 
     /// Makes a call of these words, before which the name of another program than `vcp` stands. The status is what it gives.
-    pub fn call(&mut self, words: &str) {
-        let program = first_word(words);
-        let rest = behind_word(words);
-        self.status = match program {
-            "call" => single_call(self, rest),
-            "vcp_study" => vcp_study(
+    pub fn call(&mut self, words: &[u8]) {
+        let program = word(words, 0);
+        let rest = behind(words, 1);
+        self.status = if same_bytes(program, b"call") {
+            single_call(self, rest)
+        } else if same_bytes(program, b"vcp_study") {
+            vcp_study(
                 self.alloc,
                 &words_of(self.alloc, rest),
                 &mut self.files,
                 &mut self.out,
                 &mut self.err,
-            ),
-            _ => vcp(
+            )
+        } else {
+            vcp(
                 self.alloc,
                 &words_of(self.alloc, words),
                 &mut self.files,
                 &mut self.unit,
                 &mut self.out,
                 &mut self.err,
-            ),
+            )
         };
     }
 
-    /// Tells where another status or error came than this end, as a session writes them behind `=`. An error that fills the room for it need not be a
-    /// whole line.
-    pub fn tell_end(&self, end: &str, room: u32, told: Told) -> Told {
-        let status = first_word(end);
-        let line = behind_word(end);
-        let error = text_of(self.err.bytes());
-        let is_whole = error.is_empty() || error.ends_with("\n") || error.len() == room as usize;
-        if is_whole
-            && self.status == status.parse().unwrap_or(u8::MAX)
-            && is(error.trim_ascii_end(), line)
+    /// Tells where another status or error came than this end, as a session writes them behind `=`. Of the line of error that comes which there is room
+    /// for.
+    pub fn tell_end(&self, end: &[u8], room: u32, told: Told) -> Told {
+        let came = Told::new(self.alloc).number(self.status as i128);
+        let mut line = copy_of(self.alloc, behind(end, 1));
+        if !line.is_empty() {
+            put(&mut line, b"\n");
+        }
+        let error = self.err.bytes();
+        if same_bytes(&came.text, word(end, 0))
+            && same_bytes(error, line.get(..room as usize).unwrap_or(&line))
         {
             return told;
         }
-        told.say("wanted `= ")
-            .say(end)
-            .say("`, came `= ")
-            .number(self.status as i128)
-            .say(" ")
-            .say(error)
-            .say("` of ")
+        told.instead(end, &came.say(b" ").say(error).text)
     }
 
-    /// Tells where something else came than a line wants, which says how often a text stands in the output or what the unit was asked; a call may end
-    /// before its last fields.
-    pub fn compare(&mut self, line: &str, told: Told) -> Told {
-        let wanted = behind_word(line);
-        let came = match first_word(line) {
-            "*" => self.times(wanted),
-            _ => self.next_answer(wanted),
+    /// Tells where something else came than a line wants, which says how often a text stands in the output or what the unit was asked in its call of this
+    /// number; a call may end before its last fields.
+    pub fn compare(&self, line: &[u8], asked: u32, told: Told) -> Told {
+        let wanted = behind(line, 1);
+        let came = if line.starts_with(b"*") {
+            self.times(behind(wanted, 1))
+        } else if wanted.starts_with(b"wrong") {
+            Told::new(self.alloc)
+                .say(b"wrong")
+                .number(self.unit.wrong() as i128)
+        } else {
+            self.answered(asked)
         };
-        match came.text.strip_prefix(wanted) {
-            Some(rest) if rest.is_empty() || rest.starts_with(' ') => told,
-            _ => told.instead(wanted, &came.text),
+        if came.text.starts_with(wanted)
+            && matches!(came.text.get(wanted.len()), None | Some(b' '))
+        {
+            return told;
         }
+        told.instead(wanted, &came.text)
     }
 
-    /// How often a text, which is spelled, stands in the output, and the text behind that, which stands behind a number.
-    fn times(&self, wanted: &str) -> Told {
-        let part = behind_word(wanted);
-        let bytes = spelled(self.alloc, part);
-        let parts = text_of(self.out.bytes()).split(text_of(&bytes)).count();
+    /// How often a text, which is spelled, stands in the output, and the text behind that.
+    fn times(&self, text: &[u8]) -> Told {
+        let parts = parts_of(self.alloc, self.out.bytes(), &spelled(self.alloc, text));
         Told::new(self.alloc)
-            .number(parts.saturating_sub(1) as i128)
-            .say(" ")
-            .say(part)
+            .number(parts.len() as i128 - 1)
+            .say(b" ")
+            .say(text)
     }
 
-    /// The next call of the unit that isn't compared yet, as a session writes it; or how many answers were wrong, where that is wanted.
-    fn next_answer(&mut self, wanted: &str) -> Told {
+    /// The call of a number of the unit, as a session writes it.
+    fn answered(&self, asked: u32) -> Told {
         let told = Told::new(self.alloc);
-        if wanted.starts_with("wrong") {
-            return told.say("wrong").number(self.unit.wrong() as i128);
-        }
-        let asked = self.asked;
-        self.asked = asked.saturating_add(1);
         match self.unit.entry(asked) {
             Some((call, answer)) => tell_answer(
                 &answer,
@@ -139,21 +133,20 @@ impl Came {
             .number(call.a.get())
             .number(call.b.get())
             .number(call.c.get()),
-            None => told.say("end"),
+            None => told.say(b"end"),
         }
     }
 
     /// Tells the first line of the output that differs from the wanted ones.
     pub fn tell_difference(&self, wanted: &[u8], told: Told) -> Told {
-        let out = self.out.bytes();
-        if same_bytes(out, wanted) {
+        if same_bytes(self.out.bytes(), wanted) {
             return told;
         }
-        let came = parts_of(self.alloc, text_of(out), "\n");
-        let wanted = parts_of(self.alloc, text_of(wanted), "\n");
+        let came = parts_of(self.alloc, self.out.bytes(), b"\n");
+        let wanted = parts_of(self.alloc, wanted, b"\n");
         let mut same = 0usize;
         for i in 0..wanted.len() {
-            if same == i && is(part(&came, i), part(&wanted, i)) {
+            if same == i && same_bytes(part(&came, i), part(&wanted, i)) {
                 same = same.saturating_add(1);
             }
         }
@@ -166,37 +159,30 @@ impl Came {
     pub fn is_broken_of(&self, whole: &Came, outside: Outside) -> bool {
         let err = self.err.bytes();
         let line = whole.err.bytes();
-        let lacking = whole
-            .out
-            .bytes()
-            .len()
-            .saturating_sub(self.out.bytes().len());
+        let is_all = self.out.bytes().len() == whole.out.bytes().len();
         let is_ended = match outside {
             Outside::Files => self.status == 5 && err.ends_with(b" read fault\n"),
-            Outside::Output => self.status == 6 && lacking > 0 && same_bytes(err, b"write fault\n"),
+            Outside::Output => self.status == 6 && !is_all && same_bytes(err, b"write fault\n"),
             Outside::Errors => self.status == 6
-                && lacking == 0
+                && is_all
                 && err.len() < line.len()
                 && line.starts_with(err),
-            _ => self.status == whole.status && lacking == 0 && same_bytes(err, line),
+            _ => self.status == whole.status && is_all && same_bytes(err, line),
         };
         is_ended && whole.out.bytes().starts_with(self.out.bytes())
     }
 }
 
 /// The words of a text, with a blank between them; `''` is an empty word.
-fn words_of(alloc: Global, text: &str) -> Words {
+fn words_of(alloc: Global, text: &[u8]) -> Words {
     let mut words = Words::new(alloc);
-    let parts = parts_of(alloc, text, " ");
+    let parts = parts_of(alloc, text, b" ");
     for i in 0..parts.len() {
-        match part(&parts, i) {
-            "" => {}
-            "''" => {
-                let _ = words.push(b"");
-            }
-            word => {
-                let _ = words.push(word.as_bytes());
-            }
+        let word = part(&parts, i);
+        if same_bytes(word, b"''") {
+            let _ = words.push(b"");
+        } else if !word.is_empty() {
+            let _ = words.push(word);
         }
     }
     words

@@ -1,15 +1,25 @@
 //! The files of a session.
 
-use crate::play::texts::{behind_word, copy_of, count, first_word, put, spelled};
+use crate::play::texts::{behind, copy_of, count, part, put, spelled, word};
 use std::alloc::Global;
-use vcp_base::{Text, same_bytes};
-use vcp_outside::{Entry, MemFiles};
+use vcp_base::{Words, same_bytes};
+use vcp_outside::MemFiles;
 
-/// The files of a session, one of a name.
-#[derive(Drop)]
+/// The files of a session: their names, and the text of each. Of several of a name the last holds.
 pub struct SessionFiles {
     pub alloc: Global,
-    files: Vec<Entry>,
+    names: Words,
+    texts: Words,
+}
+
+impl Drop for SessionFiles {
+    fn drop(self) {
+        let SessionFiles {
+            alloc: _,
+            names: _,
+            texts: _,
+        } = self;
+    }
 }
 
 impl SessionFiles {
@@ -17,77 +27,58 @@ impl SessionFiles {
     pub fn new(alloc: Global) -> SessionFiles {
         SessionFiles {
             alloc,
-            files: Vec::new(alloc),
+            names: Words::new(alloc),
+            texts: Words::new(alloc),
         }
-    }
-
-    /// The place of the file of a name; past the last one where there is none.
-    fn place(&self, name: &str) -> usize {
-        let mut place = 0usize;
-        for file in &self.files {
-            if same_bytes(file.name.bytes(), name.as_bytes()) {
-                break;
-            }
-            place = place.saturating_add(1);
-        }
-        place
     }
 
     /// What the file of a name has; nothing where there is none.
-    pub fn text(&self, name: &str) -> &[u8] {
-        match self.files.get(self.place(name)) {
-            Some(file) => file.bytes.bytes(),
-            None => b"",
+    pub fn text(&self, name: &[u8]) -> &[u8] {
+        let mut place = self.names.len();
+        for i in 0..self.names.len() {
+            if same_bytes(self.names.at(i).bytes(), name) {
+                place = i;
+            }
         }
+        part(&self.texts, place)
     }
 
     /// Sets the file of a name. Where there is no memory for it, it is lacking, and what it is wanted for comes otherwise.
-    pub fn set(&mut self, name: &str, text: Vec<u8>) {
-        let bytes = Text::from_vec(text);
-        let place = self.place(name);
-        if let Some(file) = self.files.get_mut(place) {
-            file.bytes = bytes;
-            return;
-        }
-        let name = Text::from_vec(copy_of(self.alloc, name.as_bytes()));
-        let _ = self.files.push(Entry { name, bytes });
+    pub fn set(&mut self, name: &[u8], text: &[u8]) {
+        let _ = self.names.push(name);
+        let _ = self.texts.push(text);
     }
 
-    /// Adds a text, which is spelled, so many times to the file of a name, or to none: `TIMES TEXT`.
-    pub fn add(&mut self, name: &str, repeated: &str) {
-        let times = first_word(repeated);
-        let text = behind_word(repeated);
-        let text = spelled(self.alloc, text);
+    /// Adds a text, which is spelled, so many times to the file of a name, or to none: `NAME TIMES TEXT`.
+    pub fn add(&mut self, line: &[u8]) {
+        let name = word(line, 0);
+        let text = spelled(self.alloc, behind(line, 2));
         let mut whole = copy_of(self.alloc, self.text(name));
-        for _i in 0..count(times) {
+        for _i in 0..count(word(line, 1)) {
             put(&mut whole, &text);
         }
-        self.set(name, whole);
+        self.set(name, &whole);
     }
 
-    /// Makes a file of another with other bytes, which are spelled, from a place on: `OTHER PLACE BYTES`.
-    pub fn patch(&mut self, name: &str, patch: &str) {
-        let other = first_word(patch);
-        let more = behind_word(patch);
-        let place = first_word(more);
-        let bytes = behind_word(more);
-        let text = self.text(other);
-        let place = count(place) as usize;
-        let bytes = spelled(self.alloc, bytes);
+    /// Makes a file of another with other bytes, which are spelled, from a place on: `NAME OTHER PLACE BYTES`.
+    pub fn patch(&mut self, line: &[u8]) {
+        let text = self.text(word(line, 1));
+        let place = count(word(line, 2)) as usize;
+        let bytes = spelled(self.alloc, behind(line, 3));
         let mut whole = copy_of(self.alloc, text.get(..place).unwrap_or(text));
         put(&mut whole, &bytes);
         put(
             &mut whole,
             text.get(place.saturating_add(bytes.len())..).unwrap_or(b""),
         );
-        self.set(name, whole);
+        self.set(word(line, 0), &whole);
     }
 
     /// The files in memory, of which no call was made so far.
     pub fn in_memory(&self) -> MemFiles {
         let mut files = MemFiles::new(self.alloc);
-        for file in &self.files {
-            let _ = files.put(file.name.bytes(), file.bytes.bytes());
+        for i in 0..self.names.len() {
+            let _ = files.put(self.names.at(i).bytes(), part(&self.texts, i));
         }
         files
     }

@@ -2,9 +2,9 @@
 
 use crate::play::sessions::came::Came;
 use crate::play::sessions::files::SessionFiles;
-use crate::play::sessions::setting::{Setting, answer_in};
-use crate::play::sessions::words::{program_off, whole_end};
-use crate::play::texts::{behind_word, copy_of, count, first_word, part, parts_of, put, spelled};
+use crate::play::sessions::setting::{Setting, three};
+use crate::play::sessions::words::{program_of, whole_end};
+use crate::play::texts::{behind, copy_of, part, parts_of, put, spelled, word};
 use crate::play::told::Told;
 use std::alloc::Global;
 use std::mem;
@@ -13,15 +13,13 @@ use std::mem;
 pub struct Player {
     alloc: Global,
     /// A line for each session, which says how many calls it has.
-    pub told: String,
+    pub told: Vec<u8>,
     /// What came otherwise in the calls of sessions, and their lines without a meaning.
-    pub faults: String,
-    /// The name of the session's file, and the number of its line.
-    name: String,
+    pub faults: Vec<u8>,
+    /// The name of the session's file, the number of its line, and how many calls were made.
+    name: Vec<u8>,
     number: u32,
-    /// How many calls were made, and how many of them gave something else than the session says.
     made: u32,
-    otherwise: u32,
     files: SessionFiles,
     /// The call that is open, whose end hasn't come, or else the next one.
     setting: Setting,
@@ -36,7 +34,6 @@ impl Drop for Player {
             name: _,
             number: _,
             made: _,
-            otherwise: _,
             files: _,
             setting: _,
         } = self;
@@ -48,166 +45,147 @@ impl Player {
     pub fn new(alloc: Global) -> Player {
         Player {
             alloc,
-            told: String::new(alloc),
-            faults: String::new(alloc),
-            name: String::new(alloc),
+            told: Vec::new(alloc),
+            faults: Vec::new(alloc),
+            name: Vec::new(alloc),
             number: 0,
             made: 0,
-            otherwise: 0,
             files: SessionFiles::new(alloc),
             setting: Setting::new(alloc),
         }
     }
 
-    /// Plays the session of a name, which begins without files, and tells how many calls it has, and how many of them gave something else than it says,
-    /// where some did or a line says nothing.
-    pub fn play(&mut self, name: &str, text: &str) {
-        self.name.clear();
-        let _ = self.name.push_str(name);
+    /// Begins the session of a name, without files.
+    pub fn begin(&mut self, name: &[u8]) {
+        self.name = copy_of(self.alloc, name);
         self.number = 0;
         self.made = 0;
-        self.otherwise = 0;
         self.files = SessionFiles::new(self.alloc);
         self.setting = Setting::new(self.alloc);
-        let before = self.faults.len();
-        let lines = parts_of(self.alloc, text, "\n");
+    }
+
+    /// Plays the lines of a session, and tells how many calls it has.
+    pub fn play(&mut self, text: &[u8]) {
+        let lines = parts_of(self.alloc, text, b"\n");
         for i in 0..lines.len() {
             self.line(part(&lines, i));
         }
         if self.setting.is_open {
-            self.note("no end of a call at the end of", name);
+            self.note(b"no end of a call at the end of", b"the session");
         }
-        let is_right = self.faults.len() == before;
-        self.tell(is_right);
-    }
-
-    /// Tells what came of a session.
-    fn tell(&mut self, is_right: bool) {
-        let told = Told::new(self.alloc).say(&self.name).say(": ");
-        let told = if is_right {
-            told.number(self.made as i128).say(" calls\n")
-        } else {
-            told.number(self.otherwise as i128)
-                .say(" of")
-                .number(self.made as i128)
-                .say(" calls otherwise\n")
-        };
-        let _ = self.told.push_str(&told.text);
+        let line = Told::new(self.alloc)
+            .say(&self.name)
+            .say(b": ")
+            .number(self.made as i128)
+            .say(b" calls\n");
+        put(&mut self.told, &line.text);
     }
 
     /// Notes what is said of a text in this line.
-    fn note(&mut self, said: &str, text: &str) {
+    pub fn note(&mut self, said: &[u8], text: &[u8]) {
         let line = Told::new(self.alloc)
             .say(&self.name)
-            .say(", line")
+            .say(b", line")
             .number(self.number as i128)
-            .say(": ")
+            .say(b": ")
             .say(said)
-            .say(" `")
+            .say(b" `")
             .say(text)
-            .say("`\n");
-        let _ = self.faults.push_str(&line.text);
+            .say(b"`\n");
+        put(&mut self.faults, &line.text);
     }
 
-    /// Does what the next line says. A line that sets something for a call, or begins one, has its place where none is open; each other where one is.
-    fn line(&mut self, line: &str) {
+    /// Does what the next line says. A line that sets something for a call, or begins one, has its place where none is open; each other where one is. An
+    /// empty one says something only where a call is open.
+    fn line(&mut self, line: &[u8]) {
         self.number = self.number.saturating_add(1);
-        let word = first_word(line);
-        let rest = behind_word(line);
-        let mark = match word.as_bytes().first() {
-            Some(mark) if word.len() == 1 => *mark,
+        let mark = match line {
+            [mark] => *mark,
+            [mark, b' ', ..] => *mark,
             _ => 0,
         };
+        let is_open = self.setting.is_open;
         let is_before = matches!(mark, b'<' | b'+' | b'~' | b'@' | b'%' | b'!' | b'$');
-        if mark == b'#' {
+        if mark == b'#' || line.is_empty() && !is_open {
             return;
         }
-        if is_before == self.setting.is_open {
-            self.note("not the place of", line);
+        if is_before == is_open {
+            self.note(b"not the place of", line);
         } else if is_before {
-            self.before_a_call(mark, rest);
+            self.before_a_call(mark, behind(line, 1));
         } else {
-            self.after_a_call(line, mark, rest);
+            self.after_a_call(line, mark, behind(line, 1));
         }
     }
 
     /// Does what a line of this mark says, which sets something for the next call, or begins it.
-    fn before_a_call(&mut self, mark: u8, rest: &str) {
-        let first = first_word(rest);
-        let more = behind_word(rest);
+    fn before_a_call(&mut self, mark: u8, rest: &[u8]) {
         match mark {
-            b'<' => self.files.set(first, spelled(self.alloc, more)),
-            b'+' => self.files.add(first, more),
-            b'~' => self.files.patch(first, more),
-            b'@' => {
-                let answer = (count(first), answer_in(more));
-                let _ = self.setting.answers.push(answer);
+            b'<' => {
+                let text = spelled(self.alloc, behind(rest, 1));
+                self.files.set(word(rest, 0), &text);
             }
-            b'%' => self.setting.set_room(rest),
-            b'!' => self.setting.fail(first, more),
+            b'+' => self.files.add(rest),
+            b'~' => self.files.patch(rest),
+            b'@' => {
+                let _ = self.setting.answers.push(rest);
+            }
+            b'%' => self.setting.rooms = three(rest),
+            b'!' => self.setting.fail(rest),
             _ => self.open(rest),
         }
     }
 
     /// Does what a line of this mark says, which wants something of the open call, or is its end.
-    fn after_a_call(&mut self, line: &str, mark: u8, rest: &str) {
+    fn after_a_call(&mut self, line: &[u8], mark: u8, rest: &[u8]) {
         match mark {
             b'|' => self.setting.want(&spelled(self.alloc, rest)),
             b'&' => put(&mut self.setting.output, self.files.text(rest)),
             b'*' | b'?' => {
-                let _ = self.setting.others.push_str(line);
-                let _ = self.setting.others.push_str("\n");
+                let _ = self.setting.others.push(line);
             }
-            b'=' => self.make(rest, ""),
-            b'>' => {
-                let name = first_word(rest);
-                let status = behind_word(rest);
-                self.make(status, name);
-            }
-            _ => self.setting.want(line.as_bytes()),
+            b'=' => self.make(rest, b""),
+            b'>' => self.make(behind(rest, 1), word(rest, 0)),
+            _ => self.setting.want(line),
         }
     }
 
     /// Begins a call, which is its end as well where its one line of output stands behind ` => `.
-    fn open(&mut self, line: &str) {
-        let (words, output) = line.split_once(" => ").unwrap_or((line, ""));
+    fn open(&mut self, line: &[u8]) {
+        let parts = parts_of(self.alloc, line, b" => ");
         self.setting.is_open = true;
-        let _ = self.setting.words.push_str(words);
-        if !output.is_empty() {
-            self.setting.want(output.as_bytes());
-            self.make("", "");
+        self.setting.words = copy_of(self.alloc, part(&parts, 0));
+        if parts.len() > 1 {
+            self.setting.want(part(&parts, 1));
+            self.make(b"", b"");
         }
     }
 
     /// Makes the open call, which ends so, for each of its commands, between which `,` stands.
-    fn make(&mut self, end: &str, kept: &str) {
+    fn make(&mut self, end: &[u8], kept: &[u8]) {
         let setting = mem::replace(&mut self.setting, Setting::new(self.alloc));
-        let (program, words) = program_off(&setting.words);
-        let commands = first_word(words);
-        let rest = behind_word(words);
-        let end = whole_end(program, end);
-        let commands = parts_of(self.alloc, commands, ",");
-        for i in 0..commands.len().max(1) {
+        let program = program_of(&setting.words);
+        let words = setting.words.get(program.len()..).unwrap_or(b"");
+        let commands = parts_of(self.alloc, word(words, 0), b",");
+        for i in 0..commands.len() {
             let words = Told::new(self.alloc)
                 .say(program)
                 .say(part(&commands, i))
-                .say(" ")
-                .say(rest);
-            self.make_one(&setting, &words.text, end, kept);
+                .say(b" ")
+                .say(behind(words, 1));
+            self.make_one(&setting, &words.text, whole_end(program, end), kept);
         }
     }
 
     /// Makes a call of these words, and notes what came otherwise.
-    fn make_one(&mut self, setting: &Setting, words: &str, end: &str, kept: &str) {
+    fn make_one(&mut self, setting: &Setting, words: &[u8], end: &[u8], kept: &[u8]) {
         self.made = self.made.saturating_add(1);
-        let first = setting.counts[0];
-        let told = match setting.came(&self.files, words, setting.outside, first) {
-            Some(came) => self.judged(setting, words, came, end, kept),
-            None => Told::new(self.alloc).say("no memory for"),
+        let told = match setting.came(&self.files, words, setting.outside, setting.counts[0]) {
+            Some(came) => self.judged(setting, words, &came, end, kept),
+            None => Told::new(self.alloc).say(b"no memory for"),
         };
         if !told.text.is_empty() {
-            self.otherwise = self.otherwise.saturating_add(1);
-            self.note(told.text.trim_ascii_end(), words);
+            self.note(&told.text, words);
         }
     }
 
@@ -215,23 +193,26 @@ impl Player {
     fn judged(
         &mut self,
         setting: &Setting,
-        words: &str,
-        came: Came,
-        end: &str,
-        kept: &str,
+        words: &[u8],
+        came: &Came,
+        end: &[u8],
+        kept: &[u8],
     ) -> Told {
-        let mut came = came;
         let mut told = Told::new(self.alloc);
-        let others = parts_of(self.alloc, &setting.others, "\n");
-        for i in 0..others.len() {
-            told = came.compare(part(&others, i), told);
+        let mut asked = 0u32;
+        for i in 0..setting.others.len() {
+            let line = setting.others.at(i).bytes();
+            told = came.compare(line, asked, told);
+            if line.starts_with(b"?") {
+                asked = asked.saturating_add(1);
+            }
         }
-        let told = came.tell_end(end, setting.error_room, told);
-        let told = setting.each_otherwise(&self.files, words, &came, told);
+        let told = came.tell_end(end, setting.rooms[1], told);
+        let told = setting.each_otherwise(&self.files, words, came, told);
         if kept.is_empty() {
             return came.tell_difference(&setting.output, told);
         }
-        self.files.set(kept, copy_of(self.alloc, came.out.bytes()));
+        self.files.set(kept, came.out.bytes());
         told
     }
 }

@@ -2,10 +2,11 @@
 
 use crate::play::sessions::came::Came;
 use crate::play::sessions::files::SessionFiles;
-use crate::play::texts::{behind_word, count, first_word, put};
+use crate::play::texts::{behind, count, integer, put, word};
 use crate::play::told::Told;
 use coded_unit::{Answer, BadUnit, Word};
 use std::alloc::Global;
+use vcp_base::{Words, same_bytes};
 use vcp_outside::MemSink;
 
 /// What a call of a program is handed and that can fail.
@@ -25,31 +26,26 @@ pub enum Outside {
 
 /// What a call is made with, beside the files, and what it has to give.
 pub struct Setting {
-    /// What the unit answers to its calls of these numbers.
-    pub answers: Vec<(u32, Answer)>,
-    /// For how many bytes of output, and of errors, there is room.
-    room: u32,
-    pub error_room: u32,
-    /// How many of the unit's calls are kept, and so how many can be wanted.
-    kept: u32,
+    /// What the unit answers: the number of its call, and the answer.
+    pub answers: Words,
+    /// For how many bytes of output and of errors there is room, and how many of the unit's calls are kept.
+    pub rooms: [u32; 3],
     /// Which object has a call that is made to fail, and that call's number; of each, how many calls the files, the output and the errors have.
     pub outside: Outside,
     pub counts: [u32; 3],
     /// Whether the call is open, whose end hasn't come; its words.
     pub is_open: bool,
-    pub words: String,
+    pub words: Vec<u8>,
     /// The output that is wanted, and the lines with texts that have to occur in it and with calls of the unit.
     pub output: Vec<u8>,
-    pub others: String,
+    pub others: Words,
 }
 
 impl Drop for Setting {
     fn drop(self) {
         let Setting {
             answers: _,
-            room: _,
-            error_room: _,
-            kept: _,
+            rooms: _,
             outside: _,
             counts: _,
             is_open: _,
@@ -64,42 +60,29 @@ impl Setting {
     /// No call so far, right answers, room for a megabyte each and for 4,096 calls, and no call that is made to fail.
     pub fn new(alloc: Global) -> Setting {
         Setting {
-            answers: Vec::new(alloc),
-            room: 1 << 20,
-            error_room: 1 << 20,
-            kept: 4096,
+            answers: Words::new(alloc),
+            rooms: [1 << 20, 1 << 20, 4096],
             outside: Outside::Nothing,
             counts: [0; 3],
             is_open: false,
-            words: String::new(alloc),
+            words: Vec::new(alloc),
             output: Vec::new(alloc),
-            others: String::new(alloc),
+            others: Words::new(alloc),
         }
     }
 
-    /// Sets the room for the output, and, where they are written, that for the errors and that for the unit's calls.
-    pub fn set_room(&mut self, rooms: &str) {
-        let room = first_word(rooms);
-        let more = behind_word(rooms);
-        let error_room = first_word(more);
-        let kept = behind_word(more);
-        self.room = count(room);
-        self.error_room = error_room.parse().unwrap_or(self.error_room);
-        self.kept = kept.parse().unwrap_or(self.kept);
-    }
-
     /// Has a call of an object fail, or each, with how many there are of each kind.
-    pub fn fail(&mut self, which: &str, counts: &str) {
-        let first = first_word(counts);
-        let more = behind_word(counts);
-        let second = first_word(more);
-        let third = behind_word(more);
-        self.counts = [count(first), count(second), count(third)];
-        self.outside = match which {
-            "files" => Outside::Files,
-            "output" => Outside::Output,
-            "errors" => Outside::Errors,
-            _ => Outside::Each,
+    pub fn fail(&mut self, line: &[u8]) {
+        let which = word(line, 0);
+        self.counts = three(behind(line, 1));
+        self.outside = if same_bytes(which, b"files") {
+            Outside::Files
+        } else if same_bytes(which, b"output") {
+            Outside::Output
+        } else if same_bytes(which, b"errors") {
+            Outside::Errors
+        } else {
+            Outside::Each
         };
     }
 
@@ -113,13 +96,13 @@ impl Setting {
     pub fn came(
         &self,
         files: &SessionFiles,
-        words: &str,
+        words: &[u8],
         outside: Outside,
         number: u32,
     ) -> Option<Came> {
-        if let Ok(out) = MemSink::new(files.alloc, self.room)
-            && let Ok(err) = MemSink::new(files.alloc, self.error_room)
-            && let Ok(unit) = BadUnit::new(files.alloc, self.kept)
+        if let Ok(out) = MemSink::new(files.alloc, self.rooms[0])
+            && let Ok(err) = MemSink::new(files.alloc, self.rooms[1])
+            && let Ok(unit) = BadUnit::new(files.alloc, self.rooms[2])
         {
             let mut came = Came {
                 alloc: files.alloc,
@@ -128,7 +111,6 @@ impl Setting {
                 out,
                 err,
                 status: 0,
-                asked: 0,
             };
             self.replace(&mut came.unit);
             let _ = came.fail(outside, number);
@@ -140,8 +122,9 @@ impl Setting {
 
     /// Has a unit give the answers.
     fn replace(&self, unit: &mut BadUnit) {
-        for (number, answer) in &self.answers {
-            let _ = unit.replace(*number as u64, *answer);
+        for i in 0..self.answers.len() {
+            let line = self.answers.at(i).bytes();
+            let _ = unit.replace(count(word(line, 0)) as u64, answer_in(word(line, 1)));
         }
     }
 
@@ -149,7 +132,7 @@ impl Setting {
     pub fn each_otherwise(
         &self,
         files: &SessionFiles,
-        words: &str,
+        words: &[u8],
         whole: &Came,
         told: Told,
     ) -> Told {
@@ -166,7 +149,7 @@ impl Setting {
     fn failing(
         &self,
         files: &SessionFiles,
-        words: &str,
+        words: &[u8],
         whole: &Came,
         outside: Outside,
         wanted: u32,
@@ -185,21 +168,33 @@ impl Setting {
             };
             if !is_right {
                 told = told
-                    .say("otherwise where call")
+                    .item(b"otherwise where call")
                     .number(number as i128)
-                    .say(" of a kind fails, in ");
+                    .say(b" of a kind fails, in");
             }
         }
         told
     }
 }
 
+/// The first three words as numbers.
+pub fn three(words: &[u8]) -> [u32; 3] {
+    [
+        count(word(words, 0)),
+        count(word(words, 1)),
+        count(word(words, 2)),
+    ]
+}
+
 /// The answer that is written so: the name of a stop, or else the integer of its word, which is 0 where it is none.
-pub fn answer_in(text: &str) -> Answer {
-    match text {
-        "RANGE" => Answer::Range,
-        "DIVZERO" => Answer::DivZero,
-        "OPERAND" => Answer::Operand,
-        _ => Answer::Word(Word::new(text.parse().unwrap_or(0)).unwrap_or(Word::ZERO)),
+fn answer_in(text: &[u8]) -> Answer {
+    if same_bytes(text, b"RANGE") {
+        Answer::Range
+    } else if same_bytes(text, b"DIVZERO") {
+        Answer::DivZero
+    } else if same_bytes(text, b"OPERAND") {
+        Answer::Operand
+    } else {
+        Answer::Word(Word::new(integer(text)).unwrap_or(Word::ZERO))
     }
 }
