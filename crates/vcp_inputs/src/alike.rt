@@ -1,37 +1,45 @@
 //! Whether what was made twice is the same.
 
+ghost use Rattle.std.specs.Prelude.{◌≡◌, IfErr, IfOk};
+ghost use Rattle.vcp_inputs.specs.declared.refusal.NoInput.TheVariants as input;
+
+use crate::refusal::NoInput;
 use flat_stmt::flatten;
 use op_graph::{Graph, Op};
 use std::alloc::Global;
 use vcp_base::{Memory, Text};
 use vcp_typed::Typed;
 
-/// Whether two typed programs have the same operations before any of these is left out.
-pub(crate) fn have_same_operations(
-    alloc: Global,
-    program: &Typed,
-    other: &Typed,
-) -> Result<bool, Memory> {
-    let graph = flatten(alloc, program)?;
-    let beside = flatten(alloc, other)?;
-    Ok(are_alike(&graph, &beside))
+/// A typed program, taken where the one that was made beside it has the same operations before any of these is left out. Else, and for
+/// want of memory, it isn't taken.
+pub(crate) fn taken_beside(alloc: Global, program: Typed, other: &Typed) -> Result<Typed, NoInput>
+    ensures taken { IfOk result (λ typed. typed ≡ program) }
+    ensures memory { IfErr result (λ why. why ≡ input.Memory) }
+{
+    let graph = match flatten(alloc, &program) {
+        Ok(graph) => graph,
+        Err(Memory) => return Err(NoInput::Memory),
+    };
+    match flatten(alloc, other) {
+        Ok(beside) => if are_alike(&graph, &beside) {
+            Ok(program)
+        } else {
+            Err(NoInput::Memory)
+        },
+        Err(Memory) => Err(NoInput::Memory),
+    }
 }
 
 /// Whether two graphs have the same lists.
 pub fn are_alike(graph: &Graph, other: &Graph) -> bool {
     graph.profile() == other.profile()
         && are_same_operations(graph.operations(), other.operations())
-        && have_same_places(graph, other)
-        && are_equal(graph.all_turn_nodes(), other.all_turn_nodes())
-        && are_same_names(graph.all_names(), other.all_names())
-}
-
-// Whether two graphs have the same inputs, outputs and cells.
-fn have_same_places(graph: &Graph, other: &Graph) -> bool {
-    are_equal(graph.all_inputs(), other.all_inputs())
+        && are_equal(graph.all_inputs(), other.all_inputs())
         && are_equal(graph.all_outputs(), other.all_outputs())
         && are_equal(graph.loads(), other.loads())
         && are_equal(graph.stores(), other.stores())
+        && are_equal(graph.all_turn_nodes(), other.all_turn_nodes())
+        && are_same_names(graph.all_names(), other.all_names())
 }
 
 // Whether two lists are equal.

@@ -1,7 +1,7 @@
 //! What is told of each refusal: its place, and the code and the name of the fault that is there.
 
 ghost use Rattle.std.specs.Prelude.{◌≡◌};
-ghost use Rattle.vcp_inputs.specs.Lines.{at_spot as at_spot_of, diagnostic_of, of_lexing as lexing, of_parsing as parsing, of_typing as typing};
+ghost use Rattle.vcp_inputs.specs.Lines.{diagnostic_of, of_lexing as lexing, of_parsing as parsing, of_typing as typing};
 ghost use Rattle.vcp_inputs.specs.Told.{as_diagnostic};
 ghost use Rattle.vcp_inputs.specs.declared.refusal.Refusal.TheVariants as refusal;
 
@@ -14,7 +14,7 @@ use st_lexer::LexFault;
 use st_parser::SyntaxFault;
 use st_types::TypeFault;
 use telegram::WireFault;
-use vcp_base::{Residue, Spot};
+use vcp_base::Residue;
 
 /// What is told behind a file's name.
 #[derive(Clone, Copy)]
@@ -36,13 +36,6 @@ pub enum Told {
     },
     /// Memory was wanted.
     Memory,
-}
-
-/// What is told at a place of a source.
-fn at_spot(spot: Spot, what: &'static [u8]) -> Told
-    ensures { as_diagnostic result ≡ at_spot_of spot what.now }
-{
-    Told::Pair(spot.line, spot.col, what)
 }
 
 /// What is told of a refusal.
@@ -70,9 +63,9 @@ fn of_lexing(fault: LexFault) -> Told
     ensures { as_diagnostic result ≡ lexing fault }
 {
     match fault {
-        LexFault::Byte { spot } => at_spot(spot, b"S1 Byte"),
-        LexFault::Comment { spot } => at_spot(spot, b"S2 Comment"),
-        LexFault::Number { spot } => at_spot(spot, b"S3 Number"),
+        LexFault::Byte { spot } => Told::Pair(spot.line, spot.col, b"S1 Byte"),
+        LexFault::Comment { spot } => Told::Pair(spot.line, spot.col, b"S2 Comment"),
+        LexFault::Number { spot } => Told::Pair(spot.line, spot.col, b"S3 Number"),
         LexFault::Memory => Told::Memory,
     }
 }
@@ -82,8 +75,8 @@ fn of_parsing(fault: SyntaxFault) -> Told
     ensures { as_diagnostic result ≡ parsing fault }
 {
     match fault {
-        SyntaxFault::Syntax { spot } => at_spot(spot, b"S4 Syntax"),
-        SyntaxFault::Depth { spot } => at_spot(spot, b"S5 Depth"),
+        SyntaxFault::Syntax { spot } => Told::Pair(spot.line, spot.col, b"S4 Syntax"),
+        SyntaxFault::Depth { spot } => Told::Pair(spot.line, spot.col, b"S5 Depth"),
         SyntaxFault::Memory => Told::Memory,
     }
 }
@@ -93,15 +86,15 @@ fn of_typing(fault: TypeFault) -> Told
     ensures { as_diagnostic result ≡ typing fault }
 {
     match fault {
-        TypeFault::Duplicate { spot } => at_spot(spot, b"T1 Duplicate"),
-        TypeFault::Unknown { spot } => at_spot(spot, b"T2 Unknown"),
-        TypeFault::Mismatch { spot } => at_spot(spot, b"T3 Mismatch"),
-        TypeFault::Assign { spot } => at_spot(spot, b"T4 Assign"),
-        TypeFault::Bound { spot } => at_spot(spot, b"T5 Bound"),
-        TypeFault::Label { spot } => at_spot(spot, b"T6 Label"),
-        TypeFault::Call { spot } => at_spot(spot, b"T7 Call"),
-        TypeFault::Literal { spot } => at_spot(spot, b"T8 Literal"),
-        TypeFault::Names { spot } => at_spot(spot, b"L3 Names"),
+        TypeFault::Duplicate { spot } => Told::Pair(spot.line, spot.col, b"T1 Duplicate"),
+        TypeFault::Unknown { spot } => Told::Pair(spot.line, spot.col, b"T2 Unknown"),
+        TypeFault::Mismatch { spot } => Told::Pair(spot.line, spot.col, b"T3 Mismatch"),
+        TypeFault::Assign { spot } => Told::Pair(spot.line, spot.col, b"T4 Assign"),
+        TypeFault::Bound { spot } => Told::Pair(spot.line, spot.col, b"T5 Bound"),
+        TypeFault::Label { spot } => Told::Pair(spot.line, spot.col, b"T6 Label"),
+        TypeFault::Call { spot } => Told::Pair(spot.line, spot.col, b"T7 Call"),
+        TypeFault::Literal { spot } => Told::Pair(spot.line, spot.col, b"T8 Literal"),
+        TypeFault::Names { spot } => Told::Pair(spot.line, spot.col, b"L3 Names"),
         TypeFault::Size => Told::Whole(b"L2 Size"),
         TypeFault::Memory => Told::Memory,
     }
@@ -115,12 +108,12 @@ fn of_listing(fault: IlFault) -> Told
         IlFault::Lex(fault) => of_lexing(fault),
         IlFault::Syntax(fault) => of_parsing(fault),
         IlFault::Types(fault) => of_typing(fault),
-        IlFault::Instruction { spot } => at_spot(spot, b"Q1 Instruction"),
-        IlFault::Operand { spot } => at_spot(spot, b"Q2 Operand"),
-        IlFault::Target { spot } => at_spot(spot, b"Q3 Target"),
-        IlFault::Empty { spot } => at_spot(spot, b"Q4 Empty"),
-        IlFault::Mismatch { spot } => at_spot(spot, b"Q5 Mismatch"),
-        IlFault::Reserved { spot } => at_spot(spot, b"Q6 Reserved"),
+        IlFault::Instruction { spot } => Told::Pair(spot.line, spot.col, b"Q1 Instruction"),
+        IlFault::Operand { spot } => Told::Pair(spot.line, spot.col, b"Q2 Operand"),
+        IlFault::Target { spot } => Told::Pair(spot.line, spot.col, b"Q3 Target"),
+        IlFault::Empty { spot } => Told::Pair(spot.line, spot.col, b"Q4 Empty"),
+        IlFault::Mismatch { spot } => Told::Pair(spot.line, spot.col, b"Q5 Mismatch"),
+        IlFault::Reserved { spot } => Told::Pair(spot.line, spot.col, b"Q6 Reserved"),
         IlFault::Memory => Told::Memory,
     }
 }

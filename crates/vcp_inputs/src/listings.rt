@@ -12,12 +12,12 @@ ghost use Rattle.vcp_inputs.specs.declared.refusal.NoInput.TheVariants as input;
 ghost use Rattle.vcp_inputs.specs.declared.refusal.Refusal.{Refusal as RefusalOf};
 ghost use Rattle.vcp_inputs.specs.declared.refusal.Refusal.TheVariants as refusal;
 
-use crate::alike::have_same_operations;
+use crate::alike::taken_beside;
 use crate::reading::read_file;
 use crate::refusal::NoInput;
 use il_front::{MOST_IL_BYTES, read_il};
 use std::alloc::Global;
-use vcp_base::{Memory, Text};
+use vcp_base::Text;
 use vcp_outside::Files;
 use vcp_typed::Typed;
 
@@ -44,10 +44,7 @@ fn listed_twice(alloc: Global, text: &[u8]) -> Result<Typed, NoInput>
 {
     match listed_program(alloc, text) {
         Ok(program) => match listed_program(alloc, text) {
-            Ok(again) => match have_same_operations(alloc, &program, &again) {
-                Ok(true) => Ok(program),
-                Ok(false) | Err(Memory) => Err(NoInput::Memory),
-            },
+            Ok(again) => taken_beside(alloc, program, &again),
             Err(input) => Err(input),
         },
         Err(input) => Err(input),

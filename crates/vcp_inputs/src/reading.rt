@@ -39,5 +39,8 @@ pub fn read_file<F: Files>(
     ensures later { (F.seen files.old).faults ≤ (F.seen files.new).faults }
     ensures broken_later { (F.seen files.old).broken ≤ (F.seen files.new).broken }
 {
-    Ok(read_all(alloc, files, name.bytes(), limit)?)
+    match read_all(alloc, files, name.bytes(), limit) {
+        Ok(text) => Ok(text),
+        Err(fault) => Err(NoInput::from(fault)),
+    }
 }

@@ -12,7 +12,7 @@ ghost use Rattle.vcp_inputs.specs.declared.refusal.NoInput.TheVariants as input;
 ghost use Rattle.vcp_inputs.specs.declared.refusal.Refusal.{Refusal as RefusalOf};
 ghost use Rattle.vcp_inputs.specs.declared.refusal.Refusal.TheVariants as refusal;
 
-use crate::alike::have_same_operations;
+use crate::alike::taken_beside;
 use crate::reading::read_file;
 use crate::refusal::{NoInput, Refusal};
 use st_lexer::lex;
@@ -20,7 +20,7 @@ use st_parser::parse;
 use st_tree::{Program, spelled_names_are_declarable};
 use st_types::typed;
 use std::alloc::Global;
-use vcp_base::{MOST_SOURCE_BYTES, Memory, Text};
+use vcp_base::{MOST_SOURCE_BYTES, Text};
 use vcp_outside::Files;
 use vcp_typed::Typed;
 
@@ -31,9 +31,14 @@ pub fn program_of(alloc: Global, source: &[u8]) -> Result<Program, NoInput>
     ensures err { IfErr result (Untaken (NoProgram source.now)) }
     ensures caused { IfErr result IsCaused }
 {
-    let tokens = lex(alloc, source)?;
-    let program = parse(alloc, source, &tokens)?;
-    Ok(program)
+    let tokens = match lex(alloc, source) {
+        Ok(tokens) => tokens,
+        Err(fault) => return Err(NoInput::from(fault)),
+    };
+    match parse(alloc, source, &tokens) {
+        Ok(program) => Ok(program),
+        Err(fault) => Err(NoInput::from(fault)),
+    }
 }
 
 /// How often a typed program is made of its source before it is taken.
@@ -60,10 +65,7 @@ fn typed_program(alloc: Global, source: &[u8], how_often: HowOften) -> Result<Ty
     match how_often {
         HowOften::Once => Ok(program),
         HowOften::Twice => match typed_once(alloc, source) {
-            Ok(again) => match have_same_operations(alloc, &program, &again) {
-                Ok(true) => Ok(program),
-                Ok(false) | Err(Memory) => Err(NoInput::Memory),
-            },
+            Ok(again) => taken_beside(alloc, program, &again),
             Err(input) => Err(input),
         },
     }
@@ -76,10 +78,15 @@ fn typed_once(alloc: Global, source: &[u8]) -> Result<Typed, NoInput>
     ensures err { IfErr result (Untaken (NotTyped source.now)) }
     ensures caused { IfErr result IsCaused }
 {
-    let program = program_of(alloc, source)?;
     // So each declared name is one that may be.
     spelled_names_are_declarable();
-    Ok(typed(alloc, &program)?)
+    match program_of(alloc, source) {
+        Ok(program) => match typed(alloc, &program) {
+            Ok(typed) => Ok(typed),
+            Err(fault) => Err(NoInput::from(fault)),
+        },
+        Err(input) => Err(input),
+    }
 }
 
 /// The typed program of a source that no file holds, taken through all refusals of a file's: first

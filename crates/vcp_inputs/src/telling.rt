@@ -5,7 +5,7 @@ ghost use Rattle.vcp_outside.specs.Written.{WritesTo};
 ghost use Rattle.vcp_outside.specs.Pens.{Goes};
 ghost use Rattle.vcp_inputs.specs.Lines.{diagnostic, diagnostic_text, refusal_text, input_text};
 ghost use Rattle.vcp_inputs.specs.Lines.{input_status as status_of_input};
-ghost use Rattle.vcp_inputs.specs.Told.{as_diagnostic, told_text};
+ghost use Rattle.vcp_inputs.specs.Told.{told_text};
 
 use crate::diagnostics::{Told, told_of};
 use crate::refusal::{NoInput, Refusal};
@@ -18,7 +18,12 @@ const NO_MEMORY: &[u8] = b"no memory\n";
 pub fn tell_refusal<E: Sink>(err: &mut E, name: &[u8], refusal: &Refusal) -> Result<(), Failed>
     ensures { WritesTo (E.seen err.old) (E.seen err.new) (refusal_text name.now refusal.now) result }
 {
-    tell(err, name, &told_of(refusal))
+    let told = told_of(refusal);
+    if let Told::Memory = told {
+        return write_all(err, NO_MEMORY);
+    }
+    let pen = LinePen::new(err).text(name);
+    then_told(pen, &told).end()
 }
 
 /// Prints why there is nothing of the file under a name.
@@ -41,17 +46,6 @@ pub fn input_status(input: &NoInput) -> u8
         NoInput::Refused(_) => 1,
         NoInput::Memory => 7,
     }
-}
-
-/// Prints the line of what is told of the file under a name.
-fn tell<E: Sink>(err: &mut E, name: &[u8], told: &Told) -> Result<(), Failed>
-    ensures { WritesTo (E.seen err.old) (E.seen err.new) (diagnostic_text name.now (as_diagnostic told.now)) result }
-{
-    if let Told::Memory = told {
-        return write_all(err, NO_MEMORY);
-    }
-    let pen = LinePen::new(err).text(name);
-    then_told(pen, told).end()
 }
 
 // Goes on with what is told, behind a file's name.

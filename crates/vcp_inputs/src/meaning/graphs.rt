@@ -17,12 +17,17 @@ use vcp_typed::Typed;
 pub fn graph_of(alloc: Global, program: &Typed) -> Result<Graph, Memory>
     ensures { IfOk result (StandsFor program.now) }
 {
-    let graph = graph_once(alloc, program)?;
-    let again = graph_once(alloc, program)?;
-    if are_alike(&graph, &again) {
-        Ok(graph)
-    } else {
-        Err(Memory)
+    let graph = match graph_once(alloc, program) {
+        Ok(graph) => graph,
+        Err(Memory) => return Err(Memory),
+    };
+    match graph_once(alloc, program) {
+        Ok(again) => if are_alike(&graph, &again) {
+            Ok(graph)
+        } else {
+            Err(Memory)
+        },
+        Err(Memory) => Err(Memory),
     }
 }
 
@@ -30,8 +35,15 @@ pub fn graph_of(alloc: Global, program: &Typed) -> Result<Graph, Memory>
 fn graph_once(alloc: Global, program: &Typed) -> Result<Graph, Memory>
     ensures { IfOk result (StandsFor program.now) }
 {
-    let flat = flatten(alloc, program)?;
-    let graph = reduce(alloc, flat)?;
-    let _rules = graph.len();
-    Ok(graph)
+    let flat = match flatten(alloc, program) {
+        Ok(flat) => flat,
+        Err(Memory) => return Err(Memory),
+    };
+    match reduce(alloc, flat) {
+        Ok(graph) => {
+            let _rules = graph.len();
+            Ok(graph)
+        }
+        Err(Memory) => Err(Memory),
+    }
 }

@@ -17,7 +17,12 @@ pub fn image_for(alloc: Global, program: &Typed, code: Code) -> Result<Text, Mem
     requires code { IsCode (as_code code) }
     ensures { IfOk result (IsImageFor program.now (as_code code)) }
 {
-    let graph = graph_of(alloc, program)?;
-    let table = Table::new(alloc, &graph, code.seed, code.step)?;
-    write_image(alloc, &graph, &table)
+    let graph = match graph_of(alloc, program) {
+        Ok(graph) => graph,
+        Err(Memory) => return Err(Memory),
+    };
+    match Table::new(alloc, &graph, code.seed, code.step) {
+        Ok(table) => write_image(alloc, &graph, &table),
+        Err(Memory) => Err(Memory),
+    }
 }

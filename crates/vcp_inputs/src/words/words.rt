@@ -1,9 +1,9 @@
 //! From words to a command; and the usage line.
 
 ghost use Rattle.std.specs.Prelude.{◌≡◌, ◌∷◌, List, ℕ, IfSome};
-ghost use Rattle.std.specs.Option.{option_map};
-ghost use Rattle.vcp_inputs.specs.Forms.{end_then, form, form_of, image_run, rows_of, usage_text, IsSound, Rows};
-ghost use Rattle.vcp_inputs.specs.FormsByFiles.{form_behind_file, form_behind_rows, form_behind_seed, form_by_files, form_of_image, form_of_image_run};
+ghost use Rattle.std.specs.Option.{option_and_then, option_map};
+ghost use Rattle.vcp_inputs.specs.Forms.{form, form_of, image_run, rows_of, usage_text, IsSound, Rows};
+ghost use Rattle.vcp_inputs.specs.FormsByFiles.{Done, form_behind_file, form_behind_rows, form_behind_seed, form_by_files, form_of_image, form_of_image_run};
 
 use crate::words::command::{
     Command, ImageRun, ImageText, ProgramRun, RowsWord, SingleRun, SourceText,
@@ -27,21 +27,24 @@ pub fn command_of(words: &Words) -> Option<Command<'_>>
     ensures sound { IfSome result (λ command. IsSound (form command)) }
 {
     let mut left = CommandWords::new(words);
-    match left.next() {
-        Some(command) => named_command(command.bytes(), &mut left),
-        None => None,
-    }
+    let Some(name) = left.next() else {
+        return None;
+    };
+    let Some(command) = named_command(name.bytes(), &mut left) else {
+        return None;
+    };
+    if left.is_end() { Some(command) } else { None }
 }
 
 /// The command that its name and its own words say.
 fn named_command<'a>(command: &[u8], words: &mut CommandWords<'a>) -> Option<Command<'a>>
-    ensures { option_map form result ≡ form_by_files (command.now ∷ words.old) }
+    ensures { (done : Done) → option_and_then (λ c. done (form c) words.new) result ≡ form_by_files done (command.now ∷ words.old) }
 {
     if same_bytes(command, b"demo") {
         let Some(number) = words.number(0, u32::MAX) else {
             return None;
         };
-        return ended(Command::Demo { number }, words);
+        return Some(Command::Demo { number });
     }
     let Some(name) = words.name() else {
         return None;
@@ -55,14 +58,14 @@ fn file_command<'a>(
     name: &'a Text,
     words: &mut CommandWords<'a>,
 ) -> Option<Command<'a>>
-    ensures { option_map form result ≡ form_behind_file command.now name.now words.old }
+    ensures { (done : Done) → option_and_then (λ c. done (form c) words.new) result ≡ form_behind_file done command.now name.now words.old }
 {
     if same_bytes(command, b"check") {
         let text = SourceText::Size;
-        return ended(Command::Source { source: name, text }, words);
+        return Some(Command::Source { source: name, text });
     }
     if same_bytes(command, b"format") {
-        return ended(Command::Format { source: name }, words);
+        return Some(Command::Format { source: name });
     }
     if same_bytes(command, b"compile") {
         let Some(code) = words.code() else {
@@ -72,7 +75,7 @@ fn file_command<'a>(
         return Some(Command::Source { source: name, text });
     }
     if same_bytes(command, b"wire") {
-        return ended(Command::Wire { script: name }, words);
+        return Some(Command::Wire { script: name });
     }
     image_command(command, name, words)
 }
@@ -83,22 +86,22 @@ fn image_command<'a>(
     image: &'a Text,
     words: &mut CommandWords<'a>,
 ) -> Option<Command<'a>>
-    ensures { option_map form result ≡ form_of_image command.now image.now words.old }
+    ensures { (done : Done) → option_and_then (λ c. done (form c) words.new) result ≡ form_of_image done command.now image.now words.old }
 {
     if same_bytes(command, b"list") {
         let text = ImageText::List;
-        return ended(Command::Image { image, text }, words);
+        return Some(Command::Image { image, text });
     }
     if same_bytes(command, b"widen") {
         let text = ImageText::Widen;
-        return ended(Command::Image { image, text }, words);
+        return Some(Command::Image { image, text });
     }
     if same_bytes(command, b"audit") {
         let Some(horizon) = words.number(0, MOST_HORIZON) else {
             return None;
         };
         let text = ImageText::Audit { horizon };
-        return ended(Command::Image { image, text }, words);
+        return Some(Command::Image { image, text });
     }
     let Some(rows) = words.rows() else {
         return None;
@@ -113,18 +116,15 @@ fn rows_command<'a>(
     rows: RowsWord<'a>,
     words: &mut CommandWords<'a>,
 ) -> Option<Command<'a>>
-    ensures { option_map form result ≡ form_behind_rows command.now name.now (rows_of rows.entry) words.old }
+    ensures { (done : Done) → option_and_then (λ c. done (form c) words.new) result ≡ form_behind_rows done command.now name.now (rows_of rows.entry) words.old }
 {
     if same_bytes(command, b"plain") {
         let run = ProgramRun::Plain;
-        return ended(
-            Command::ProgramRows {
-                source: name,
-                rows,
-                run,
-            },
-            words,
-        );
+        return Some(Command::ProgramRows {
+            source: name,
+            rows,
+            run,
+        });
     }
     if same_bytes(command, b"run") {
         let Some(code) = words.code() else {
@@ -160,23 +160,24 @@ fn rows_command<'a>(
 
 /// How an image is run on rows, by the command's name and the words behind ROWS.
 fn image_run_of<'a>(command: &[u8], words: &mut CommandWords<'a>) -> Option<ImageRun<'a>>
-    ensures { (m : List ℕ) (rows : Rows) → option_map (image_run m rows) result ≡ form_of_image_run command.now m rows words.old }
+    ensures { (done : Done) (m : List ℕ) (rows : Rows) →
+        option_and_then (λ run. done (image_run m rows run) words.new) result ≡ form_of_image_run done command.now m rows words.old }
 {
     if same_bytes(command, b"exec") {
-        return run_ended(ImageRun::Single(SingleRun::Exec), words);
+        return Some(ImageRun::Single(SingleRun::Exec));
     }
     if same_bytes(command, b"trace") {
         let Some(cycle) = words.number(0, MOST_CYCLES - 1) else {
             return None;
         };
-        return run_ended(ImageRun::Single(SingleRun::Trace { cycle }), words);
+        return Some(ImageRun::Single(SingleRun::Trace { cycle }));
     }
     if same_bytes(command, b"inject") {
         let Some(script) = words.name() else {
             return None;
         };
         let second = None;
-        return run_ended(ImageRun::Faults { second, script }, words);
+        return Some(ImageRun::Faults { second, script });
     }
     let Some(seed) = words.number(0, SEEDS - 1) else {
         return None;
@@ -186,31 +187,18 @@ fn image_run_of<'a>(command: &[u8], words: &mut CommandWords<'a>) -> Option<Imag
 
 /// How an image is run on two channels, by the command's name, SEED and the words behind it.
 fn pair_run_of<'a>(command: &[u8], seed: u32, words: &mut CommandWords<'a>) -> Option<ImageRun<'a>>
-    ensures { (m : List ℕ) (rows : Rows) → option_map (image_run m rows) result ≡ form_behind_seed command.now m rows seed words.old }
+    ensures { (done : Done) (m : List ℕ) (rows : Rows) →
+        option_and_then (λ run. done (image_run m rows run) words.new) result ≡ form_behind_seed done command.now m rows seed words.old }
 {
     if same_bytes(command, b"pair") {
-        return run_ended(ImageRun::Single(SingleRun::Pair { seed }), words);
+        return Some(ImageRun::Single(SingleRun::Pair { seed }));
     }
     if same_bytes(command, b"pairs") {
         let Some(script) = words.name() else {
             return None;
         };
         let second = Some(seed);
-        return run_ended(ImageRun::Faults { second, script }, words);
+        return Some(ImageRun::Faults { second, script });
     }
     None
-}
-
-/// That run, where no word is left.
-fn run_ended<'a>(run: ImageRun<'a>, words: &CommandWords<'a>) -> Option<ImageRun<'a>>
-    ensures { (m : List ℕ) (rows : Rows) → option_map (image_run m rows) result ≡ end_then (image_run m rows run.entry) words.now }
-{
-    if words.is_end() { Some(run) } else { None }
-}
-
-/// The command, where no word is left.
-fn ended<'a>(command: Command<'a>, words: &CommandWords<'a>) -> Option<Command<'a>>
-    ensures { option_map form result ≡ end_then (form command.entry) words.now }
-{
-    if words.is_end() { Some(command) } else { None }
 }

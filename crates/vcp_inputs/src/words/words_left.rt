@@ -2,8 +2,7 @@
 
 ghost use Rattle.std.specs.Prelude.{◌≡◌, ◌≤◌, ◌∷◌, [], IfSome, IfNone};
 ghost use Rattle.std.specs.Option.{option_map};
-ghost use Rattle.vcp_base.specs.Limits.{seeds, most_step};
-ghost use Rattle.vcp_inputs.specs.Forms.{is_file_name as is_file_name_of, is_end as is_end_of, number_within, name_and_rest, rows_and_rest};
+ghost use Rattle.vcp_inputs.specs.Forms.{is_file_name as is_file_name_of, is_end as is_end_of, name_and_rest, rows_and_rest};
 ghost use Rattle.vcp_inputs.specs.Forms.{number_and_rest, code_of, rows_of, as_code, AreFew, IsCode};
 
 use crate::words::command::{Code, DEFAULT_CODE, RowsWord};
@@ -32,22 +31,6 @@ fn is_file_name(word: &Text) -> bool
     match word.bytes() {
         [] => false,
         [first, ..] => *first != b'-',
-    }
-}
-
-/// The number that a word gives, where it is one from `least` to `most`.
-fn number(word: &Text, least: u64, most: u64) -> Option<u64>
-    ensures number { result ≡ number_within least most word.now }
-    ensures least { IfSome result (λ n. least ≤ n) }
-    ensures most { IfSome result (λ n. n ≤ most) }
-{
-    let Some(number) = numeral(word.bytes()) else {
-        return None;
-    };
-    if least <= number && number <= most {
-        Some(number)
-    } else {
-        None
     }
 }
 
@@ -118,9 +101,13 @@ impl<'a> CommandWords<'a> {
         let Some(word) = self.next() else {
             return None;
         };
-        match number(word, least as u64, most as u64) {
-            Some(number) => Some(number as u32),
-            None => None,
+        let Some(number) = numeral(word.bytes()) else {
+            return None;
+        };
+        if least as u64 <= number && number <= most as u64 {
+            Some(number as u32)
+        } else {
+            None
         }
     }
 
@@ -130,29 +117,27 @@ impl<'a> CommandWords<'a> {
         ensures rest { IfSome result (λ code. self.new ≡ []) }
         ensures sound { IfSome result (λ code. IsCode (as_code code)) }
     {
-        let mut seed = None;
-        let mut step = None;
+        let mut seed = DEFAULT_CODE.seed;
+        let mut step = DEFAULT_CODE.step;
+        let mut has_seed = false;
+        let mut has_step = false;
         'options: while let Some(option) = self.next() {
-            let Some(given) = self.next() else {
-                return None;
-            };
-            if seed.is_none() && same_bytes(option.bytes(), b"--seed") {
-                let Some(number) = number(given, 0, SEEDS as u64 - 1) else {
+            if !has_seed && same_bytes(option.bytes(), b"--seed") {
+                let Some(given) = self.number(0, SEEDS - 1) else {
                     return None;
                 };
-                seed = Some(number as u32);
-            } else if step.is_none() && same_bytes(option.bytes(), b"--step") {
-                let Some(number) = number(given, 1, MOST_STEP as u64) else {
+                seed = given;
+                has_seed = true;
+            } else if !has_step && same_bytes(option.bytes(), b"--step") {
+                let Some(given) = self.number(1, MOST_STEP as u32) else {
                     return None;
                 };
-                step = Some(number as u16);
+                step = given as u16;
+                has_step = true;
             } else {
                 return None;
             }
         }
-        Some(Code {
-            seed: seed.unwrap_or(DEFAULT_CODE.seed),
-            step: step.unwrap_or(DEFAULT_CODE.step),
-        })
+        Some(Code { seed, step })
     }
 }

@@ -1,5 +1,4 @@
-use Rattle.std.proofs.lemmas.Result.{err_from_is_err_and}
-use Rattle.std.proofs.Common.{◌≡◌, ◌∙◌, refl, ap, subst, Err}
+use Rattle.std.proofs.Common.{◌≡◌, refl, ap, subst, Err}
 use Rattle.vcp_outside.specs.ReadAll.{ReadsAll, Takes}
 use Rattle.vcp_inputs.specs.declared.refusal.Refusal.TheVariants as refusal
 use Rattle.vcp_inputs.specs.declared.refusal.NoInput.TheVariants as input
@@ -8,29 +7,25 @@ use Rattle.vcp_inputs.proofs.Taken.{if_some_weaker, file_left, file_stays, file_
 use Rattle.vcp_inputs.proofs.RowsLoaded.{no_error}
 use Rattle.vcp_inputs.proofs.reading.read_file.Goals as goal
 
-pub returns-in_err-read_all-clause-reads : goal.returns-in_err-read_all-clause-reads
-returns-in_err-read_all-clause-reads g c =
-    let p = err_from_is_err_and c.from_residual.result c.from_residual.ensures.1 in
+pub returns-in-Err-clause-reads : goal.returns-in-Err-clause-reads
+returns-in-Err-clause-reads g c =
     if_some_weaker (g.F.Files.seen c.args.files.now).held _ _
-    (λ h read. rw (p.1, p.2)
+    (λ h read. rw c.from.ensures
     (file_unread h c.args.name.now c.args.limit (g.F.Files.seen c.args.files.now).broken (g.F.Files.seen c.read_all.new.files).broken _
     (subst (λ name. ReadsAll h name c.args.limit (g.F.Files.seen c.args.files.now).broken (g.F.Files.seen c.read_all.new.files).broken
-    (Err c.in_err-read_all.field-0.0)) c.bytes.ensures read))) c.in_err-read_all.ensures.reads
+    (Err c.in-Err.fault)) c.bytes.ensures read))) c.in-Err.ensures.reads
 
-pub returns-in_err-read_all-clause-left : goal.returns-in_err-read_all-clause-left
-returns-in_err-read_all-clause-left g c = λ is.
-    let p = err_from_is_err_and c.from_residual.result c.from_residual.ensures.1 in
-    let why = c.in_err-read_all.field-0.0 in
-    let long : unread why ≡ input.Refused refusal.Bytes = cc (p.1, p.2) in
+pub returns-in-Err-clause-left : goal.returns-in-Err-clause-left
+returns-in-Err-clause-left g c = λ is.
+    let why = c.in-Err.fault in
+    let long : unread why ≡ input.Refused refusal.Bytes = cc (c.from.ensures) in
     let rest = (g.F.Files.seen c.read_all.new.files).rest in
     if_some_weaker (g.F.Files.seen c.args.files.now).held _ _
     (λ h takes. file_left h c.args.name.now c.args.limit rest why long (subst (λ name. Takes h name c.args.limit rest (Err why)) c.bytes.ensures takes))
-    c.in_err-read_all.ensures.taken
+    c.in-Err.ensures.taken
 
-pub returns-in_err-read_all-clause-stayed : goal.returns-in_err-read_all-clause-stayed
-returns-in_err-read_all-clause-stayed g c =
-    let p = err_from_is_err_and c.from_residual.result c.from_residual.ensures.1 in
-    file_stays _ _ c.in_err-read_all.field-0.0 _ _ refl (p.1 ∙ ap Err p.2) c.in_err-read_all.ensures.stayed
+pub returns-in-Err-clause-stayed : goal.returns-in-Err-clause-stayed
+returns-in-Err-clause-stayed g c = file_stays _ _ c.in-Err.fault _ _ refl (ap Err c.from.ensures) c.in-Err.ensures.stayed
 
-pub returns-clause-stayed : goal.returns-clause-stayed
-returns-clause-stayed g c = λ other. c.in_ok-read_all.ensures.stayed no_error
+pub returns-in-Ok-clause-stayed : goal.returns-in-Ok-clause-stayed
+returns-in-Ok-clause-stayed g c = λ other. c.in-Ok.ensures.stayed no_error

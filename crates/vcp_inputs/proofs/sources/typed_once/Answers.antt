@@ -1,30 +1,21 @@
-use Rattle.std.proofs.lemmas.Result.{err_from_is_err_and}
 use Rattle.vcp_inputs.proofs.Taken.{has_names, without_tree, typing_refuses}
 use Rattle.vcp_inputs.proofs.Causes.{typing_caused}
 use Rattle.vcp_inputs.proofs.sources.typed_once.Goals as goal
 
 pub typed-requires : goal.typed-requires
-typed-requires c = record { names = has_names c.args.source.now _ c.spelled_names_are_declarable.ensures.names c.requires.short c.in_ok-program.ensures.ok }
+typed-requires c = record { names = has_names c.args.source.now _ c.spelled_names_are_declarable.ensures.names c.requires.short c.in-Ok.ensures.ok }
 
-pub returns-in_err-program-clause-err : goal.returns-in_err-program-clause-err
-returns-in_err-program-clause-err c =
-    let p = err_from_is_err_and c.from_residual.result c.from_residual.ensures.1 in
-    rw (p.1, p.2) (without_tree c.args.source.now _ c.in_err-program.ensures.err)
+pub returns-in-Ok-typed-clause-ok : goal.returns-in-Ok-typed-clause-ok
+returns-in-Ok-typed-clause-ok c = record { tree = _; program = c.in-Ok.ensures.ok; typed = c.in-Ok-typed.ensures.ok }
 
-pub returns-in_err-typed-clause-err : goal.returns-in_err-typed-clause-err
-returns-in_err-typed-clause-err c =
-    let p = err_from_is_err_and c.from_residual-in_err-typed.result c.from_residual-in_err-typed.ensures.1 in
-    rw (p.1, p.2) (typing_refuses c.args.source.now _ _ c.in_ok-program.ensures.ok c.in_err-typed.ensures.err)
+pub returns-in-Ok-clause-err : goal.returns-in-Ok-clause-err
+returns-in-Ok-clause-err c = rw c.from.ensures (typing_refuses c.args.source.now _ _ c.in-Ok.ensures.ok c.in-Err-typed.ensures.err)
 
-pub returns-clause-ok : goal.returns-clause-ok
-returns-clause-ok c = record { tree = _; program = c.in_ok-program.ensures.ok; typed = c.in_ok-typed.ensures.ok }
+pub returns-in-Ok-clause-caused : goal.returns-in-Ok-clause-caused
+returns-in-Ok-clause-caused c = rw c.from.ensures (typing_caused _)
 
-pub returns-in_err-program-clause-caused : goal.returns-in_err-program-clause-caused
-returns-in_err-program-clause-caused c =
-    let p = err_from_is_err_and c.from_residual.result c.from_residual.ensures.1 in
-    rw (p.1, p.2) (c.in_err-program.ensures.caused)
+pub returns-clause-err : goal.returns-clause-err
+returns-clause-err c = without_tree c.args.source.now _ c.in-Err.ensures.err
 
-pub returns-in_err-typed-clause-caused : goal.returns-in_err-typed-clause-caused
-returns-in_err-typed-clause-caused c =
-    let p = err_from_is_err_and c.from_residual-in_err-typed.result c.from_residual-in_err-typed.ensures.1 in
-    rw (p.1, p.2) (typing_caused _)
+pub returns-clause-caused : goal.returns-clause-caused
+returns-clause-caused c = c.in-Err.ensures.caused
