@@ -12,30 +12,24 @@ use std::alloc::Global;
 use std::mem::swap;
 use vcp_base::{Kind, Memory, Row, StopKind, operands, short_outcome};
 
-/// The run of a graph on plain integers, between two cycles. All memory that it ever takes is taken by `new`.
-pub(crate) struct GraphValues {
-    /// The values that the cells hold.
+/// The values of a graph's cells and operations.
+#[derive(Drop)]
+pub(crate) struct Values {
+    /// Those that the cells hold.
     pub(crate) cells: Vec<i64>,
-    /// The values of the operations in the last cycle.
-    pub(crate) values: Vec<i64>,
-    /// The values that the cells held before the last cycle.
-    pub(crate) past_cells: Vec<i64>,
-    /// The values of the operations in the cycle before the last one.
-    pub(crate) past: Vec<i64>,
-    /// The values of the inputs.
-    pub(crate) row: Row,
+    /// Those of the operations in the last cycle.
+    pub(crate) operations: Vec<i64>,
 }
 
-impl Drop for GraphValues {
-    fn drop(self) {
-        let GraphValues {
-            cells: _,
-            values: _,
-            past_cells: _,
-            past: _,
-            row: _,
-        } = self;
-    }
+/// The run of a graph on plain integers, between two cycles. All memory that it ever takes is taken by `new`.
+#[derive(Drop)]
+pub(crate) struct GraphValues {
+    /// Its values.
+    pub(crate) values: Values,
+    /// Those before the last cycle.
+    pub(crate) past: Values,
+    /// The values of the inputs.
+    pub(crate) row: Row,
 }
 
 /// The value at place `n`; 0 where there is none.
@@ -136,16 +130,31 @@ fn store(graph: &Graph, values: &[i64], cells: &mut Vec<i64>)
     }
 }
 
-/// The values of the cells before the first cycle.
-fn first_cells(alloc: Global, graph: &Graph) -> Result<Vec<i64>, Memory>
-    ensures cells { IfOk result (λ cells. cells.items ≡ initial graph.now) }
-    ensures room { IfOk result (λ cells. length graph.now.stores ≤ vec_capacity cells) }
+/// Makes `cells` the values that they hold before the first cycle.
+fn begin(graph: &Graph, cells: &mut Vec<i64>)
+    requires room { length graph.now.loads ≤ vec_capacity cells.old }
+    ensures cells { cells.new.items ≡ initial graph.now }
+    ensures capacity { vec_capacity cells.old ≤ vec_capacity cells.new }
 {
-    let mut cells = Vec::with_capacity(alloc, graph.stores().len())?;
-    'loads: for loaded in graph.loads() {
-        cells.push(loaded.init)?;
+    cells.clear();
+    let loads = graph.loads();
+    'cells: for i in 0..loads.len() {
+        append(cells, &loads[i].init);
     }
-    Ok(cells)
+}
+
+impl Values {
+    /// No values, with room for those of a graph.
+    fn new(alloc: Global, graph: &Graph) -> Result<Values, Memory>
+        ensures cells { IfOk result (λ v. length graph.now.stores ≤ vec_capacity v.cells) }
+        ensures operations { IfOk result (λ v. length graph.now.operations ≤ vec_capacity v.operations) }
+        ensures none { IfOk result (λ v. v.operations.items ≡ []) }
+    {
+        Ok(Values {
+            cells: Vec::with_capacity(alloc, graph.stores().len())?,
+            operations: Vec::with_capacity(alloc, graph.len() as usize)?,
+        })
+    }
 }
 
 impl GraphValues {
@@ -154,15 +163,13 @@ impl GraphValues {
         ensures room { IfOk result (Room graph.now) }
         ensures begun { IfOk result (λ r. moment graph.now r ≡ begun graph.now) }
     {
-        let operations = graph.len() as usize;
-        let cells = graph.cells() as usize;
-        Ok(GraphValues {
-            cells: first_cells(alloc, graph)?,
-            values: Vec::with_capacity(alloc, operations)?,
-            past_cells: Vec::with_capacity(alloc, cells)?,
-            past: Vec::with_capacity(alloc, operations)?,
-            row: Row::zeros(alloc, graph.inputs())?,
-        })
+        // There are as many LOADs as STOREs.
+        let _cells = graph.cells();
+        let mut values = Values::new(alloc, graph)?;
+        let past = Values::new(alloc, graph)?;
+        let row = Row::zeros(alloc, graph.inputs())?;
+        begin(graph, &mut values.cells);
+        Ok(GraphValues { values, past, row })
     }
 
     /// Runs one cycle on the values of the inputs: the operations in order, up to the first that stops, and answers why that one stops. Then the cells
@@ -170,15 +177,19 @@ impl GraphValues {
     pub(crate) fn cycle(&mut self, graph: &Graph) -> Option<StopKind>
         requires { Room graph.now self.old }
         ensures room { Room graph.now self.new }
-        ensures stop { result ≡ (cycle_of graph.now self.old.cells.items self.old.row).stop }
+        ensures stop { result ≡ (cycle_of graph.now self.old.values.cells.items self.old.row).stop }
         ensures before { before graph.now self.new ≡ moment graph.now self.old }
         ensures run { result ≡ None → moment graph.now self.new
-            ≡ after (moment graph.now self.old) (cycle_of graph.now self.old.cells.items self.old.row) }
+            ≡ after (moment graph.now self.old) (cycle_of graph.now self.old.values.cells.items self.old.row) }
     {
         swap(&mut self.values, &mut self.past);
-        let stop = run_cycle(graph, &self.cells, &self.row, &mut self.values);
-        swap(&mut self.cells, &mut self.past_cells);
-        store(graph, &self.values, &mut self.cells);
+        let stop = run_cycle(
+            graph,
+            &self.past.cells,
+            &self.row,
+            &mut self.values.operations,
+        );
+        store(graph, &self.values.operations, &mut self.values.cells);
         stop
     }
 }

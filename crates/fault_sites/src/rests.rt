@@ -43,30 +43,22 @@ fn first_rising(rs: &[Reading]) -> usize
     first
 }
 
-/// Goes on with a number that is added in a reading of a word of cycle `n`.
-fn then_change<P: Pen>(pen: P, n: u32, reading: &Reading, e: i64) -> P
-    requires { n < most_cycles }
-    ensures { Goes (P.seen pen) (P.seen result) (fed_lines (changed n e (reading.now ∷ []))) }
-{
-    let site = Site {
-        cycle: n + reading.borders as u32,
-        op: reading.op,
-        act: Act::OperandAdd {
-            j: reading.operand,
-            e,
-        },
-    };
-    let pen = pen.text(b"\n");
-    then_site(pen, &site)
-}
-
 /// Goes on with a number that is added in each of these readings of a word of cycle `n`.
 fn then_changed<P: Pen>(mut pen: P, n: u32, rs: &[Reading], e: i64) -> P
     requires { n < most_cycles }
     ensures { Goes (P.seen pen) (P.seen result) (fed_lines (changed n e rs.now)) }
 {
     'readings: for i in 0..rs.len() {
-        pen = then_change(pen, n, &rs[i], e);
+        let reading = &rs[i];
+        let site = Site {
+            cycle: n + reading.borders as u32,
+            op: reading.op,
+            act: Act::OperandAdd {
+                j: reading.operand,
+                e,
+            },
+        };
+        pen = then_site(pen.text(b"\n"), &site);
     }
     pen
 }
@@ -145,18 +137,6 @@ fn then_groups_by<P: Pen>(mut spent: Spending<P>, n: u32, rs: &[Reading]) -> Spe
     spent
 }
 
-/// How many groups a word with these readings has.
-fn count_by(rs: &[Reading]) -> u64
-    requires { length rs.now ≤ 262144 }
-    ensures count { (n : ℕ) → result ≡ length (groups_by n rs.now) }
-    ensures few { result ≤ 32505856 }
-{
-    let first = first_rising(rs);
-    let before = first.saturating_sub(1);
-    let count = rs.len().saturating_sub(2);
-    124 * count.saturating_sub(before) as u64
-}
-
 /// Whether an operation is an OUT.
 pub fn is_out(kind: Kind) -> bool
     ensures { result ≡ is_out_of kind }
@@ -210,7 +190,10 @@ fn count_at(graph: &Graph, more: bool, by_word: &[WordReadings], k: u32) -> u64
     if is_out(op.kind) {
         return 0;
     }
-    count_by(word_at(by_word, k))
+    let rs = word_at(by_word, k);
+    let before = first_rising(rs).saturating_sub(1);
+    let count = rs.len().saturating_sub(2);
+    124 * count.saturating_sub(before) as u64
 }
 
 /// Goes on with the groups of cycle `n`, behind which there is another one or none.
@@ -289,15 +272,10 @@ fn then_cycle_or_pass<P: Pen>(
 }
 
 /// The readings of a cycle behind which there is another one, and of the last one.
+#[derive(Drop)]
 pub(crate) struct RunReadings {
     pub(crate) going: CycleReadings,
     pub(crate) last: CycleReadings,
-}
-
-impl Drop for RunReadings {
-    fn drop(self) {
-        let RunReadings { going: _, last: _ } = self;
-    }
 }
 
 /// The readings of all cycles.

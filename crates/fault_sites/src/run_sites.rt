@@ -2,9 +2,7 @@
 
 ghost use Rattle.std.specs.Prelude.{◌≡◌, ◌<◌, ◌≤◌, All, IfOk, length};
 ghost use Rattle.vcp_base.specs.Limits.{most_cycles};
-ghost use Rattle.fault_sites.specs.Flips.{flips_in};
 ghost use Rattle.fault_sites.specs.Run.{begun};
-ghost use Rattle.fault_sites.specs.RunCycle.{as_cycle};
 ghost use Rattle.fault_sites.specs.RunSites.{cycle_of, in_cycle, run_class_name as run_class_name_of, run_class_of, run_sites};
 ghost use Rattle.fault_sites.specs.Running.{Room, before, moment};
 ghost use Rattle.fault_sites.specs.Part.{kept};
@@ -49,26 +47,7 @@ pub fn run_class_named(word: &[u8]) -> Option<RunClass>
     None
 }
 
-/// Goes on with the flips of a cycle, and passes over them at once where they all stand before the part.
-fn then_flips<P: Pen>(told: Telling<P>, c: &CycleValues<'_>) -> Telling<P>
-    requires flips { c.now.class ≡ RunClass.Flips }
-    requires few { c.now.cycle < most_cycles }
-    requires going { 0 < told.part.left }
-    ensures { Tells (P.seen told.pen) (P.seen result.pen) told.part result.part (flips_in (as_cycle c.now)) }
-{
-    let Telling { pen, part } = told;
-    let count = c.graph.len() as u64 * BITS as u64;
-    if count <= part.skip {
-        let part = Part {
-            skip: part.skip - count,
-            left: part.left,
-        };
-        return Telling { pen, part };
-    }
-    then_acts(Telling { pen, part }, c, c.graph, c.cycle)
-}
-
-/// Goes on with the sites of a class in cycle `n`, which is the last one of a run.
+/// Goes on with the sites of a class in cycle `n`, which is the last one of a run. Flips that all stand before the part are passed over at once.
 fn then_cycle<P: Pen>(
     told: Telling<P>,
     class: RunClass,
@@ -80,19 +59,30 @@ fn then_cycle<P: Pen>(
     requires few { n < most_cycles }
     requires going { 0 < told.part.left }
     ensures { Tells (P.seen told.pen) (P.seen result.pen) told.part result.part
-        (in_cycle class (cycle_of table.now n (before graph.now run.now) run.now.values.items)) }
+        (in_cycle class (cycle_of table.now n (before graph.now run.now) run.now.values.operations.items)) }
 {
     let cycle = CycleValues {
         class,
         graph,
         table,
         cycle: n,
-        cells: &run.past_cells,
-        past: &run.past,
-        values: &run.values,
+        cells: &run.past.cells,
+        past: &run.past.operations,
+        values: &run.values.operations,
     };
     match class {
-        RunClass::Flips => then_flips(told, &cycle),
+        RunClass::Flips => {
+            let Telling { pen, part } = told;
+            let count = graph.len() as u64 * BITS as u64;
+            if count <= part.skip {
+                let part = Part {
+                    skip: part.skip - count,
+                    left: part.left,
+                };
+                return Telling { pen, part };
+            }
+            then_acts(Telling { pen, part }, &cycle, graph, n)
+        }
         // There is no cycle before the first.
         RunClass::Late => if n == 0 {
             told

@@ -54,17 +54,6 @@ fn then_class<P: Pen>(mut told: Telling<P>, graph: &Graph, class: Class, cycles:
     told
 }
 
-/// Goes on with the sites of all classes.
-fn then_all<P: Pen>(told: Telling<P>, graph: &Graph, cycles: u32) -> Telling<P>
-    ensures { Tells (P.seen told.pen) (P.seen result.pen) told.part result.part (sites Classes.All graph.now cycles) }
-{
-    let told = then_class(told, graph, Class::Bits, cycles);
-    let told = then_class(told, graph, Class::Stale, cycles);
-    let told = then_class(told, graph, Class::Skip, cycles);
-    let told = then_class(told, graph, Class::From, cycles);
-    then_class(told, graph, Class::Operator, cycles)
-}
-
 /// Goes on with the sites of one class, or of all.
 pub(crate) fn then_sites<P: Pen>(
     told: Telling<P>,
@@ -76,7 +65,13 @@ pub(crate) fn then_sites<P: Pen>(
 {
     match classes {
         Classes::One(class) => then_class(told, graph, class, cycles),
-        Classes::All => then_all(told, graph, cycles),
+        Classes::All => {
+            let told = then_class(told, graph, Class::Bits, cycles);
+            let told = then_class(told, graph, Class::Stale, cycles);
+            let told = then_class(told, graph, Class::Skip, cycles);
+            let told = then_class(told, graph, Class::From, cycles);
+            then_class(told, graph, Class::Operator, cycles)
+        }
     }
 }
 

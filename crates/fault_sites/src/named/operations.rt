@@ -1,7 +1,7 @@
 //! Which operation a name names.
 
 ghost use Rattle.std.specs.Prelude.{◌≡◌, ◌<◌, IfOk, length};
-ghost use Rattle.fault_sites.specs.NamedOperations.{is_named as is_named_of, found_next};
+ghost use Rattle.fault_sites.specs.NamedOperations.{is_at as is_at_of, is_named as is_named_of, found_next};
 ghost use Rattle.fault_sites.specs.NamedOperations.{operation_named as operation_named_of};
 ghost use Rattle.fault_sites.specs.NamedWords.{spot_of};
 
@@ -11,15 +11,22 @@ use op_graph::{Graph, Op};
 use run_report::variable_name;
 use vcp_base::{Kind, Spot, is_same_name, kind_code};
 
+/// Whether an operation stands for a place, where that is one.
+fn is_at(place: Option<Spot>, spot: Spot) -> bool
+    ensures { result ≡ is_at_of place spot }
+{
+    match place {
+        None => false,
+        Some(said) => said.line == spot.line && said.col == spot.col,
+    }
+}
+
 /// Whether an operation has a name, which is this place where it is one, and is of this kind where one is said. A variable alone names no LOAD.
 fn is_named(graph: &Graph, kind: Option<Kind>, name: &[u8], place: Option<Spot>, op: &Op) -> bool
     requires { place ≡ spot_of name.now }
     ensures { result ≡ is_named_of graph.now kind name.now op.now }
 {
-    let is_there = match place {
-        None => false,
-        Some(spot) => spot.line == op.spot.line && spot.col == op.spot.col,
-    };
+    let is_there = is_at(place, op.spot);
     let is_its = is_same_name(name, variable_name(graph, op.kind, op.imm.unsigned_abs()));
     match kind {
         Some(said) => kind_code(said) == kind_code(op.kind) && (is_its || is_there),

@@ -34,9 +34,9 @@ cycle-requires g c =
     let room = c.cycles.invariant.room in
     record {
       cells = room.cells;
-      values = room.values;
+      operations = room.operations;
       past_cells = room.past_cells;
-      past = room.past;
+      past_operations = room.past_operations;
       row = width_there c.args.rows.now (length c.args.graph.now.inputs) c.cycles.n c.get.new.out c.requires.width c.get.ensures;
     }
 
