@@ -388,10 +388,10 @@ module _ (bytes : Token → List ℕ) (m : ℕ) where
 
   flat-type : (o : Opening) (ds : List DeclaredTree) (k : Mark) (t : Token) → Flat (type_at o ds k t)
   flat-type o ds k t =
-      flat-cond (is k (mark.Type ty.Bool)) (Ok (at_init o ds ty.Bool)) _ tt
-      (flat-cond (is k (mark.Type ty.Int)) (Ok (at_init o ds ty.Int)) _ tt
-      (flat-cond (is k (mark.Type ty.Dint)) (Ok (at_init o ds ty.Dint)) _ tt
-      (flat-cond (is k (mark.Type ty.Lint)) (Ok (at_init o ds ty.Lint)) (refused t) tt tt)))
+      flat-cond (is k mark.Bool) (Ok (at_init o ds ty.Bool)) _ tt
+      (flat-cond (is k mark.Int) (Ok (at_init o ds ty.Int)) _ tt
+      (flat-cond (is k mark.Dint) (Ok (at_init o ds ty.Dint)) _ tt
+      (flat-cond (is k mark.Lint) (Ok (at_init o ds ty.Lint)) (refused t) tt tt)))
 
   lifts-init : (o : Opening) (ds : List DeclaredTree) (ty : Ty) (fs : List Form) (md : Mode) (t : Token) (e : Option ExprTree)
       → Lifts (λ n. init_at (at_limit n) o ds ty fs md t e) m

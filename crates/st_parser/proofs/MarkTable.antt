@@ -1,11 +1,9 @@
 -- MarkTable: the token that a mark stands for.
 use Rattle.std.proofs.Common.{◌≡◌, ℕ, ◌==◌, true, cond, refl, sym, ap, ◌∙◌, subst, eqb-true}
-use Rattle.vcp_base.specs.declared.ty.Ty.TheVariants as ty
 use Rattle.st_lexer.specs.declared.token.Key.TheVariants as key
 use Rattle.st_lexer.specs.declared.token.Sym.TheVariants as symbol
 use Rattle.st_lexer.specs.declared.token.Tok.{Tok}
 use Rattle.st_lexer.specs.declared.token.Tok.TheVariants as tok
-use Rattle.st_tree.specs.Programs.{type_key}
 use Rattle.st_parser.specs.declared.marks.Mark.{Mark}
 use Rattle.st_parser.specs.declared.marks.Mark.TheVariants as mark
 use Rattle.st_parser.specs.Marks.{mark_of, mark_number, is}
@@ -40,7 +38,10 @@ Marked mark.By k = k ≡ tok.Key key.By
 Marked mark.Do k = k ≡ tok.Key key.Do
 Marked mark.EndFor k = k ≡ tok.Key key.EndFor
 Marked mark.Other k = Unit {0}
-Marked (mark.Type t) k = k ≡ tok.Key (type_key t)
+Marked mark.Bool k = k ≡ tok.Key key.Bool
+Marked mark.Int k = k ≡ tok.Key key.Int
+Marked mark.Dint k = k ≡ tok.Key key.Dint
+Marked mark.Lint k = k ≡ tok.Key key.Lint
 
 marked : (k : Tok) → Marked (mark_of k) k
 marked tok.Name = refl
@@ -132,21 +133,23 @@ numbered n =
     cond (n == 11) mark.Constant (
     cond (n == 12) mark.Retain (
     cond (n == 13) mark.EndVar (
-    cond (n == 14) mark.If (
-    cond (n == 15) mark.Then (
-    cond (n == 16) mark.Elsif (
-    cond (n == 17) mark.Else (
-    cond (n == 18) mark.EndIf (
-    cond (n == 19) mark.Case (
-    cond (n == 20) mark.Of (
-    cond (n == 21) mark.EndCase (
-    cond (n == 22) mark.For (
-    cond (n == 23) mark.To (
-    cond (n == 24) mark.By (
-    cond (n == 25) mark.Do (
-    cond (n == 26) mark.EndFor (
-    cond (n == 28) (mark.Type ty.Bool) (cond (n == 29) (mark.Type ty.Int) (cond (n == 30) (mark.Type ty.Dint) (
-    cond (n == 31) (mark.Type ty.Lint) mark.Other))))))))))))))))))))))))))))))
+    cond (n == 14) mark.Bool (
+    cond (n == 15) mark.Int (
+    cond (n == 16) mark.Dint (
+    cond (n == 17) mark.Lint (
+    cond (n == 18) mark.If (
+    cond (n == 19) mark.Then (
+    cond (n == 20) mark.Elsif (
+    cond (n == 21) mark.Else (
+    cond (n == 22) mark.EndIf (
+    cond (n == 23) mark.Case (
+    cond (n == 24) mark.Of (
+    cond (n == 25) mark.EndCase (
+    cond (n == 26) mark.For (
+    cond (n == 27) mark.To (
+    cond (n == 28) mark.By (
+    cond (n == 29) mark.Do (
+    cond (n == 30) mark.EndFor mark.Other))))))))))))))))))))))))))))))
 
 numbered_back : (m : Mark) → numbered (mark_number m) ≡ m
 numbered_back mark.Semi = refl
@@ -177,10 +180,10 @@ numbered_back mark.By = refl
 numbered_back mark.Do = refl
 numbered_back mark.EndFor = refl
 numbered_back mark.Other = refl
-numbered_back (mark.Type ty.Bool) = refl
-numbered_back (mark.Type ty.Int) = refl
-numbered_back (mark.Type ty.Dint) = refl
-numbered_back (mark.Type ty.Lint) = refl
+numbered_back mark.Bool = refl
+numbered_back mark.Int = refl
+numbered_back mark.Dint = refl
+numbered_back mark.Lint = refl
 
 pub one_mark : (a b : Mark) → is a b ≡ true → a ≡ b
 one_mark a b e = sym (numbered_back a) ∙ ap numbered (eqb-true (mark_number a) (mark_number b) e) ∙ numbered_back b

@@ -201,14 +201,14 @@ type-kept : (c : Context) (t : Token) (o : Opening) (ds : List DeclaredTree) (m 
     → Kept c t cs (type_at o ds m t)
 type-kept c t o ds m cs h mk =
     let P : Result State SyntaxFault → Type 0 = Kept c t cs in
-    chosen P (is m (mark.Type ty.Bool)) (Ok (at_init o ds ty.Bool)) _
-    (λ e. outside c t cs (at_init o ds ty.Bool) (h ty.Bool t (mk (mark.Type ty.Bool) e)))
-    (chosen P (is m (mark.Type ty.Int)) (Ok (at_init o ds ty.Int)) _
-    (λ e. outside c t cs (at_init o ds ty.Int) (h ty.Int t (mk (mark.Type ty.Int) e)))
-    (chosen P (is m (mark.Type ty.Dint)) (Ok (at_init o ds ty.Dint)) _
-    (λ e. outside c t cs (at_init o ds ty.Dint) (h ty.Dint t (mk (mark.Type ty.Dint) e)))
-    (chosen P (is m (mark.Type ty.Lint)) (Ok (at_init o ds ty.Lint)) (refused t)
-    (λ e. outside c t cs (at_init o ds ty.Lint) (h ty.Lint t (mk (mark.Type ty.Lint) e))) tt)))
+    chosen P (is m mark.Bool) (Ok (at_init o ds ty.Bool)) _
+    (λ e. outside c t cs (at_init o ds ty.Bool) (h ty.Bool t (mk mark.Bool e)))
+    (chosen P (is m mark.Int) (Ok (at_init o ds ty.Int)) _
+    (λ e. outside c t cs (at_init o ds ty.Int) (h ty.Int t (mk mark.Int e)))
+    (chosen P (is m mark.Dint) (Ok (at_init o ds ty.Dint)) _
+    (λ e. outside c t cs (at_init o ds ty.Dint) (h ty.Dint t (mk mark.Dint e)))
+    (chosen P (is m mark.Lint) (Ok (at_init o ds ty.Lint)) (refused t)
+    (λ e. outside c t cs (at_init o ds ty.Lint) (h ty.Lint t (mk mark.Lint e))) tt)))
 
 -- ---- the initial value
 

@@ -3,7 +3,6 @@ use Rattle.std.proofs.Common.{◌≡◌, ℕ, suc, ◌+◌, Bool, true, false, c
 use Rattle.std.proofs.Common.{subst}
 use Rattle.vcp_base.specs.declared.spot.Spot.{Spot}
 use Rattle.vcp_base.specs.declared.ty.Ty.{Ty}
-use Rattle.vcp_base.specs.declared.ty.Ty.TheVariants as ty
 use Rattle.st_lexer.specs.declared.token.Tok.{Tok}
 use Rattle.st_lexer.specs.declared.token.Tok.TheVariants as tok
 use Rattle.st_lexer.specs.declared.token.Token.{Token}
@@ -249,10 +248,10 @@ at-program-step c (at_decl o) t = at-decl-at c o (mark_of t.tok) t
 at-program-step c (at_comma o ds) t = at-cond t (is (mark_of t.tok) mark.Comma) _ _ tt (at-cond t (is (mark_of t.tok) mark.Colon) _ _ tt refl)
 at-program-step c (at_next_name o ds) t = at-cond t (is (mark_of t.tok) mark.Name) _ _ tt refl
 at-program-step c (at_type o ds) t =
-    at-cond t (is (mark_of t.tok) (mark.Type ty.Bool)) _ _ tt
-    (at-cond t (is (mark_of t.tok) (mark.Type ty.Int)) _ _ tt
-    (at-cond t (is (mark_of t.tok) (mark.Type ty.Dint)) _ _ tt
-    (at-cond t (is (mark_of t.tok) (mark.Type ty.Lint)) _ _ tt refl)))
+    at-cond t (is (mark_of t.tok) mark.Bool) _ _ tt
+    (at-cond t (is (mark_of t.tok) mark.Int) _ _ tt
+    (at-cond t (is (mark_of t.tok) mark.Dint) _ _ tt
+    (at-cond t (is (mark_of t.tok) mark.Lint) _ _ tt refl)))
 at-program-step c (at_init o ds ty) t = at-cond t (is (mark_of t.tok) mark.Semi) _ _ tt (at-cond t (is (mark_of t.tok) mark.Assign) _ _ tt refl)
 at-program-step c (in_init o ds ty fs p) t = at-init-at c o ds ty fs p t (ends_before fs p t)
 at-program-step c (in_body f outer ss phase) t = at-body c f outer ss phase t

@@ -1,7 +1,6 @@
 -- Marks: what a token does, by its place.
 -- How the parser reads, and no promise: what it promises is in Answers.
 use Rattle.std.specs.Prelude.{ℕ, ◌==◌, Bool, pos, Some}
-use Rattle.vcp_base.specs.declared.ty.Ty.{Ty}
 use Rattle.vcp_base.specs.declared.ty.Ty.TheVariants as ty
 use Rattle.st_lexer.specs.declared.token.Key.TheVariants as key
 use Rattle.st_lexer.specs.declared.token.Sym.TheVariants as sym
@@ -63,10 +62,10 @@ mark_of (tok.Key key.Var) = mark.Var
 mark_of (tok.Key key.Constant) = mark.Constant
 mark_of (tok.Key key.Retain) = mark.Retain
 mark_of (tok.Key key.EndVar) = mark.EndVar
-mark_of (tok.Key key.Bool) = mark.Type ty.Bool
-mark_of (tok.Key key.Int) = mark.Type ty.Int
-mark_of (tok.Key key.Dint) = mark.Type ty.Dint
-mark_of (tok.Key key.Lint) = mark.Type ty.Lint
+mark_of (tok.Key key.Bool) = mark.Bool
+mark_of (tok.Key key.Int) = mark.Int
+mark_of (tok.Key key.Dint) = mark.Dint
+mark_of (tok.Key key.Lint) = mark.Lint
 mark_of (tok.Key key.If) = mark.If
 mark_of (tok.Key key.Then) = mark.Then
 mark_of (tok.Key key.Elsif) = mark.Elsif
@@ -82,13 +81,7 @@ mark_of (tok.Key key.Do) = mark.Do
 mark_of (tok.Key key.EndFor) = mark.EndFor
 mark_of _ = mark.Other
 
--- a number for each mark; that of a type's word has the type in it
-abbrev pub type_number : Ty → ℕ
-type_number ty.Bool = 28
-type_number ty.Int = 29
-type_number ty.Dint = 30
-type_number ty.Lint = 31
-
+-- a number for each mark
 abbrev pub mark_number : Mark → ℕ
 mark_number mark.Semi = 0
 mark_number mark.Comma = 1
@@ -104,21 +97,24 @@ mark_number mark.Var = 10
 mark_number mark.Constant = 11
 mark_number mark.Retain = 12
 mark_number mark.EndVar = 13
-mark_number mark.If = 14
-mark_number mark.Then = 15
-mark_number mark.Elsif = 16
-mark_number mark.Else = 17
-mark_number mark.EndIf = 18
-mark_number mark.Case = 19
-mark_number mark.Of = 20
-mark_number mark.EndCase = 21
-mark_number mark.For = 22
-mark_number mark.To = 23
-mark_number mark.By = 24
-mark_number mark.Do = 25
-mark_number mark.EndFor = 26
-mark_number mark.Other = 27
-mark_number (mark.Type t) = type_number t
+mark_number mark.Bool = 14
+mark_number mark.Int = 15
+mark_number mark.Dint = 16
+mark_number mark.Lint = 17
+mark_number mark.If = 18
+mark_number mark.Then = 19
+mark_number mark.Elsif = 20
+mark_number mark.Else = 21
+mark_number mark.EndIf = 22
+mark_number mark.Case = 23
+mark_number mark.Of = 24
+mark_number mark.EndCase = 25
+mark_number mark.For = 26
+mark_number mark.To = 27
+mark_number mark.By = 28
+mark_number mark.Do = 29
+mark_number mark.EndFor = 30
+mark_number mark.Other = 31
 
 -- two marks are one
 abbrev pub is : Mark → Mark → Bool

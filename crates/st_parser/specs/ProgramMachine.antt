@@ -86,10 +86,10 @@ var_at c f m t =
 -- the word of a type
 abbrev pub type_at : Opening → List DeclaredTree → Mark → Token → Result State SyntaxFault
 type_at o ds m t =
-    cond (is m (mark.Type ty.Bool)) (Ok (at_init o ds ty.Bool))
-    (cond (is m (mark.Type ty.Int)) (Ok (at_init o ds ty.Int))
-    (cond (is m (mark.Type ty.Dint)) (Ok (at_init o ds ty.Dint))
-    (cond (is m (mark.Type ty.Lint)) (Ok (at_init o ds ty.Lint)) (refused t))))
+    cond (is m mark.Bool) (Ok (at_init o ds ty.Bool))
+    (cond (is m mark.Int) (Ok (at_init o ds ty.Int))
+    (cond (is m mark.Dint) (Ok (at_init o ds ty.Dint))
+    (cond (is m mark.Lint) (Ok (at_init o ds ty.Lint)) (refused t))))
 
 -- the token behind an initial value
 abbrev pub init_read_on : Opening → List DeclaredTree → Ty → Result Reading SyntaxFault → Result State SyntaxFault

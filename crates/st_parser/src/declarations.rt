@@ -26,7 +26,7 @@ use st_lexer::Token;
 use st_tree::{Block, Blocks, Decl, Declared, DeclaredNames, Decls, Expr, Section};
 use std::alloc::Global;
 use std::mem;
-use vcp_base::Memory;
+use vcp_base::{Memory, Ty};
 
 // A token is one more of the declared names.
 fn add_name(source: Source, parsed: &mut Parsed, t: Token) -> Result<Place, SyntaxFault>
@@ -178,13 +178,15 @@ fn var_at(source: Source, parsed: &mut Parsed, t: Token) -> Result<Place, Syntax
 fn type_at(parsed: &mut Parsed, t: Token) -> Result<Place, SyntaxFault>
     ensures { Gives (view.program parsed.new) result (machine.type_at (view.opening parsed.old) (view.names parsed.old) (mark t.tok) t) }
 {
-    match mark_of(t.tok) {
-        Mark::Type(ty) => {
-            parsed.ty = ty;
-            Ok(Place::AtInit)
-        }
-        _ => refuse_program(t),
-    }
+    let ty = match mark_of(t.tok) {
+        Mark::Bool => Ty::Bool,
+        Mark::Int => Ty::Int,
+        Mark::Dint => Ty::Dint,
+        Mark::Lint => Ty::Lint,
+        _ => return refuse_program(t),
+    };
+    parsed.ty = ty;
+    Ok(Place::AtInit)
 }
 
 // The token behind the type of a declaration.

@@ -9,14 +9,14 @@ ghost use Rattle.st_parser.specs.ExprMachine as spec;
 ghost use Rattle.st_parser.specs.FormViews as view;
 
 use crate::fault::SyntaxFault;
-use crate::forms::{Form, Mode, add, close, is_within, take};
+use crate::forms::{Form, Mode, close, is_within, take};
 use crate::marks::{Begins, Goes, begins_by, goes_by};
 use crate::names::{Source, name_of};
 use crate::refusals::refuse_form;
 use st_lexer::Token;
 use st_tree::{Expr, Exprs, level_of};
 use std::alloc::Global;
-use vcp_base::Memory;
+use vcp_base::{Memory, append};
 
 // The level of any expression.
 const ANY_LEVEL: u8 = 1;
@@ -67,7 +67,7 @@ fn opens(forms: &mut Vec<Form>, form: Form) -> Result<Progress, SyntaxFault>
     ensures { view.GoesOn result forms.new.items
         (Ok (record { forms = view.form form ∷ view.forms forms.old.items; mode = spec.want })) }
 {
-    match add(forms, form) {
+    match append(forms, form) {
         Ok(()) => Ok(Progress::On(Mode::Want)),
         Err(Memory) => Err(SyntaxFault::Memory),
     }

@@ -9,7 +9,7 @@ ghost use Rattle.st_parser.specs.FormViews as view;
 use crate::refusals::discard;
 use st_tree::{BinOp, Expr, Exprs, UnOp, level_of};
 use std::alloc::Global;
-use vcp_base::{Memory, Spot, Text};
+use vcp_base::{Memory, Spot, Text, append};
 
 /// A part of an expression that is open, and what it has so far.
 #[derive(Drop)]
@@ -42,15 +42,6 @@ pub fn no_forms(alloc: Global) -> Vec<Form>
     Vec::new(alloc)
 }
 
-/// Opens one more form, the innermost.
-pub fn add(forms: &mut Vec<Form>, form: Form) -> Result<(), Memory>
-    ensures { OnOk result
-        (view.forms forms.new.items ≡ view.form form ∷ view.forms forms.old.items) }
-{
-    forms.push(form)?;
-    Ok(())
-}
-
 /// Takes the innermost form off.
 pub fn take(forms: &mut Vec<Form>) -> Option<Form>
     ensures { view.Takes (view.forms forms.old.items) result (view.forms forms.new.items) }
@@ -63,7 +54,7 @@ fn reopened(forms: &mut Vec<Form>, form: Form, have: Expr) -> Result<Expr, Memor
     ensures { IfOk result (λ e. view.closed forms.new.items e
         ≡ record { forms = view.form form ∷ view.forms forms.old.items; expr = expr_tree have }) }
 {
-    match add(forms, form) {
+    match append(forms, form) {
         Ok(()) => Ok(have),
         Err(Memory) => {
             discard(have);

@@ -14,21 +14,13 @@ use crate::state::{Bodies, Body, Level, Phase, Purpose};
 use st_tree::{Stmt, Stmts};
 use std::alloc::Global;
 use std::mem;
-use vcp_base::Memory;
+use vcp_base::{Memory, append};
 
 /// Takes the innermost level off.
 pub fn leave(outer: &mut Vec<Level>) -> Option<Level>
     ensures { view.Leaves (view.levels outer.old.items) result (view.levels outer.new.items) }
 {
     outer.pop()
-}
-
-/// One level more.
-pub fn enter(outer: &mut Vec<Level>, level: Level) -> Result<(), Memory>
-    ensures { OnOk result (view.levels outer.new.items ≡ view.level level ∷ view.levels outer.old.items) }
-{
-    outer.push(level)?;
-    Ok(())
 }
 
 /// How many bodies are open.
@@ -51,7 +43,7 @@ pub fn opened(alloc: Global, body: Body, bodies: &mut Bodies) -> Result<Phase, S
         (machine.opened (view.body body) (view.levels bodies.old.outer.items) (stmt_trees bodies.old.stmts.items.items)) }
 {
     let before = mem::replace(&mut bodies.stmts, Stmts::new(alloc));
-    match enter(&mut bodies.outer, Level { body, before }) {
+    match append(&mut bodies.outer, Level { body, before }) {
         Ok(()) => Ok(Phase::Start),
         Err(Memory) => Err(SyntaxFault::Memory),
     }

@@ -52,8 +52,10 @@ pub enum Mark {
     Constant,
     Retain,
     EndVar,
-    /// The reserved word of a type.
-    Type(Ty),
+    Bool,
+    Int,
+    Dint,
+    Lint,
     If,
     Then,
     Elsif,
@@ -137,10 +139,10 @@ pub fn mark_of(tok: Tok) -> Mark
         Tok::Key(Key::Constant) => Mark::Constant,
         Tok::Key(Key::Retain) => Mark::Retain,
         Tok::Key(Key::EndVar) => Mark::EndVar,
-        Tok::Key(Key::Bool) => Mark::Type(Ty::Bool),
-        Tok::Key(Key::Int) => Mark::Type(Ty::Int),
-        Tok::Key(Key::Dint) => Mark::Type(Ty::Dint),
-        Tok::Key(Key::Lint) => Mark::Type(Ty::Lint),
+        Tok::Key(Key::Bool) => Mark::Bool,
+        Tok::Key(Key::Int) => Mark::Int,
+        Tok::Key(Key::Dint) => Mark::Dint,
+        Tok::Key(Key::Lint) => Mark::Lint,
         Tok::Key(Key::If) => Mark::If,
         Tok::Key(Key::Then) => Mark::Then,
         Tok::Key(Key::Elsif) => Mark::Elsif,
@@ -158,51 +160,11 @@ pub fn mark_of(tok: Tok) -> Mark
     }
 }
 
-// A number for each mark.
-fn mark_number(mark: Mark) -> u8
-    ensures { result ≡ spec.mark_number mark }
-{
-    match mark {
-        Mark::Semi => 0,
-        Mark::Comma => 1,
-        Mark::Colon => 2,
-        Mark::Assign => 3,
-        Mark::DotDot => 4,
-        Mark::Name => 5,
-        Mark::Program => 6,
-        Mark::EndProgram => 7,
-        Mark::VarInput => 8,
-        Mark::VarOutput => 9,
-        Mark::Var => 10,
-        Mark::Constant => 11,
-        Mark::Retain => 12,
-        Mark::EndVar => 13,
-        Mark::If => 14,
-        Mark::Then => 15,
-        Mark::Elsif => 16,
-        Mark::Else => 17,
-        Mark::EndIf => 18,
-        Mark::Case => 19,
-        Mark::Of => 20,
-        Mark::EndCase => 21,
-        Mark::For => 22,
-        Mark::To => 23,
-        Mark::By => 24,
-        Mark::Do => 25,
-        Mark::EndFor => 26,
-        Mark::Other => 27,
-        Mark::Type(Ty::Bool) => 28,
-        Mark::Type(Ty::Int) => 29,
-        Mark::Type(Ty::Dint) => 30,
-        Mark::Type(Ty::Lint) => 31,
-    }
-}
-
 /// Whether two marks are one.
 pub fn is(a: Mark, b: Mark) -> bool
     ensures { result ≡ spec.is a b }
 {
-    mark_number(a) == mark_number(b)
+    a as u8 == b as u8
 }
 
 /// Whether a token is this mark.

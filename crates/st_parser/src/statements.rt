@@ -112,26 +112,20 @@ fn level_ends(
         (record { body = view.body body; before = stmt_trees bodies.old.stmts.items.items } ∷ view.levels bodies.old.outer.items)
         (stmt_trees stmts.items.items) mark t) }
 {
-    if is(mark, Mark::Elsif) {
-        return elsif_at(source.alloc, body, bodies, stmts, t);
+    match mark {
+        Mark::Elsif => elsif_at(source.alloc, body, bodies, stmts, t),
+        Mark::Else => else_at(source.alloc, body, bodies, stmts, t),
+        Mark::EndIf => end_if_at(body, bodies, stmts, t),
+        Mark::EndCase => end_case_at(body, bodies, stmts, t),
+        Mark::EndFor => end_for_at(body, bodies, stmts, t),
+        _ => {
+            let phase = LabelPhase {
+                first: None,
+                constant: Constant::Wanted,
+            };
+            next_label_in(source, body, bodies, stmts, phase, t)
+        }
     }
-    if is(mark, Mark::Else) {
-        return else_at(source.alloc, body, bodies, stmts, t);
-    }
-    if is(mark, Mark::EndIf) {
-        return end_if_at(body, bodies, stmts, t);
-    }
-    if is(mark, Mark::EndCase) {
-        return end_case_at(body, bodies, stmts, t);
-    }
-    if is(mark, Mark::EndFor) {
-        return end_for_at(body, bodies, stmts, t);
-    }
-    let phase = LabelPhase {
-        first: None,
-        constant: Constant::Wanted,
-    };
-    next_label_in(source, body, bodies, stmts, phase, t)
 }
 
 // A token that ends the innermost body, or begins the next branch.
@@ -179,31 +173,27 @@ fn start_at(source: Source, bodies: &mut Bodies, mark: Mark, t: Token) -> Result
         (machine.start_at (record { bytes = bytes_in source.entry.text.now; most = source.entry.most })
         (view.levels bodies.old.outer.items) (stmt_trees bodies.old.stmts.items.items) mark t) }
 {
-    if is(mark, Mark::Semi) {
-        return begun(source.most, bodies, Phase::Start, t);
-    }
-    if is(mark, Mark::Name) {
-        return match name_of(source.alloc, source.text, t) {
+    match mark {
+        Mark::Semi => begun(source.most, bodies, Phase::Start, t),
+        Mark::Name => match name_of(source.alloc, source.text, t) {
             Ok(name) => {
                 let phase = Phase::Named { name, spot: t.spot };
                 begun(source.most, bodies, phase, t)
             }
             Err(Memory) => Err(SyntaxFault::Memory),
-        };
+        },
+        Mark::If => {
+            let arms = Arms::new(source.alloc);
+            let purpose = Purpose::ToTest { arms, spot: t.spot };
+            begun(source.most, bodies, expects(source.alloc, purpose), t)
+        }
+        Mark::Case => {
+            let purpose = Purpose::ToSelect { spot: t.spot };
+            begun(source.most, bodies, expects(source.alloc, purpose), t)
+        }
+        Mark::For => begun(source.most, bodies, Phase::LoopBegun { spot: t.spot }, t),
+        _ => body_ends(source, bodies, mark, t),
     }
-    if is(mark, Mark::If) {
-        let arms = Arms::new(source.alloc);
-        let purpose = Purpose::ToTest { arms, spot: t.spot };
-        return begun(source.most, bodies, expects(source.alloc, purpose), t);
-    }
-    if is(mark, Mark::Case) {
-        let purpose = Purpose::ToSelect { spot: t.spot };
-        return begun(source.most, bodies, expects(source.alloc, purpose), t);
-    }
-    if is(mark, Mark::For) {
-        return begun(source.most, bodies, Phase::LoopBegun { spot: t.spot }, t);
-    }
-    body_ends(source, bodies, mark, t)
 }
 
 // A token behind a name that begins a statement, or a label of the next branch.

@@ -1,5 +1,4 @@
 use Rattle.std.proofs.Common.{refl, subst, sym, ◌∙◌}
-use Rattle.vcp_base.specs.declared.ty.Ty.TheVariants as ty
 use Rattle.st_parser.specs.declared.marks.Mark.TheVariants as mark
 use Rattle.st_parser.specs.Marks.{mark_of}
 use Rattle.st_parser.specs.StateViews.{Gives}
@@ -14,7 +13,7 @@ returns-in_default c =
     let r = c.refuse_program.result in
     let m = mark_of c.args.t.tok in
     let end : Gives v r (refused c.args.t) = subst (λ x. Gives v x (refused c.args.t)) (sym c.refuse_program.ensures) refl in
-    next-test v r m (mark.Type ty.Bool) _ _ (λ e. c.in_default.not-Type ty.Bool (c.mark_of.ensures ∙ e))
-    (next-test v r m (mark.Type ty.Int) _ _ (λ e. c.in_default.not-Type ty.Int (c.mark_of.ensures ∙ e))
-    (next-test v r m (mark.Type ty.Dint) _ _ (λ e. c.in_default.not-Type ty.Dint (c.mark_of.ensures ∙ e))
-    (next-test v r m (mark.Type ty.Lint) _ _ (λ e. c.in_default.not-Type ty.Lint (c.mark_of.ensures ∙ e)) end)))
+    next-test v r m mark.Bool _ _ (λ e. c.in_default.not-Bool (c.mark_of.ensures ∙ e))
+    (next-test v r m mark.Int _ _ (λ e. c.in_default.not-Int (c.mark_of.ensures ∙ e))
+    (next-test v r m mark.Dint _ _ (λ e. c.in_default.not-Dint (c.mark_of.ensures ∙ e))
+    (next-test v r m mark.Lint _ _ (λ e. c.in_default.not-Lint (c.mark_of.ensures ∙ e)) end)))

@@ -1,19 +1,18 @@
 use Rattle.st_parser.specs.declared.marks.Mark.TheVariants as mark
 use Rattle.st_parser.specs.StateViews.{state}
-use Rattle.st_parser.proofs.MarkTests.{this-mark, other-mark}
+use Rattle.st_parser.proofs.MarkTests.{next-test}
 use Rattle.st_parser.proofs.statements.start_at.Goals as goal
 
-pub returns-then-is : goal.returns-then-is
-returns-then-is c =
-    let v = state c.args.bodies.now in
-    this-mark v c.begun.result c.args.mark mark.Semi _ _ c.if-is.ensures c.begun.ensures
+pub returns-in-Semi : goal.returns-in-Semi
+returns-in-Semi c = rw c.in-Semi.is c.begun.ensures
 
-pub returns : goal.returns
-returns c =
+pub returns-in_default : goal.returns-in_default
+returns-in_default c =
     let v = state c.body_ends.new.bodies in
-    other-mark v c.body_ends.result c.args.mark mark.Semi _ _ c.if-is.ensures
-    (other-mark v c.body_ends.result c.args.mark mark.Name _ _ c.if-is-2.ensures
-    (other-mark v c.body_ends.result c.args.mark mark.If _ _ c.if-is-3.ensures
-    (other-mark v c.body_ends.result c.args.mark mark.Case _ _ c.if-is-4.ensures
-    (other-mark v c.body_ends.result c.args.mark mark.For _ _ c.if-is-5.ensures
-    c.body_ends.ensures))))
+    let r = c.body_ends.result in
+    let m = c.args.mark in
+    next-test v r m mark.Semi _ _ c.in_default.not-Semi
+    (next-test v r m mark.Name _ _ c.in_default.not-Name
+    (next-test v r m mark.If _ _ c.in_default.not-If
+    (next-test v r m mark.Case _ _ c.in_default.not-Case
+    (next-test v r m mark.For _ _ c.in_default.not-For c.body_ends.ensures))))
