@@ -1,6 +1,10 @@
 -- Both: an operation and an entry of another list, added together or not at all.
-use Rattle.std.proofs.Common.{◌≡◌, ℕ, ◌<◌, ◌≤◌, ◌↔◌, Result, Ok, Err, OnOk, OnErr, sym, subst, arith}
+use Rattle.std.proofs.Common.{◌≡◌, ℕ, ◌<◌, ◌≤◌, ◌-◌, ◌↔◌, List, [], ◌∷◌, ◌++◌, length, take, Result, Ok, Err, OnOk, OnErr, refl, sym, ap, ◌∙◌, subst, arith}
+use Rattle.std.proofs.Math.Seq.{take-append_seam}
+use Rattle.std.proofs.lemmas.List.{length_push}
 use Rattle.vcp_base.specs.Limits.{most_operations}
+use Rattle.op_graph.specs.declared.op.Op.{Op}
+use Rattle.op_graph.specs.Building.{with_op}
 use Rattle.op_graph.specs.declared.build.Build.{Build}
 use Rattle.op_graph.specs.declared.build.Build.TheVariants as build
 use Rattle.op_graph.specs.Lists.{Lists}
@@ -26,3 +30,55 @@ keeps_rules (Ok k) n old made new is same full few part rules = subst IsPart (sy
     room : (m : ℕ) → m ≤ most_operations → (m ≡ most_operations → ⊥) → m < most_operations
     room m few full = omega (arith, few, full)
 keeps_rules (Err e) n old made new is same full few part rules = subst IsPart (sym same) part
+
+-- ---- when there is no room for an operation
+
+pub full_is : (r : Result ℕ Build) (n : ℕ) → r ≡ Err build.Full → most_operations ≤ n → n ≤ most_operations → (r ≡ Err build.Full) ↔ (n ≡ most_operations)
+full_is r n is low high = (λ e. omega (arith, low, high), λ all. is)
+
+room_left : (r : Result ℕ Build) (n : ℕ) → (r ≡ Err build.Full → ⊥) → n < most_operations → (r ≡ Err build.Full) ↔ (n ≡ most_operations)
+room_left r n other room = (λ e. absurd (other e), λ all. absurd (omega (arith, room, all)))
+
+pub memory_lacked : (r : Result ℕ Build) (n : ℕ) → r ≡ Err build.Memory → n < most_operations → (r ≡ Err build.Full) ↔ (n ≡ most_operations)
+memory_lacked r n is room = room_left r n (λ e. absurd cc) room
+
+pub added_there : (r : Result ℕ Build) (k n : ℕ) → r ≡ Ok k → n < most_operations → (r ≡ Err build.Full) ↔ (n ≡ most_operations)
+added_there r k n is room = room_left r n (λ e. absurd cc) room
+
+-- the last item of a list is taken off again
+pub taken_off : {X : Type 0} (xs now longer : List X) (x : X) (n : ℕ) → now ≡ take (n - 1) longer → n ≡ length longer → longer ≡ xs ++ x ∷ [] → now ≡ xs
+taken_off xs now longer x n is long more =
+    let fewer : n - 1 ≡ length xs = omega (arith, long, ap length more, length_push xs x) in
+    is ∙ ap (λ k. take k longer) fewer ∙ ap (take (length xs)) more ∙ take-append_seam xs (x ∷ [])
+
+-- ---- a builder whose lists are seen as v, and which has k operations
+
+abbrev full : Result ℕ Build
+full = Err build.Full
+
+abbrev memory : Result ℕ Build
+memory = Err build.Memory
+
+pub full_seen : {g v : Lists} (k : ℕ) → g ≡ v → k ≡ length g.operations → most_operations ≤ k → IsPart g
+    → (full ≡ full) ↔ (length v.operations ≡ most_operations)
+full_seen {g = g} k same count low part =
+    subst (λ (x : Lists). (full ≡ full) ↔ (length x.operations ≡ most_operations)) same
+    (full_is full (length g.operations) refl (subst (λ (n : ℕ). most_operations ≤ n) count low) part.few_operations)
+
+pub memory_seen : {g v : Lists} (k : ℕ) → g ≡ v → k ≡ length g.operations → k < most_operations
+    → (memory ≡ full) ↔ (length v.operations ≡ most_operations)
+memory_seen {g = g} k same count room =
+    subst (λ (x : Lists). (memory ≡ full) ↔ (length x.operations ≡ most_operations)) same
+    (memory_lacked memory (length g.operations) refl (subst (λ (n : ℕ). n < most_operations) count room))
+
+pub added_seen : {g v : Lists} (j k : ℕ) → g ≡ v → k ≡ length g.operations → k < most_operations
+    → (Ok j ≡ full) ↔ (length v.operations ≡ most_operations)
+added_seen {g = g} j k same count room =
+    subst (λ (x : Lists). (Ok j ≡ full) ↔ (length x.operations ≡ most_operations)) same
+    (added_there (Ok j) j (length g.operations) refl (subst (λ (n : ℕ). n < most_operations) count room))
+
+pub op_added : {g v : Lists} (op : Op) (ops : List Op) → g ≡ v → ops ≡ g.operations ++ op ∷ [] → record g { operations = ops } ≡ with_op v op
+op_added {g = g} op ops same is = ap (λ (xs : List Op). record g { operations = xs }) is ∙ ap (λ (x : Lists). with_op x op) same
+
+pub op_refused : {g v : Lists} (ops : List Op) → g ≡ v → ops ≡ g.operations → record g { operations = ops } ≡ v
+op_refused {g = g} ops same is = ap (λ (xs : List Op). record g { operations = xs }) is ∙ same

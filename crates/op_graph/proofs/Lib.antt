@@ -9,3 +9,4 @@ pub mod Parts
 pub mod Turns
 pub mod Walks
 pub mod Worked
+pub mod ColumnSteps

@@ -16,7 +16,7 @@ use crate::lists::GraphLists;
 use crate::op::{Loaded, Op, Outlet, TurnNode, Var};
 use std::alloc::Global;
 use std::marker::Model;
-use vcp_base::{Kind, MOST_OPERATIONS, Memory, Profile, Spot, Text, Ty};
+use vcp_base::{Kind, MOST_OPERATIONS, Memory, Profile, Spot, Text, Ty, append};
 
 /// A graph that is built from its front. Each call appends its one entry and operation, and changes nothing
 /// else; after a refusal nothing is changed. `Full` comes exactly where 65,536 operations are there, and
@@ -99,14 +99,17 @@ fn append_both<T: Drop>(
     if k >= MOST_OPERATIONS {
         return Err(Build::Full);
     }
-    if entries.push(entry).is_err() {
-        return Err(Build::Memory);
+    match append(entries, entry) {
+        Ok(()) => {}
+        Err(Memory) => return Err(Build::Memory),
     }
-    if operations.push(op).is_err() {
-        entries.pop();
-        return Err(Build::Memory);
+    match append(operations, op) {
+        Ok(()) => Ok(k),
+        Err(Memory) => {
+            entries.pop();
+            Err(Build::Memory)
+        }
     }
-    Ok(k)
 }
 
 /// The INPUT, LOAD, STORE or OUT of the input, cell or output of a number, which reads operation `a`.
@@ -259,14 +262,15 @@ impl GraphBuilder {
         ensures err { OnErr result (self.new ≡ self.old) }
         ensures rules { IsPart self.new }
     {
-        let k = self.operations.len();
-        if k >= MOST_OPERATIONS as usize {
+        let k = self.operations.len() as u32;
+        if k >= MOST_OPERATIONS {
             return Err(Build::Full);
         }
-        if self.operations.push(op).is_err() {
-            return Err(Build::Memory);
+        match append(&mut self.operations, op) {
+            Ok(()) => {}
+            Err(Memory) => return Err(Build::Memory),
         }
-        Ok(k as u32)
+        Ok(k)
     }
 
     /// Adds an output and its OUT of operation `value`, where the name is above those of the outputs

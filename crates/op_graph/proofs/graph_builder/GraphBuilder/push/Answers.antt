@@ -1,32 +1,46 @@
-use Rattle.std.proofs.Common.{arith, rules, sym, subst, ◌≡◌, ◌<◌, length}
-use Rattle.std.proofs.lemmas.Grind.{common_steps}
-use Rattle.std.proofs.lemmas.Int.{to_z-of_z}
+use Rattle.std.proofs.Common.{◌<◌, ◌∙◌, ℕ, length, refl, sym, ap, subst, arith}
 use Rattle.vcp_base.specs.Limits.{most_operations}
 use Rattle.op_graph.specs.Lists.{Lists}
 use Rattle.op_graph.specs.Rules.{IsPart}
-use Rattle.op_graph.specs.Building.{with_op}
+use Rattle.op_graph.proofs.Both.{full_seen, memory_seen, added_seen, op_added, op_refused}
 use Rattle.op_graph.proofs.Parts.{with_op_fits}
 use Rattle.op_graph.proofs.graph_builder.GraphBuilder.push.Goals as goal
 
+pub returns-then-k-ge-MOST_OPERATIONS : goal.returns-then-k-ge-MOST_OPERATIONS
+returns-then-k-ge-MOST_OPERATIONS c = record {
+  number = tt;
+  added = tt;
+  full = full_seen c.len-k.result c.self.view_is (c.len-k.ensures ∙ c.self.inside.operations.ok.0) c.if-k-ge-MOST_OPERATIONS.true c.self.invariant;
+  err = refl;
+  rules = subst IsPart c.self.view_is c.self.invariant;
+}
+
 pub invariant_of-self-2 : goal.invariant_of-self-2
 invariant_of-self-2 c =
-    let v : Lists = c.args.self.now in
-    let new : Lists =
-    record {
-      profile = c.self.inside.profile;
-      names = c.self.inside.names.items;
-      inputs = c.self.inside.inputs.items;
-      outputs = c.self.inside.outputs.items;
-      loads = c.self.inside.loads.items;
-      stores = c.self.inside.stores.items;
-      turn_nodes = c.self.inside.turn_nodes.items;
-      operations =
-          c.push.new.self.items;
-    } in
-    let e : new ≡ with_op v c.args.op = first_of (search rules, grind (arith, common_steps, to_z-of_z)) in
-    let few : length v.operations < most_operations = subst (λ (x : Lists). length x.operations < most_operations) c.self.view_is (omega arith) in
-    subst IsPart (sym e)
-    (with_op_fits v c.args.op (subst IsPart c.self.view_is c.self.invariant) few c.requires.fits (omega arith, omega arith) c.requires.types)
+    let added = op_added c.args.op c.append.new.items.items c.self.view_is c.in-Ok.ensures.items in
+    let room = subst (λ (n : ℕ). n < most_operations) (c.len-k.ensures ∙ c.self.inside.operations.ok.0) c.if-k-ge-MOST_OPERATIONS.false in
+    let few = subst (λ (x : Lists). length x.operations < most_operations) c.self.view_is room in
+    subst IsPart (sym added)
+    (with_op_fits c.args.self.now c.args.op (subst IsPart c.self.view_is c.self.invariant) few c.requires.fits (omega arith, omega arith) c.requires.types)
 
-pub returns-clause-rules : goal.returns-clause-rules
-returns-clause-rules c = invariant_of-self-2 c
+pub returns : goal.returns
+returns c = record {
+  number = c.len-k.ensures ∙ c.self.inside.operations.ok.0 ∙ ap (λ (x : Lists). length x.operations) c.self.view_is;
+  added = op_added c.args.op c.append.new.items.items c.self.view_is c.in-Ok.ensures.items;
+  full = added_seen c.len-k.result c.len-k.result c.self.view_is (c.len-k.ensures ∙ c.self.inside.operations.ok.0) c.if-k-ge-MOST_OPERATIONS.false;
+  err = tt;
+  rules = invariant_of-self-2 c;
+}
+
+pub invariant_of-self : goal.invariant_of-self
+invariant_of-self c =
+    subst IsPart (sym (op_refused c.append.new.items.items c.self.view_is c.in-Err.ensures.unchanged)) (subst IsPart c.self.view_is c.self.invariant)
+
+pub returns-in-Err : goal.returns-in-Err
+returns-in-Err c = record {
+  number = tt;
+  added = tt;
+  full = memory_seen c.len-k.result c.self.view_is (c.len-k.ensures ∙ c.self.inside.operations.ok.0) c.if-k-ge-MOST_OPERATIONS.false;
+  err = op_refused c.append.new.items.items c.self.view_is c.in-Err.ensures.unchanged;
+  rules = invariant_of-self c;
+}
