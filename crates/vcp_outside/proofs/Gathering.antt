@@ -1,7 +1,7 @@
 -- What is in a line after a step.
-use Rattle.std.proofs.Common.{◌≡◌, ℕ, ◌+◌, ◌<◌, List, [], ◌∷◌, ◌++◌, length, take, get_or, flat_map, add-one, Option, Result, Ok, Err, OnErr, IsErr, ap, sym, ◌∙◌, refl, append_assoc}
+use Rattle.std.proofs.Common.{◌≡◌, ℕ, ◌+◌, ◌<◌, List, [], ◌∷◌, ◌++◌, length, take, get_or, flat_map, add-one, Option, Result, Ok, Err, OnErr, IsErr, ap, sym, ◌∙◌, refl, subst, append_assoc, Bool, false, nat_le, ◌≤◌}
 use Rattle.std.proofs.Math.Seq.{take-suc}
-use Rattle.std.proofs.lemmas.Bool.{false≢true}
+use Rattle.std.proofs.lemmas.Bool.{false≢true, le-leb}
 use Rattle.std.proofs.lemmas.List.{append-nil, flat_map_more}
 use Rattle.vcp_outside.specs.declared.failed.Failed.{Failed}
 use Rattle.vcp_outside.specs.Written.{Writes}
@@ -46,10 +46,39 @@ unchanged_on a b c (Ok v) s first failed second = tt
 unchanged_on a b c (Err e) (Ok v) first failed second = absurd (false≢true (failed refl))
 unchanged_on a b c (Err e) (Err f) first failed second = second ∙ first
 
--- a piece and another one
-pub gathers_both : {a b c : Option (List ℕ)} {f g h : ℕ} {l m n : Gathered} {s t : List ℕ} → Gathers a b f g l m s → Gathers b c g h m n t
-    → Gathers a c f h l n (s ++ t)
-gathers_both {s = s} {t = t} first second start before text is = rw (← (append_assoc text s t)) (second start before _ (first start before text is))
+-- the same bytes, told otherwise
+pub gathers_as : {a b : Option (List ℕ)} {f g : ℕ} {l m : Gathered} {s t : List ℕ} → Gathers a b f g l m s → t ≡ s → Gathers a b f g l m t
+gathers_as {a = a} {b = b} {f = f} {g = g} {l = l} {m = m} goes is = subst (λ (u : List ℕ). Gathers a b f g l m u) (sym is) goes
+
+-- ---- bytes for which there is room
+
+-- the line after them
+pub grown : {inside line new : Gathered} (pending bytes : List ℕ) → inside ≡ line → new ≡ record inside { pending = pending }
+    → pending ≡ inside.pending ++ bytes → new ≡ record line { pending = line.pending ++ bytes }
+grown {inside = inside} pending bytes same is more =
+    is ∙ ap (λ (ps : List ℕ). record inside { pending = ps }) more ∙ ap (λ (x : Gathered). record x { pending = x.pending ++ bytes }) same
+
+pub gathered_more : {a : Option (List ℕ)} {f : ℕ} {line new : Gathered} (bytes : List ℕ) → new ≡ record line { pending = line.pending ++ bytes }
+    → Gathers a a f f line new bytes
+gathered_more {a = a} {f = f} {line = line} bytes is start before text has =
+    subst (λ (l : Gathered). IsGathered start a before f (text ++ bytes) l) (sym is) (record {
+      front = has.front;
+      joined = ap (λ (t : List ℕ). t ++ bytes) has.joined ∙ append_assoc has.front line.pending bytes;
+      written = has.written;
+    })
+
+pub same_after : {T E A : Type 0} (r : Result T E) (x : A) → OnErr r (x ≡ x)
+same_after (Ok v) x = tt
+same_after (Err e) x = refl
+
+pub fails_on : {new : Gathered} (line : Gathered) (bytes : List ℕ) → new ≡ record line { pending = line.pending ++ bytes } → IsErr line.so_far → IsErr new.so_far
+fails_on line bytes is failed = subst (λ (l : Gathered). IsErr l.so_far) (sym is) failed
+
+-- bytes for which there is none
+pub no_room : {inside line : Gathered} (n most : ℕ) (fits : Bool) → inside ≡ line → fits ≡ nat_le (length inside.pending + n) most → fits ≡ false
+    → length line.pending + n ≤ most → ⊥
+no_room {inside = inside} n most fits same test none room =
+    false≢true (sym none ∙ test ∙ le-leb (length inside.pending + n) most (subst (λ (l : Gathered). length l.pending + n ≤ most) (sym same) room))
 
 -- of the elements of a list one more is gathered
 pub gathered_next : {X : Type 0} (f : X → List ℕ) (xs : List X) (i : ℕ) (d : X) (old mid new : SinkSeen) (before between now : Gathered)

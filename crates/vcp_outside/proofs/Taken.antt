@@ -127,3 +127,41 @@ length_is_no_failure r is other = absurd cc
 
 pub text_is_no_failure : {T : Type 0} (r : Result T ReadAll) (text : T) → r ≡ Ok text → r ≡ Err cause.Failed → ⊥
 text_is_no_failure r text is other = absurd cc
+
+-- ---- while a file is read
+
+pub few_at_first : (len limit : ℕ) → len ≡ 0 → len ≤ limit + 1
+few_at_first len limit none = omega (arith, none)
+
+pub none_counted : (reads len : ℕ) → reads ≤ reads + len
+none_counted reads len = omega arith
+
+nothing_taken : (rest : Option (List ℕ)) (items : List ℕ) → items ≡ [] → Consumes rest rest items
+nothing_taken None items none = tt
+nothing_taken (Some left) items none = ap (λ (xs : List ℕ). xs ++ left) (sym none)
+
+-- nothing is read of a file that was begun
+pub begun : (held : Option Held) (name : List ℕ) (rest : Option (List ℕ)) (items : List ℕ) → IfSome held (λ h. IsSome rest × (rest ≡ h name)) → items ≡ []
+    → IfSome held (λ h. IsSome (h name) × Consumes (h name) rest items)
+begun None name rest items is none = tt
+begun (Some held) name rest items is none =
+    subst (λ (bytes : Option (List ℕ)). IsSome bytes × Consumes bytes rest items) is.1 (is.0, nothing_taken rest items none)
+
+-- one more piece is read
+pub reads_on : (held : Option Held) (name : List ℕ) (mid rest : Option (List ℕ)) (front piece items : List ℕ)
+    → IfSome held (λ h. IsSome (h name) × Consumes (h name) mid front) → Consumes mid rest piece → items ≡ front ++ piece
+    → IfSome held (λ h. IsSome (h name) × Consumes (h name) rest items)
+reads_on None name mid rest front piece items reads more is = tt
+reads_on (Some held) name mid rest front piece items reads more is =
+    (reads.0, subst (λ (xs : List ℕ). Consumes (held name) rest xs) (sym is) (Consumes-trans (held name) mid rest front piece reads.1 more))
+
+pub longer_by : (longer len count : ℕ) (front piece : List ℕ) → longer ≡ length (front ++ piece) → len ≡ length front → count ≡ length piece
+    → longer ≡ len + count
+longer_by longer len count front piece is was long = omega (arith, is, was, long, length-append front piece)
+
+pub counted_on : (before reads now len longer count : ℕ) → reads ≤ before + len → now ≡ reads + 1 → longer ≡ len + count → ¬ (count ≡ 0)
+    → now ≤ before + longer
+counted_on before reads now len longer count few more is some = omega (arith, few, more, is, some)
+
+pub less_room : (limit len longer count : ℕ) → longer ≡ len + count → ¬ (count ≡ 0) → len ≤ limit → limit + 1 - longer < limit + 1 - len
+less_room limit len longer count is some within = omega (arith, is, some, within)

@@ -203,36 +203,6 @@ impl Line {
         self.text(out, Buffer::new().format(number).as_bytes());
     }
 
-    /// Goes on with one text and then another one.
-    pub fn texts<O: Sink>(&mut self, out: &mut O, first: &[u8], second: &[u8])
-        ensures gathers { GathersTo (O.seen out.old) (O.seen out.new) self.old self.new (first.now ++ second.now) }
-        ensures after_failure { OnErr self.old.so_far (out.new ≡ out.old) }
-        ensures stays_failed { IsErr self.old.so_far → IsErr self.new.so_far }
-    {
-        self.text(out, first);
-        self.text(out, second);
-    }
-
-    /// Goes on with a text and then a number in decimal digits.
-    pub fn numbered<O: Sink>(&mut self, out: &mut O, text: &[u8], n: u64)
-        ensures gathers { GathersTo (O.seen out.old) (O.seen out.new) self.old self.new (text.now ++ decimal n) }
-        ensures after_failure { OnErr self.old.so_far (out.new ≡ out.old) }
-        ensures stays_failed { IsErr self.old.so_far → IsErr self.new.so_far }
-    {
-        self.text(out, text);
-        self.count(out, n);
-    }
-
-    /// Goes on with a text and then a number in decimal digits, after `-` where it is negative.
-    pub fn signed<O: Sink>(&mut self, out: &mut O, text: &[u8], v: i64)
-        ensures gathers { GathersTo (O.seen out.old) (O.seen out.new) self.old self.new (text.now ++ signed_decimal v) }
-        ensures after_failure { OnErr self.old.so_far (out.new ≡ out.old) }
-        ensures stays_failed { IsErr self.old.so_far → IsErr self.new.so_far }
-    {
-        self.text(out, text);
-        self.value(out, v);
-    }
-
     /// Ends the line with LF, and writes what is pending. It fails where a write of the line failed, and then
     /// a part of the line is written. The part comes only where the count of faults rose.
     pub fn end<O: Sink>(mut self, out: &mut O) -> Result<(), Failed>

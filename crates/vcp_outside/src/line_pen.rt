@@ -70,21 +70,15 @@ impl<'o, O: Sink> Pen for LinePen<'o, O> {
     }
 
     fn texts(self, first: &[u8], second: &[u8]) -> Self {
-        let LinePen { out, mut line } = self;
-        line.texts(out, first, second);
-        LinePen { out, line }
+        self.text(first).text(second)
     }
 
     fn numbered(self, text: &[u8], n: u64) -> Self {
-        let LinePen { out, mut line } = self;
-        line.numbered(out, text, n);
-        LinePen { out, line }
+        self.text(text).count(n)
     }
 
     fn signed(self, text: &[u8], v: i64) -> Self {
-        let LinePen { out, mut line } = self;
-        line.signed(out, text, v);
-        LinePen { out, line }
+        self.text(text).value(v)
     }
 
     fn pieces(self, escaping: Escaping, pieces: &[Piece<'_>]) -> Self {

@@ -2,8 +2,8 @@
 
 ghost use Rattle.std.specs.Prelude.{◌≡◌, flat_map};
 ghost use Rattle.vcp_outside.specs.Gathering.{GathersTo};
-ghost use Rattle.vcp_outside.specs.Characters.{is_plain as is_plain_of, reference as reference_of, escape};
-ghost use Rattle.vcp_outside.specs.Characters.{is_unquoted as is_unquoted_of, quoted_reference as quoted_reference_of, quote};
+ghost use Rattle.vcp_outside.specs.Characters.{is_plain as is_plain_of, reference as reference_of};
+ghost use Rattle.vcp_outside.specs.Characters.{is_unquoted as is_unquoted_of, quoted_reference as quoted_reference_of};
 ghost use Rattle.vcp_outside.specs.Characters.{escape_in, escaped_in, piece_bytes};
 
 use crate::{Line, Sink};
@@ -90,35 +90,15 @@ fn quoted_reference(byte: u8) -> &'static [u8]
     b"&#65533;"
 }
 
-/// Goes on with a byte of a picture, or the reference in its place.
-fn then_marked<O: Sink>(line: &mut Line, out: &mut O, byte: u8)
-    ensures { GathersTo (O.seen out.old) (O.seen out.new) line.old line.new (escape byte) }
-{
-    if is_plain(byte) {
-        line.text(out, &[byte]);
-    } else {
-        line.text(out, reference(byte));
-    }
-}
-
-/// Goes on with a byte between double quotes, or what is in its place.
-fn then_quoted<O: Sink>(line: &mut Line, out: &mut O, byte: u8)
-    ensures { GathersTo (O.seen out.old) (O.seen out.new) line.old line.new (quote byte) }
-{
-    if is_unquoted(byte) {
-        line.text(out, &[byte]);
-    } else {
-        line.text(out, quoted_reference(byte));
-    }
-}
-
 /// Goes on with a byte, or what is in its place.
 fn then_byte<O: Sink>(line: &mut Line, out: &mut O, escaping: Escaping, byte: u8)
     ensures { GathersTo (O.seen out.old) (O.seen out.new) line.old line.new (escape_in escaping byte) }
 {
     match escaping {
-        Escaping::Markup => then_marked(line, out, byte),
-        Escaping::Quoted => then_quoted(line, out, byte),
+        Escaping::Markup if is_plain(byte) => line.text(out, &[byte]),
+        Escaping::Markup => line.text(out, reference(byte)),
+        Escaping::Quoted if is_unquoted(byte) => line.text(out, &[byte]),
+        Escaping::Quoted => line.text(out, quoted_reference(byte)),
     }
 }
 

@@ -1,5 +1,5 @@
-use Rattle.vcp_outside.specs.Pens.{gathered, has_written}
+use Rattle.vcp_outside.specs.Pens.{and_then}
 use Rattle.vcp_outside.proofs.line_pen.LinePenPen.numbered.Goals as goal
 
 pub returns : goal.returns
-returns g c sink name text is = has_written is.same (c.numbered.ensures.gathers _ _ _ (gathered is))
+returns g c = and_then c.text.ensures c.count.ensures
