@@ -1,11 +1,10 @@
 -- Flat: rows one behind another.
-use Rattle.std.proofs.Common.{◌≡◌, ℕ, zero, suc, ◌+◌, ◌*◌, ◌<◌, ◌≤◌, All, List, [], ◌∷◌, ◌++◌, length, take, drop, ℤ, Some, slice_get, get_or, pos, refl, sym}
+use Rattle.std.proofs.Common.{◌≡◌, ℕ, zero, suc, ◌+◌, ◌*◌, ◌<◌, ◌≤◌, All, List, [], ◌∷◌, ◌++◌, length, take, drop, ℤ, Some, slice_get, refl, sym}
 use Rattle.std.proofs.Common.{ap, ◌∙◌, arith}
 use Rattle.std.proofs.Math.Nat.{mul-le-mul_right, suc-mul}
-use Rattle.std.proofs.Math.Seq.{take-suc}
 use Rattle.std.proofs.lemmas.List.Elements.{All-cons}
-use Rattle.std.proofs.lemmas.Option.{get_or_from_slice_get, slice_get_within}
-use Rattle.std.proofs.lemmas.List.{append_assoc, drop-append-le, drop-drop, ext_get_or, get_or-drop, get_or-take, length-append, length-drop}
+use Rattle.std.proofs.lemmas.Option.{get_or_from_slice_get}
+use Rattle.std.proofs.lemmas.List.{append_assoc, drop-append-le, drop-drop, length-append, length-drop}
 use Rattle.std.proofs.lemmas.List.{length-take-le, take-append-le, take_all}
 use Rattle.input_rows.specs.RowLists.{rows_in}
 use Rattle.input_rows.specs.RowsOf.{RowsLeft}
@@ -95,23 +94,6 @@ gathered_more start old new count width values row h is same =
       many = omega (arith, length-append values row, h.many, same, suc-mul count width, ap (λ (n : ℕ). n * width) (plus_one count));
       number = omega (arith, h.number, ap length rows);
     }
-
--- ---- a row copied value by value
-
-pub taken_more : (row : List ℤ) (j : ℕ) (v : ℤ) → slice_get row j ≡ Some v → take j row ++ v ∷ [] ≡ take (j + 1) row
-taken_more row j v at =
-    sym
-    (ap (λ (n : ℕ). take n row) (plus_one j)
-    ∙ (take-suc row j (pos 0) (slice_get_within row j v at) ∙ ap (λ (x : ℤ). take j row ++ x ∷ []) (get_or_from_slice_get row j v (pos 0) at)))
-
-pub copied : (out values : List ℤ) (start width : ℕ) → length out ≡ width → start + width ≤ length values →
-    ((k : ℕ) → k < width → get_or out k (pos 0) ≡ get_or values (start + k) (pos 0)) → out ≡ take width (drop start values)
-copied out values start width wide there same =
-    let long : length (take width (drop start values)) ≡ width = length-take-le width (drop start values) (omega (arith, there, length-drop start values)) in
-    ext_get_or (pos 0) out (take width (drop start values)) (wide ∙ sym long)
-    (λ k below.
-    let within : k < width = omega (arith, below, wide) in
-    same k within ∙ sym (get_or-take width (drop start values) k (pos 0) within ∙ get_or-drop start values k (pos 0)))
 
 -- ---- one row of a list
 

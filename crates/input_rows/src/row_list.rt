@@ -1,6 +1,6 @@
 //! Lists of rows.
 
-ghost use Rattle.std.specs.Prelude.{◌≡◌, ◌≢◌, ◌<◌, ◌≤◌, ◌^◌, ◌+◌, ◌++◌, length, take, drop, slice_get, All, None, Some, IfOk, IfErr, OnOk};
+ghost use Rattle.std.specs.Prelude.{◌≡◌, ◌≢◌, ◌<◌, ◌≤◌, ◌^◌, ◌+◌, length, take, drop, slice_get, All, None, Some, IfOk, IfErr};
 ghost use Rattle.vcp_base.specs.Limits.{most_cycles};
 
 use crate::fault::RowFault;
@@ -8,7 +8,7 @@ use crate::row_reader::RowReader;
 use crate::rows::Rows;
 use std::alloc::Global;
 use std::marker::Model;
-use vcp_base::{Memory, Row};
+use vcp_base::Row;
 
 /// Rows of one width, one behind another, seen as a list of rows. Rows of no values are a number, and
 /// take no memory.
@@ -28,16 +28,6 @@ impl Model for RowList {
     ghost view = { λ l. rows_in l.count l.width l.values.items };
 
     ghost invariant = { λ l. length l.values.items ≡ l.count * l.width };
-}
-
-/// Appends the values of a row.
-fn append(values: &mut Vec<i64>, row: &Row) -> Result<(), Memory>
-    ensures { OnOk result (values.new.items ≡ values.old.items ++ row.now) }
-{
-    'cells: for j in 0..row.len() {
-        values.push(row.at(j))?;
-    }
-    Ok(())
 }
 
 /// All rows that are left, or the refusal behind them; there are at most 1,000,000. `Memory` where there
@@ -65,7 +55,10 @@ fn gather(alloc: Global, rows: &mut Rows<'_>) -> Result<RowList, RowFault>
     let mut values = Vec::new(alloc);
     let mut count = 0u32;
     'rows: while rows.next(alloc, &mut row)? {
-        append(&mut values, &row)?;
+        match values.extend_from_slice(row.all()) {
+            Ok(()) => {}
+            Err(_) => return Err(RowFault::Memory),
+        }
         count += 1;
     }
     Ok(RowList {
@@ -109,7 +102,5 @@ fn copy_row(values: &[i64], start: usize, width: u32, out: &mut Row)
     requires there { start + width ≤ length values.now }
     ensures { out.new ≡ take width (drop start values.now) }
 {
-    'cells: for j in 0..width {
-        out.set(j, values[start + j as usize]);
-    }
+    out.copy_from(&values[start..start + width as usize]);
 }

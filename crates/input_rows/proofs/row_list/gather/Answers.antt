@@ -1,5 +1,5 @@
 use Rattle.std.proofs.lemmas.Result.{IfOk-from_err}
-use Rattle.std.proofs.Common.{rules, ◌≡◌, ℕ, ◌+◌, All, List, ℤ, length, sym, subst, ◌∙◌}
+use Rattle.std.proofs.Common.{rules, ◌≡◌, ℕ, ◌+◌, ◌++◌, All, List, ℤ, length, refl, sym, ap, subst, ◌∙◌}
 use Rattle.input_rows.specs.RowLists.{rows_in}
 use Rattle.input_rows.proofs.Flat.{Gathered, gathered_more, rows_width}
 use Rattle.input_rows.proofs.row_list.gather.Goals as goal
@@ -12,7 +12,7 @@ rows-preserved c =
     let one = c.in_ok-next.ensures.row c.if-branch.true in
     record {
       gathered =
-          subst (λ (vs : List ℤ). Gathered c.args.rows.now c.next.new.self (c.rows.count + 1) width vs) (sym c.in_ok-append.ensures)
+          subst (λ (vs : List ℤ). Gathered c.args.rows.now c.next.new.self (c.rows.count + 1) width vs) (sym (c.in-Ok.ensures.items ∙ ap (λ (vs : List ℤ). c.rows.values.items ++ vs) c.all.ensures))
           (gathered_more c.args.rows.now c.rows.rows c.next.new.self c.rows.count width c.rows.values.items row c.rows.invariant.gathered one same);
       row = same;
       width = c.rows.invariant.width;
@@ -40,10 +40,5 @@ returns-in_err-next c = record {
   refusal = search rules;
 }
 
-pub returns-in_err-append : goal.returns-in_err-append
-returns-in_err-append c = record {
-  rows = IfOk-from_err c.from_residual-in_err-append.result _ c.from_residual-in_err-append.ensures.0;
-  whole = IfOk-from_err c.from_residual-in_err-append.result _ c.from_residual-in_err-append.ensures.0;
-  width = IfOk-from_err c.from_residual-in_err-append.result _ c.from_residual-in_err-append.ensures.0;
-  refusal = search rules;
-}
+pub returns-in-Err : goal.returns-in-Err
+returns-in-Err c = record { rows = tt; whole = tt; width = tt; refusal = λ other. absurd (other refl) }
