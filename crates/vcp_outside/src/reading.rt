@@ -44,6 +44,7 @@ fn read_counted<F: Files, L: Ledger>(
     ensures broken_capped { (F.seen files.old).broken ≤ last_count → (F.seen files.new).broken ≤ last_count }
     ensures only_broken { OnlyBroken (F.seen files.old).held (F.seen files.old).broken (F.seen files.new).broken result }
     ensures counted { reads.new ≡ reads.old + 1 }
+    ensures room { 0 < length buf.new }
 {
     reads.tick();
     files.read(buf)

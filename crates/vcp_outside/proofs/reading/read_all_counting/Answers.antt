@@ -1,6 +1,5 @@
-use Rattle.std.proofs.Common.{le_trans, le_of_eq, ℕ, List, ◌++◌, ◌≤◌, length, take, drop, ◌+◌, ◌∙◌, arith, inr, refl, sym, ap, subst}
+use Rattle.std.proofs.Common.{le_trans, le_of_eq, ℕ, List, ◌++◌, ◌≤◌, length, take, drop, ◌+◌, ◌∙◌, inr, refl, sym, ap, subst}
 use Rattle.std.proofs.lemmas.List.{take-append-le}
-use Rattle.std.proofs.lemmas.Grind.{common_steps}
 use Rattle.vcp_outside.proofs.Taken.{takes_more, takes_no_more, whatever_held, broke_later, later_on, capped_on, rose_on}
 use Rattle.vcp_outside.proofs.Taken.{few_at_first, none_counted, begun, reads_on, longer_by, counted_on, less_room}
 use Rattle.vcp_outside.proofs.Taken.{memory_is_no_failure, length_is_no_failure, text_is_no_failure}
@@ -101,7 +100,7 @@ returns-in-Ok-eq0 g c =
     let s = c.reading.invariant in
     let r = c.in-Ok-eq0.ensures in
     let within = within_test (c.len.ensures ∙ c.reading.content.ok.0) c.reading-test.true in
-    let end = r.bytes.1 c.in-Ok-eq0.field-0-test (grind (arith, common_steps)) in
+    let end = r.bytes.1 c.in-Ok-eq0.field-0-test c.read_counted.ensures.room in
     let whole = read_whole c.args.limit c.in-Ok-eq0.field-0 _ _ _ _ c.reading.content.items c.from_vec.result c.read_counted.new.buf s.bytes r.bytes.0
     c.in-Ok-eq0.field-0-test end c.from_vec.ensures within in
     record {

@@ -1,3 +1,4 @@
+use Rattle.std.proofs.Common.{◌<◌, ℕ, sym, subst}
 use Rattle.vcp_outside.proofs.reading.read_counted.Goals as goal
 
 pub returns : goal.returns
@@ -12,4 +13,5 @@ returns g c =
       broken_capped = e.broken_capped;
       only_broken = e.only_broken;
       counted = c.tick.ensures;
+      room = subst (λ (n : ℕ). 0 < n) (sym c.read.auto.buf) c.requires;
     }
