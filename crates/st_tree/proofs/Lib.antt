@@ -1,5 +1,6 @@
 pub mod Rows
 pub mod Appends
+pub mod Listed
 pub mod Pointwise
 pub mod SameExprs
 pub mod SameStmts

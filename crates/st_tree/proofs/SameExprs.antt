@@ -1,6 +1,9 @@
 -- Expressions that are equal bare.
-use Rattle.std.proofs.Common.{◌≡◌, ℕ, ℤ, ◌<◌, Bool, false, List, [], ◌∷◌, length, get_or, refl, sym, ap, ◌∙◌, Option, Box, Global}
+use Rattle.std.proofs.Common.{◌≡◌, ℕ, ℤ, ◌<◌, Bool, true, false, T, eqb, eqb→eq, SFits, w64, to_z, of_z, subst, List, [], ◌∷◌, length, get_or, refl, sym, ap, ◌∙◌, Option, Box, Global}
 use Rattle.std.specs.Prelude.{IsTrue, ◌↔◌, map}
+use Rattle.std.proofs.Math.Dec.{eqb_refl}
+use Rattle.std.proofs.lemmas.Float.{T_from_true}
+use Rattle.std.proofs.lemmas.Int.{to_z-of_z}
 use Rattle.vcp_base.specs.declared.spot.Spot.{Spot}
 use Rattle.vcp_base.specs.declared.text.Text.{Text}
 use Rattle.vcp_base.specs.declared.ty.Ty.{Ty}
@@ -74,6 +77,29 @@ other-call r n m x y z e h f = (λ t. absurd cc, λ q. h.1 (call-names n m x y (
     call-names n m x y e = cc
 
 -- ---- expressions of one kind are equal where their parts are
+
+-- numbers are one where their bits are
+pub same-number : (v w : ℤ) → SFits w64 v → SFits w64 w → IsTrue (eqb (of_z w64 v) (of_z w64 w)) ↔ (v ≡ w)
+same-number v w f g = (
+  λ t. sym (to_z-of_z w64 v f) ∙ ap (to_z w64) (eqb→eq _ _ (T_from_true _ t)) ∙ to_z-of_z w64 w g,
+  λ e. subst (λ z. IsTrue (eqb (of_z w64 v) (of_z w64 z))) e (true_from_T _ (eqb_refl (of_z w64 v))),
+)
+  where
+    true_from_T : (b : Bool) → T b → IsTrue b
+    true_from_T true h = refl
+    true_from_T false h = absurd h
+
+literal-parts : (t u : Option Ty) (v w : ℤ) → literal t v nowhere ≡ literal u w nowhere → (t ≡ u) × (v ≡ w)
+literal-parts t u v w e = (cc, cc)
+
+pub same-literal : (r : Bool) (t u : Option Ty) (v w : ℤ) (z : ExprTree) → t ≡ u → (IsTrue r ↔ (v ≡ w)) → z ≡ literal t v nowhere
+    → IsTrue r ↔ (z ≡ literal u w nowhere)
+same-literal r t u v w z e h f =
+    (λ p. f ∙ (λ i. literal (e i) (h.0 p i) nowhere), λ q. h.1 (literal-parts t u v w (sym f ∙ q)).1)
+
+pub other-literal : (r : Bool) (t u : Option Ty) (v w : ℤ) (z : ExprTree) → r ≡ false → (t ≡ u → IsTrue r) → z ≡ literal t v nowhere
+    → IsTrue r ↔ (z ≡ literal u w nowhere)
+other-literal r t u v w z e h f = (λ p. absurd cc, λ q. h (literal-parts t u v w (sym f ∙ q)).0)
 
 pub same-name : (r : Bool) (n m : List ℕ) (z : ExprTree) → (IsTrue r ↔ (n ≡ m)) → z ≡ name n nowhere
     → IsTrue r ↔ (z ≡ name m nowhere)

@@ -1,5 +1,5 @@
 -- Statements that are equal bare.
-use Rattle.std.proofs.Common.{◌≡◌, ℕ, ◌<◌, Bool, false, List, [], ◌∷◌, length, get_or, refl, sym, ap, ◌∙◌, Option, Some, None}
+use Rattle.std.proofs.Common.{◌≡◌, ℕ, ◌<◌, Bool, false, List, [], ◌∷◌, length, get_or, refl, sym, ap, ap₂, ◌∙◌, Option, Some, None}
 use Rattle.std.specs.Prelude.{IsTrue, ◌↔◌, map}
 use Rattle.vcp_base.specs.declared.spot.Spot.{Spot}
 use Rattle.vcp_base.specs.declared.text.Text.{Text}
@@ -26,6 +26,9 @@ use Rattle.st_tree.proofs.Pointwise.{by-each, same-length, each, never}
 abbrev pub bare_label_of : Label → LabelTree
 bare_label_of l = bare_label (label_tree l)
 
+abbrev label_from : ExprTree → Option ExprTree → LabelTree
+label_from first last = record { first = first; last = last }
+
 abbrev pub bare_stmt_of : Stmt → StmtTree
 bare_stmt_of s = bare_stmt (stmt_tree s)
 
@@ -37,6 +40,20 @@ bare_arm_of a = (bare_expr (expr_tree a.cond), bare_body_of a.body)
 
 abbrev pub bare_branch_of : Branch → List LabelTree × StmtTrees
 bare_branch_of b = (map bare_label (label_trees b.labels.items.items), bare_body_of b.body)
+
+-- labels are equal where their ends are
+
+pub same-label : (r : Bool) (a b : Label) → bare_expr (expr_tree a.first) ≡ bare_expr (expr_tree b.first)
+    → (IsTrue r ↔ (bare_expr_or_none (expr_tree_or_none a.last) ≡ bare_expr_or_none (expr_tree_or_none b.last)))
+    → IsTrue r ↔ (bare_label_of a ≡ bare_label_of b)
+same-label r a b e h = (
+  λ t. ap₂ label_from e (h.0 t),
+  λ q. h.1 (ap (λ (l : LabelTree). l.last) q),
+)
+
+pub other-label : (r : Bool) (a b : Label) → r ≡ false → (IsTrue r ↔ (bare_expr (expr_tree a.first) ≡ bare_expr (expr_tree b.first)))
+    → IsTrue r ↔ (bare_label_of a ≡ bare_label_of b)
+other-label r a b e h = (λ t. absurd cc, λ q. h.1 (ap (λ (l : LabelTree). l.first) q))
 
 -- lists of statements
 

@@ -12,6 +12,7 @@ pub mod Operators
 pub mod Placed
 pub mod Expressions
 pub mod Labels
+pub mod Listed
 pub mod Statements
 pub mod Programs
 pub mod Spelling

@@ -15,7 +15,9 @@ ghost use Rattle.st_tree.specs.ExprTree.{call};
 ghost use Rattle.st_tree.specs.StmtTree.{if_, case, for_};
 ghost use Rattle.st_tree.specs.Appended.{exprs_and, stmts_and, arms_and, branches_and};
 ghost use Rattle.st_tree.specs.ExprViews.{expr_tree, expr_trees, expr_tree_or_none};
-ghost use Rattle.st_tree.specs.StmtViews.{label_trees, stmt_tree, stmt_trees, arm_trees, branch_trees, other_tree};
+ghost use Rattle.st_tree.specs.StmtViews.{label_tree, label_trees, stmt_tree, stmt_trees, arm_trees, branch_trees, other_tree};
+ghost use Rattle.st_tree.specs.ProgramViews.{declared_tree, decl_tree, block_tree};
+ghost use Rattle.st_tree.specs.Listed.{ListsTrees};
 ghost use Rattle.st_tree.specs.Items.{arm_items, branch_items};
 
 /// What a node holds that has lists: the trees of their items.
@@ -37,4 +39,12 @@ pub fn trees_of_appended()
         → arm_trees (arms ++ a ∷ []) ≡ arms_and (arm_trees arms) (expr_tree a.cond) (stmt_trees a.body.items.items) a.spot }
     ensures branches { (branches : List Branch) (b : Branch)
         → branch_trees (branches ++ b ∷ []) ≡ branches_and (branch_trees branches) (label_trees b.labels.items.items) (stmt_trees b.body.items.items) }
+{}
+
+/// The trees of what `Nodes` lists are those of its items, in their order: so what `new`, `push` and `at` say of the items is said of the trees.
+pub fn trees_of_listed()
+    ensures labels { ListsTrees label_tree }
+    ensures declared { ListsTrees declared_tree }
+    ensures declarations { ListsTrees decl_tree }
+    ensures blocks { ListsTrees block_tree }
 {}

@@ -17,7 +17,7 @@ mod spelling;
 mod stmt;
 
 pub use expr::{BinOp, Expr, Exprs, UnOp};
-pub use laws::{trees_of_appended, trees_of_nodes};
+pub use laws::{trees_of_appended, trees_of_listed, trees_of_nodes};
 pub use nodes::Nodes;
 pub use program::{Block, Blocks, Decl, Declared, DeclaredNames, Decls, Program, Section};
 pub use same_program::same_tree;
