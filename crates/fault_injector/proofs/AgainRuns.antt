@@ -1,19 +1,23 @@
 -- AgainRuns: the rerun of a cycle, call by call, and of a run, cycle by cycle.
-use Rattle.std.proofs.Common.{◌≡◌, ℕ, zero, suc, ◌+◌, ◌<◌, ◌≤◌, Bool, true, false, cond, List, [], ◌∷◌, ◌++◌, length, drop, get_or, slice_get, Option, Some, None, ℤ, refl, sym, ap, ◌∙◌, arith}
+use Rattle.std.proofs.Common.{◌≡◌, ℕ, zero, suc, ◌+◌, ◌<◌, ◌≤◌, Bool, true, false, cond, List, [], ◌∷◌, ◌++◌, length, drop, get_or, slice_get, Option, Some, None, ℤ, refl, sym, ap, subst, ◌∙◌, arith}
 use Rattle.std.proofs.lemmas.List.{append_assoc, append-nil, length-append}
 use Rattle.vcp_base.specs.declared.kind.StopKind.{StopKind}
+use Rattle.vcp_base.specs.declared.kind.StopKind.TheVariants as why
+use Rattle.coded_unit.specs.declared.call.Call.{Call}
 use Rattle.coded_unit.specs.declared.call.Answer.{Answer}
 use Rattle.coded_unit.specs.declared.call.Answer.TheVariants as answer
 use Rattle.coded_unit.specs.Log.{Entry, GrowsBy}
 use Rattle.op_graph.specs.declared.op.Op.{Op}
+use Rattle.fault_script.specs.declared.act.Act.{Act}
 use Rattle.coded_machine.specs.Calls.{AllRight, AllWords, Carried, call_of, is_word}
 use Rattle.coded_machine.specs.Honest.{stop_answer}
 use Rattle.fault_injector.specs.RunLaw.{taken}
-use Rattle.fault_injector.specs.Scripts.{handed_by}
+use Rattle.fault_injector.specs.Scripts.{handed_by, passed_by, skips_by}
 use Rattle.fault_injector.specs.Begun.{Comes, GoesOver, RanAgain}
 use Rattle.fault_injector.specs.References.{words_answered}
 use Rattle.fault_injector.specs.Reruns.{CycleAgain, Source, has, asks, ended, Part, source, source_of, source_touched, done, after_answer, go_on, again}
 use Rattle.fault_injector.specs.Touched.{mark}
+use Rattle.fault_injector.proofs.ListsOfReruns.{there_is}
 
 -- ---- what was carried, one part after another
 
@@ -38,6 +42,86 @@ carried_on es fs x y z i j k c d = record {
       let first : j ≡ i = omega (arith, c.never_falls, d.never_falls, same) in
       right_more es fs (c.honest first below) (d.honest (omega (arith, same, first)) (omega (arith, first, below)));
 }
+
+-- ---- one call
+
+-- the unit was asked
+pub comes_asked : (a : Option Act) (word : ℤ) (call : Call) (given r : Answer) (x y : Option (List Entry)) (i j : ℕ) → skips_by a ≡ false
+    → r ≡ handed_by a word given → Carried ((passed_by a word call, given) ∷ []) x y i j → Comes (source_touched a word call) (Some r) x y i j
+comes_asked a word call given r x y i j skip is carried =
+    subst (λ (b : Bool). Comes (cond b (has (answer.Word word)) (asks (passed_by a word call) a word)) (Some r) x y i j) (sym skip)
+    (given, ap (λ (z : Answer). Some z) is, carried)
+
+-- it wasn't
+pub comes_skipped : (a : Option Act) (word : ℤ) (call : Call) (x : Option (List Entry)) (i : ℕ) → skips_by a ≡ true → Carried [] x x i i
+    → Comes (source_touched a word call) (Some (answer.Word word)) x x i i
+comes_skipped a word call x i skip nothing =
+    subst (λ (b : Bool). Comes (cond b (has (answer.Word word)) (asks (passed_by a word call) a word)) (Some (answer.Word word)) x x i i) (sym skip)
+    (refl, nothing)
+
+-- The next operation, of which a call tells how it gets its answer.
+pub record Told (c : CycleAgain) (own : List Answer) (r : Option Answer) (x y : Option (List Entry)) (i j : ℕ) : Type 0 where
+  pub op : Op
+  pub there : slice_get c.setting.graph.operations (length own) ≡ Some op
+  pub comes : Comes (source c own op) r x y i j
+
+pub told : (c : CycleAgain) (own xs : List Answer) (r : Option Answer) (x y : Option (List Entry)) (i j : ℕ) → xs ≡ own
+    → length own < length c.setting.graph.operations
+    → ((op : Op) → slice_get c.setting.graph.operations (length xs) ≡ Some op → Comes (source c xs op) r x y i j) → Told c own r x y i j
+told c own xs r x y i j is below tells =
+    let ops = c.setting.graph.operations in
+    let there = there_is ops (length own) below in
+    record {
+      op = there.0;
+      there = there.1;
+      comes =
+          subst (λ (us : List Answer). Comes (source c us there.0) r x y i j) is
+          (tells there.0 (ap (λ (us : List Answer). slice_get ops (length us)) is ∙ there.1));
+    }
+
+-- with its answer
+pub answer_told : (c : CycleAgain) (own xs : List Answer) (r : Option Answer) (a : Answer) (x y : Option (List Entry)) (i j : ℕ) → xs ≡ own → r ≡ Some a
+    → length own < length c.setting.graph.operations
+    → ((op : Op) → slice_get c.setting.graph.operations (length xs) ≡ Some op → Comes (source c xs op) r x y i j) → Told c own (Some a) x y i j
+answer_told c own xs r a x y i j is r_is below tells =
+    subst (λ (o : Option Answer). Told c own o x y i j) r_is (told c own xs r x y i j is below tells)
+
+-- or none
+pub none_told : (c : CycleAgain) (own xs : List Answer) (r : Option Answer) (x y : Option (List Entry)) (i j : ℕ) → xs ≡ own → r ≡ None
+    → length own < length c.setting.graph.operations
+    → ((op : Op) → slice_get c.setting.graph.operations (length xs) ≡ Some op → Comes (source c xs op) r x y i j) → Told c own None x y i j
+none_told c own xs r x y i j is r_is below tells =
+    subst (λ (o : Option Answer). Told c own o x y i j) r_is (told c own xs r x y i j is below tells)
+
+source_told : (o : Option Answer) (x : Option (List Entry)) (i : ℕ) → Carried [] x x i i → Comes (source_of o) o x x i i
+source_told (Some a) x i nothing = (refl, nothing)
+source_told None x i nothing = (refl, nothing)
+
+-- the operation isn't touched
+pub comes_untouched : (c : CycleAgain) (own : List Answer) (op : Op) (r : Option Answer) (x : Option (List Entry)) (i : ℕ) → mark c.touched (length own) ≡ false
+    → r ≡ slice_get c.other (length own) → Carried [] x x i i → Comes (source c own op) r x x i i
+comes_untouched c own op r x i untouched is nothing =
+    let k = length own in
+    let other = slice_get c.other k in
+    let touched = source_touched (c.acts k) (taken c.past own op (c.acts k)) (call_of c.setting op own) in
+    subst (λ (b : Bool). Comes (cond b touched (source_of other)) r x x i i) (sym untouched)
+    (subst (λ (o : Option Answer). Comes (source_of other) o x x i i) (sym is) (source_told other x i nothing))
+
+-- it is
+pub comes_touched : (c : CycleAgain) (own : List Answer) (op : Op) (a : Option Act) (word : ℤ) (call : Call) (r : Answer) (x y : Option (List Entry)) (i j : ℕ)
+    → mark c.touched (length own) ≡ true → a ≡ c.acts (length own) → word ≡ taken c.past own op a → call ≡ call_of c.setting op own
+    → Comes (source_touched a word call) (Some r) x y i j → Comes (source c own op) (Some r) x y i j
+comes_touched c own op a word call r x y i j touched act_is word_is call_is comes =
+    let k = length own in
+    let here = call_of c.setting op own in
+    let asked : Comes (source_touched a word here) (Some r) x y i j =
+    subst (λ (z : Call). Comes (source_touched a word z) (Some r) x y i j) call_is comes in
+    let with_word : Comes (source_touched a (taken c.past own op a) here) (Some r) x y i j =
+    subst (λ (w : ℤ). Comes (source_touched a w here) (Some r) x y i j) word_is asked in
+    let with_act : Comes (source_touched (c.acts k) (taken c.past own op (c.acts k)) here) (Some r) x y i j =
+    subst (λ (z : Option Act). Comes (source_touched z (taken c.past own op z) here) (Some r) x y i j) act_is with_word in
+    subst (λ (b : Bool). Comes (cond b (source_touched (c.acts k) (taken c.past own op (c.acts k)) here) (source_of (slice_get c.other k))) (Some r) x y i j)
+    (sym touched) with_act
 
 -- ---- one cycle
 
@@ -242,3 +326,30 @@ pub word_there : (words : List ℤ) (stop : Option StopKind) (k : ℕ) (w : ℤ)
 word_there [] stop k w within = absurd (omega (arith, within))
 word_there (x ∷ words) stop zero w within = refl
 word_there (x ∷ words) stop (suc k) w within = word_there words stop k w (omega (arith, within))
+
+end_there : (words : List ℤ) (us : List Answer) → slice_get (words_answered words ++ us) (length words) ≡ slice_get us 0
+end_there [] us = refl
+end_there (x ∷ words) us = end_there words us
+
+-- the stop stands behind the words
+pub stop_there : (words : List ℤ) (stop : Option StopKind) (k : ℕ) (why : StopKind) (a : Answer) → k ≡ length words → stop ≡ Some why
+    → stop_answer (Some why) ≡ a ∷ [] → Some a ≡ slice_get (words_answered words ++ stop_answer stop) k
+stop_there words stop k why a here is told =
+    sym (ap (slice_get (words_answered words ++ stop_answer stop)) here
+    ∙ (end_there words (stop_answer stop) ∙ ap (λ (us : List Answer). slice_get us 0) (ap stop_answer is ∙ told)))
+
+pub none_there : (words : List ℤ) (stop : Option StopKind) (k : ℕ) → k ≡ length words → stop ≡ None
+    → None ≡ slice_get (words_answered words ++ stop_answer stop) k
+none_there words stop k here is =
+    sym (ap (slice_get (words_answered words ++ stop_answer stop)) here
+    ∙ (end_there words (stop_answer stop) ∙ ap (λ (us : List Answer). slice_get us 0) (ap stop_answer is)))
+
+-- and nothing behind that
+pub past_there : (words : List ℤ) (stop : Option StopKind) (k : ℕ) → length words < k → None ≡ slice_get (words_answered words ++ stop_answer stop) k
+past_there [] None k past = refl
+past_there [] (Some why.Range) (suc k) past = refl
+past_there [] (Some why.DivZero) (suc k) past = refl
+past_there [] (Some why.Operand) (suc k) past = refl
+past_there [] (Some w) zero past = absurd (omega (arith, past))
+past_there (x ∷ words) stop zero past = absurd (omega (arith, past))
+past_there (x ∷ words) stop (suc k) past = past_there words stop k (omega (arith, past))

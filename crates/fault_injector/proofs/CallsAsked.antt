@@ -1,5 +1,5 @@
 -- CallsAsked: a cycle of the first channel whose calls go one by one to a unit with a group of faults.
-use Rattle.std.proofs.Common.{◌≡◌, ℕ, Some, None, Bool, true, false, cond, ◌+◌, ◌<◌, List, [], ◌∷◌, ◌++◌, length, drop, slice_get, Option, ℤ, refl, sym, ap, subst, ◌∙◌, arith, inl, inr, append_assoc, append-nil, length-append}
+use Rattle.std.proofs.Common.{◌≡◌, ℕ, Some, None, Bool, true, false, cond, ◌+◌, ◌-◌, ◌<◌, List, [], ◌∷◌, ◌++◌, length, drop, slice_get, Option, ℤ, refl, sym, ap, subst, ◌∙◌, arith, inl, inr, append_assoc, append-nil, length-append}
 use Rattle.coded_unit.specs.declared.call.Call.{Call}
 use Rattle.coded_unit.specs.declared.call.Answer.{Answer}
 use Rattle.coded_unit.specs.declared.call.Answer.TheVariants as answer
@@ -17,7 +17,7 @@ use Rattle.fault_script.specs.declared.act.Fault.{Fault}
 use Rattle.fault_script.specs.Changes.{act_at_call, kept_after}
 use Rattle.fault_injector.specs.Scripts.{Performed, handed, handed_by, passed, right_under, skips, skips_by, word_at_call}
 use Rattle.fault_injector.proofs.CarriedByHand.{CallsDone, call_done, drop_at, get_there, kept_whole, none_done, performed_rises, right_whole}
-use Rattle.pair_channel.specs.PairStates.{PairFinished, PairState}
+use Rattle.pair_channel.specs.PairStates.{PairFinished, PairState, pair_with_answer}
 use Rattle.fault_injector.specs.GroupCalls.{AskedFrom, AskedOne}
 use Rattle.fault_injector.specs.GroupRuns.{CycleAsked}
 
@@ -153,3 +153,11 @@ cycle_asked first m row f kept_first kept i j before now answers is d =
 pub first_finished : (p : PairState) → p.ended ≡ None → PairFinished p → Finished p.first
 first_finished p going (inl ended) = absurd (ended going)
 first_finished p going (inr finished) = finished
+
+-- one call fewer is left after each answer
+pub asked_smaller : (p n : PairState) (a : Answer) → n ≡ pair_with_answer p a → length (given p.first) < length p.first.graph.operations
+    → length n.first.graph.operations - length (given n.first) < length p.first.graph.operations - length (given p.first)
+asked_smaller p n a is left =
+    let ops : length n.first.graph.operations ≡ length p.first.graph.operations = ap (λ (x : PairState). length x.first.graph.operations) is in
+    let more : length (given n.first) ≡ length (given p.first ++ a ∷ []) = ap (λ (x : PairState). length (given x.first)) is in
+    omega (arith, ops, more, length-append (given p.first) (a ∷ []), left)

@@ -15,7 +15,7 @@ use Rattle.fault_script.specs.Changes.{with_operand, changed, answered, is_skip,
 use Rattle.fault_injector.specs.declared.runs.scripted.Carried.{Carried}
 use Rattle.fault_injector.specs.Carried.{faults_of, keeps_of}
 use Rattle.coded_unit.specs.Seen.{StoodStill}
-use Rattle.fault_injector.specs.Scripts.{passed_by, handed_by, skips_by, right_by, word, word_at_call, right_under, Performed}
+use Rattle.fault_injector.specs.Scripts.{passed_by, handed_by, skips_by, right_by, word_at_call, right_under, Performed}
 
 -- ---- the call that is passed on may be asked
 

@@ -1,8 +1,10 @@
 -- Crossed: a rerun from cycle to cycle, by what it works on.
-use Rattle.std.proofs.Common.{◌≡◌, ℕ, ◌+◌, Bool, List, [], Option, Some, None, ℤ, sym, subst, slice_get}
+use Rattle.std.proofs.Common.{◌≡◌, ℕ, ◌+◌, Bool, List, [], Option, Some, None, ℤ, sym, subst, slice_get, length}
+use Rattle.std.proofs.lemmas.List.{length-map}
 use Rattle.coded_unit.specs.declared.call.Answer.{Answer}
 use Rattle.coded_unit.specs.Log.{Entry}
-use Rattle.coded_machine.specs.Calls.{Carried}
+use Rattle.op_graph.specs.Lists.{Lists}
+use Rattle.coded_machine.specs.Calls.{Carried, word_at}
 use Rattle.coded_machine.specs.CycleEnds.{initial_words, stored_words}
 use Rattle.fault_script.specs.declared.act.Fault.{Fault}
 use Rattle.fault_script.specs.Changes.{acts_of}
@@ -17,6 +19,10 @@ use Rattle.fault_injector.proofs.RerunRuns.{Between, seen, starts, goes_on, judg
 
 abbrev words_of : List ℤ → List Answer → Words
 words_of held answers = record { held = held; answers = answers }
+
+-- each cell has a word
+pub stored_length : (g : Lists) (answers : List Answer) → length (stored_words g answers) ≡ length g.stores
+stored_length g answers = length-map g.stores (λ n. word_at answers n)
 
 -- before the first cycle
 pub started : (r : KeptRun) (faults : List Fault) (w : Work) (x : Option (List Entry)) (i : ℕ) → Carried [] x x i i → w.past_held.items ≡ []

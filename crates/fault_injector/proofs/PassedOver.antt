@@ -1,5 +1,5 @@
 -- PassedOver: a rerun passes over cycles in which nothing is touched.
-use Rattle.std.proofs.Common.{◌≡◌, ℕ, zero, suc, ◌+◌, ◌-◌, ◌<◌, ◌≤◌, Bool, false, List, [], ◌∷◌, ◌++◌, length, map, drop, slice_get, slice_index_or, Option, Some, None, ℤ, refl, sym, ap, subst, ◌∙◌, arith}
+use Rattle.std.proofs.Common.{◌≡◌, ℕ, zero, suc, ◌+◌, ◌-◌, ◌<◌, ◌≤◌, Bool, false, List, [], ◌∷◌, ◌++◌, length, map, drop, slice_get, slice_index_or, Option, Some, None, ℤ, min, refl, sym, ap, subst, ◌∙◌, arith}
 use Rattle.std.proofs.lemmas.List.{append-nil, length-drop}
 use Rattle.std.proofs.lemmas.Option.{get_or_from_slice_get}
 use Rattle.coded_unit.specs.declared.call.Answer.{Answer}
@@ -153,6 +153,37 @@ comes_to r faults n to v w m x y i j free above cells nothing b (passes far ther
   omega (arith, there, above),
   omega (arith, there),
 )
+
+-- The next cycle that is rerun, from cycle n on: it is there, and this is what a rerun stands with before it.
+pub record Reached (r : KeptRun) (faults : List Fault) (n m : ℕ) (w : Work) (x y : Option (List Entry)) (i j : ℕ) : Type 0 where
+  pub between : Between r faults m (past_of w) w.held.items w.cell_marks.items x y i j
+  pub from : n ≤ m
+  pub there : m < length r.answers
+  pub row : (row : List ℤ) × (slice_get r.rows m ≡ Some row)
+  pub other : (other : List Answer) × (slice_get r.answers m ≡ Some other)
+
+pub between : (n next to count many : ℕ) → n < count → n ≤ next → to ≡ min next (count - 1) → count ≡ many → (n ≤ to) × (to < many)
+between n next to count many below above is_to counted = (omega (arith, is_to, above, below), omega (arith, is_to, below, counted))
+
+pub reached : (r : KeptRun) (faults : List Fault) (n next to count : ℕ) (v w : Work) (m : ℕ) (x y : Option (List Entry)) (i j : ℕ) → count ≡ length r.answers
+    → count ≤ length r.rows → AllCycles r.graph r.table 0 r.rows r.answers → n < count → n ≤ next → to ≡ min next (count - 1)
+    → ((p k : ℕ) → n ≤ p → p < next → acts_of faults p k ≡ None) → (n < next → NoMark v.cell_marks.items) → Carried [] y y j j
+    → Between r faults n (past_of v) v.held.items v.cell_marks.items x y i j → Advanced r n to v w m → Reached r faults n m w x y i j
+reached r faults n next to count v w m x y i j all_counted few all below above is_to none cells nothing b advanced =
+    let free : Free r faults n to = record {
+      none = λ p k from before. none p k from (omega (arith, before, is_to));
+      there = omega (arith, is_to, below, all_counted);
+      rows = omega (arith, few, all_counted);
+      all = all;
+    } in
+    let came = comes_to r faults n to v w m x y i j free (omega (arith, is_to, above, below)) (λ before. cells (omega (arith, before, is_to))) nothing b advanced in
+    record {
+      between = came.0;
+      from = came.1;
+      there = omega (arith, came.2, free.there);
+      row = there_is r.rows m (omega (arith, came.2, free.there, free.rows));
+      other = there_is r.answers m (omega (arith, came.2, free.there));
+    }
 
 -- ---- to the end
 

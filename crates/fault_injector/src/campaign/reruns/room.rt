@@ -20,12 +20,10 @@ pub(crate) fn with_room<T>(alloc: Global, items: usize, full: &mut bool) -> Vec<
 }
 
 /// Appends an item where there is room.
-pub(crate) fn append<T: Copy>(list: &mut Vec<T>, item: T)
+pub(crate) fn append<T>(list: &mut Vec<T>, item: T)
     requires { length list.old.items < vec_capacity list.old }
     ensures items { list.new.items ≡ list.old.items ++ item ∷ [] }
     ensures capacity { vec_capacity list.old ≤ vec_capacity list.new }
 {
-    if list.push(item).is_err() {
-        unreachable!()
-    }
+    list.push_reserved(item);
 }

@@ -25,10 +25,7 @@ fn append_in(faults: &mut Vec<Fault>, fault: Fault, cycle: u32)
     ensures capacity { vec_capacity faults.old ≤ vec_capacity faults.new }
 {
     if fault.cycle == cycle {
-        let full = faults.push(fault).is_err();
-        if full {
-            unreachable!()
-        }
+        faults.push_reserved(fault);
     }
 }
 

@@ -1,7 +1,8 @@
-use Rattle.std.proofs.Common.{[], List, refl, sym, ap, ℤ}
+use Rattle.std.proofs.Common.{[], All, List, refl, sym, subst, ap, ℤ}
 use Rattle.std.proofs.Math.Nat.{le_of_eq, le_refl, le_trans}
 use Rattle.op_graph.specs.Lists.{Lists}
 use Rattle.signature_table.specs.Signatures.{Numbers}
+use Rattle.fault_script.specs.Groups.{GroupFits}
 use Rattle.fault_injector.specs.References.{KeptRun}
 use Rattle.fault_injector.specs.Reruns.{IsReference}
 use Rattle.fault_injector.specs.Groups.{GroupsJudged}
@@ -48,3 +49,18 @@ returns-in-Ok g c =
       later = judged.later;
       stayed = judged.stayed;
     }
+
+pub new-requires-clause-table : goal.new-requires-clause-table
+new-requires-clause-table g c = c.requires.table
+
+pub new-requires-clause-width : goal.new-requires-clause-width
+new-requires-clause-width g c = c.requires.width
+
+pub new-requires-clause-few : goal.new-requires-clause-few
+new-requires-clause-few g c = c.requires.few
+
+pub judge_groups-requires-clause-groups : goal.judge_groups-requires-clause-groups
+judge_groups-requires-clause-groups g c = subst (λ (h : Lists). All (GroupFits h) c.args.script.now) (sym c.in-Ok.ensures.graph) c.requires.groups
+
+pub judge_groups-requires-clause-short : goal.judge_groups-requires-clause-short
+judge_groups-requires-clause-short g c = c.requires.short

@@ -1,10 +1,11 @@
-use Rattle.std.proofs.Common.{◌∙◌, refl, ap, sym, arith, rules}
+use Rattle.std.proofs.Common.{◌∙◌, ◌<◌, refl, ap, sym, subst, length}
+use Rattle.vcp_base.specs.Limits.{most_cycles}
 use Rattle.coded_machine.specs.Calls.{CallsOf}
 use Rattle.coded_machine.specs.State.{State, given, with_answer, setting}
 use Rattle.fault_injector.specs.Carried.{faults_of, keeps_of}
 use Rattle.pair_channel.specs.PairStates.{PairState}
 use Rattle.fault_injector.specs.GroupRuns.{outer_seen, processor_seen}
-use Rattle.fault_injector.proofs.CallsAsked.{cycle_asked, first_finished, nothing_asked, one_asked}
+use Rattle.fault_injector.proofs.CallsAsked.{asked_smaller, cycle_asked, first_finished, nothing_asked, one_asked}
 use Rattle.fault_injector.proofs.campaign.pairs.group_run.carry.Goals as goal
 
 pub calls-init : goal.calls-init
@@ -19,7 +20,8 @@ calls-init g c = record {
 }
 
 pub next_call-requires : goal.next_call-requires
-next_call-requires g c = omega (arith, ap (λ (x : PairState). x.cycles) c.calls.invariant.pair, c.requires.few)
+next_call-requires g c =
+    subst (λ n. n < most_cycles) (sym (ap (λ (x : PairState). x.cycles) c.calls.invariant.pair)) c.requires.few
 
 pub calls-preserved : goal.calls-preserved
 calls-preserved g c =
@@ -75,4 +77,16 @@ pub put-requires : goal.put-requires
 put-requires g c = c.in-Some.ensures.some.0 refl
 
 pub end-requires : goal.end-requires
-end-requires g c = search rules
+end-requires g c =
+    let i = c.calls.invariant in
+    record {
+      cycle = subst (λ n. n < most_cycles) (sym (ap (λ (x : PairState). x.cycles) i.pair)) c.requires.few;
+      finished = c.in_default.ensures.none.0 refl;
+      out = c.requires.out ∙ sym (ap (λ (x : State). length x.graph.outputs) i.so_far.done.under.same);
+    }
+
+pub perform-answer-requires : goal.perform-answer-requires
+perform-answer-requires g c = c.in-Some.ensures.asked
+
+pub calls-smaller : goal.calls-smaller
+calls-smaller g c = asked_smaller c.calls.pair c.put.new.self c.perform-answer.result c.put.ensures (c.in-Some.ensures.some.0 refl).1.left

@@ -1,4 +1,4 @@
-use Rattle.std.proofs.Common.{◌∙◌, ◌+◌, List, ℤ, refl, sym, ap, subst, arith, drop, length}
+use Rattle.std.proofs.Common.{◌≡◌, ◌∙◌, ◌+◌, ◌<◌, All, List, ℤ, refl, sym, ap, subst, arith, drop, length}
 use Rattle.op_graph.specs.Lists.{Lists}
 use Rattle.coded_machine.specs.State.{setting}
 use Rattle.fault_script.specs.declared.act.Fault.{Fault}
@@ -144,3 +144,9 @@ returns g c =
       ran = group_over laws c.args.table.now c.args.other.now c.args.graph.now f rows c.rows.pair kept c.args.scripted.now.wrong c.rows.scripted.wrong before
           now i.fair so_far;
     }
+
+pub get-requires-clause-there : goal.get-requires-clause-there
+get-requires-clause-there g c = subst (λ n. c.rows.cycle < n) c.rows.invariant.count c.rows-test.true
+
+pub get-requires-clause-width : goal.get-requires-clause-width
+get-requires-clause-width g c = subst (λ n. All (λ (row : List ℤ). length row ≡ n) c.args.rows.now) (sym c.rows.invariant.inputs) c.requires.width

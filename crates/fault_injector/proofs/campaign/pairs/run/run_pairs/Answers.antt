@@ -99,3 +99,18 @@ returns-in-Ok-pair_totals_line g c =
       later = le_trans (le_of_eq (sym i.stayed)) cause.later;
       stayed = λ other. cause.stayed ∙ i.stayed;
     }
+
+pub run_group-requires-clause-table : goal.run_group-requires-clause-table
+run_group-requires-clause-table g c = c.requires.table
+
+pub run_group-requires-clause-other : goal.run_group-requires-clause-other
+run_group-requires-clause-other g c = c.requires.other
+
+pub run_group-requires-clause-seeds : goal.run_group-requires-clause-seeds
+run_group-requires-clause-seeds g c = c.requires.seeds
+
+pub run_group-requires-clause-width : goal.run_group-requires-clause-width
+run_group-requires-clause-width g c = c.requires.width
+
+pub run_group-requires-clause-few : goal.run_group-requires-clause-few
+run_group-requires-clause-few g c = c.requires.few

@@ -1,12 +1,10 @@
-use Rattle.std.proofs.Common.{◌≡◌, ◌+◌, ℕ, ◌∷◌, ◌++◌, [], List, Option, sym, subst, ap, ◌∙◌, arith, length, slice_get, rules, true≢false}
+use Rattle.std.proofs.Common.{◌≡◌, ◌+◌, ℕ, ◌∷◌, ◌++◌, [], List, sym, subst, ap, ◌∙◌, arith, length, rules, true≢false}
 use Rattle.std.proofs.Math.Nat.{le_trans}
 use Rattle.std.proofs.lemmas.List.{length-append}
 use Rattle.coded_unit.specs.declared.call.Answer.{Answer}
 use Rattle.coded_machine.specs.Calls.{AllWords}
-use Rattle.fault_injector.specs.Begun.{Comes, GoesOver, RanAgain, begun}
-use Rattle.fault_injector.specs.Reruns.{source}
-use Rattle.fault_injector.proofs.AgainRuns.{Midway, begins, goes_on, moves_over, stops, ends, completes, words_more}
-use Rattle.fault_injector.proofs.ListsOfReruns.{there_is}
+use Rattle.fault_injector.specs.Begun.{GoesOver, RanAgain, begun}
+use Rattle.fault_injector.proofs.AgainRuns.{Midway, answer_told, none_told, begins, goes_on, moves_over, stops, ends, completes, words_more}
 use Rattle.fault_injector.proofs.campaign.reruns.again.rerun_cycle.Goals as goal
 
 pub operations-init : goal.operations-init
@@ -30,20 +28,17 @@ pub operations-preserved : goal.operations-preserved
 operations-preserved g c =
     let i = c.operations.invariant in
     let b = begun c.args.b.now in
-    let ops = b.setting.graph.operations in
     let own = c.operations.own.items in
     let first = g.U.Unit.seen c.args.unit.now in
     let before = g.U.Unit.seen c.operations.unit in
     let after = g.U.Unit.seen c.answer_again.new.unit in
     let a = c.in-Some.answer in
     let longer : length (own ++ a ∷ []) ≡ length own + 1 = length-append own (a ∷ []) in
-    let there = there_is ops (length own) (omega (arith, c.operations-test.true, c.len.ensures, i.all)) in
-    let comes =
-    subst (λ (o : Option Answer). Comes (source b own there.0) o before.log after.log before.wrong after.wrong) c.in-Some.is
-    (subst (λ (xs : List Answer). Comes (source b xs there.0) c.answer_again.result before.log after.log before.wrong after.wrong) c.deref.ensures.value
-    (c.answer_again.ensures there.0 (ap (λ (xs : List Answer). slice_get ops (length xs)) c.deref.ensures.value ∙ there.1))) in
+    let told =
+    answer_told b own c.deref.result.now c.answer_again.result c.in-Some.answer before.log after.log before.wrong after.wrong c.deref.ensures.value c.in-Some.is
+    (omega (arith, c.operations-test.true, c.len.ensures, i.all)) c.answer_again.ensures in
     let word = sym c.is_word.ensures ∙ c.if-not-is_word.false in
-    let more = goes_on b (length own) own there.0 a first.log before.log after.log first.wrong before.wrong after.wrong there.1 i.midway comes word in
+    let more = goes_on b (length own) own told.op a first.log before.log after.log first.wrong before.wrong after.wrong told.there i.midway told.comes word in
     let here = subst (λ (k : ℕ). Midway b k (own ++ a ∷ []) first.log after.log first.wrong after.wrong) (sym longer) more in
     let over = c.copy_untouched-in-operations.ensures in
     record {
@@ -60,22 +55,19 @@ pub returns-then-not-is_word : goal.returns-then-not-is_word
 returns-then-not-is_word g c =
     let i = c.operations.invariant in
     let b = begun c.args.b.now in
-    let ops = b.setting.graph.operations in
     let own = c.operations.own.items in
     let first = g.U.Unit.seen c.args.unit.now in
     let before = g.U.Unit.seen c.operations.unit in
     let after = g.U.Unit.seen c.answer_again.new.unit in
-    let there = there_is ops (length own) (omega (arith, c.operations-test.true, c.len.ensures, i.all)) in
-    let comes =
-    subst (λ (o : Option Answer). Comes (source b own there.0) o before.log after.log before.wrong after.wrong) c.in-Some.is
-    (subst (λ (xs : List Answer). Comes (source b xs there.0) c.answer_again.result before.log after.log before.wrong after.wrong) c.deref.ensures.value
-    (c.answer_again.ensures there.0 (ap (λ (xs : List Answer). slice_get ops (length xs)) c.deref.ensures.value ∙ there.1))) in
+    let told =
+    answer_told b own c.deref.result.now c.answer_again.result c.in-Some.answer before.log after.log before.wrong after.wrong c.deref.ensures.value c.in-Some.is
+    (omega (arith, c.operations-test.true, c.len.ensures, i.all)) c.answer_again.ensures in
     let no_word = sym c.is_word.ensures ∙ c.if-not-is_word.true in
     let longer = ap length c.append.ensures.items ∙ length-append c.operations.own.items (c.in-Some.answer ∷ []) in
     record {
       ran =
           subst (λ (us : List Answer). RanAgain b us first.log after.log first.wrong after.wrong) (sym c.append.ensures.items)
-          (stops b (length own) own there.0 c.in-Some.answer first.log before.log after.log first.wrong before.wrong after.wrong there.1 i.midway comes
+          (stops b (length own) own told.op c.in-Some.answer first.log before.log after.log first.wrong before.wrong after.wrong told.there i.midway told.comes
           no_word);
       words = λ on. absurd (true≢false on);
       few = omega (arith, longer, c.operations.invariant.all, c.len.ensures, c.operations-test.true);
@@ -101,19 +93,16 @@ pub returns-in_default : goal.returns-in_default
 returns-in_default g c =
     let i = c.operations.invariant in
     let b = begun c.args.b.now in
-    let ops = b.setting.graph.operations in
     let own = c.operations.own.items in
     let first = g.U.Unit.seen c.args.unit.now in
     let before = g.U.Unit.seen c.operations.unit in
     let after = g.U.Unit.seen c.answer_again.new.unit in
-    let there = there_is ops (length own) (omega (arith, c.operations-test.true, c.len.ensures, i.all)) in
-    let comes =
-    subst (λ (o : Option Answer). Comes (source b own there.0) o before.log after.log before.wrong after.wrong) c.in_default.is
-    (subst (λ (xs : List Answer). Comes (source b xs there.0) c.answer_again.result before.log after.log before.wrong after.wrong) c.deref.ensures.value
-    (c.answer_again.ensures there.0 (ap (λ (xs : List Answer). slice_get ops (length xs)) c.deref.ensures.value ∙ there.1))) in
+    let told =
+    none_told b own c.deref.result.now c.answer_again.result before.log after.log before.wrong after.wrong c.deref.ensures.value c.in_default.is
+    (omega (arith, c.operations-test.true, c.len.ensures, i.all)) c.answer_again.ensures in
     record {
       ran =
-          ends b (length own) own there.0 first.log before.log after.log first.wrong before.wrong after.wrong there.1 i.midway comes;
+          ends b (length own) own told.op first.log before.log after.log first.wrong before.wrong after.wrong told.there i.midway told.comes;
       words = λ _. i.words;
       few = c.operations.invariant.few;
       capacity = c.operations.invariant.room;

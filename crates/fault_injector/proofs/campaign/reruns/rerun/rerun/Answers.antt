@@ -1,13 +1,22 @@
-use Rattle.std.proofs.Common.{Option, subst, arith, rules}
+use Rattle.std.proofs.Common.{◌≡◌, ◌+◌, ◌-◌, ◌<◌, ◌≤◌, ℕ, Option, subst, arith}
+use Rattle.std.proofs.Math.Nat.{le_trans}
 use Rattle.fault_injector.specs.declared.verdicts.Verdict.{Verdict}
 use Rattle.fault_injector.specs.Crossing.{CycleRan}
 use Rattle.fault_injector.specs.References.{KeptRun}
 use Rattle.fault_injector.specs.declared.campaign.reruns.rerun.Work.{Work}
 use Rattle.fault_injector.proofs.Crossed.{crossed, judged_there, started}
-use Rattle.fault_injector.proofs.ListsOfReruns.{there_is}
-use Rattle.fault_injector.proofs.PassedOver.{Free, NoMark, comes_to, ends_same}
+use Rattle.fault_injector.proofs.PassedOver.{NoMark, between, ends_same, reached}
 use Rattle.fault_injector.proofs.RerunRuns.{ends}
 use Rattle.fault_injector.proofs.campaign.reruns.rerun.rerun.Goals as goal
+
+one_more : (n m : ℕ) → n < m → n + 1 ≤ m
+one_more n m below = omega (arith, below)
+
+some_there : (n count many : ℕ) → n < count → count ≡ many → 0 < many
+some_there n count many below is = omega (arith, below, is)
+
+fewer_left : (n here count many : ℕ) → n ≤ here → here < many → count ≡ many → count - (here + 1) < count - n
+fewer_left n here count many from below is = omega (arith, from, below, is)
 
 pub cycles-init : goal.cycles-init
 cycles-init g c =
@@ -42,41 +51,29 @@ pub returns-in-Some : goal.returns-in-Some
 returns-in-Some g c =
     let r : KeptRun = c.args.reference.now in
     let faults = c.args.group.now in
-    let n = c.cycles.n in
-    let to = c.min.result in
     let here = c.advance-here.result in
     let w : Work = c.cycles.work in
     let v : Work = c.advance-here.new.work in
     let u : Work = c.rerun_one.new.work in
-    let i = c.cycles.invariant in
     let first = g.U.Unit.seen c.args.unit.now in
     let before = g.U.Unit.seen c.cycles.unit in
     let after = g.U.Unit.seen c.rerun_one.new.unit in
     let told = c.next_touched-next.ensures in
-    let free : Free r faults n to = record {
-      none = λ p k above below. told.none p k above (omega (arith, below, c.min.ensures));
-      there = omega (arith, c.min.ensures, c.cycles-test.true, c.cycles-count.ensures.count);
-      rows = omega (arith, c.cycles-count.ensures.few, c.cycles-count.ensures.count);
-      all = c.cycles-count.ensures.sound.5;
-    } in
     let came =
-    comes_to r faults n to w v here first.log before.log first.wrong before.wrong free (omega (arith, c.min.ensures, told.from, c.cycles-test.true))
-    (λ below. subst NoMark c.deref.ensures.value (told.cells (omega (arith, below, c.min.ensures))))
-    (c.cycles_by_hand_are_whole.ensures.nothing_carried before.log before.wrong) i.between c.advance-here.ensures.advanced in
-    let there = there_is r.rows here (omega (arith, came.2, free.there, free.rows)) in
-    let answered = there_is r.answers here (omega (arith, came.2, free.there)) in
+    reached r faults c.cycles.n c.next_touched-next.result c.min.result c.cycles-count.result w v here first.log before.log first.wrong before.wrong
+    c.cycles-count.ensures.count c.cycles-count.ensures.few c.cycles-count.ensures.sound.5 c.cycles-test.true told.from c.min.ensures told.none
+    (λ below. subst NoMark c.deref.ensures.value (told.cells below)) (c.cycles_by_hand_are_whole.ensures.nothing_carried before.log before.wrong)
+    c.cycles.invariant.between c.advance-here.ensures.advanced in
     let ran =
-    subst (λ (x : Option Verdict). CycleRan r faults here there.0 answered.0 v u x before.log after.log before.wrong after.wrong) c.in-Some.is
-    (c.rerun_one.ensures.ran there.0 there.1 answered.0 answered.1) in
-    judged_there r faults here there.0 answered.0 v u c.in-Some.verdict first.log before.log after.log first.wrong before.wrong after.wrong there.1 answered.1
-    came.0 ran
+    subst (λ (x : Option Verdict). CycleRan r faults here came.row.0 came.other.0 v u x before.log after.log before.wrong after.wrong) c.in-Some.is
+    (c.rerun_one.ensures.ran came.row.0 came.row.1 came.other.0 came.other.1) in
+    judged_there r faults here came.row.0 came.other.0 v u c.in-Some.verdict first.log before.log after.log first.wrong before.wrong after.wrong came.row.1
+    came.other.1 came.between ran
 
 pub cycles-preserved : goal.cycles-preserved
 cycles-preserved g c =
     let r : KeptRun = c.args.reference.now in
     let faults = c.args.group.now in
-    let n = c.cycles.n in
-    let to = c.min.result in
     let here = c.advance-here.result in
     let w : Work = c.cycles.work in
     let v : Work = c.advance-here.new.work in
@@ -86,28 +83,22 @@ cycles-preserved g c =
     let before = g.U.Unit.seen c.cycles.unit in
     let after = g.U.Unit.seen c.rerun_one.new.unit in
     let told = c.next_touched-next.ensures in
-    let free : Free r faults n to = record {
-      none = λ p k above below. told.none p k above (omega (arith, below, c.min.ensures));
-      there = omega (arith, c.min.ensures, c.cycles-test.true, c.cycles-count.ensures.count);
-      rows = omega (arith, c.cycles-count.ensures.few, c.cycles-count.ensures.count);
-      all = c.cycles-count.ensures.sound.5;
-    } in
     let came =
-    comes_to r faults n to w v here first.log before.log first.wrong before.wrong free (omega (arith, c.min.ensures, told.from, c.cycles-test.true))
-    (λ below. subst NoMark c.deref.ensures.value (told.cells (omega (arith, below, c.min.ensures))))
-    (c.cycles_by_hand_are_whole.ensures.nothing_carried before.log before.wrong) i.between c.advance-here.ensures.advanced in
-    let there = there_is r.rows here (omega (arith, came.2, free.there, free.rows)) in
-    let answered = there_is r.answers here (omega (arith, came.2, free.there)) in
+    reached r faults c.cycles.n c.next_touched-next.result c.min.result c.cycles-count.result w v here first.log before.log first.wrong before.wrong
+    c.cycles-count.ensures.count c.cycles-count.ensures.few c.cycles-count.ensures.sound.5 c.cycles-test.true told.from c.min.ensures told.none
+    (λ below. subst NoMark c.deref.ensures.value (told.cells below)) (c.cycles_by_hand_are_whole.ensures.nothing_carried before.log before.wrong)
+    i.between c.advance-here.ensures.advanced in
     let ran =
-    subst (λ (x : Option Verdict). CycleRan r faults here there.0 answered.0 v u x before.log after.log before.wrong after.wrong) c.in_default.is
-    (c.rerun_one.ensures.ran there.0 there.1 answered.0 answered.1) in
+    subst (λ (x : Option Verdict). CycleRan r faults here came.row.0 came.other.0 v u x before.log after.log before.wrong after.wrong) c.in_default.is
+    (c.rerun_one.ensures.ran came.row.0 came.row.1 came.other.0 came.other.1) in
     record {
       between =
-          crossed r faults here there.0 answered.0 v u first.log before.log after.log first.wrong before.wrong after.wrong there.1 answered.1 came.0 ran;
+          crossed r faults here came.row.0 came.other.0 v u first.log before.log after.log first.wrong before.wrong after.wrong came.row.1 came.other.1
+          came.between ran;
       room = c.rerun_one.ensures.room;
-      faults = omega (arith, i.faults, c.rerun_one.ensures.faults);
+      faults = le_trans i.faults c.rerun_one.ensures.faults;
       count = i.count;
-      within = omega (arith, came.2, free.there);
+      within = one_more here _ came.there;
     }
 
 pub returns : goal.returns
@@ -121,7 +112,42 @@ returns g c =
     (omega (arith, c.cycles-test.false, c.cycles-count.ensures.count)) i.between
 
 pub advance-here-requires : goal.advance-here-requires
-advance-here-requires g c = search rules
+advance-here-requires g c =
+    let to =
+    between c.cycles.n c.next_touched-next.result c.min.result c.cycles-count.result _ c.cycles-test.true c.next_touched-next.ensures.from c.min.ensures
+    c.cycles-count.ensures.count in
+    record { from = to.0; there = to.1; room = c.cycles.invariant.room }
 
 pub rerun_one-requires : goal.rerun_one-requires
-rerun_one-requires g c = search rules
+rerun_one-requires g c =
+    let r : KeptRun = c.args.reference.now in
+    let w : Work = c.cycles.work in
+    let first = g.U.Unit.seen c.args.unit.now in
+    let before = g.U.Unit.seen c.cycles.unit in
+    let told = c.next_touched-next.ensures in
+    let came =
+    reached r c.args.group.now c.cycles.n c.next_touched-next.result c.min.result c.cycles-count.result w c.advance-here.new.work c.advance-here.result first.log
+    before.log first.wrong before.wrong c.cycles-count.ensures.count c.cycles-count.ensures.few c.cycles-count.ensures.sound.5 c.cycles-test.true told.from
+    c.min.ensures told.none (λ below. subst NoMark c.deref.ensures.value (told.cells below))
+    (c.cycles_by_hand_are_whole.ensures.nothing_carried before.log before.wrong) c.cycles.invariant.between c.advance-here.ensures.advanced in
+    record { there = came.there; room = c.advance-here.ensures.room; faults = c.cycles.invariant.faults }
+
+pub next_touched-next-requires : goal.next_touched-next-requires
+next_touched-next-requires g c = subst (λ k. c.cycles.n < k) c.cycles-count.ensures.count c.cycles-test.true
+
+pub ends_same-requires : goal.ends_same-requires
+ends_same-requires g c = some_there c.cycles.n c.cycles-count.result _ c.cycles-test.true c.cycles-count.ensures.count
+
+pub cycles-smaller : goal.cycles-smaller
+cycles-smaller g c =
+    let r : KeptRun = c.args.reference.now in
+    let w : Work = c.cycles.work in
+    let first = g.U.Unit.seen c.args.unit.now in
+    let before = g.U.Unit.seen c.cycles.unit in
+    let told = c.next_touched-next.ensures in
+    let came =
+    reached r c.args.group.now c.cycles.n c.next_touched-next.result c.min.result c.cycles-count.result w c.advance-here.new.work c.advance-here.result first.log
+    before.log first.wrong before.wrong c.cycles-count.ensures.count c.cycles-count.ensures.few c.cycles-count.ensures.sound.5 c.cycles-test.true told.from
+    c.min.ensures told.none (λ below. subst NoMark c.deref.ensures.value (told.cells below))
+    (c.cycles_by_hand_are_whole.ensures.nothing_carried before.log before.wrong) c.cycles.invariant.between c.advance-here.ensures.advanced in
+    fewer_left c.cycles.n c.advance-here.result c.cycles-count.result _ came.from came.there c.cycles-count.ensures.count
