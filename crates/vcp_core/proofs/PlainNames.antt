@@ -40,10 +40,14 @@ in-length (t ∷ types) (v ∷ values) h = ap suc (in-length types values h.1)
 pub inputs-count : (slots : List Slot) → length (input_columns slots) ≡ length (input_types slots)
 inputs-count slots = sym (length-map (input_columns slots) (λ (c : Column). c.ty)) ∙ ap length (types-of-inputs slots)
 
--- and no more columns of inputs than slots
+-- and no more columns of inputs, or of outputs, than slots
 pub inputs-few : (slots : List Slot) → length (input_columns slots) ≤ length slots
 inputs-few [] = lit≤ tt
 inputs-few (s ∷ slots) = few-more (is_input s.section) _ (input_columns slots) (length slots) (inputs-few slots)
+
+pub outputs-few : (slots : List Slot) → length (output_columns slots) ≤ length slots
+outputs-few [] = lit≤ tt
+outputs-few (s ∷ slots) = few-more (is_output s.section) _ (output_columns slots) (length slots) (outputs-few slots)
 
 -- and as many columns of outputs as types of outputs
 pub outputs-count : (slots : List Slot) → length (output_columns slots) ≡ length (output_types slots)

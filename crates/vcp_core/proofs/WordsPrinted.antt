@@ -1,9 +1,10 @@
 -- WordsPrinted: the lines of the words that a whole cycle answered, one after another.
-use Rattle.std.proofs.Common.{ℕ, zero, suc, ◌+◌, ◌⊎◌, inl, inr, ◌≡◌, ◌<◌, refl, ap, sym, ◌∙◌, List, [], ◌∷◌, ◌++◌, length, take, append_assoc, append-nil, slice_get, Option, Some, None, IfSome, Ok, Err, arith, ℤ}
+use Rattle.std.proofs.Common.{ℕ, zero, suc, ◌+◌, ◌⊎◌, inl, inr, ◌≡◌, ◌<◌, ◌≤◌, Bool, true, cond, nat_le, subst, refl, ap, sym, ◌∙◌, List, [], ◌∷◌, ◌++◌, length, take, append_assoc, append-nil, slice_get, Option, Some, None, IfSome, Ok, Err, arith, ℤ}
 use Rattle.coded_unit.specs.declared.call.Answer.{Answer}
 use Rattle.coded_unit.specs.declared.call.Answer.TheVariants as answer
 use Rattle.coded_machine.specs.Calls.{Whole}
-use Rattle.coded_machine.specs.State.{word_in}
+use Rattle.std.proofs.lemmas.Bool.Decides.{nat_tests}
+use Rattle.coded_machine.specs.State.{State, word_in}
 use Rattle.op_graph.specs.declared.op.Op.{Op}
 use Rattle.op_graph.specs.Lists.{Lists}
 use Rattle.signature_table.specs.Signatures.{Numbers}
@@ -13,6 +14,7 @@ use Rattle.vcp_outside.specs.declared.failed.Failed.{Failed}
 use Rattle.vcp_core.proofs.JobRun.{not-there}
 use Rattle.vcp_core.proofs.Written.{writes-on, writes-fail}
 use Rattle.vcp_inputs.specs.CycleWords.{words_among, word_lines}
+use Rattle.vcp_core.specs.TraceRun.{answered_words}
 
 -- no answer is behind a stop
 none-there : (answers : List Answer) (i : ℕ) (w : ℤ) → answers ≡ [] → word_in (slice_get answers i) ≡ Some w → ⊥
@@ -182,3 +184,10 @@ module _ (g : Lists) (t : Numbers) (n i : ℕ) (answers : List Answer) (a b c : 
       → IfSome (slice_get g.operations i) (λ op. Writes {T = Unit {0}} {E = Failed} b c h j (trace_text g.profile t i n op.kind w) (Err e))
       → Writes {T = Unit {0}} {E = Failed} a c f j (lines_to g t n answers) (Err d)
   fails e d next = fail-at e d (slice_get g.operations i) refl next
+
+-- a machine that began a cycle has that cycle's words
+pub begun : (m : State) (n k : ℕ) → k ≡ m.cycles → n ≤ k → answered_words m n ≡ words_among m.answers
+begun m n k is low =
+    let here : n ≤ m.cycles = subst (λ x. n ≤ x) is low in
+    let begins : nat_le n m.cycles ≡ true = grind (arith, nat_tests) in
+    ap (λ (b : Bool). cond b (words_among m.answers) []) begins

@@ -34,13 +34,6 @@ fn slot_names(alloc: Global, slots: &[Slot]) -> Result<Words, Memory>
     Ok(names)
 }
 
-/// A row of zeros, one for each column.
-fn zeros_of(alloc: Global, columns: &Columns) -> Result<Row, Memory>
-    ensures { IfOk result (λ row. length row ≡ length columns.now) }
-{
-    Ok(Row::from_vec(vec![in alloc; 0; columns.len()]?))
-}
-
 /// Does a cycle on a row of inputs, and prints its line: the row of outputs, or the stop. It answers
 /// whether the run goes on.
 fn print_cycle<O: Sink>(
@@ -168,7 +161,7 @@ fn print_named<O: Sink>(
         Ok(row) => row,
         Err(Memory) => return Err(RunFault::Memory),
     };
-    let mut outputs = match zeros_of(alloc, columns) {
+    let mut outputs = match Row::zeros(alloc, columns.len() as u32) {
         Ok(row) => row,
         Err(Memory) => return Err(RunFault::Memory),
     };

@@ -43,20 +43,7 @@ pub fn run_rows<'a, U: Unit, O: Sink>(
     match open(alloc, &loaded.rows, &loaded.columns) {
         Ok(mut rows) => match run {
             ProgramRun::Plain => run_ended(name, print_run(alloc, &loaded.program, &mut rows, out)),
-            ProgramRun::Run(code) => run_ended(
-                name,
-                run_program(
-                    alloc,
-                    &loaded.program,
-                    code,
-                    &mut rows,
-                    unit,
-                    out,
-                    &EveryRow,
-                    &mut RowLines,
-                ),
-            ),
-            ProgramRun::Il(code) => run_ended(
+            ProgramRun::Run(code) | ProgramRun::Il(code) => run_ended(
                 name,
                 run_program(
                     alloc,

@@ -14,7 +14,8 @@ use crate::fault::Fault;
 use crate::image_rows::ImageRows;
 use crate::opening::open;
 use crate::printed::run_printed;
-use crate::tracing::run_words;
+use crate::tracing::{EachWord, NoRows};
+use coded_machine::right_answers_stand_for_values;
 use coded_unit::Unit;
 use std::alloc::Global;
 use vcp_inputs::{RowsWord, SingleRun, rows_name};
@@ -36,6 +37,10 @@ pub fn run_image<'a, U: Unit, O: Sink>(
     ensures { (files : FilesSeen) → PerformsOn (λ m. single_run m (rows_of rows.entry) run) (rows_of rows.entry) loaded.now files files
         (moment (U.seen unit.old) (O.seen out.old)) (moment (U.seen unit.new) (O.seen out.new)) (told_line result) (told_status result) }
 {
+    // So the words of an honest unit are those that are meant.
+    right_answers_stand_for_values();
+    let _rules = loaded.image.graph.len();
+    let _ranges = loaded.image.table.step();
     let name = rows_name(rows);
     match open(alloc, &loaded.rows, &loaded.columns) {
         Ok(mut rows) => match run {
@@ -54,14 +59,15 @@ pub fn run_image<'a, U: Unit, O: Sink>(
             ),
             SingleRun::Trace { cycle } => run_ended(
                 name,
-                run_words(
+                run_printed(
                     alloc,
                     &loaded.image.graph,
                     &loaded.image.table,
-                    cycle,
                     &mut rows.through(cycle),
                     unit,
                     out,
+                    &EachWord { cycle },
+                    &mut NoRows,
                 ),
             ),
             SingleRun::Pair { seed } => run_ended(

@@ -17,6 +17,8 @@ pub fn wide_image(alloc: Global, image: Image) -> Result<Text, Memory>
     let seed = image.table.seed();
     let step = image.table.step();
     let graph = image.graph.widened();
-    let table = Table::new(alloc, &graph, seed, step)?;
-    write_image(alloc, &graph, &table)
+    match Table::new(alloc, &graph, seed, step) {
+        Ok(table) => write_image(alloc, &graph, &table),
+        Err(Memory) => Err(Memory),
+    }
 }

@@ -1,4 +1,5 @@
-use Rattle.std.proofs.Common.{◌≡◌, List, map, length, sym, ap, subst, ◌∙◌, refl}
+use Rattle.std.proofs.Common.{◌≡◌, ◌≤◌, List, map, length, sym, ap, subst, ◌∙◌, refl, arith}
+use Rattle.vcp_base.specs.Limits.{most_names}
 use Rattle.vcp_base.specs.declared.columns.Column.{Column}
 use Rattle.vcp_outside.specs.Counts.{Rose}
 use Rattle.vcp_typed.specs.declared.slot.Slot.{Slot}
@@ -6,7 +7,7 @@ use Rattle.vcp_typed.specs.Checked.{IsChecked}
 use Rattle.vcp_typed.specs.Fitting.{AreFit, input_types, output_columns, output_types}
 use Rattle.st_plain.specs.Evaluator.{Evaluator}
 use Rattle.flat_expr.specs.Told.{names_of}
-use Rattle.vcp_core.proofs.PlainNames.{outputs-count}
+use Rattle.vcp_core.proofs.PlainNames.{outputs-count, outputs-few}
 use Rattle.vcp_core.proofs.PlainTurns.{header-first, header-fails, nothing-printed}
 use Rattle.vcp_core.proofs.JobFacts.{memory_unwritten}
 use Rattle.std.proofs.lemmas.List.{length-replicate}
@@ -15,6 +16,12 @@ use Rattle.vcp_core.proofs.plain_run.print_named.Goals as goal
 named : (slots : List Slot) (columns : List Column) → columns ≡ output_columns slots
     → map (λ (c : Column). c.name) columns ≡ map (λ (c : Column). c.name) (output_columns slots)
 named slots columns is = ap (map (λ (c : Column). c.name)) is
+
+pub overflow_cast-len : goal.overflow_cast-len
+overflow_cast-len g c =
+    let few : length c.args.columns.now ≤ most_names = rw c.requires.columns (omega (arith, c.requires.checked.few, outputs-few c.args.program.now.slots)) in
+    let count : c.len.result ≤ most_names = rw c.len.ensures few in
+    record { fits = omega (arith, count) }
 
 pub print_cycles-requires : goal.print_cycles-requires
 print_cycles-requires g c =
@@ -29,7 +36,7 @@ print_cycles-requires g c =
       few = c.requires.few;
       inputs = ap length c.in-Ok.ensures ∙ length-replicate _ _ ∙ c.width.ensures ∙ ap length c.requires.types
           ∙ ap (λ (e : Evaluator). length (input_types e.program.slots)) (sym new);
-      outputs = c.in-Ok-zeros_of.ensures ∙ ap length c.requires.columns ∙ outputs-count c.args.program.now.slots
+      outputs = ap length c.in-Ok-zeros.ensures ∙ length-replicate _ _ ∙ c.len.ensures ∙ ap length c.requires.columns ∙ outputs-count c.args.program.now.slots
           ∙ ap (λ (e : Evaluator). length (output_types e.program.slots)) (sym new);
     }
 
@@ -60,8 +67,8 @@ returns-in-Ok-header_line g c =
 pub returns-in-Err : goal.returns-in-Err
 returns-in-Err g c = record { prints = nothing-printed c.args.program.now c.args.rows.now _; write = λ e. absurd (memory_unwritten e); stayed = λ other. refl }
 
-pub returns-in-Err-zeros_of : goal.returns-in-Err-zeros_of
-returns-in-Err-zeros_of g c = record { prints = nothing-printed c.args.program.now c.args.rows.now _; write = λ e. absurd (memory_unwritten e); stayed = λ other. refl }
+pub returns-in-Err-zeros : goal.returns-in-Err-zeros
+returns-in-Err-zeros g c = record { prints = nothing-printed c.args.program.now c.args.rows.now _; write = λ e. absurd (memory_unwritten e); stayed = λ other. refl }
 
 pub returns : goal.returns
 returns g c = record { prints = nothing-printed c.args.program.now c.args.rows.now _; write = λ e. absurd (memory_unwritten e); stayed = λ other. refl }

@@ -56,75 +56,64 @@ returns-in-Plain g c p files later read =
     (λ is. absurd (plain_refuses t left before after r prints is)) c.print_run.ensures.write both.file.faults c.print_run.ensures.stayed
     (rows_may (about f) rows (λ w among. inr among) (λ n among. among)))
 
--- ---- `run`
+-- ---- `run` and `il`
 
 pub run_program-requires-clause-types : goal.run_program-requires-clause-types
 run_program-requires-clause-types g c =
     c.in-Ok.ensures.types ∙ (ap types_of c.requires.fit.columns ∙ types-of-inputs c.args.loaded.now.program.slots)
 
 pub run_program-requires-clause-code : goal.run_program-requires-clause-code
-run_program-requires-clause-code g c = rw c.in-Run.is at c.requires.code
-
-pub returns-in-Run : goal.returns-in-Run
-returns-in-Run g c p files later read =
-    let code = as_code c.in-Run.code in
-    let rows = rows_of c.args.rows in
-    let both = rw c.in-Run.is at read in
-    let f = run p rows code in
-    let t = c.args.loaded.now.program in
-    let left = c.in-Ok.rows in
-    let j = rows_job (rows_name rows) code (source t) left in
-    let before = moment (g.U.Unit.seen c.args.unit.now) (g.O.Sink.seen c.args.out.now) in
-    let after = moment (g.U.Unit.seen c.run_program.new.unit) (g.O.Sink.seen c.run_program.new.out) in
-    let ended : RunsTo j before after c.run_program.result = c.run_program.ensures.ran (source t) (rows_name rows)
-    (every_row (subject_outputs (source t))) no_words (as-itself t left) (rows-shown _ _ (source t) code left (rows_name rows)) in
-    rw (c.in-Run.is, c.run_ended-in-Run.ensures.line, c.run_ended-in-Run.ensures.status, c.rows_name-name.ensures)
-    (files_run (about f) (TaskOf f) files later not_none both.file.held (inr (inl refl)) before after (rows_name rows) c.run_program.result (λ e is. run_ends e)
-    (if_some_weaker files.held _ _
-    (λ h comes. ran (about f) files later before after (TaskOf f h) j c.run_program.result refl comes c.run_program.ensures.causes.write ended)
-    (opened_comes TypedOf NotTyped (λ v. input_columns v.slots) (about f) (source_word p) rows not_none (inr (inl refl)) (λ w among. inr among)
-    (λ n among. among) (RunsOnRows rows code) files later t c.args.loaded.now.columns c.args.loaded.now.rows c.requires.fit.columns both left (λ h. runs_to j)
-    (c.in-Ok.ensures.opens 0 0) (λ h. refl)))
-    both.file.ended (λ no. absurd (true≢false no)) (λ calls. c.run_program.ensures.causes.stopped) c.run_program.ensures.causes.refused
-    c.run_program.ensures.causes.write both.file.faults c.run_program.ensures.causes.stayed (rows_may (about f) rows (λ w among. inr among) (λ n among. among)))
-
--- ---- `il`
-
-pub run_program-requires-in-Il-clause-types : goal.run_program-requires-in-Il-clause-types
-run_program-requires-in-Il-clause-types g c =
-    c.in-Ok.ensures.types ∙ (ap types_of c.requires.fit.columns ∙ types-of-inputs c.args.loaded.now.program.slots)
-
-pub run_program-requires-in-Il-clause-code : goal.run_program-requires-in-Il-clause-code
-run_program-requires-in-Il-clause-code g c = rw c.in-Il.is at c.requires.code
+run_program-requires-clause-code g c = elim c.in-Run.is [
+  | inl is ↦ rw is at c.requires.code
+  | inr is ↦ rw is at c.requires.code
+]
 
 pub returns-in-Ok : goal.returns-in-Ok
 returns-in-Ok g c p files later read =
-    let code = as_code c.in-Il.code in
+    let code = as_code c.in-Run.code in
     let rows = rows_of c.args.rows in
-    let both = rw c.in-Il.is at read in
-    let f = il p rows code in
     let t = c.args.loaded.now.program in
     let columns = c.args.loaded.now.columns in
     let left = c.in-Ok.rows in
     let before = moment (g.U.Unit.seen c.args.unit.now) (g.O.Sink.seen c.args.out.now) in
-    let after = moment (g.U.Unit.seen c.run_program-in-Il.new.unit) (g.O.Sink.seen c.run_program-in-Il.new.out) in
+    let after = moment (g.U.Unit.seen c.run_program.new.unit) (g.O.Sink.seen c.run_program.new.out) in
     let o = source_outcome c.args.loaded.now.rows columns in
     let law = c.lists_are_told.ensures in
-    rw (c.in-Il.is, c.run_ended-in-Il.ensures.line, c.run_ended-in-Il.ensures.status, c.rows_name-name.ensures)
-    (files_run (about f) (TaskOf f) files later not_none both.file.held (inr (inl refl)) before after (rows_name rows) c.run_program-in-Il.result (λ e is. run_ends e)
-    (if_some_both files.held files.held _ _ _ refl
-    (λ h (text, found, few, (i, is, same)) outcome.
-    ran (about f) files later before after (TaskOf f h) (rows_job (rows_name rows) code (listed i) left) c.run_program-in-Il.result refl
-    (il_comes law.columns p rows code h text i t columns o (runs_to (rows_job (rows_name rows) code (listed i) left)) found few is same
-    c.requires.fit.columns outcome
-    (subst (λ x. OnRows (rows_name rows) (λ l y. y ≡ runs_to (rows_job (rows_name rows) code (listed i) l)) x
-    (runs_to (rows_job (rows_name rows) code (listed i) left))) (sym (c.in-Ok.ensures.opens 0 0)) refl))
-    c.run_program-in-Il.ensures.causes.write
-    (c.run_program-in-Il.ensures.ran (listed i) (rows_name rows) (every_row (subject_outputs (listed i))) no_words
-    (stands_listed law.columns law.told text i t left is same) (rows-shown _ _ (listed i) code left (rows_name rows))))
-    both.file.loads both.rows_are)
-    both.file.ended (λ no. absurd (true≢false no)) (λ calls. c.run_program-in-Il.ensures.causes.stopped) c.run_program-in-Il.ensures.causes.refused
-    c.run_program-in-Il.ensures.causes.write both.file.faults c.run_program-in-Il.ensures.causes.stayed (rows_may (about f) rows (λ w among. inr among) (λ n among. among)))
+    elim c.in-Run.is [
+      | inl is ↦ (
+          let both = rw is at read in
+          let f = run p rows code in
+          let j = rows_job (rows_name rows) code (source t) left in
+          let ended : RunsTo j before after c.run_program.result = c.run_program.ensures.ran (source t) (rows_name rows)
+          (every_row (subject_outputs (source t))) no_words (as-itself t left) (rows-shown _ _ (source t) code left (rows_name rows)) in
+          rw (is, c.run_ended-in-Run.ensures.line, c.run_ended-in-Run.ensures.status, c.rows_name-name.ensures)
+          (files_run (about f) (TaskOf f) files later not_none both.file.held (inr (inl refl)) before after (rows_name rows) c.run_program.result (λ e is. run_ends e)
+          (if_some_weaker files.held _ _
+          (λ h comes. ran (about f) files later before after (TaskOf f h) j c.run_program.result refl comes c.run_program.ensures.causes.write ended)
+          (opened_comes TypedOf NotTyped (λ v. input_columns v.slots) (about f) (source_word p) rows not_none (inr (inl refl)) (λ w among. inr among)
+          (λ n among. among) (RunsOnRows rows code) files later t columns c.args.loaded.now.rows c.requires.fit.columns both left (λ h. runs_to j)
+          (c.in-Ok.ensures.opens 0 0) (λ h. refl)))
+          both.file.ended (λ no. absurd (true≢false no)) (λ calls. c.run_program.ensures.causes.stopped) c.run_program.ensures.causes.refused
+          c.run_program.ensures.causes.write both.file.faults c.run_program.ensures.causes.stayed (rows_may (about f) rows (λ w among. inr among) (λ n among. among))))
+      | inr is ↦ (
+          let both = rw is at read in
+          let f = il p rows code in
+          rw (is, c.run_ended-in-Run.ensures.line, c.run_ended-in-Run.ensures.status, c.rows_name-name.ensures)
+          (files_run (about f) (TaskOf f) files later not_none both.file.held (inr (inl refl)) before after (rows_name rows) c.run_program.result (λ e is. run_ends e)
+          (if_some_both files.held files.held _ _ _ refl
+          (λ h (text, found, few, (i, is, same)) outcome.
+          ran (about f) files later before after (TaskOf f h) (rows_job (rows_name rows) code (listed i) left) c.run_program.result refl
+          (il_comes law.columns p rows code h text i t columns o (runs_to (rows_job (rows_name rows) code (listed i) left)) found few is same
+          c.requires.fit.columns outcome
+          (subst (λ x. OnRows (rows_name rows) (λ l y. y ≡ runs_to (rows_job (rows_name rows) code (listed i) l)) x
+          (runs_to (rows_job (rows_name rows) code (listed i) left))) (sym (c.in-Ok.ensures.opens 0 0)) refl))
+          c.run_program.ensures.causes.write
+          (c.run_program.ensures.ran (listed i) (rows_name rows) (every_row (subject_outputs (listed i))) no_words
+          (stands_listed law.columns law.told text i t left is same) (rows-shown _ _ (listed i) code left (rows_name rows))))
+          both.file.loads both.rows_are)
+          both.file.ended (λ no. absurd (true≢false no)) (λ calls. c.run_program.ensures.causes.stopped) c.run_program.ensures.causes.refused
+          c.run_program.ensures.causes.write both.file.faults c.run_program.ensures.causes.stayed (rows_may (about f) rows (λ w among. inr among) (λ n among. among))))
+    ]
 
 -- ---- ROWS aren't opened
 
