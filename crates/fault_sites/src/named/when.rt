@@ -2,7 +2,7 @@
 
 ghost use Rattle.std.specs.Prelude.{◌≡◌, ◌<◌, ◌≤◌, IfSome, IfOk};
 ghost use Rattle.vcp_base.specs.Limits.{most_cycles};
-ghost use Rattle.fault_sites.specs.NamedWords.{span_of};
+ghost use Rattle.fault_sites.specs.NamedWords.{last_of, span_of};
 ghost use Rattle.fault_sites.specs.NamedLines.{ending_of, when_of, with_rest};
 
 use crate::named::cutting::cut_at;
@@ -34,6 +34,17 @@ pub enum Ending {
     },
 }
 
+/// The last cycle of N..M, behind the first `.`.
+fn last_said(word: &[u8]) -> Option<u32>
+    ensures value { result ≡ last_of word.now }
+    ensures below { IfSome result (λ n. n < most_cycles) }
+{
+    match word {
+        [b'.', word @ ..] => cycle_number(word),
+        _ => None,
+    }
+}
+
 /// One cycle, or N..M.
 pub(crate) fn cycles_said(word: &[u8]) -> Option<Span>
     ensures value { result ≡ span_of word.now }
@@ -49,10 +60,7 @@ pub(crate) fn cycles_said(word: &[u8]) -> Option<Span>
     let Some(first) = cycle_number(front) else {
         return None;
     };
-    let [b'.', word @ ..] = back else {
-        return None;
-    };
-    match cycle_number(word) {
+    match last_said(back) {
         Some(last) => if first <= last {
             Some(Span { first, last })
         } else {
