@@ -17,11 +17,12 @@ fn main(rt: HostRuntime) -> ExitCode {
         Ok(words) => words,
         Err(e) => return ExitCode::from(status_without_words(e.kind())),
     };
+    // The words behind `play` name sessions.
+    let is_play = words.len() > 0 && same_bytes(words.at(0).bytes(), b"play");
     let mut files = HostFiles::new(&rt);
     let mut out = HostSink::new(rt.stdout());
     let mut err = HostSink::new(rt.stderr());
-    // The words behind `play` name sessions.
-    let status = if words.len() > 0 && same_bytes(words.at(0).bytes(), b"play") {
+    let status = if is_play {
         play_sessions(rt.alloc(), &mut files, &words, &mut out, &mut err)
     } else {
         vcp_study(rt.alloc(), &words, &mut files, &mut out, &mut err)

@@ -26,8 +26,10 @@ pub fn play_sessions<F: Files, O: Sink, E: Sink>(
     for i in 1..words.len() {
         play_file(alloc, files, words.at(i).bytes(), &mut player);
     }
-    let is_written = write_all(out, &player.told).is_ok() && write_all(err, &player.faults).is_ok();
-    if is_written && player.faults.is_empty() {
+    if write_all(out, &player.told).is_ok()
+        && write_all(err, &player.faults).is_ok()
+        && player.faults.is_empty()
+    {
         0
     } else {
         1

@@ -1,6 +1,7 @@
 //! Texts: their words, and the bytes that they spell. Where there is no memory for a part of a text it is lacking, so that the text is another one than
 //! what is wanted.
 
+use memchr::memchr;
 use std::alloc::Global;
 use std::str::from_utf8;
 use vcp_base::Words;
@@ -10,7 +11,7 @@ pub fn behind(text: &[u8], words: usize) -> &[u8] {
     let mut left = words;
     for i in 0..text.len() {
         if left == 0 {
-            return text.get(i..).unwrap_or(b"");
+            return &text[i..];
         }
         if text[i] == b' ' {
             left -= 1;
@@ -22,12 +23,10 @@ pub fn behind(text: &[u8], words: usize) -> &[u8] {
 /// A text's word of this number, from 0; an empty one where there is none.
 pub fn word(text: &[u8], number: usize) -> &[u8] {
     let rest = behind(text, number);
-    for i in 0..rest.len() {
-        if rest[i] == b' ' {
-            return rest.get(..i).unwrap_or(b"");
-        }
+    match memchr(b' ', rest) {
+        Some(end) => rest.get(..end).unwrap_or(b""),
+        None => rest,
     }
-    rest
 }
 
 /// The parts of a text between which a separator stands: one more than it stands there.
@@ -35,7 +34,7 @@ pub fn parts_of(alloc: Global, text: &[u8], separator: &[u8]) -> Words {
     let mut parts = Words::new(alloc);
     let mut start = 0usize;
     for i in 0..text.len() {
-        if start <= i && text.get(i..).unwrap_or(b"").starts_with(separator) {
+        if start <= i && text[i..].starts_with(separator) {
             let _ = parts.push(text.get(start..i).unwrap_or(b""));
             start = i.saturating_add(separator.len());
         }

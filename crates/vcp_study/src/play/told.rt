@@ -1,8 +1,9 @@
 //! What is told: a text that grows. Where there is no memory for a part of it, that is lacking, so that the text is another one than what is wanted.
 
-use crate::play::texts::put;
+use crate::play::texts::{part, parts_of, put};
 use itoa::Buffer;
 use std::alloc::Global;
+use vcp_base::same_bytes;
 
 /// What is told so far.
 pub struct Told {
@@ -54,5 +55,21 @@ impl Told {
             .say(b"`, came `")
             .say(came)
             .say(b"` of")
+    }
+
+    /// Appends the first line of a text that differs from what was wanted, where one does.
+    pub fn unless_same(self, alloc: Global, wanted: &[u8], came: &[u8]) -> Told {
+        if same_bytes(wanted, came) {
+            return self;
+        }
+        let wanted = parts_of(alloc, wanted, b"\n");
+        let came = parts_of(alloc, came, b"\n");
+        let mut same = 0usize;
+        for i in 0..wanted.len() {
+            if same == i && same_bytes(part(&wanted, i), part(&came, i)) {
+                same = same.saturating_add(1);
+            }
+        }
+        self.instead(part(&wanted, same), part(&came, same))
     }
 }

@@ -87,19 +87,14 @@ fn tell_passed(passed: Result<Graph, Memory>, told: Told) -> Told {
     told
 }
 
-/// Tells the residue that is expected of an operation of a graph in a cycle, in a code, with a seed and a step.
+/// Tells the residue that is expected of an operation of a graph in a cycle, in a code, with the greatest seed and the greatest step.
 fn tell_expected(alloc: Global, n: &[i128; 12], graph: Graph, told: Told) -> Told {
     let graph = if n[2] == 1 { graph.widened() } else { graph };
-    let seed = u32_of(n[3]);
-    let step = u32_of(n[4]);
-    let op = u32_of(n[5]);
-    let cycle = u32_of(n[6]);
-    if seed < SEEDS
-        && 0 < step
-        && step <= MOST_STEP as u32
-        && op < graph.len()
+    let op = u32_of(n[3]);
+    let cycle = u32_of(n[4]);
+    if op < graph.len()
         && cycle < MOST_CYCLES
-        && let Ok(table) = Table::new(alloc, &graph, seed, step as u16)
+        && let Ok(table) = Table::new(alloc, &graph, SEEDS - 1, MOST_STEP)
     {
         return told.number(table.expected(op, cycle) as i128).say(b"\n");
     }

@@ -44,34 +44,40 @@ pub fn tell_again(came: &mut Came, name: &[u8], told: Told) -> Told {
     }
 }
 
-/// Whether of the bytes before a place is told that they end there, and each value of the byte at it is refused, or gives an image of its own.
-fn is_refused_or_own(alloc: Global, bytes: &[u8], at: u32) -> bool {
-    let place = at as usize;
-    let mut changed = copy_of(alloc, bytes);
-    let mut is_right = match read(alloc, bytes.get(..place).unwrap_or(bytes)) {
-        Err(ImageFault::Short { at: end }) => end == at,
+/// Whether bytes are told to end too early, at their end.
+fn is_short(alloc: Global, bytes: &[u8]) -> bool {
+    match read(alloc, bytes) {
+        Err(ImageFault::Short { at }) => at as usize == bytes.len(),
         _ => false,
-    };
+    }
+}
+
+/// Whether the byte at a place may have each value, and the bytes are refused then, or are the image of what they read to.
+fn may_change(alloc: Global, bytes: &[u8], at: usize) -> bool {
+    let mut bytes = copy_of(alloc, bytes);
+    let mut may = true;
     for value in 0..=255u8 {
-        if let Some(byte) = changed.get_mut(place) {
+        if let Some(byte) = bytes.get_mut(at) {
             *byte = value;
         }
-        match written_again(alloc, &changed) {
-            Ok(image) => is_right = is_right && same_bytes(image.bytes(), &changed),
-            Err(ImageFault::Memory) => is_right = false,
+        match written_again(alloc, &bytes) {
+            Ok(image) => may = may && same_bytes(image.bytes(), &bytes),
+            Err(ImageFault::Memory) => may = false,
             Err(_) => {}
         }
     }
-    is_right
+    may
 }
 
-/// Tells at how many places of a file, from one to before another, its front is short, and each changed byte is refused or gives an image of its own:
-/// `M FROM TO`.
+/// Tells at how many places of a file, from one to before another, the bytes before it are told to end too early there, and the byte at it may have each
+/// value: `M FROM TO`.
 pub fn tell_places(came: &mut Came, n: &[i128; 12], words: &[u8], told: Told) -> Told {
     let text = text_in(came, word(words, 0));
+    let bytes = text.bytes();
     let mut places = 0u32;
     for at in u32_of(n[1])..u32_of(n[2]) {
-        if is_refused_or_own(came.alloc, text.bytes(), at) {
+        let front = bytes.get(..at as usize).unwrap_or(bytes);
+        if is_short(came.alloc, front) && may_change(came.alloc, bytes, at as usize) {
             places = places.saturating_add(1);
         }
     }

@@ -38,16 +38,12 @@ pub fn tell_chain(count: u32, told: Told) -> Told {
             .say(&i.to_be_bytes());
     }
     for i in 0..count {
+        let correction = (signature_of(Profile::Narrow, 0, i) & 4294967295) as u32;
         told = told
             .say(&[1, 2, 2])
             .say(&[0; 28])
             .say(&i.saturating_add(1).to_be_bytes())
-            .say(&correction(i).to_be_bytes());
+            .say(&correction.to_be_bytes());
     }
     told
-}
-
-/// The correction of an operation of this number that reads nothing.
-fn correction(i: u32) -> u32 {
-    u32::try_from(signature_of(Profile::Narrow, 0, i)).unwrap_or(0)
 }

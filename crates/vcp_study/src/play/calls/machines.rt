@@ -25,9 +25,11 @@ pub fn tell_cycles(
         && let Ok(mut machine) = Machine::new(alloc, graph, &table)
         && let Ok(mut out) = Row::zeros(alloc, 1)
     {
-        let told = tell_cycle(alloc, &mut machine, unit, &mut out, i64_of(n[2]), told);
-        let told = tell_cycle(alloc, &mut machine, unit, &mut out, i64_of(n[3]), told);
-        return tell_cycle(alloc, &mut machine, unit, &mut out, i64_of(n[4]), told);
+        let mut told = told;
+        'cycles: for i in 2..5 {
+            told = tell_cycle(alloc, &mut machine, unit, &mut out, i64_of(n[i]), told);
+        }
+        return told;
     }
     told
 }
@@ -69,10 +71,19 @@ fn perform_calls(machine: &mut Machine<'_>, unit: &mut BadUnit, inputs: &Row)
     }
 }
 
-/// Tells the end of a cycle in the rest of a line, after a release with the first five words, 0 where there is none.
+/// Tells the end of a cycle in the rest of a line, after a release with the first five words that were answered, 0 where there is none.
 fn tell_end(machine: &Machine<'_>, end: CycleEnd, told: Told) -> Told {
     let told = match end {
-        CycleEnd::Released => tell_words(machine, told.item(b"released")),
+        CycleEnd::Released => {
+            let mut told = told.item(b"released");
+            for i in 0..5 {
+                told = match machine.word(i) {
+                    Some(word) => told.number(word.get()),
+                    None => told.number(0),
+                };
+            }
+            told
+        }
         CycleEnd::Stopped { op, kind } => told
             .item(b"stopped")
             .number(op as i128)
@@ -88,16 +99,4 @@ fn tell_end(machine: &Machine<'_>, end: CycleEnd, told: Told) -> Told {
             .number(expected as i128),
     };
     told.say(b"\n")
-}
-
-/// Tells the first five words that were answered, 0 where there is none.
-fn tell_words(machine: &Machine<'_>, told: Told) -> Told {
-    let mut told = told;
-    for i in 0..5 {
-        told = match machine.word(i) {
-            Some(word) => told.number(word.get()),
-            None => told.number(0),
-        };
-    }
-    told
 }

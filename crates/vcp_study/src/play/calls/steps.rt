@@ -56,9 +56,8 @@ pub fn tell_read_all(came: &mut Came, words: &[u8], told: Told) -> Told {
     let limit = count(word(words, 1)) as u64;
     match read_all(came.alloc, &mut came.files, word(words, 0), limit) {
         Ok(text) => told.number(text.len() as i128),
-        Err(ReadAll::Failed) => told.say(b"failed"),
         Err(ReadAll::TooLong) => told.say(b"too long"),
-        Err(ReadAll::Memory) => told.say(b"no memory"),
+        Err(_) => told.say(b"failed"),
     }
 }
 
@@ -67,8 +66,9 @@ pub fn tell_writes<O: Sink>(alloc: Global, sink: &mut O, steps: &[u8], told: Tol
     let mut told = told;
     let steps = parts_of(alloc, steps, b";");
     for i in 0..steps.len() {
-        let text = behind(part(&steps, i), 1);
-        let written = if same_bytes(word(part(&steps, i), 0), b"write") {
+        let step = part(&steps, i);
+        let text = behind(step, 1);
+        let written = if same_bytes(word(step, 0), b"write") {
             sink.write(text)
         } else {
             match write_all(sink, text) {

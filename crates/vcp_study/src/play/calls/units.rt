@@ -1,5 +1,7 @@
 //! Units, asked one call after another.
 
+ghost use Rattle.fault_script.specs.Groups.{Apart};
+
 use crate::play::calls::graphs::{graph_in, text_in};
 use crate::play::calls::words::{call_in, tell_parts, u32_of, word_in};
 use crate::play::sessions::came::Came;
@@ -7,8 +9,7 @@ use crate::play::texts::{behind, integer, part, parts_of, word};
 use crate::play::told::Told;
 use coded_unit::{BadUnit, CpuUnit, LogUnit, Unit, Word};
 use fault_injector::{KeptWords, Scripted};
-use fault_script::{Fault, Group, read_script};
-use op_graph::Graph;
+use fault_script::{Group, read_script};
 use std::alloc::Global;
 use vcp_base::{MOST_SOURCE_BYTES, same_bytes};
 
@@ -65,20 +66,9 @@ fn tell_logged(alloc: Global, calls: &[u8], room: u32, told: Told) -> Told {
     told
 }
 
-/// The first fault of a script over a graph; None where there is none.
-fn first_fault(alloc: Global, graph: &Graph, script: &[u8]) -> Option<Fault> {
-    if script.len() as u64 <= MOST_SOURCE_BYTES
-        && let Ok(script) = read_script(alloc, script, graph)
-        && script.len() > 0
-        && script.at(0).len() > 0
-    {
-        return Some(script.at(0).at(0));
-    }
-    None
-}
-
 /// Tells the answers of the session's unit to calls under a fault of an image, where a word was kept for it before, or `-` for none, and how many of them
 /// are wrong: `M WORD FAULT`.
+#[tactic(auto, using(crate::proofs::Groups::group_is_apart))]
 fn tell_acts(came: &mut Came, words: &[u8], calls: &[u8], told: Told) -> Told {
     let kept = word(words, 1);
     let kept = if same_bytes(kept, b"-") {
@@ -86,28 +76,32 @@ fn tell_acts(came: &mut Came, words: &[u8], calls: &[u8], told: Told) -> Told {
     } else {
         Word::new(integer(kept))
     };
-    if let Some(graph) = graph_in(came, word(words, 0))
-        && let Some(fault) = first_fault(came.alloc, &graph, behind(words, 2))
+    let fault = behind(words, 2);
+    if fault.len() as u64 <= MOST_SOURCE_BYTES
+        && let Some(graph) = graph_in(came, word(words, 0))
+        && let Ok(script) = read_script(came.alloc, fault, &graph)
+        && script.len() > 0
     {
-        return tell_under(came.alloc, &mut came.unit, fault, kept, calls, told);
+        return tell_under(came.alloc, &mut came.unit, script.at(0), kept, calls, told);
     }
     told.say(b"no fault of an image")
 }
 
-/// Tells the answers of a unit under a fault.
+/// Tells the answers of a unit under a group of one fault.
 fn tell_under(
     alloc: Global,
     unit: &mut BadUnit,
-    fault: Fault,
+    group: &Group,
     word: Option<Word>,
     calls: &[u8],
     told: Told,
-) -> Told {
-    let mut group = Group::new(alloc);
+) -> Told
+    requires apart { Apart group.now }
+{
     let mut words = KeptWords::new(alloc);
-    if let Ok(()) = group.push(fault)
+    if group.len() == 1
         && let Ok(()) = words.push(word)
-        && let Ok(mut scripted) = Scripted::with_kept(alloc, unit, &group, &words)
+        && let Ok(mut scripted) = Scripted::with_kept(alloc, unit, group, &words)
     {
         return tell_answers(alloc, &mut scripted, calls, told)
             .number(scripted.wrong() as i128)

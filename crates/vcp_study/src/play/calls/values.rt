@@ -73,14 +73,15 @@ fn tell_kind(kind: Kind, told: Told) -> Told {
 /// Tells the kind and the type of a code.
 fn tell_code(code: i128, told: Told) -> Told {
     let code = u8::try_from(code).unwrap_or(255);
-    let told = match kind_of_code(code) {
-        Some(kind) => told.item(kind_name(kind)),
-        None => told.item(b"none"),
+    let kind = match kind_of_code(code) {
+        Some(kind) => kind_name(kind),
+        None => b"none",
     };
-    match ty_of_code(code) {
-        Some(ty) => told.item(ty_name(ty)),
-        None => told.item(b"none"),
-    }
+    let ty = match ty_of_code(code) {
+        Some(ty) => ty_name(ty),
+        None => b"none",
+    };
+    told.item(kind).item(ty)
 }
 
 /// Calls on texts: the numeral and the number of a type that a text is, and a spelled text without its first blanks, between brackets.

@@ -7,6 +7,7 @@ use crate::play::texts::{count, integer, word};
 use crate::play::told::Told;
 use coded_unit::{Answer, Call, Word};
 use fault_script::kind_named;
+use memchr::memchr;
 use vcp_base::{
     Kind, MOST_STAMP, Profile, StopKind, Ty, admits, kind_code, kind_of_code, modulus, same_bytes,
     stop_name,
@@ -47,8 +48,8 @@ pub fn kind_of(code: i128) -> Kind {
     kind_of_code(u8::try_from(code).unwrap_or(0)).unwrap_or(Kind::Input)
 }
 
-/// The code of the code of words, the type or the kind of this name; 0 of another.
-fn code_named(name: &[u8]) -> i128 {
+/// The code of the code of words, the type or the kind of this name, or else the integer that is written so; 0 of another text.
+fn code_of(name: &[u8]) -> i128 {
     if same_bytes(name, b"INT") || same_bytes(name, b"wide") {
         1
     } else if same_bytes(name, b"DINT") {
@@ -58,7 +59,7 @@ fn code_named(name: &[u8]) -> i128 {
     } else {
         match kind_named(name) {
             Some(kind) => kind_code(kind) as i128,
-            None => 0,
+            None => integer(name),
         }
     }
 }
@@ -72,16 +73,11 @@ fn number_of(word: &[u8], profile: Profile, answers: &[Word]) -> i128 {
             None => 0,
         };
     }
-    for i in 0..word.len() {
-        if word[i] == b':' {
-            return (modulus(profile) as i128)
-                .wrapping_mul(integer(word.get(..i).unwrap_or(b"")))
-                .wrapping_add(integer(word.get(i + 1..).unwrap_or(b"")));
-        }
-    }
-    match code_named(word) {
-        0 => integer(word),
-        code => code,
+    match memchr(b':', word) {
+        Some(end) => (modulus(profile) as i128)
+            .wrapping_mul(integer(word.get(..end).unwrap_or(b"")))
+            .wrapping_add(integer(word.get(end.saturating_add(1)..).unwrap_or(b""))),
+        None => code_of(word),
     }
 }
 

@@ -1,8 +1,8 @@
 //! What came of a call, and what of it is otherwise than it has to be.
 
 use crate::play::calls::{single_call, tell_answer};
-use crate::play::sessions::setting::Outside;
-use crate::play::texts::{behind, copy_of, part, parts_of, put, spelled, word};
+use crate::play::sessions::setting::{Outside, Setting};
+use crate::play::texts::{behind, part, parts_of, spelled, word};
 use crate::play::told::Told;
 use coded_unit::BadUnit;
 use std::alloc::Global;
@@ -71,23 +71,6 @@ impl Came {
         };
     }
 
-    /// Tells where another status or error came than this end, as a session writes them behind `=`. Of the line of error that comes which there is room
-    /// for.
-    pub fn tell_end(&self, end: &[u8], room: u32, told: Told) -> Told {
-        let came = Told::new(self.alloc).number(self.status as i128);
-        let mut line = copy_of(self.alloc, behind(end, 1));
-        if !line.is_empty() {
-            put(&mut line, b"\n");
-        }
-        let error = self.err.bytes();
-        if same_bytes(&came.text, word(end, 0))
-            && same_bytes(error, line.get(..room as usize).unwrap_or(&line))
-        {
-            return told;
-        }
-        told.instead(end, &came.say(b" ").say(error).text)
-    }
-
     /// Tells where something else came than a line wants, which says how often a text stands in the output or what the unit was asked in its call of this
     /// number; a call may end before its last fields.
     pub fn compare(&self, line: &[u8], asked: u32, told: Told) -> Told {
@@ -137,20 +120,38 @@ impl Came {
         }
     }
 
-    /// Tells the first line of the output that differs from the wanted ones.
-    pub fn tell_difference(&self, wanted: &[u8], told: Told) -> Told {
-        if same_bytes(self.out.bytes(), wanted) {
-            return told;
-        }
-        let came = parts_of(self.alloc, self.out.bytes(), b"\n");
-        let wanted = parts_of(self.alloc, wanted, b"\n");
-        let mut same = 0usize;
-        for i in 0..wanted.len() {
-            if same == i && same_bytes(part(&came, i), part(&wanted, i)) {
-                same = same.saturating_add(1);
-            }
-        }
-        told.instead(part(&wanted, same), part(&came, same))
+    /// Tells the first line of what came that differs from what is wanted: of the output, where it is compared, and of this end, as a session writes it
+    /// behind `=`. Of the line of error that comes which there is room for.
+    pub fn tell_difference(
+        &self,
+        setting: &Setting,
+        end: &[u8],
+        is_compared: bool,
+        told: Told,
+    ) -> Told {
+        let error = self.err.bytes();
+        let came = Told::new(self.alloc);
+        let came = if is_compared {
+            came.say(self.out.bytes())
+        } else {
+            came
+        };
+        let came = came.say(b"= ").number(self.status as i128);
+        let came = if error.is_empty() {
+            came.say(b"\n")
+        } else {
+            came.say(b" ").say(error)
+        };
+        let wanted = Told::new(self.alloc)
+            .say(&setting.output)
+            .say(b"= ")
+            .say(end);
+        let wanted = if error.len() < setting.rooms[1] as usize {
+            wanted.say(b"\n")
+        } else {
+            wanted
+        };
+        told.unless_same(self.alloc, &wanted.text, &came.text)
     }
 
     /// Whether a call in which a call of an object fails ended as it has to, where the whole one ended so: where the files fail with 5, a front of the

@@ -1,6 +1,7 @@
 //! The files of a session.
 
-use crate::play::texts::{behind, copy_of, count, part, put, spelled, word};
+use crate::play::texts::{behind, count, part, spelled, word};
+use crate::play::told::Told;
 use std::alloc::Global;
 use vcp_base::{Words, same_bytes};
 use vcp_outside::MemFiles;
@@ -53,11 +54,11 @@ impl SessionFiles {
     pub fn add(&mut self, line: &[u8]) {
         let name = word(line, 0);
         let text = spelled(self.alloc, behind(line, 2));
-        let mut whole = copy_of(self.alloc, self.text(name));
+        let mut whole = Told::new(self.alloc).say(self.text(name));
         for _i in 0..count(word(line, 1)) {
-            put(&mut whole, &text);
+            whole = whole.say(&text);
         }
-        self.set(name, &whole);
+        self.set(name, &whole.text);
     }
 
     /// Makes a file of another with other bytes, which are spelled, from a place on: `NAME OTHER PLACE BYTES`.
@@ -65,13 +66,12 @@ impl SessionFiles {
         let text = self.text(word(line, 1));
         let place = count(word(line, 2)) as usize;
         let bytes = spelled(self.alloc, behind(line, 3));
-        let mut whole = copy_of(self.alloc, text.get(..place).unwrap_or(text));
-        put(&mut whole, &bytes);
-        put(
-            &mut whole,
-            text.get(place.saturating_add(bytes.len())..).unwrap_or(b""),
-        );
-        self.set(word(line, 0), &whole);
+        let rest = place.saturating_add(bytes.len());
+        let whole = Told::new(self.alloc)
+            .say(text.get(..place).unwrap_or(text))
+            .say(&bytes)
+            .say(text.get(rest..).unwrap_or(b""));
+        self.set(word(line, 0), &whole.text);
     }
 
     /// The files in memory, of which no call was made so far.

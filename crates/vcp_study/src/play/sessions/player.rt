@@ -7,7 +7,6 @@ use crate::play::sessions::words::{program_of, whole_end};
 use crate::play::texts::{behind, copy_of, part, parts_of, put, spelled, word};
 use crate::play::told::Told;
 use std::alloc::Global;
-use std::mem;
 
 /// A player of sessions, one after another.
 pub struct Player {
@@ -163,9 +162,9 @@ impl Player {
 
     /// Makes the open call, which ends so, for each of its commands, between which `,` stands.
     fn make(&mut self, end: &[u8], kept: &[u8]) {
-        let setting = mem::replace(&mut self.setting, Setting::new(self.alloc));
-        let program = program_of(&setting.words);
-        let words = setting.words.get(program.len()..).unwrap_or(b"");
+        let whole = copy_of(self.alloc, &self.setting.words);
+        let program = program_of(&whole);
+        let words = whole.get(program.len()..).unwrap_or(b"");
         let commands = parts_of(self.alloc, word(words, 0), b",");
         for i in 0..commands.len() {
             let words = Told::new(self.alloc)
@@ -173,46 +172,41 @@ impl Player {
                 .say(part(&commands, i))
                 .say(b" ")
                 .say(behind(words, 1));
-            self.make_one(&setting, &words.text, whole_end(program, end), kept);
+            self.make_one(&words.text, whole_end(program, end), kept);
         }
+        self.setting = Setting::new(self.alloc);
     }
 
-    /// Makes a call of these words, and notes what came otherwise.
-    fn make_one(&mut self, setting: &Setting, words: &[u8], end: &[u8], kept: &[u8]) {
+    /// Makes a call of these words, notes what came otherwise, and keeps its output as the file of a name where one is given.
+    fn make_one(&mut self, words: &[u8], end: &[u8], kept: &[u8]) {
         self.made = self.made.saturating_add(1);
-        let told = match setting.came(&self.files, words, setting.outside, setting.counts[0]) {
-            Some(came) => self.judged(setting, words, &came, end, kept),
-            None => Told::new(self.alloc).say(b"no memory for"),
+        let setting = &self.setting;
+        let Some(came) = setting.came(&self.files, words, setting.outside, setting.counts[0]) else {
+            self.note(b"no memory for", words);
+            return;
         };
+        let is_compared = kept.is_empty() || !self.setting.output.is_empty();
+        let told = self.judged(words, &came, end, is_compared);
         if !told.text.is_empty() {
             self.note(&told.text, words);
         }
+        if !kept.is_empty() {
+            self.files.set(kept, came.out.bytes());
+        }
     }
 
-    /// Tells what came otherwise of a call, and keeps its output as the file of a name where one is given.
-    fn judged(
-        &mut self,
-        setting: &Setting,
-        words: &[u8],
-        came: &Came,
-        end: &[u8],
-        kept: &[u8],
-    ) -> Told {
+    /// Tells what came otherwise of a call of these words, which ends so, and whose output is compared or not.
+    fn judged(&self, words: &[u8], came: &Came, end: &[u8], is_compared: bool) -> Told {
         let mut told = Told::new(self.alloc);
         let mut asked = 0u32;
-        for i in 0..setting.others.len() {
-            let line = setting.others.at(i).bytes();
+        for i in 0..self.setting.others.len() {
+            let line = self.setting.others.at(i).bytes();
             told = came.compare(line, asked, told);
             if line.starts_with(b"?") {
                 asked = asked.saturating_add(1);
             }
         }
-        let told = came.tell_end(end, setting.rooms[1], told);
-        let told = setting.each_otherwise(&self.files, words, came, told);
-        if kept.is_empty() {
-            return came.tell_difference(&setting.output, told);
-        }
-        self.files.set(kept, came.out.bytes());
-        told
+        let told = came.tell_difference(&self.setting, end, is_compared, told);
+        self.setting.each_otherwise(&self.files, words, came, told)
     }
 }
