@@ -1,10 +1,12 @@
 -- Both: an operation and an entry of another list, added together or not at all.
-use Rattle.std.proofs.Common.{◌≡◌, ℕ, ◌<◌, ◌≤◌, ◌-◌, ◌↔◌, List, [], ◌∷◌, ◌++◌, length, take, Result, Ok, Err, OnOk, OnErr, refl, sym, ap, ◌∙◌, subst, arith}
+use Rattle.std.proofs.Common.{◌≡◌, ℕ, ◌<◌, ◌≤◌, ◌-◌, ◌↔◌, List, [], ◌∷◌, ◌++◌, length, take, Result, Ok, Err, OnOk, OnErr, IsErr, refl, sym, ap, ◌∙◌, subst, arith}
 use Rattle.std.proofs.Math.Seq.{take-append_seam}
+use Rattle.std.proofs.lemmas.Bool.{false≢true}
 use Rattle.std.proofs.lemmas.List.{length_push}
 use Rattle.vcp_base.specs.Limits.{most_operations}
 use Rattle.op_graph.specs.declared.op.Op.{Op}
-use Rattle.op_graph.specs.Building.{with_op}
+use Rattle.op_graph.specs.declared.op.TurnNode.{TurnNode}
+use Rattle.op_graph.specs.Building.{with_op, with_name, with_turn_node}
 use Rattle.op_graph.specs.declared.build.Build.{Build}
 use Rattle.op_graph.specs.declared.build.Build.TheVariants as build
 use Rattle.op_graph.specs.Lists.{Lists}
@@ -82,3 +84,30 @@ op_added {g = g} op ops same is = ap (λ (xs : List Op). record g { operations =
 
 pub op_refused : {g v : Lists} (ops : List Op) → g ≡ v → ops ≡ g.operations → record g { operations = ops } ≡ v
 op_refused {g = g} ops same is = ap (λ (xs : List Op). record g { operations = xs }) is ∙ same
+
+-- ---- a refusal that is handed on
+
+pub adds_nothing : {T E : Type 0} (P : Type 0) (r : Result T E) → IsErr r → OnOk r P
+adds_nothing P (Ok x) is = absurd (false≢true is)
+adds_nothing P (Err e) is = tt
+
+pub keeps_all : {T E P : Type 0} (r : Result T E) → P → OnErr r P
+keeps_all (Ok x) same = tt
+keeps_all (Err e) same = same
+
+-- ---- names and turn nodes
+
+pub name_added : {g v : Lists} (n m : List ℕ) (names : List (List ℕ)) → g ≡ v → names ≡ g.names ++ m ∷ [] → m ≡ n
+    → record g { names = names } ≡ with_name v n
+name_added {g = g} n m names same is copied =
+    ap (λ (xs : List (List ℕ)). record g { names = xs }) (is ∙ ap (λ (x : List ℕ). g.names ++ x ∷ []) copied) ∙ ap (λ (x : Lists). with_name x n) same
+
+pub name_refused : {g v : Lists} (names : List (List ℕ)) → g ≡ v → names ≡ g.names → record g { names = names } ≡ v
+name_refused {g = g} names same is = ap (λ (xs : List (List ℕ)). record g { names = xs }) is ∙ same
+
+pub node_added : {g v : Lists} (t : TurnNode) (nodes : List TurnNode) → g ≡ v → nodes ≡ g.turn_nodes ++ t ∷ []
+    → record g { turn_nodes = nodes } ≡ with_turn_node v t
+node_added {g = g} t nodes same is = ap (λ (xs : List TurnNode). record g { turn_nodes = xs }) is ∙ ap (λ (x : Lists). with_turn_node x t) same
+
+pub node_refused : {g v : Lists} (nodes : List TurnNode) → g ≡ v → nodes ≡ g.turn_nodes → record g { turn_nodes = nodes } ≡ v
+node_refused {g = g} nodes same is = ap (λ (xs : List TurnNode). record g { turn_nodes = xs }) is ∙ same

@@ -188,10 +188,10 @@ impl GraphBuilder {
         ensures added { OnOk result (self.new ≡ with_name self.old name.now) }
         ensures err { OnErr result (self.new ≡ self.old) }
     {
-        let k = self.names.len();
+        let k = self.names.len() as u32;
         let copy = Text::copy_of(self.alloc, name.bytes())?;
-        self.names.push(copy)?;
-        Ok(k as u32)
+        append(&mut self.names, copy)?;
+        Ok(k)
     }
 
     /// Adds a turn node, whose parent is there or 0, where there are fewer than 65,536. Gives its
@@ -204,9 +204,9 @@ impl GraphBuilder {
         ensures err { OnErr result (self.new ≡ self.old) }
         ensures rules { IsPart self.new }
     {
-        let k = self.turn_nodes.len();
-        self.turn_nodes.push(node)?;
-        Ok(k as u32 + 1)
+        let k = self.turn_nodes.len() as u32;
+        append(&mut self.turn_nodes, node)?;
+        Ok(k + 1)
     }
 
     /// Adds an input and its INPUT, where all operations so far are inputs and the name is above
