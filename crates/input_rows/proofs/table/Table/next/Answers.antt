@@ -1,4 +1,5 @@
-use Rattle.std.proofs.Common.{rules, ◌≡◌, ◌∙◌, sym, ap, length, Option, List, ℕ, ◌+◌, arith}
+use Rattle.std.proofs.lemmas.Bool.{false≢true}
+use Rattle.std.proofs.Common.{ℤ, ◌∷◌, refl, ◌≡◌, ◌∙◌, sym, ap, length, Option, List, ℕ, ◌+◌, arith}
 use Rattle.input_rows.specs.RowsOf.{RowsLeft}
 use Rattle.input_rows.specs.TableLeft.{Ordered, left_from}
 use Rattle.input_rows.proofs.Lefts.{left-types, left-fresh}
@@ -34,4 +35,45 @@ pub returns-in-Err-clause-fresh : goal.returns-in-Err-clause-fresh
 returns-in-Err-clause-fresh c = left-fresh c.self.inside.layout c.self.inside.cycle c.read_row.new.records.left
 
 pub returns-in-Ok-false : goal.returns-in-Ok-false
-returns-in-Ok-false c = search rules
+returns-in-Ok-false c =
+    let s = c.self.inside in
+    let left = sym c.self.view_is ∙ (c.in-Ok-false.ensures.end c.in-Ok-false.field-0-test).0 in
+    record {
+      row = λ found. absurd (false≢true found);
+      end = λ none. (ap (λ (l : RowsLeft). l.rows) left, ap (λ (l : RowsLeft). l.refusal) left);
+      stays = λ none. refl;
+      refusal = tt;
+      types = left-types s.layout s.cycle c.read_row.new.records.left ∙ seen-types s.layout s.cycle s.records.left c.args.self.now c.self.view_is;
+      fresh = left-fresh s.layout s.cycle c.read_row.new.records.left;
+      out = tt;
+      width = refl;
+    }
+
+pub returns-in-Ok-true-clause-row : goal.returns-in-Ok-true-clause-row
+returns-in-Ok-true-clause-row c = λ found.
+    let s = c.self.inside in
+    let later = left_from s.layout (s.cycle + 1) c.read_row.new.records.left in
+    sym c.self.view_is
+    ∙ (c.in-Ok-true.ensures.row c.in-Ok-true.field-0-test ∙ ap (λ (row : List ℤ). record later { rows = row ∷ later.rows }) (sym c.swap.ensures.x_after))
+
+pub returns-in-Ok-true-clause-end : goal.returns-in-Ok-true-clause-end
+returns-in-Ok-true-clause-end c = λ none. absurd (false≢true (sym none))
+
+pub returns-in-Ok-true-clause-stays : goal.returns-in-Ok-true-clause-stays
+returns-in-Ok-true-clause-stays c = λ none. absurd (false≢true (sym none))
+
+pub returns-in-Ok-true-clause-types : goal.returns-in-Ok-true-clause-types
+returns-in-Ok-true-clause-types c =
+    let s = c.self.inside in
+    left-types s.layout (s.cycle + 1) c.read_row.new.records.left ∙ seen-types s.layout s.cycle s.records.left c.args.self.now c.self.view_is
+
+pub returns-in-Err-clause-refusal : goal.returns-in-Err-clause-refusal
+returns-in-Err-clause-refusal c = λ other.
+    let left = sym c.self.view_is ∙ c.in-Err.ensures.refusal other in
+    (ap (λ (l : RowsLeft). l.rows) left, ap (λ (l : RowsLeft). l.refusal) left)
+
+pub returns-in-Err-clause-out : goal.returns-in-Err-clause-out
+returns-in-Err-clause-out c = refl
+
+pub returns-in-Err-clause-width : goal.returns-in-Err-clause-width
+returns-in-Err-clause-width c = refl
