@@ -70,6 +70,19 @@ joined_fits g r f o new is more free room fit fits =
       few = omega (arith, room);
     }
 
+pub ended_fits : (g : Lists) (r : State) (o : Opened) → r.opened ≡ Some o → 0 < length o.group → ReadingFits g r
+    → ReadingFits g (record { script = r.script ++ o.group ∷ []; opened = None; count = r.count })
+ended_fits g r o is some fits =
+    let so_far : OpenFits g (Some o) = subst (λ (o : Option Opened). OpenFits g o) is fits.opened in
+    let before : fault_count r.script + length o.group ≡ r.count =
+    subst (λ (o : Option Opened). fault_count r.script + pending o ≡ r.count) is fits.all in
+    record {
+      groups = All-push (GroupFits g) r.script o.group fits.groups (record { some = some; fits = so_far.0; apart = so_far.1 });
+      opened = tt;
+      all = omega (arith, sum_by_push (λ (faults : List Fault). length faults) r.script o.group, before);
+      few = fits.few;
+    }
+
 -- of one graph, where it is so of all
 pub fits_here : (g : Lists) (old new : State) (result : Result (Unit {0}) ScriptFault) → OnOk result ((g : Lists) → ReadingFits g old → ReadingFits g new)
     → OnOk result (ReadingFits g old → ReadingFits g new)

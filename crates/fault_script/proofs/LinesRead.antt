@@ -1,5 +1,5 @@
 -- LinesRead: a script read line by line.
-use Rattle.std.proofs.Common.{◌≡◌, ◌≢◌, ℕ, ◌+◌, Bool, true, false, cond, List, [], ◌∷◌, ◌++◌, Option, Some, None, Result, Ok, Err, IfErr, refl, sym, ap, ◌∙◌}
+use Rattle.std.proofs.Common.{◌≡◌, ◌≢◌, ℕ, ◌+◌, ◌<◌, length, arith, Bool, true, false, cond, List, [], ◌∷◌, ◌++◌, Option, Some, None, Result, Ok, Err, IfErr, refl, sym, ap, ◌∙◌}
 use Rattle.std.specs.Str.Lines.{lines}
 use Rattle.std.proofs.lemmas.List.{append_assoc, append-nil}
 use Rattle.op_graph.specs.Lists.{Lists}
@@ -13,7 +13,7 @@ use Rattle.vcp_base.specs.Lines.{Line, is_skipped, read_lines}
 use Rattle.vcp_base.specs.Words.{words}
 use Rattle.fault_script.specs.Forms.{mark_of}
 use Rattle.fault_script.specs.Groups.{is_taken}
-use Rattle.fault_script.specs.ScriptOf.{Item, ends, says, item_by, item_of, items_of, counted, onto, with_fault}
+use Rattle.fault_script.specs.ScriptOf.{Item, ends, says, item_by, item_of, items_of, counted, ended, onto, with_fault}
 use Rattle.fault_script.specs.ScriptOf.{groups_of, script_of}
 use Rattle.fault_script.specs.Reading.{behind, comes, Goes, Refuses}
 
@@ -48,6 +48,33 @@ joined_goes r f o is free = record { comes_to = λ later. taken_or r f o false l
 
 pub twice : (r : State) (f : Fault) (o : Opened) → r.opened ≡ Some o → is_taken f o.group ≡ true → Refuses (says (Ok f)) r (refusal.Twice f.line)
 twice r f o is taken later = taken_or r f o true later is taken
+
+-- a line that ends a group, where none is open, or one that is empty
+pub ends_none : (r : State) (n : ℕ) → r.opened ≡ None → Refuses (ends n) r (refusal.Group n)
+ends_none r n none later = ap (λ (o : Option Opened). behind r.script (groups_of (ends n ∷ later) o)) none
+
+no_faults : (faults : List Fault) → length faults ≡ 0 → faults ≡ []
+no_faults [] e = refl
+no_faults (f ∷ faults) e = absurd (omega (arith, e))
+
+pub ends_empty : (r : State) (n : ℕ) (o : Opened) → r.opened ≡ Some o → length o.group ≡ 0 → Refuses (ends n) r (refusal.Group n)
+ends_empty r n o is empty later =
+    ap (λ (o : Option Opened). behind r.script (groups_of (ends n ∷ later) o)) is
+    ∙ ap (λ (faults : List Fault). behind r.script (ended n faults (groups_of later None))) (no_faults o.group empty)
+
+-- a group that is whole
+ended_some : (n : ℕ) (faults : List Fault) (later : Groups) → 0 < length faults → ended n faults later ≡ onto faults later
+ended_some n [] later some = absurd (omega (arith, some))
+ended_some n (f ∷ faults) later some = refl
+
+pub ends_goes : (r : State) (n : ℕ) (o : Opened) → r.opened ≡ Some o → 0 < length o.group
+    → Goes (ends n) r (record { script = r.script ++ o.group ∷ []; opened = None; count = r.count })
+ends_goes r n o is some = record {
+  comes_to = λ later.
+      ap (λ (o : Option Opened). behind r.script (groups_of (ends n ∷ later) o)) is
+      ∙ ap (behind r.script) (ended_some n o.group (groups_of later None) some) ∙ behind_onto r.script o.group (groups_of later None);
+  count = refl;
+}
 
 -- ---- what a line says, by what it is
 

@@ -1,4 +1,5 @@
-use Rattle.std.proofs.Common.{◌≡◌, ◌<◌, ℕ, refl, Bool, true, false, cond, Option, Some, Result, Ok, Err, IfOk, slice_get, ap, sym, ◌∙◌}
+use Rattle.std.proofs.Common.{◌≡◌, ◌<◌, ℕ, refl, Bool, true, false, cond, Option, Some, None, Result, Ok, Err, IfOk, slice_get, ap, sym, ◌∙◌, arith}
+use Rattle.std.proofs.lemmas.Option.{slice_get_past}
 use Rattle.vcp_base.specs.Limits.{most_cycles}
 use Rattle.op_graph.specs.declared.op.Op.{Op}
 use Rattle.op_graph.specs.Lists.{Lists}
@@ -38,3 +39,20 @@ pub returns-clause-fits : goal.returns-clause-fits
 returns-clause-fits c =
     by_tests c.args.graph.now c.args.line c.in-Some.said c.operation.result c.fault_at.result _ _ _ c.in-Some.ensures.cycle c.in-Some.ensures.moderate
     c.operation.ensures refl refl refl c.fault_at.ensures
+
+-- no value, where it isn't one
+none_if : (o : Option Change) → ((c : Change) → o ≡ Some c → ⊥) → o ≡ None
+none_if None h = refl
+none_if (Some c) h = absurd (h c refl)
+
+pub returns-in_default-clause-fault : goal.returns-in_default-clause-fault
+returns-in_default-clause-fault c =
+    sym (ap (λ (s : Option Change). fault_if c.args.graph.now c.args.line s)
+    (sym c.change_of_line.ensures.change ∙ none_if c.change_of_line.result c.in_default.not-Some))
+
+pub returns-then-said-len-clause-fault : goal.returns-then-said-len-clause-fault
+returns-then-said-len-clause-fault c =
+    let past : slice_get c.args.graph.now.operations c.in-Some.said.op ≡ None =
+    slice_get_past c.args.graph.now.operations c.in-Some.said.op (omega (arith, c.len.ensures, c.if-said-len.true)) in
+    ap (λ (o : Option Op). fault_at c.args.line c.in-Some.said o) (sym past)
+    ∙ ap (λ (s : Option Change). fault_if c.args.graph.now c.args.line s) c.in-Some.ensures.change
