@@ -43,6 +43,9 @@ of_operand p m v h = kept m h.1 ∙ h.0
 pub operand_wide : (p : Profile) (m v : ℤ) → IsMultiple p m v → Wide (to_z w128 (of_z w128 m))
 operand_wide p m v h = subst Wide (sym (kept m h.1)) h.1
 
+pub nothing_wide : (z : ℤ) → z ≡ pos 0 → Wide (to_z w128 (of_z w128 z))
+nothing_wide z e = subst (λ x. Wide (to_z w128 (of_z w128 x))) (sym e) (omega (arith, ints), omega (arith, ints))
+
 -- a number between the ends of 64 bits has 128
 pub number_fits : (z : ℤ) → negsuc (2 ^ 63) ≤ℤ z → z ≤ℤ pos (2 ^ 63) → SFits w128 z
 number_fits z low high = omega (arith, ints)

@@ -1,5 +1,5 @@
 -- Parts: the value part and the residue of an integer, as they are computed in their bits.
-use Rattle.std.proofs.Common.{refl, ℕ, ◌≡◌, ◌<◌, ◌+◌, ◌-◌, ◌^◌, true, false, ℤ, pos, negsuc, ◌+ℤ◌, ◌-ℤ◌, ◌*ℤ◌, ◌≤ℤ◌, ◌<ℤ◌, T, SFits, Fits, w64, unsigned_abs, ap, sym, subst, ◌∙◌, arith}
+use Rattle.std.proofs.Common.{refl, ℕ, ◌≡◌, ◌<◌, ◌+◌, ◌-◌, ◌^◌, true, false, ℤ, pos, negsuc, ◌+ℤ◌, ◌-ℤ◌, ◌*ℤ◌, ◌≤ℤ◌, ◌<ℤ◌, T, SFits, Fits, w64, unsigned_abs, ap, sym, subst, ◌∙◌, to_z, of_z, arith}
 use mir.Syntax.{Width, w128}
 use Rattle.std.specs.Prelude.{int_le, int_lt}
 use Rattle.std.specs.Int.{int_div_euclid, int_rem_euclid}
@@ -279,3 +279,15 @@ pub between_size : (z : ℤ) → negsuc (2 ^ 126 - 2) ≤ℤ z → z ≤ℤ pos 
 between_size z low high =
     let size : unsigned_abs z < 2 ^ 126 = omega (arith, ints) in
     subst (λ x. unsigned_abs x < 2 ^ 126) (sym (to_z-of_z w128 z (between_fits z low high))) size
+
+-- ---- the parts of an integer in a code that is known
+
+-- an integer whose bits are 0
+pub zero_read : (z : ℤ) → SFits w128 z → of_z w128 z ≡ 0 → z ≡ pos 0
+zero_read z f e = sym (to_z-of_z w128 z f) ∙ ap (to_z w128) e
+
+pub value_in : (p known : Profile) (z v : ℤ) → SFits w128 z → p ≡ known → v ≡ value_part known (back w128 z) → v ≡ value_part p z
+value_in p known z v f is e = e ∙ ap (value_part known) (to_z-of_z w128 z f) ∙ ap (λ q. value_part q z) (sym is)
+
+pub residue_in : (p known : Profile) (z : ℤ) (r : ℕ) → SFits w128 z → p ≡ known → r ≡ modulo known (back w128 z) → r ≡ modulo p z
+residue_in p known z r f is e = e ∙ ap (modulo known) (to_z-of_z w128 z f) ∙ ap (λ q. modulo q z) (sym is)

@@ -355,7 +355,6 @@ fn step_to(value: i128, rest: i128) -> (i128, Residue)
 /// The value part and the residue of an integer.
 ///
 /// Zero takes the place of an operand that a kind does not have, so it is split at once.
-#[tactic(auto, using(crate::proofs::Modular::value_part_zero, crate::proofs::Modular::modulo_zero))]
 fn parts(profile: Profile, code: i128) -> (i128, Residue)
     ensures value { result.0 ≡ value_part profile code }
     ensures residue { result.1 ≡ modulo profile code }

@@ -63,16 +63,24 @@ returns-in-Lt c =
     record { sfits = c.truth-in-Lt.type_inv } c.in-Lt.is (c.truth-in-Lt.ensures ∙ ap (λ holds. multiple c.args.profile (truth holds)) c.is_less.ensures)
 
 pub product-requires-clause-low : goal.product-requires-clause-low
-product-requires-clause-low c = of_kind (λ z. negsuc (2 ^ 63) ≤ℤ z) c.args.call.now.kind kind.Mul c.args.call.now.imm c.args.first.value c.args.second.value c.args.third.value c.in-Mul.is c.requires.low
+product-requires-clause-low c =
+    of_kind (λ z. negsuc (2 ^ 63) ≤ℤ z) c.args.call.now.kind kind.Mul
+    c.args.call.now.imm c.args.first.value c.args.second.value c.args.third.value c.in-Mul.is c.requires.low
 
 pub product-requires-clause-high : goal.product-requires-clause-high
-product-requires-clause-high c = of_kind (λ z. z ≤ℤ pos (2 ^ 63)) c.args.call.now.kind kind.Mul c.args.call.now.imm c.args.first.value c.args.second.value c.args.third.value c.in-Mul.is c.requires.high
+product-requires-clause-high c =
+    of_kind (λ z. z ≤ℤ pos (2 ^ 63)) c.args.call.now.kind kind.Mul
+    c.args.call.now.imm c.args.first.value c.args.second.value c.args.third.value c.in-Mul.is c.requires.high
 
 pub quotient-requires-clause-low : goal.quotient-requires-clause-low
-quotient-requires-clause-low c = of_kind (λ z. negsuc (2 ^ 63) ≤ℤ z) c.args.call.now.kind kind.Div c.args.call.now.imm c.args.first.value c.args.second.value c.args.third.value c.in-Div.is c.requires.low
+quotient-requires-clause-low c =
+    of_kind (λ z. negsuc (2 ^ 63) ≤ℤ z) c.args.call.now.kind kind.Div
+    c.args.call.now.imm c.args.first.value c.args.second.value c.args.third.value c.in-Div.is c.requires.low
 
 pub quotient-requires-clause-high : goal.quotient-requires-clause-high
-quotient-requires-clause-high c = of_kind (λ z. z ≤ℤ pos (2 ^ 63)) c.args.call.now.kind kind.Div c.args.call.now.imm c.args.first.value c.args.second.value c.args.third.value c.in-Div.is c.requires.high
+quotient-requires-clause-high c =
+    of_kind (λ z. z ≤ℤ pos (2 ^ 63)) c.args.call.now.kind kind.Div
+    c.args.call.now.imm c.args.first.value c.args.second.value c.args.third.value c.in-Div.is c.requires.high
 
 pub quotient-requires-clause-divisor : goal.quotient-requires-clause-divisor
 quotient-requires-clause-divisor c = subst (λ k. divides_by_zero k c.args.second.value ≡ false) c.in-Div.is c.requires.divisor

@@ -3,7 +3,7 @@ use mir.Syntax.{w128}
 use Rattle.std.proofs.lemmas.Int.{to_z-of_z}
 use Rattle.coded_unit.specs.Multiples.{multiple}
 use Rattle.coded_unit.proofs.Bits.{back}
-use Rattle.coded_unit.proofs.Multiples.{of_operand, and_nothing}
+use Rattle.coded_unit.proofs.Multiples.{of_operand, and_nothing, operand_wide, nothing_wide}
 use Rattle.coded_unit.proofs.beside.product.Goals as goal
 
 pub returns : goal.returns
@@ -14,3 +14,9 @@ returns c =
     ∙ and_nothing (back w128 c.multiplied.result)
     ∙ of_operand c.args.profile c.multiplied.result (c.args.first.value *ℤ back w64 c.args.second.value) c.multiplied.ensures
     ∙ ap (λ z. multiple c.args.profile (c.args.first.value *ℤ z)) (to_z-of_z w64 c.args.second.value fits)
+
+pub plus-requires : goal.plus-requires
+plus-requires c = record {
+  first = operand_wide c.args.profile c.multiplied.result _ c.multiplied.ensures;
+  second = nothing_wide c.disagreement.result c.disagreement.ensures;
+}

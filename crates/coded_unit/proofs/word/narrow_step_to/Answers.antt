@@ -4,10 +4,15 @@ use Rattle.coded_unit.proofs.Parts.{Stepped, step_down, step_up, step_none, narr
 use Rattle.coded_unit.proofs.word.narrow_step_to.Goals as goal
 
 below : (c : goal.Then-rest-lt0) → Stepped w64 2147483647 c.args.value c.args.rest (back w64 c.args.value -ℤ pos 1) (back w64 c.args.rest +ℤ pos 2147483647)
-below c = step_down w64 2147483647 c.args.value c.args.rest c.ranges.value c.ranges.rest (narrow_room c.args.value c.args.rest c.requires.small.0 c.requires.small.1 c.requires.rest_low c.requires.rest_high) c.if-rest-lt0.true
+below c =
+    step_down w64 2147483647 c.args.value c.args.rest c.ranges.value c.ranges.rest
+    (narrow_room c.args.value c.args.rest c.requires.small.0 c.requires.small.1 c.requires.rest_low c.requires.rest_high) c.if-rest-lt0.true
 
-above : (c : goal.Then-rest-ge-NARROW) → Stepped w64 2147483647 c.args.value c.args.rest (back w64 c.args.value +ℤ pos 1) (back w64 c.args.rest -ℤ pos 2147483647)
-above c = step_up w64 2147483647 c.args.value c.args.rest c.ranges.value c.ranges.rest (narrow_room c.args.value c.args.rest c.requires.small.0 c.requires.small.1 c.requires.rest_low c.requires.rest_high) c.if-rest-ge-NARROW.true
+above : (c : goal.Then-rest-ge-NARROW)
+    → Stepped w64 2147483647 c.args.value c.args.rest (back w64 c.args.value +ℤ pos 1) (back w64 c.args.rest -ℤ pos 2147483647)
+above c =
+    step_up w64 2147483647 c.args.value c.args.rest c.ranges.value c.ranges.rest
+    (narrow_room c.args.value c.args.rest c.requires.small.0 c.requires.small.1 c.requires.rest_low c.requires.rest_high) c.if-rest-ge-NARROW.true
 
 between : (c : goal.Else-rest-ge-NARROW) → Stepped w64 2147483647 c.args.value c.args.rest c.args.value c.args.rest
 between c = step_none w64 2147483647 c.args.value c.args.rest c.ranges.value c.ranges.rest (omega arith) c.if-rest-lt0.false c.if-rest-ge-NARROW.false

@@ -3,14 +3,21 @@ use Rattle.coded_unit.proofs.Bits.{back}
 use Rattle.coded_unit.proofs.Parts.{Stepped, step_down, step_up, step_none, short_room}
 use Rattle.coded_unit.proofs.word.short_step_to.Goals as goal
 
-below : (c : goal.Then-rest-lt0) → Stepped w64 2305843009213693951 c.args.value c.args.rest (back w64 c.args.value -ℤ pos 1) (back w64 c.args.rest +ℤ pos 2305843009213693951)
-below c = step_down w64 2305843009213693951 c.args.value c.args.rest c.ranges.value c.ranges.rest (short_room c.args.value c.args.rest c.requires.value_low c.requires.value_high c.requires.rest_low c.requires.rest_high) c.if-rest-lt0.true
+below : (c : goal.Then-rest-lt0)
+    → Stepped w64 2305843009213693951 c.args.value c.args.rest (back w64 c.args.value -ℤ pos 1) (back w64 c.args.rest +ℤ pos 2305843009213693951)
+below c =
+    step_down w64 2305843009213693951 c.args.value c.args.rest c.ranges.value c.ranges.rest
+    (short_room c.args.value c.args.rest c.requires.value_low c.requires.value_high c.requires.rest_low c.requires.rest_high) c.if-rest-lt0.true
 
-above : (c : goal.Then-rest-ge-SHORT_WIDE) → Stepped w64 2305843009213693951 c.args.value c.args.rest (back w64 c.args.value +ℤ pos 1) (back w64 c.args.rest -ℤ pos 2305843009213693951)
-above c = step_up w64 2305843009213693951 c.args.value c.args.rest c.ranges.value c.ranges.rest (short_room c.args.value c.args.rest c.requires.value_low c.requires.value_high c.requires.rest_low c.requires.rest_high) c.if-rest-ge-SHORT_WIDE.true
+above : (c : goal.Then-rest-ge-SHORT_WIDE)
+    → Stepped w64 2305843009213693951 c.args.value c.args.rest (back w64 c.args.value +ℤ pos 1) (back w64 c.args.rest -ℤ pos 2305843009213693951)
+above c =
+    step_up w64 2305843009213693951 c.args.value c.args.rest c.ranges.value c.ranges.rest
+    (short_room c.args.value c.args.rest c.requires.value_low c.requires.value_high c.requires.rest_low c.requires.rest_high) c.if-rest-ge-SHORT_WIDE.true
 
 between : (c : goal.Else-rest-ge-SHORT_WIDE) → Stepped w64 2305843009213693951 c.args.value c.args.rest c.args.value c.args.rest
-between c = step_none w64 2305843009213693951 c.args.value c.args.rest c.ranges.value c.ranges.rest (omega arith) c.if-rest-lt0.false c.if-rest-ge-SHORT_WIDE.false
+between c =
+    step_none w64 2305843009213693951 c.args.value c.args.rest c.ranges.value c.ranges.rest (omega arith) c.if-rest-lt0.false c.if-rest-ge-SHORT_WIDE.false
 
 pub overflow_sub-result : goal.overflow_sub-result
 overflow_sub-result c = (below c).value

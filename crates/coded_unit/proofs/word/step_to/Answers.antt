@@ -4,11 +4,17 @@ use Rattle.coded_unit.proofs.Bits.{back}
 use Rattle.coded_unit.proofs.Parts.{Stepped, step_down, step_up, step_none, wide_room}
 use Rattle.coded_unit.proofs.word.step_to.Goals as goal
 
-below : (c : goal.Then-rest-lt0) → Stepped w128 2305843009213693951 c.args.value c.args.rest (back w128 c.args.value -ℤ pos 1) (back w128 c.args.rest +ℤ pos 2305843009213693951)
-below c = step_down w128 2305843009213693951 c.args.value c.args.rest c.ranges.value c.ranges.rest (wide_room c.args.value c.args.rest c.requires.value_low c.requires.value_high c.requires.rest_low c.requires.rest_high) c.if-rest-lt0.true
+below : (c : goal.Then-rest-lt0)
+    → Stepped w128 2305843009213693951 c.args.value c.args.rest (back w128 c.args.value -ℤ pos 1) (back w128 c.args.rest +ℤ pos 2305843009213693951)
+below c =
+    step_down w128 2305843009213693951 c.args.value c.args.rest c.ranges.value c.ranges.rest
+    (wide_room c.args.value c.args.rest c.requires.value_low c.requires.value_high c.requires.rest_low c.requires.rest_high) c.if-rest-lt0.true
 
-above : (c : goal.Then-rest-ge-WIDE) → Stepped w128 2305843009213693951 c.args.value c.args.rest (back w128 c.args.value +ℤ pos 1) (back w128 c.args.rest -ℤ pos 2305843009213693951)
-above c = step_up w128 2305843009213693951 c.args.value c.args.rest c.ranges.value c.ranges.rest (wide_room c.args.value c.args.rest c.requires.value_low c.requires.value_high c.requires.rest_low c.requires.rest_high) c.if-rest-ge-WIDE.true
+above : (c : goal.Then-rest-ge-WIDE)
+    → Stepped w128 2305843009213693951 c.args.value c.args.rest (back w128 c.args.value +ℤ pos 1) (back w128 c.args.rest -ℤ pos 2305843009213693951)
+above c =
+    step_up w128 2305843009213693951 c.args.value c.args.rest c.ranges.value c.ranges.rest
+    (wide_room c.args.value c.args.rest c.requires.value_low c.requires.value_high c.requires.rest_low c.requires.rest_high) c.if-rest-ge-WIDE.true
 
 between : (c : goal.Else-rest-ge-WIDE) → Stepped w128 2305843009213693951 c.args.value c.args.rest c.args.value c.args.rest
 between c = step_none w128 2305843009213693951 c.args.value c.args.rest c.ranges.value c.ranges.rest (omega arith) c.if-rest-lt0.false c.if-rest-ge-WIDE.false
