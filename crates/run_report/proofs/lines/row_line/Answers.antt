@@ -1,4 +1,4 @@
-use Rattle.std.proofs.Common.{◌≡◌, ◌<◌, true≢false, arith, append_assoc, decimal, take, refl, length, pos, ℕ, ◌+◌, ◌∙◌, sym, Result, Ok}
+use Rattle.std.proofs.Common.{◌≡◌, ◌<◌, true≢false, arith, append_assoc, decimal, take, refl, length, pos, ℕ, ◌+◌, ◌∙◌, sym, Result, Ok, Err}
 use Rattle.std.proofs.lemmas.List.{append-nil, take_all}
 use Rattle.std.proofs.lemmas.Option.{slice_get-get_or}
 use Rattle.run_report.specs.Lines.{value_cell}
@@ -35,3 +35,14 @@ returns-then-not-has_count g c = absurd (true≢false (sym c.has_count.ensures �
 
 pub returns-then-not-has_cell : goal.returns-then-not-has_cell
 returns-then-not-has_cell g c = absurd (true≢false (sym c.has_cell.ensures ∙ c.if-not-has_cell.true))
+
+never_err : {A E : Type 0} (r : Result A E) (a : A) (e : E) → r ≡ Ok a → r ≡ Err e → ⊥
+never_err r a e first second = let both : Ok a ≡ Err e = sym first ∙ second in cc
+
+pub returns-in_err-told : goal.returns-in_err-told
+returns-in_err-told g c = absurd (never_err c.then_cell.result _ _ c.then_cell.ensures.told c.in_err-told.was)
+
+pub returns-then-not-are_all : goal.returns-then-not-are_all
+returns-then-not-are_all g c =
+    let all : c.cells.told ≡ length c.args.row.now = omega (arith, c.cells.invariant.told) in
+    absurd (true≢false (sym (c.are_all.ensures all) ∙ c.if-not-are_all.true))
