@@ -291,3 +291,14 @@ value_in p known z v f is e = e ∙ ap (value_part known) (to_z-of_z w128 z f) �
 
 pub residue_in : (p known : Profile) (z : ℤ) (r : ℕ) → SFits w128 z → p ≡ known → r ≡ modulo known (back w128 z) → r ≡ modulo p z
 residue_in p known z r f is e = e ∙ ap (modulo known) (to_z-of_z w128 z f) ∙ ap (λ q. modulo q z) (sym is)
+
+-- a fact of an integer as it is read, in a code that is known, is one of the integer
+pub read_as : (P : ℤ → Type 0) (z : ℤ) → SFits w128 z → P (back w128 z) → P z
+read_as P z f h = subst P (to_z-of_z w128 z f) h
+
+pub known_as : (P : Profile → ℤ → Type 0) (p known : Profile) (z : ℤ) → SFits w128 z → p ≡ known → P known (back w128 z) → P p z
+known_as P p known z f is h = subst (λ q. P q z) (sym is) (read_as (P known) z f h)
+
+-- and one of the word that it is
+pub word_as : (P : ℤ → Type 0) (c z : ℤ) → unsigned_abs c < 2 ^ 126 → c ≡ z → P (back w128 c) → P z
+word_as P c z size e h = subst P (to_z-of_z w128 c (word_fits c size) ∙ e) h

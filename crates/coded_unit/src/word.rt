@@ -280,7 +280,6 @@ fn narrow_step_to(value: i64, rest: i64) -> ShortParts
 
 /// The parts of any integer of 64 bits in the narrow code, by a division.
 #[cold]
-#[tactic(auto, unfolding(crate::specs::Words::value_part, crate::specs::Words::modulo))]
 fn far_split(code: i64) -> ShortParts
     ensures value { result.value ≡ value_part Profile.Narrow code }
     ensures residue { result.residue ≡ modulo Profile.Narrow code }
@@ -392,7 +391,6 @@ fn short_parts(profile: Profile, code: i128) -> Option<ShortParts>
 
 /// The same of an integer that mostly is 0, which is split at once.
 #[inline(always)]
-#[tactic(auto, using(crate::proofs::Modular::value_part_zero, crate::proofs::Modular::modulo_zero, crate::proofs::Modular::modulus_positive))]
 fn short_parts_of_rare(profile: Profile, code: i128) -> Option<ShortParts>
     ensures value { IfSome result (λ parts. parts.value ≡ value_part profile code) }
     ensures residue { IfSome result (λ parts. parts.residue ≡ modulo profile code) }
