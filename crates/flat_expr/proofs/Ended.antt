@@ -60,6 +60,13 @@ pub cell_held : (s : State) (n m : ℕ) (g : Lists) (known : List (Option ℕ)) 
     → get_or known l.name None ≡ None → ⊥
 cell_held s n m g known j l h there none = held_some _ (h.held j l there) none
 
+-- a cell's slot is one of those that may be held
+pub cell_inside : (s : State) (n m : ℕ) (g : Lists) (known : List (Option ℕ)) (j : ℕ) (l : Loaded) → Closes s n m g known → slice_get g.loads j ≡ Some l
+    → l.name < length known
+cell_inside s n m g known j l h there =
+    let cell = h.cells j l there in
+    subst (λ k. l.name < k) (sym h.long) (slice_get_within s.slots l.name cell.of cell.there)
+
 -- a full graph is refused only where the whole has no room
 pub ends_full : {A : Type 0} (s : State) (P : A → Type 0) (r : Result A Build) → Ends s P r → r ≡ Err build.Full → most_operations < whole_size s
 ends_full s P (Ok a) h e = absurd cc

@@ -3,17 +3,20 @@ use Rattle.std.proofs.Common.{◌≡◌, ℕ, ◌+◌, ℤ, Bool, true, false, �
 use Rattle.vcp_base.specs.declared.spot.Spot.{Spot}
 use Rattle.vcp_base.specs.declared.turns.Turn.{Turn}
 use Rattle.vcp_base.specs.declared.ty.Ty.{Ty}
+use Rattle.vcp_base.specs.declared.ty.Ty.TheVariants as ty
+use Rattle.vcp_base.specs.Types.{within}
 use Rattle.op_graph.specs.Lists.{turns_of}
 use Rattle.vcp_base.specs.Values.{at}
 use Rattle.st_tree.specs.declared.expr.UnOp.{UnOp}
 use Rattle.st_tree.specs.declared.expr.BinOp.{BinOp}
 use Rattle.vcp_typed.specs.Meaning.{Stop, and_then, value, sign, operate}
-use Rattle.vcp_typed.specs.TExprTree.{TExprTree, literal, get, unary, binary}
+use Rattle.vcp_typed.specs.TExprTree.{TExprTree, literal, get, widen, unary, binary}
 use Rattle.vcp_typed.specs.Checked.{ty_of}
-use Rattle.vcp_typed.specs.Rules.{result}
+use Rattle.vcp_typed.specs.Rules.{result, widens}
 use Rattle.vcp_typed.specs.Size.{expr_size, operator_size}
 use Rattle.flat_expr.specs.State.{State, active, guarded, IsValue, Meant, Makes, Reads, Flattens, no_slot, meaning_of, giving, reading, signs, operates}
 use Rattle.flat_expr.specs.ReadSlots.{reads_slot}
+use Rattle.flat_expr.proofs.Ops.{isa, there}
 use Rattle.flat_expr.proofs.Steps.{then_reading, neither, weaker, AsGood, as_good-self, as_good-is}
 use Rattle.flat_expr.proofs.Operators.{turns-same, good_total}
 
@@ -23,6 +26,45 @@ literal_made s new t v spot k f = weaker s new t 1 1 (giving v) _ k (omega arith
 pub get_made : (s new : State) (t : Ty) (slot k : ℕ) → Reads s new slot t k → Flattens s new (get slot t) k
 get_made s new t slot k f =
     weaker s new t 0 0 (reading slot) _ k (omega arith) (λ now vs types. good_total (active s.path vs) (Ok (Some (at now slot))) (at now slot) refl) f
+
+-- an operation of a type is one of each type to which that widens
+widened : (x s t : Ty) → within x s ≡ true → widens s t ≡ true → within x t ≡ true
+widened x ty.Bool ty.Bool h w = absurd cc
+widened x ty.Bool ty.Int h w = absurd cc
+widened x ty.Bool ty.Dint h w = absurd cc
+widened x ty.Bool ty.Lint h w = absurd cc
+widened x ty.Int ty.Bool h w = absurd cc
+widened x ty.Int ty.Int h w = absurd cc
+widened ty.Bool ty.Int ty.Dint h w = absurd cc
+widened ty.Int ty.Int ty.Dint h w = refl
+widened ty.Dint ty.Int ty.Dint h w = absurd cc
+widened ty.Lint ty.Int ty.Dint h w = absurd cc
+widened ty.Bool ty.Int ty.Lint h w = absurd cc
+widened ty.Int ty.Int ty.Lint h w = refl
+widened ty.Dint ty.Int ty.Lint h w = absurd cc
+widened ty.Lint ty.Int ty.Lint h w = absurd cc
+widened x ty.Dint ty.Bool h w = absurd cc
+widened x ty.Dint ty.Int h w = absurd cc
+widened x ty.Dint ty.Dint h w = absurd cc
+widened ty.Bool ty.Dint ty.Lint h w = absurd cc
+widened ty.Int ty.Dint ty.Lint h w = refl
+widened ty.Dint ty.Dint ty.Lint h w = refl
+widened ty.Lint ty.Dint ty.Lint h w = absurd cc
+widened x ty.Lint ty.Bool h w = absurd cc
+widened x ty.Lint ty.Int h w = absurd cc
+widened x ty.Lint ty.Dint h w = absurd cc
+widened x ty.Lint ty.Lint h w = absurd cc
+
+pub widen_made : (s new : State) (t : Ty) (a : TExprTree) (k : ℕ) → widens (ty_of a) t ≡ true → Flattens s new a k → Flattens s new (widen t a) k
+widen_made s new t a k w f = record {
+  follows = f.follows;
+  unread = f.unread;
+  place =
+      let p = there (ty_of a) new.graph.operations k f.place in
+      isa t new.graph.operations k p.op p.is (widened p.op.ty (ty_of a) t p.type w);
+  count = f.count;
+  gives = f.gives;
+}
 
 pub guard_stops : (b : Bool) (x : Result ℤ Stop) (f : ℤ → Result ℤ Stop) (s : Stop) → guarded b x ≡ Err s → guarded b (and_then x f) ≡ Err s
 guard_stops true (Ok v) f s h = absurd cc

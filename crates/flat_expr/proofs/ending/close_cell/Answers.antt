@@ -7,7 +7,7 @@ use Rattle.op_graph.specs.Building.{with_store, type_of}
 use Rattle.flat_expr.specs.Closing.{Closes}
 use Rattle.flat_expr.specs.State.{whole_size}
 use Rattle.flat_expr.proofs.Closing.{cell_place, closes_store, store_room, refused_by}
-use Rattle.flat_expr.proofs.Ended.{cell_held, handed_refusal}
+use Rattle.flat_expr.proofs.Ended.{cell_held, handed_refusal, cell_inside}
 use Rattle.flat_expr.proofs.ending.close_cell.Goals as goal
 
 pub cell-loaded-requires : goal.cell-loaded-requires
@@ -18,6 +18,14 @@ at-variable-requires c =
     let h = c.requires.2 in
     let cell = h.cells c.args.cell c.cell-loaded.result c.cell-loaded.ensures in
     subst (λ l. c.cell-loaded.result.name < length l) c.requires.3 (slice_get_within c.requires.0.slots c.cell-loaded.result.name cell.of cell.there)
+
+pub bounds : goal.bounds
+bounds c =
+    cell_inside c.requires.0 c.requires.1 c.args.cell c.args.graph.now c.args.known.now c.args.cell c.cell-loaded.result c.requires.2 c.cell-loaded.ensures
+
+pub bounds-known-loaded : goal.bounds-known-loaded
+bounds-known-loaded c =
+    cell_inside c.requires.0 c.requires.1 c.args.cell c.args.graph.now c.args.known.now c.args.cell c.cell-loaded.result c.requires.2 c.cell-loaded.ensures
 
 pub unreachable-unreachable : goal.unreachable-unreachable
 unreachable-unreachable c =

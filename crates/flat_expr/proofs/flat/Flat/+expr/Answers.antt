@@ -1,11 +1,12 @@
-use Rattle.std.proofs.Common.{◌≡◌, sym, ap, ap₂, ◌∙◌, subst, rules, w64, SFits}
+use Rattle.std.proofs.Common.{◌≡◌, true, sym, ap, ap₂, ◌∙◌, subst, rules, w64, SFits}
 use Rattle.std.proofs.lemmas.Result.{IfOk-weaker}
 use Rattle.std.proofs.lemmas.Int.{to_z-of_z}
-use Rattle.vcp_typed.specs.TExprTree.{literal, get, unary, binary}
+use Rattle.vcp_base.specs.Types.{fits}
+use Rattle.vcp_typed.specs.TExprTree.{literal, get, widen, unary, binary}
 use Rattle.vcp_typed.specs.TExprViews.{texpr_tree}
 use Rattle.vcp_typed.specs.Checked.{IsExpr, HasType}
 use Rattle.flat_expr.specs.State.{Flattens, Reads, IsA}
-use Rattle.flat_expr.proofs.Exprs.{literal_made, get_made, unary_made, binary_made}
+use Rattle.flat_expr.proofs.Exprs.{literal_made, get_made, widen_made, unary_made, binary_made}
 use Rattle.std.specs.Prelude.{IfErr}
 use Rattle.std.proofs.lemmas.Result.{err_from_is_err_and}
 use Rattle.flat_expr.specs.State.{Leaves, no_slot, one_slot, one_reads}
@@ -13,7 +14,7 @@ use Rattle.flat_expr.specs.ReadSlots.{reads_slot, read_slots}
 use Rattle.flat_expr.proofs.Steps.{neither}
 use Rattle.flat_expr.proofs.Refusals.{later_leaves, more_leaves}
 use Rattle.std.proofs.Common.{◌+◌, length, Some, refl, arith}
-use Rattle.std.proofs.lemmas.Option.{slice_get_read}
+use Rattle.std.proofs.lemmas.Option.{slice_get_read, slice_get_within}
 use Rattle.vcp_typed.specs.TExprTree.{call}
 use Rattle.vcp_typed.specs.TExprViews.{texpr_trees}
 use Rattle.vcp_typed.specs.Checked.{AreExprs, tys_of}
@@ -490,3 +491,50 @@ expr-operate-requires t c =
     let next = c.in_ok-b-in-Binary.ensures.made in
     let own = admitted c.args.self.now.graph.profile c.in-Binary.ty
     (allows_three c.args.self.now.graph.profile (is_lint c.in-Binary.ty) (expr_is_wide l) (expr_is_wide r) code).0 in record { types = parts.4; code = still _ _ c.in-Binary.ty (next.follows.profile ∙ made.follows.profile) own; a = next.follows.typed c.in-Binary.ty c.in_ok-a-in-Binary.a (subst (λ u. IsA u c.expr-in-Binary.new.self.graph.operations c.in_ok-a-in-Binary.a) parts.2 made.place); b = subst (λ u. IsA u c.expr-in-Binary-2.new.self.graph.operations c.in_ok-b-in-Binary.b) parts.3 next.place }
+
+pub expr-constant-requires-clause-fits : goal.expr-constant-requires-clause-fits
+expr-constant-requires-clause-fits t c =
+    let f : SFits w64 c.in-Lit.value = search rules in
+    subst (λ v. fits c.in-Lit.ty v ≡ true) (sym (to_z-of_z w64 c.in-Lit.value f))
+    (subst (IsExpr c.args.self.now.slots) (ap texpr_tree c.in-Lit.is) c.requires.checked)
+
+pub expr-constant-requires-clause-code : goal.expr-constant-requires-clause-code
+expr-constant-requires-clause-code t c =
+    admitted c.args.self.now.graph.profile c.in-Lit.ty
+    (subst (λ x. Allows c.args.self.now.graph.profile (expr_is_wide x)) (ap texpr_tree c.in-Lit.is) c.requires.code)
+
+pub expr-read-requires : goal.expr-read-requires
+expr-read-requires t c =
+    let is : texpr_tree c.args.e.now ≡ get c.in-Get.slot c.in-Get.ty = ap texpr_tree c.in-Get.is in
+    let has : HasType c.args.self.now.slots c.in-Get.slot c.in-Get.ty = subst (IsExpr c.args.self.now.slots) is c.requires.checked in
+    slice_get_within c.args.self.now.slots c.in-Get.slot has.0 has.1
+
+pub expr-expr-requires : goal.expr-expr-requires
+expr-expr-requires t c =
+    let a = texpr_tree c.deref.result.now in
+    let tree : texpr_tree c.args.e.now ≡ widen c.in-Widen.ty a =
+    ap texpr_tree c.in-Widen.is ∙ ap (λ x. widen c.in-Widen.ty (texpr_tree x)) (sym c.deref.ensures) in
+    let parts = subst (IsExpr c.args.self.now.slots) tree c.requires.checked in
+    let code = subst (λ x. Allows c.args.self.now.graph.profile (expr_is_wide x)) tree c.requires.code in
+    (omega (arith, ap expr_weight tree), (parts.0, allows_second c.args.self.now.graph.profile (is_lint c.in-Widen.ty) (expr_is_wide a) code))
+
+pub expr-returns-in-Widen-clause-made : goal.expr-returns-in-Widen-clause-made
+expr-returns-in-Widen-clause-made t c =
+    let a = texpr_tree c.deref.result.now in
+    let tree : texpr_tree c.args.e.now ≡ widen c.in-Widen.ty a =
+    ap texpr_tree c.in-Widen.is ∙ ap (λ x. widen c.in-Widen.ty (texpr_tree x)) (sym c.deref.ensures) in
+    let parts = subst (IsExpr c.args.self.now.slots) tree c.requires.checked in
+    IfOk-weaker c.expr.result _ _ (λ k p.
+    subst (λ e. Flattens c.args.self.now c.expr.new.self e k) (sym tree)
+    (widen_made c.args.self.now c.expr.new.self c.in-Widen.ty a k parts.1 p)) c.expr.ensures.made
+
+pub expr-returns-in-Widen-clause-refuses : goal.expr-returns-in-Widen-clause-refuses
+expr-returns-in-Widen-clause-refuses t c =
+    let a = texpr_tree c.deref.result.now in
+    let tree : texpr_tree c.args.e.now ≡ widen c.in-Widen.ty a =
+    ap texpr_tree c.in-Widen.is ∙ ap (λ x. widen c.in-Widen.ty (texpr_tree x)) (sym c.deref.ensures) in
+    more_leaves (reads_slot a) (reads_slot (texpr_tree c.args.e.now)) c.args.self.now c.expr.new.self (expr_size a) (expr_size (texpr_tree c.args.e.now))
+    c.expr.result (λ slot no. sym (ap (λ x. reads_slot x slot) tree) ∙ no) (omega (arith, ap expr_size tree)) c.expr.ensures.refuses
+
+pub argument-returns-else-i-args-clause-refuses : goal.argument-returns-else-i-args-clause-refuses
+argument-returns-else-i-args-clause-refuses t c = tt

@@ -6,7 +6,7 @@ use Rattle.vcp_base.specs.declared.ty.Ty.TheVariants as ty
 use Rattle.flat_expr.specs.State.{IsState, IsA, IsPlace, Makes, Assigns, Leaves, no_slot, one_slot, acts}
 use Rattle.flat_expr.proofs.Assigning.{chosen}
 use Rattle.flat_expr.proofs.Codes.{still}
-use Rattle.flat_expr.proofs.Refusals.{later_leaves}
+use Rattle.flat_expr.proofs.Refusals.{later_leaves, more_leaves}
 use Rattle.flat_expr.proofs.Steps.{slot_there}
 use Rattle.flat_expr.proofs.flat.Flat.choose.Goals as goal
 
@@ -76,3 +76,16 @@ add-requires-clause-ty c =
     let x = slot_there c.args.self.now.slots c.args.slot c.requires.slot in
     let old = c.in_ok-old.ensures.made x.0 x.1 in
     still c.args.self.now.graph.profile c.read.new.self.graph.profile c.type_of-ty.result old.follows.profile c.type_of-ty.ensures.code
+
+pub returns-in_err-old-clause-made : goal.returns-in_err-old-clause-made
+returns-in_err-old-clause-made c = rw (err_from_is_err_and c.from_residual.result c.from_residual.ensures.1).1 tt
+
+pub returns-in_err-value-clause-made : goal.returns-in_err-value-clause-made
+returns-in_err-value-clause-made c = rw (err_from_is_err_and c.from_residual-in_err-value.result c.from_residual-in_err-value.ensures.1).1 tt
+
+pub returns-in_err-old-clause-refuses : goal.returns-in_err-old-clause-refuses
+returns-in_err-old-clause-refuses c =
+    let q = err_from_is_err_and c.from_residual.result c.from_residual.ensures.1 in
+    let h =
+    more_leaves (one_slot c.args.slot) (one_slot c.args.slot) c.args.self.now c.read.new.self 0 1 c.read.result (λ slot no. no) (omega arith) c.read.ensures.refuses in
+    rw (q.1, q.2) (subst (λ r. IfErr r (λ e. Leaves c.args.self.now c.read.new.self (one_slot c.args.slot) 1 e)) c.in_err-old.was h)

@@ -1,4 +1,5 @@
 use Rattle.std.proofs.Common.{◌≡◌, ◌<◌, length, Err, refl, sym, subst}
+use Rattle.std.proofs.lemmas.Result.{err_from_is_err_and}
 use Rattle.vcp_base.specs.Limits.{most_operations}
 use Rattle.op_graph.specs.declared.build.Build.TheVariants as build
 use Rattle.flat_expr.specs.Closing.{Closes}
@@ -92,3 +93,10 @@ returns-clause-made c =
     let all = c.in_ok-close_cells.ensures a (length a.slots) outs refl in
     subst (λ (s : State). Finishes s c.finish.result) c.self.view_is
     (subst (λ g. Finishes a g) (sym c.finish.ensures) (finishes a (length c.close_cells.new.graph.loads) c.close_cells.new.graph c.deref.result.now refl all))
+
+pub returns-in_err-close_outputs-clause-made : goal.returns-in_err-close_outputs-clause-made
+returns-in_err-close_outputs-clause-made c = rw (err_from_is_err_and c.from_residual.result c.from_residual.ensures.1).1 tt
+
+pub returns-in_err-close_cells-clause-made : goal.returns-in_err-close_cells-clause-made
+returns-in_err-close_cells-clause-made c =
+    rw (err_from_is_err_and c.from_residual-in_err-close_cells.result c.from_residual-in_err-close_cells.ensures.1).1 tt
