@@ -1,4 +1,5 @@
-use Rattle.std.proofs.Common.{ℕ, suc, ◌∷◌, [], ◌++◌, ◌+◌, refl, sym, ap, ◌∙◌, add-one}
+use Rattle.std.proofs.Common.{ℕ, suc, ◌∷◌, [], ◌++◌, ◌+◌, refl, sym, ap, ◌∙◌, add-one, rules, w64, SFits}
+use Rattle.std.proofs.lemmas.Int.{to_z-of_z}
 use Rattle.std.specs.Prelude.{nat_lt}
 use Rattle.st_lexer.specs.declared.token.Sym.TheVariants as symbols
 use Rattle.st_tree.specs.ExprTree.{ExprTree, call}
@@ -52,3 +53,12 @@ expr-returns-in-Call t c =
     let e = c.in-Call in
     same (ap (λ es. canonical.expr c.args.wanted (call e.name (expr_trees es) e.spot)) c.deref-in-Call.ensures.value
     ∙ ap (canonical.expr c.args.wanted) (sym (ap expr_tree e.is ∙ c.trees_of_nodes.ensures.call _ _ _))) c.call.ensures
+
+pub expr-returns-in-Name : goal.expr-returns-in-Name
+expr-returns-in-Name t c = same (ap (λ e. canonical.expr c.args.wanted (expr_tree e)) (sym c.in-Name.is)) c.name.ensures
+
+pub expr-returns-in-Lit : goal.expr-returns-in-Lit
+expr-returns-in-Lit t c =
+    let f : SFits w64 c.in-Lit.value = search rules in
+    same (ap (λ v. lexeme.literal c.in-Lit.ty v ∷ []) (to_z-of_z w64 c.in-Lit.value f)
+    ∙ ap (λ e. canonical.expr c.args.wanted (expr_tree e)) (sym c.in-Lit.is)) c.literal.ensures

@@ -1,4 +1,4 @@
-use Rattle.std.proofs.Common.{List, ℕ, ◌++◌, ap, sym, ◌∙◌}
+use Rattle.std.proofs.Common.{List, ℕ, ◌++◌, true≢false, ap, sym, ◌∙◌}
 use Rattle.st_writer.proofs.writer.Writer.put.Goals as goal
 
 pub returns-in-Ok : goal.returns-in-Ok
@@ -8,4 +8,4 @@ returns-in-Ok c = λ xs e. record {
 }
 
 pub returns-in-Err : goal.returns-in-Err
-returns-in-Err c = λ xs e. record { so_far = λ failed. absurd cc; text = λ failed. absurd cc }
+returns-in-Err c = λ xs e. record { so_far = λ failed. absurd (true≢false failed); text = λ failed. absurd (true≢false failed) }
