@@ -26,7 +26,7 @@ use Rattle.vcp_typed.specs.declared.stmt.TBranch.{TBranch}
 use Rattle.vcp_typed.specs.declared.stmt.TStmt.{TStmt}
 use Rattle.vcp_typed.specs.TExprTree.{TExprTree}
 use Rattle.vcp_typed.specs.TExprViews.{texpr_tree}
-use Rattle.vcp_typed.specs.TStmtTree.{TStmtTree, TStmtTrees, TArmTrees, TBranchTrees, TOtherTree, case, for_, and_tstmt, and_tarm}
+use Rattle.vcp_typed.specs.TStmtTree.{TStmtTree, TStmtTrees, TArmTrees, TBranchTrees, TOtherTree, assign, case, for_, and_tstmt, and_tarm}
 use Rattle.vcp_typed.specs.TStmtTree.{and_tbranch, no_tother, tother}
 use Rattle.vcp_typed.specs.TStmtViews.{tstmt_tree, tstmt_trees, tarm_trees, tbranch_trees}
 use Rattle.vcp_typed.specs.Meaning.{Stop, and_then, value, is_labelled, turn, turns_from, do_stmt, do_stmts, do_arms, do_branches, do_other}
@@ -787,3 +787,24 @@ stmt_does a b ts s tree f is same_thing d =
 
 pub turns_at : (t : Ty) (v w by to : ℤ) (n k : ℕ) → k ≡ n → w ≡ v → to ≡ by → AreTurns t n v by → AreTurns t k w to
 turns_at t v w by to n k e f g h = subst (λ j. AreTurns t j w to) (sym e) (subst (λ x. AreTurns t n x to) (sym f) (subst (λ y. AreTurns t n v y) (sym g) h))
+
+-- ---- what an assignment requires
+
+pub assignment_value : (c : Context) (s : TStmtTree) (slot : ℕ) (e : TExprTree) (sp : Spot) → s ≡ assign slot e sp → StmtPart c s → IsExpr c.slots e
+assignment_value c s slot e sp is h = (subst (StmtPart c) is h).1.1
+
+pub assignment_code : (c : Context) (s : TStmtTree) (slot : ℕ) (e : TExprTree) (sp : Spot) → s ≡ assign slot e sp → StmtPart c s
+    → Allows c.profile (expr_is_wide e)
+assignment_code c s slot e sp is h = (subst (StmtPart c) is h).2
+
+pub assignment_slot : (c : Context) (s : TStmtTree) (slot : ℕ) (e : TExprTree) (sp : Spot) → s ≡ assign slot e sp → StmtPart c s → slot < length c.slots
+assignment_slot c s slot e sp is h =
+    let set = (subst (StmtPart c) is h).1.0 in slice_get_within c.slots slot set.of set.there
+
+pub assignment_fits : (c : Context) (s : TStmtTree) (slot : ℕ) (e : TExprTree) (sp : Spot) → s ≡ assign slot e sp → StmtPart c s
+    → (x : Slot) → slice_get c.slots slot ≡ Some x → x.ty ≡ ty_of e
+assignment_fits c s slot e sp is h x there =
+    let set = (subst (StmtPart c) is h).1.0 in
+    let same : Some set.of ≡ Some x = sym set.there ∙ there in
+    let one : x ≡ set.of = cc in
+    ap (λ (y : Slot). y.ty) one ∙ set.ty

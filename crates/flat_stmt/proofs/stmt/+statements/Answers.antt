@@ -33,6 +33,7 @@ use Rattle.flat_stmt.proofs.Statements.{outer_there, condition_there, arm_ready,
 use Rattle.flat_stmt.proofs.Statements.{branch_begins, branch_inside, branch_whole, branch_nodes, else_fits, else_begins, case_selector, case_begins, case_fits, case_nodes, made_context, stmt_fits, stmt_nodes, path_of}
 use Rattle.flat_stmt.proofs.Statements.{for_size, for_values, for_slot, for_first, for_body, turns_start, turns_step, turns_end, next_width, next_values, first_fits}
 use Rattle.flat_stmt.proofs.Statements.{turn_begins, turn_inside, turn_enters, turn_body, slot_there, stmt_does, turns_at, same_context, in_loop, admitted_later, allows_first, allows_second, allows_three}
+use Rattle.flat_stmt.proofs.Statements.{assignment_value, assignment_code, assignment_slot, assignment_fits}
 use Rattle.flat_stmt.proofs.Turns.{does_continues}
 use Rattle.flat_stmt.proofs.stmt.+statements.Goals as goal
 
@@ -550,3 +551,21 @@ add_stmts-each-preserved t c =
 
 pub add_stmts-returns : goal.add_stmts-returns
 add_stmts-returns t c = stmts_end c.args.flat.now c.each.flat c.args.ss.now c.each.s-index (omega (arith, c.each-test.false)) c.each.invariant.done
+
+-- ---- an assignment
+
+pub add_stmt-add_assignment-requires-clause-checked : goal.add_stmt-add_assignment-requires-clause-checked
+add_stmt-add_assignment-requires-clause-checked t c =
+    assignment_value (context c.args.flat.now) _ _ _ _ (ap tstmt_tree c.in-Assign.is) c.requires.checked
+
+pub add_stmt-add_assignment-requires-clause-code : goal.add_stmt-add_assignment-requires-clause-code
+add_stmt-add_assignment-requires-clause-code t c =
+    assignment_code (context c.args.flat.now) _ _ _ _ (ap tstmt_tree c.in-Assign.is) c.requires.checked
+
+pub add_stmt-add_assignment-requires-clause-slot : goal.add_stmt-add_assignment-requires-clause-slot
+add_stmt-add_assignment-requires-clause-slot t c =
+    assignment_slot (context c.args.flat.now) _ _ _ _ (ap tstmt_tree c.in-Assign.is) c.requires.checked
+
+pub add_stmt-add_assignment-requires-clause-fits : goal.add_stmt-add_assignment-requires-clause-fits
+add_stmt-add_assignment-requires-clause-fits t c =
+    assignment_fits (context c.args.flat.now) _ _ _ _ (ap tstmt_tree c.in-Assign.is) c.requires.checked
