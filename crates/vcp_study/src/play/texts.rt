@@ -4,7 +4,7 @@
 use memchr::memchr;
 use std::alloc::Global;
 use std::str::from_utf8;
-use vcp_base::Words;
+use vcp_base::{Words, same_bytes};
 
 /// What stands behind a text's first words, of this number, and the blank after each of them.
 pub fn behind(text: &[u8], words: usize) -> &[u8] {
@@ -27,6 +27,16 @@ pub fn word(text: &[u8], number: usize) -> &[u8] {
         Some(end) => rest.get(..end).unwrap_or(b""),
         None => rest,
     }
+}
+
+/// The number of the first of up to 16 words that is this one, from 0; 16 or that of an empty word where none is.
+pub fn place_in(words: &[u8], wanted: &[u8]) -> usize {
+    for i in 0..16 {
+        if same_bytes(word(words, i), wanted) {
+            return i;
+        }
+    }
+    16
 }
 
 /// The parts of a text between which a separator stands: one more than it stands there.

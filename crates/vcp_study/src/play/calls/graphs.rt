@@ -6,15 +6,14 @@ use crate::play::calls::images::read;
 use crate::play::calls::machines::tell_cycles;
 use crate::play::calls::words::u32_of;
 use crate::play::sessions::came::Came;
-use crate::play::texts::word;
+use crate::play::texts::{place_in, word};
 use crate::play::told::Told;
 use graph_passes::{fold, prune, reduce, share};
 use op_graph::{Build, Graph, GraphBuilder, Op};
 use signature_table::Table;
 use std::alloc::Global;
 use vcp_base::{
-    Kind, MOST_CYCLES, MOST_STEP, Memory, Profile, SEEDS, Spot, Text, Ty, kind_name, same_bytes,
-    ty_name,
+    Kind, MOST_CYCLES, MOST_STEP, Memory, Profile, SEEDS, Spot, Text, Ty, kind_name, ty_name,
 };
 use vcp_outside::read_all;
 use weight_audit::Weights;
@@ -44,20 +43,14 @@ pub fn tell_graph(came: &mut Came, n: &[i128; 12], words: &[u8], told: Told) -> 
     let Some(graph) = graph_in(came, word(words, 0)) else {
         return told.say(b"no image");
     };
-    if same_bytes(call, b"by_hand") {
-        tell_cycles(came.alloc, &graph, &mut came.unit, n, told)
-    } else if same_bytes(call, b"expected") {
-        tell_expected(came.alloc, n, graph, told)
-    } else if same_bytes(call, b"weights") {
-        tell_weights(came.alloc, &graph, told)
-    } else if same_bytes(call, b"fold") {
-        tell_passed(fold(came.alloc, graph), told)
-    } else if same_bytes(call, b"prune") {
-        tell_passed(prune(came.alloc, graph), told)
-    } else if same_bytes(call, b"share") {
-        tell_passed(share(came.alloc, graph), told)
-    } else {
-        tell_passed(reduce(came.alloc, graph), told)
+    match place_in(b"by_hand expected weights fold prune share", call) {
+        0 => tell_cycles(came.alloc, &graph, &mut came.unit, n, told),
+        1 => tell_expected(came.alloc, n, graph, told),
+        2 => tell_weights(came.alloc, &graph, told),
+        3 => tell_passed(fold(came.alloc, graph), told),
+        4 => tell_passed(prune(came.alloc, graph), told),
+        5 => tell_passed(share(came.alloc, graph), told),
+        _ => tell_passed(reduce(came.alloc, graph), told),
     }
 }
 

@@ -1,7 +1,7 @@
 //! Calls of files and of sinks, one after another.
 
 use crate::play::sessions::came::Came;
-use crate::play::texts::{behind, count, part, parts_of, word};
+use crate::play::texts::{behind, count, part, parts_of, place_in, word};
 use crate::play::told::Told;
 use std::alloc::Global;
 use std::io::{self, Write};
@@ -20,18 +20,17 @@ pub fn tell_files(came: &mut Came, steps: &[u8], told: Told) -> Told {
 
 /// Tells what files answer to a step: to `begin NAME`, and to `read N` with room for 2 or 8 bytes. `put NAME TEXT` answers nothing.
 fn tell_file_step(files: &mut MemFiles, step: &[u8], told: Told) -> Told {
-    let call = word(step, 0);
     let name = word(step, 1);
-    if same_bytes(call, b"read") {
-        return tell_read(files, name, told);
-    }
-    if same_bytes(call, b"put") {
-        let _ = files.put(name, behind(step, 2));
-        return told;
-    }
-    match files.begin(name) {
-        Ok(()) => told.item(b"begun"),
-        Err(Failed) => told.item(b"failed"),
+    match place_in(b"read put", word(step, 0)) {
+        0 => tell_read(files, name, told),
+        1 => {
+            let _ = files.put(name, behind(step, 2));
+            told
+        }
+        _ => match files.begin(name) {
+            Ok(()) => told.item(b"begun"),
+            Err(Failed) => told.item(b"failed"),
+        },
     }
 }
 

@@ -5,7 +5,7 @@ ghost use Rattle.fault_script.specs.Groups.{Apart};
 use crate::play::calls::graphs::{graph_in, text_in};
 use crate::play::calls::words::{call_in, tell_parts, u32_of, word_in};
 use crate::play::sessions::came::Came;
-use crate::play::texts::{behind, integer, part, parts_of, word};
+use crate::play::texts::{behind, integer, part, parts_of, place_in, word};
 use crate::play::told::Told;
 use coded_unit::{BadUnit, CpuUnit, LogUnit, Unit, Word};
 use fault_injector::{KeptWords, Scripted};
@@ -18,15 +18,11 @@ use vcp_base::{MOST_SOURCE_BYTES, same_bytes};
 pub fn tell_units(came: &mut Came, n: &[i128; 12], words: &[u8], told: Told) -> Told {
     let text = text_in(came, word(words, 0));
     let calls = text.bytes();
-    let unit = word(words, 1);
-    if same_bytes(unit, b"cpu") {
-        tell_answers(came.alloc, &mut CpuUnit::new(), calls, told)
-    } else if same_bytes(unit, b"log") {
-        tell_logged(came.alloc, calls, u32_of(n[2]), told)
-    } else if same_bytes(unit, b"acts") {
-        tell_acts(came, behind(words, 2), calls, told)
-    } else {
-        tell_answers(came.alloc, &mut came.unit, calls, told)
+    match place_in(b"cpu log acts", word(words, 1)) {
+        0 => tell_answers(came.alloc, &mut CpuUnit::new(), calls, told),
+        1 => tell_logged(came.alloc, calls, u32_of(n[2]), told),
+        2 => tell_acts(came, behind(words, 2), calls, told),
+        _ => tell_answers(came.alloc, &mut came.unit, calls, told),
     }
 }
 

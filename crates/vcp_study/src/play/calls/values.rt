@@ -2,7 +2,7 @@
 
 use crate::play::calls::words::{i64_of, kind_of, tell_parts, ty_of, u32_of, u64_of, word_of};
 use crate::play::sessions::came::Came;
-use crate::play::texts::{behind, spelled};
+use crate::play::texts::{behind, place_in, spelled};
 use crate::play::told::Told;
 use coded_unit::{Answer, Word};
 use vcp_base::{
@@ -15,16 +15,12 @@ use vcp_base::{
 /// word; and a word that is shifted. Or a call of the next kind.
 pub fn tell_value(came: &mut Came, name: &[u8], n: &[i128; 12], words: &[u8], told: Told) -> Told {
     let ty = ty_of(n[0]);
-    let value = if same_bytes(name, b"fits") {
-        fits(ty, n[1]) as i128
-    } else if same_bytes(name, b"within") {
-        within(ty, ty_of(n[1])) as i128
-    } else if same_bytes(name, b"word") {
-        Word::new(n[0]).is_some() as i128
-    } else if same_bytes(name, b"shift") {
-        word_of(n[0]).shift(i64_of(n[1])).get()
-    } else {
-        return tell_table(came, name, n, words, told);
+    let value = match place_in(b"fits within word shift", name) {
+        0 => fits(ty, n[1]) as i128,
+        1 => within(ty, ty_of(n[1])) as i128,
+        2 => Word::new(n[0]).is_some() as i128,
+        3 => word_of(n[0]).shift(i64_of(n[1])).get(),
+        _ => return tell_table(came, name, n, words, told),
     };
     told.number(value)
 }
@@ -33,23 +29,20 @@ pub fn tell_value(came: &mut Came, name: &[u8], n: &[i128; 12], words: &[u8], to
 fn tell_table(came: &mut Came, name: &[u8], n: &[i128; 12], words: &[u8], told: Told) -> Told {
     let kind = kind_of(n[0]);
     let ty = ty_of(n[0]);
-    if same_bytes(name, b"type") {
-        tell_type(ty, told)
-    } else if same_bytes(name, b"kind") {
-        tell_kind(kind, told)
-    } else if same_bytes(name, b"operand") {
-        told.item(ty_name(operand_type(kind, u32_of(n[1]), ty_of(n[2]))))
-    } else if same_bytes(name, b"code") {
-        tell_code(n[0], told)
-    } else if same_bytes(name, b"stops") {
-        told.item(stop_name(StopKind::Range))
+    match place_in(b"type kind operand code stops packed", name) {
+        0 => tell_type(ty, told),
+        1 => tell_kind(kind, told),
+        2 => told.item(ty_name(operand_type(kind, u32_of(n[1]), ty_of(n[2])))),
+        3 => tell_code(n[0], told),
+        4 => told
+            .item(stop_name(StopKind::Range))
             .item(stop_name(StopKind::DivZero))
-            .item(stop_name(StopKind::Operand))
-    } else if same_bytes(name, b"packed") {
-        let word = Word::packed(Profile::Narrow, i64_of(n[0]) as i128, u64_of(n[1]));
-        tell_parts(Profile::Narrow, &Answer::Word(word), told)
-    } else {
-        tell_text(came, name, ty, words, told)
+            .item(stop_name(StopKind::Operand)),
+        5 => {
+            let word = Word::packed(Profile::Narrow, i64_of(n[0]) as i128, u64_of(n[1]));
+            tell_parts(Profile::Narrow, &Answer::Word(word), told)
+        }
+        _ => tell_text(came, name, ty, words, told),
     }
 }
 

@@ -3,14 +3,13 @@
 ghost use Rattle.std.specs.Prelude.{◌≡◌, IfSome, true};
 ghost use Rattle.coded_unit.specs.Asked.{Asked};
 
-use crate::play::texts::{count, integer, word};
+use crate::play::texts::{count, integer, place_in, word};
 use crate::play::told::Told;
 use coded_unit::{Answer, Call, Word};
 use fault_script::kind_named;
 use memchr::memchr;
 use vcp_base::{
-    Kind, MOST_STAMP, Profile, StopKind, Ty, admits, kind_code, kind_of_code, modulus, same_bytes,
-    stop_name,
+    Kind, MOST_STAMP, Profile, StopKind, Ty, admits, kind_code, kind_of_code, modulus, stop_name,
 };
 
 /// The number of 32 bits that this is; else 0.
@@ -50,17 +49,14 @@ pub fn kind_of(code: i128) -> Kind {
 
 /// The code of the code of words, the type or the kind of this name, or else the integer that is written so; 0 of another text.
 fn code_of(name: &[u8]) -> i128 {
-    if same_bytes(name, b"INT") || same_bytes(name, b"wide") {
-        1
-    } else if same_bytes(name, b"DINT") {
-        2
-    } else if same_bytes(name, b"LINT") {
-        3
-    } else {
-        match kind_named(name) {
+    match place_in(b"INT wide DINT LINT", name) {
+        0 | 1 => 1,
+        2 => 2,
+        3 => 3,
+        _ => match kind_named(name) {
             Some(kind) => kind_code(kind) as i128,
             None => integer(name),
-        }
+        },
     }
 }
 

@@ -2,7 +2,7 @@
 
 use crate::play::calls::{single_call, tell_answer};
 use crate::play::sessions::setting::{Outside, Setting};
-use crate::play::texts::{behind, part, parts_of, spelled, word};
+use crate::play::texts::{behind, part, parts_of, place_in, spelled, word};
 use crate::play::told::Told;
 use coded_unit::BadUnit;
 use std::alloc::Global;
@@ -47,27 +47,24 @@ impl Came {
 
     /// Makes a call of these words, before which the name of another program than `vcp` stands. The status is what it gives.
     pub fn call(&mut self, words: &[u8]) {
-        let program = word(words, 0);
         let rest = behind(words, 1);
-        self.status = if same_bytes(program, b"call") {
-            single_call(self, rest)
-        } else if same_bytes(program, b"vcp_study") {
-            vcp_study(
+        self.status = match place_in(b"call vcp_study", word(words, 0)) {
+            0 => single_call(self, rest),
+            1 => vcp_study(
                 self.alloc,
                 &words_of(self.alloc, rest),
                 &mut self.files,
                 &mut self.out,
                 &mut self.err,
-            )
-        } else {
-            vcp(
+            ),
+            _ => vcp(
                 self.alloc,
                 &words_of(self.alloc, words),
                 &mut self.files,
                 &mut self.unit,
                 &mut self.out,
                 &mut self.err,
-            )
+            ),
         };
     }
 

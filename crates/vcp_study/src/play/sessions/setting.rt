@@ -2,11 +2,11 @@
 
 use crate::play::sessions::came::Came;
 use crate::play::sessions::files::SessionFiles;
-use crate::play::texts::{behind, count, integer, put, word};
+use crate::play::texts::{behind, count, integer, place_in, put, word};
 use crate::play::told::Told;
 use coded_unit::{Answer, BadUnit, Word};
 use std::alloc::Global;
-use vcp_base::{Words, same_bytes};
+use vcp_base::Words;
 use vcp_outside::MemSink;
 
 /// What a call of a program is handed and that can fail.
@@ -75,14 +75,11 @@ impl Setting {
     pub fn fail(&mut self, line: &[u8]) {
         let which = word(line, 0);
         self.counts = three(behind(line, 1));
-        self.outside = if same_bytes(which, b"files") {
-            Outside::Files
-        } else if same_bytes(which, b"output") {
-            Outside::Output
-        } else if same_bytes(which, b"errors") {
-            Outside::Errors
-        } else {
-            Outside::Each
+        self.outside = match place_in(b"files output errors", which) {
+            0 => Outside::Files,
+            1 => Outside::Output,
+            2 => Outside::Errors,
+            _ => Outside::Each,
         };
     }
 
@@ -188,13 +185,10 @@ pub fn three(words: &[u8]) -> [u32; 3] {
 
 /// The answer that is written so: the name of a stop, or else the integer of its word, which is 0 where it is none.
 fn answer_in(text: &[u8]) -> Answer {
-    if same_bytes(text, b"RANGE") {
-        Answer::Range
-    } else if same_bytes(text, b"DIVZERO") {
-        Answer::DivZero
-    } else if same_bytes(text, b"OPERAND") {
-        Answer::Operand
-    } else {
-        Answer::Word(Word::new(integer(text)).unwrap_or(Word::ZERO))
+    match place_in(b"RANGE DIVZERO OPERAND", text) {
+        0 => Answer::Range,
+        1 => Answer::DivZero,
+        2 => Answer::Operand,
+        _ => Answer::Word(Word::new(integer(text)).unwrap_or(Word::ZERO)),
     }
 }
