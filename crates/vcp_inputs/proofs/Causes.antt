@@ -36,30 +36,6 @@ use Rattle.vcp_inputs.specs.Refusals as none
 
 -- ---- of each layer
 
-pub lexing_caused : (f : LexFault) → IsCaused (none.unlexed f)
-lexing_caused (lexer.Byte spot) = refl
-lexing_caused (lexer.Comment spot) = refl
-lexing_caused (lexer.Number spot) = refl
-lexing_caused lexer.Memory = tt
-
-pub parsing_caused : (f : SyntaxFault) → IsCaused (none.unparsed f)
-parsing_caused (syntax.Syntax spot) = refl
-parsing_caused (syntax.Depth spot) = refl
-parsing_caused syntax.Memory = tt
-
-pub typing_caused : (f : TypeFault) → IsCaused (none.untyped f)
-typing_caused (typing.Duplicate spot) = refl
-typing_caused (typing.Unknown spot) = refl
-typing_caused (typing.Mismatch spot) = refl
-typing_caused (typing.Assign spot) = refl
-typing_caused (typing.Bound spot) = refl
-typing_caused (typing.Label spot) = refl
-typing_caused (typing.Call spot) = refl
-typing_caused (typing.Literal spot) = refl
-typing_caused (typing.Names spot) = refl
-typing_caused typing.Size = refl
-typing_caused typing.Memory = tt
-
 pub row_caused : (f : RowFault) → IsCaused (none.no_rows f)
 row_caused rows.Header = refl
 row_caused (rows.Width row) = refl
@@ -97,18 +73,18 @@ wire_caused wire.Memory = tt
 
 -- ---- of each layer, where it isn't want of memory
 
-lexing_placed : (f : LexFault) → f ≢ lexer.Memory → IsSome (of_lexing f)
+pub lexing_placed : (f : LexFault) → f ≢ lexer.Memory → IsSome (of_lexing f)
 lexing_placed (lexer.Byte spot) other = refl
 lexing_placed (lexer.Comment spot) other = refl
 lexing_placed (lexer.Number spot) other = refl
 lexing_placed lexer.Memory other = absurd (other refl)
 
-parsing_placed : (f : SyntaxFault) → f ≢ syntax.Memory → IsSome (of_parsing f)
+pub parsing_placed : (f : SyntaxFault) → f ≢ syntax.Memory → IsSome (of_parsing f)
 parsing_placed (syntax.Syntax spot) other = refl
 parsing_placed (syntax.Depth spot) other = refl
 parsing_placed syntax.Memory other = absurd (other refl)
 
-typing_placed : (f : TypeFault) → f ≢ typing.Memory → IsSome (of_typing f)
+pub typing_placed : (f : TypeFault) → f ≢ typing.Memory → IsSome (of_typing f)
 typing_placed (typing.Duplicate spot) other = refl
 typing_placed (typing.Unknown spot) other = refl
 typing_placed (typing.Mismatch spot) other = refl
@@ -179,33 +155,16 @@ listed_fine text slots end before (l ∷ ls) =
     (onto_fine (judged text slots before (first_spot end l) l) (λ t. listed text slots end (Some t) ls)
     (formed_fine slots before (first_spot end l) (line_of text l)) (λ t. listed_fine text slots end (Some t) ls))
 
--- the cause, unless it is want of memory
-abbrev OrMemory : IlFault → Type 0
-OrMemory f = IsCaused (none.unlisted f)
-
-or_memory : (f : IlFault) → IsPlaced f → OrMemory f
-or_memory (il.Lex f) fine = fine
-or_memory (il.Syntax f) fine = fine
-or_memory (il.Types f) fine = fine
-or_memory (il.Instruction spot) fine = refl
-or_memory (il.Operand spot) fine = refl
-or_memory (il.Target spot) fine = refl
-or_memory (il.Empty spot) fine = refl
-or_memory (il.Mismatch spot) fine = refl
-or_memory (il.Reserved spot) fine = refl
-or_memory il.Memory fine = tt
-
-pub listing_caused : (text : List ℕ) (f : IlFault) → NotIl text f → IsCaused (none.unlisted f)
-listing_caused text _ (unlexed f known stops) = lexing_placed f known
-listing_caused text _ (unparsed ts f known reads refused) = parsing_placed f known
-listing_caused text _ (mistyped ts tree f known reads head refused) = typing_placed f known
-listing_caused text _ (reserved ts tree head spot begun is) = refl
-listing_caused text _ (misread ts tree head f begun free is) =
-    or_memory f
-    (subst ListedFine is (listed_fine text head.slots (spot_at text (length text)) None (lines_of (behind_head ts))))
-listing_caused text _ (crowded ts tree head i begun free slots code many) = refl
-listing_caused text _ (too_large ts tree head i begun free slots code few large) = refl
-listing_caused text _ no_memory = tt
+pub listing_placed : (text : List ℕ) (f : IlFault) → NotIl text f → f ≢ il.Memory → IsPlaced f
+listing_placed text _ (unlexed f known stops) other = lexing_placed f known
+listing_placed text _ (unparsed ts f known reads refused) other = parsing_placed f known
+listing_placed text _ (mistyped ts tree f known reads head refused) other = typing_placed f known
+listing_placed text _ (reserved ts tree head spot begun is) other = refl
+listing_placed text _ (misread ts tree head f begun free is) other =
+    subst ListedFine is (listed_fine text head.slots (spot_at text (length text)) None (lines_of (behind_head ts)))
+listing_placed text _ (crowded ts tree head i begun free slots code many) other = refl
+listing_placed text _ (too_large ts tree head i begun free slots code few large) other = refl
+listing_placed text _ no_memory other = absurd (other refl)
 
 -- ---- of files
 

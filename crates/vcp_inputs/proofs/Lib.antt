@@ -8,7 +8,6 @@ pub mod RowsRead
 pub mod RowsWorked
 pub mod Taken
 pub mod TakenImages
-pub mod TakenListings
 pub mod TakenScripts
 pub mod TakenWires
 pub mod CodeWords

@@ -12,42 +12,19 @@ use Rattle.vcp_base.specs.declared.columns.Column.{Column}
 use Rattle.input_rows.specs.RowsOf.{rows_of}
 use Rattle.vcp_inputs.specs.Forms.{file}
 use Rattle.st_lexer.specs.declared.token.Token.{Token}
-use Rattle.st_lexer.specs.declared.fault.LexFault.{LexFault}
-use Rattle.st_lexer.specs.declared.fault.LexFault.TheVariants as lexer
-use Rattle.st_lexer.specs.Reading.{Reads, Faults}
-use Rattle.st_lexer.specs.Spots.{spot_at}
-use Rattle.st_parser.specs.declared.fault.SyntaxFault.{SyntaxFault}
-use Rattle.st_parser.specs.declared.fault.SyntaxFault.TheVariants as syntax
-use Rattle.st_parser.specs.Answers.{Refuses as RefusesTokens}
+use Rattle.st_lexer.specs.Reading.{Reads}
 use Rattle.st_tree.specs.Spelling.{Spells, SpellsWithin}
 use Rattle.st_tree.specs.Declarable.{HasNames}
 use Rattle.st_tree.specs.ProgramTree.{ProgramTree}
-use Rattle.st_types.specs.declared.fault.TypeFault.{TypeFault}
-use Rattle.st_types.specs.declared.fault.TypeFault.TheVariants as typing
-use Rattle.st_types.specs.Typing.{Refuses as RefusesTree}
 use Rattle.vcp_inputs.specs.declared.refusal.Refusal.{Refusal}
 use Rattle.vcp_inputs.specs.declared.refusal.Refusal.TheVariants as refusal
 use Rattle.vcp_inputs.specs.declared.refusal.NoInput.{NoInput}
 use Rattle.vcp_inputs.specs.declared.refusal.NoInput.TheVariants as input
 use Rattle.vcp_inputs.specs.Files.{Untaken, long, short, LeavesLong, NotLoaded, Loads, FileRead}
-use Rattle.vcp_inputs.specs.Programs.{IsProgram, NoProgram, NotTyped, unlexed, unparsed, no_program, mistyped}
+use Rattle.vcp_inputs.specs.Programs.{IsProgram, NoProgram, NotTyped, no_program}
 use Rattle.vcp_inputs.specs.Refusals as none
 use Rattle.vcp_inputs.specs.RowsOutcome.{Opens, file_outcome, rows_or_refusal, rows_outcome}
 use Rattle.vcp_inputs.specs.RowsOutcome as outcome
-
--- the lexer's fault is told
-pub lexer_refuses : (text : List ℕ) (f : LexFault) → Faults text f → Untaken (NoProgram text) (none.unlexed f)
-lexer_refuses text (lexer.Byte spot) stops = unlexed (lexer.Byte spot) (λ e. cc) stops
-lexer_refuses text (lexer.Comment spot) stops = unlexed (lexer.Comment spot) (λ e. cc) stops
-lexer_refuses text (lexer.Number spot) stops = unlexed (lexer.Number spot) (λ e. cc) stops
-lexer_refuses text lexer.Memory stops = tt
-
--- the parser's fault is told
-pub parser_refuses : (text : List ℕ) (ts : List Token) (f : SyntaxFault) → Reads text ts → RefusesTokens text ts (spot_at text (length text)) f
-    → Untaken (NoProgram text) (none.unparsed f)
-parser_refuses text ts (syntax.Syntax spot) reads refused = unparsed ts (syntax.Syntax spot) (λ e. cc) reads refused
-parser_refuses text ts (syntax.Depth spot) reads refused = unparsed ts (syntax.Depth spot) (λ e. cc) reads refused
-parser_refuses text ts syntax.Memory reads refused = tt
 
 -- the parser's program is the text's
 pub is_program : (text : List ℕ) (ts : List Token) (p : ProgramTree) → Reads text ts → SpellsWithin most_depth p text ts
@@ -65,20 +42,6 @@ pub without_tree : (text : List ℕ) (e : NoInput) → Untaken (NoProgram text) 
 without_tree text input.Unread h = h
 without_tree text (input.Refused r) h = no_program r h
 without_tree text input.Memory h = tt
-
--- typing's fault is told
-pub typing_refuses : (text : List ℕ) (p : ProgramTree) (f : TypeFault) → IsProgram text p → RefusesTree p f → Untaken (NotTyped text) (none.untyped f)
-typing_refuses text p (typing.Duplicate spot) is refused = mistyped p (typing.Duplicate spot) is (λ e. cc) refused
-typing_refuses text p (typing.Unknown spot) is refused = mistyped p (typing.Unknown spot) is (λ e. cc) refused
-typing_refuses text p (typing.Mismatch spot) is refused = mistyped p (typing.Mismatch spot) is (λ e. cc) refused
-typing_refuses text p (typing.Assign spot) is refused = mistyped p (typing.Assign spot) is (λ e. cc) refused
-typing_refuses text p (typing.Bound spot) is refused = mistyped p (typing.Bound spot) is (λ e. cc) refused
-typing_refuses text p (typing.Label spot) is refused = mistyped p (typing.Label spot) is (λ e. cc) refused
-typing_refuses text p (typing.Call spot) is refused = mistyped p (typing.Call spot) is (λ e. cc) refused
-typing_refuses text p (typing.Literal spot) is refused = mistyped p (typing.Literal spot) is (λ e. cc) refused
-typing_refuses text p (typing.Names spot) is refused = mistyped p (typing.Names spot) is (λ e. cc) refused
-typing_refuses text p typing.Size is refused = mistyped p typing.Size is (λ e. cc) refused
-typing_refuses text p typing.Memory is refused = tt
 
 -- ---- files
 

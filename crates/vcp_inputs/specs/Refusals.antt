@@ -2,14 +2,6 @@
 use Rattle.std.specs.Prelude.{IsSome}
 use Rattle.vcp_outside.specs.declared.reading.ReadAll.{ReadAll}
 use Rattle.vcp_outside.specs.declared.reading.ReadAll.TheVariants as reading
-use Rattle.st_lexer.specs.declared.fault.LexFault.{LexFault}
-use Rattle.st_lexer.specs.declared.fault.LexFault.TheVariants as lexer
-use Rattle.st_parser.specs.declared.fault.SyntaxFault.{SyntaxFault}
-use Rattle.st_parser.specs.declared.fault.SyntaxFault.TheVariants as syntax
-use Rattle.st_types.specs.declared.fault.TypeFault.{TypeFault}
-use Rattle.st_types.specs.declared.fault.TypeFault.TheVariants as typing
-use Rattle.il_front.specs.declared.fault.IlFault.{IlFault}
-use Rattle.il_front.specs.declared.fault.IlFault.TheVariants as il
 use Rattle.input_rows.specs.declared.fault.RowFault.{RowFault}
 use Rattle.input_rows.specs.declared.fault.RowFault.TheVariants as rows
 use Rattle.image_file.specs.declared.fault.ImageFault.{ImageFault}
@@ -28,46 +20,6 @@ abbrev pub unread : ReadAll → NoInput
 unread reading.Failed = input.Unread
 unread reading.TooLong = input.Refused refusal.Bytes
 unread reading.Memory = input.Memory
-
--- of the lexer
-abbrev pub unlexed : LexFault → NoInput
-unlexed (lexer.Byte spot) = input.Refused (refusal.Lexing (lexer.Byte spot))
-unlexed (lexer.Comment spot) = input.Refused (refusal.Lexing (lexer.Comment spot))
-unlexed (lexer.Number spot) = input.Refused (refusal.Lexing (lexer.Number spot))
-unlexed lexer.Memory = input.Memory
-
--- of the parser
-abbrev pub unparsed : SyntaxFault → NoInput
-unparsed (syntax.Syntax spot) = input.Refused (refusal.Parsing (syntax.Syntax spot))
-unparsed (syntax.Depth spot) = input.Refused (refusal.Parsing (syntax.Depth spot))
-unparsed syntax.Memory = input.Memory
-
--- of typing
-abbrev pub untyped : TypeFault → NoInput
-untyped (typing.Duplicate spot) = input.Refused (refusal.Typing (typing.Duplicate spot))
-untyped (typing.Unknown spot) = input.Refused (refusal.Typing (typing.Unknown spot))
-untyped (typing.Mismatch spot) = input.Refused (refusal.Typing (typing.Mismatch spot))
-untyped (typing.Assign spot) = input.Refused (refusal.Typing (typing.Assign spot))
-untyped (typing.Bound spot) = input.Refused (refusal.Typing (typing.Bound spot))
-untyped (typing.Label spot) = input.Refused (refusal.Typing (typing.Label spot))
-untyped (typing.Call spot) = input.Refused (refusal.Typing (typing.Call spot))
-untyped (typing.Literal spot) = input.Refused (refusal.Typing (typing.Literal spot))
-untyped (typing.Names spot) = input.Refused (refusal.Typing (typing.Names spot))
-untyped typing.Size = input.Refused (refusal.Typing typing.Size)
-untyped typing.Memory = input.Memory
-
--- of a reader of instructions
-abbrev pub unlisted : IlFault → NoInput
-unlisted (il.Lex f) = input.Refused (refusal.Listing (il.Lex f))
-unlisted (il.Syntax f) = input.Refused (refusal.Listing (il.Syntax f))
-unlisted (il.Types f) = input.Refused (refusal.Listing (il.Types f))
-unlisted (il.Instruction spot) = input.Refused (refusal.Listing (il.Instruction spot))
-unlisted (il.Operand spot) = input.Refused (refusal.Listing (il.Operand spot))
-unlisted (il.Target spot) = input.Refused (refusal.Listing (il.Target spot))
-unlisted (il.Empty spot) = input.Refused (refusal.Listing (il.Empty spot))
-unlisted (il.Mismatch spot) = input.Refused (refusal.Listing (il.Mismatch spot))
-unlisted (il.Reserved spot) = input.Refused (refusal.Listing (il.Reserved spot))
-unlisted il.Memory = input.Memory
 
 -- of rows
 abbrev pub no_rows : RowFault → NoInput

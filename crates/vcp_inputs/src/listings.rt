@@ -14,8 +14,8 @@ ghost use Rattle.vcp_inputs.specs.declared.refusal.Refusal.TheVariants as refusa
 
 use crate::alike::taken_beside;
 use crate::reading::read_file;
-use crate::refusal::NoInput;
-use il_front::{MOST_IL_BYTES, read_il};
+use crate::refusal::{NoInput, Refusal};
+use il_front::{IlFault, MOST_IL_BYTES, read_il};
 use std::alloc::Global;
 use vcp_base::Text;
 use vcp_outside::Files;
@@ -30,7 +30,8 @@ pub fn listed_program(alloc: Global, text: &[u8]) -> Result<Typed, NoInput>
 {
     match read_il(alloc, text) {
         Ok(program) => Ok(program),
-        Err(fault) => Err(NoInput::from(fault)),
+        Err(IlFault::Memory) => Err(NoInput::Memory),
+        Err(fault) => Err(NoInput::Refused(Refusal::Listing(fault))),
     }
 }
 

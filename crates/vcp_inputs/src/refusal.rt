@@ -1,7 +1,7 @@
 //! Why a file isn't taken.
 
 ghost use Rattle.std.specs.Prelude.{◌≡◌};
-ghost use Rattle.vcp_inputs.specs.Refusals.{unread, unlexed, unparsed, untyped, unlisted, no_rows, unimaged, unscripted, unwired};
+ghost use Rattle.vcp_inputs.specs.Refusals.{unread, no_rows, unimaged, unscripted, unwired};
 
 use fault_script::ScriptFault;
 use il_front::IlFault;
@@ -62,71 +62,6 @@ impl From<ReadAll> for NoInput {
             ReadAll::Failed => NoInput::Unread,
             ReadAll::TooLong => NoInput::Refused(Refusal::Bytes),
             ReadAll::Memory => NoInput::Memory,
-        }
-    }
-}
-
-impl From<LexFault> for NoInput {
-    ghost from_gives = { λ l e. e ≡ unlexed l };
-
-    fn from(fault: LexFault) -> NoInput {
-        match fault {
-            LexFault::Memory => NoInput::Memory,
-            LexFault::Byte { .. } | LexFault::Comment { .. } | LexFault::Number { .. } => {
-                NoInput::Refused(Refusal::Lexing(fault))
-            }
-        }
-    }
-}
-
-impl From<SyntaxFault> for NoInput {
-    ghost from_gives = { λ p e. e ≡ unparsed p };
-
-    fn from(fault: SyntaxFault) -> NoInput {
-        match fault {
-            SyntaxFault::Memory => NoInput::Memory,
-            SyntaxFault::Syntax { .. } | SyntaxFault::Depth { .. } => {
-                NoInput::Refused(Refusal::Parsing(fault))
-            }
-        }
-    }
-}
-
-impl From<TypeFault> for NoInput {
-    ghost from_gives = { λ t e. e ≡ untyped t };
-
-    fn from(fault: TypeFault) -> NoInput {
-        match fault {
-            TypeFault::Memory => NoInput::Memory,
-            TypeFault::Duplicate { .. }
-            | TypeFault::Unknown { .. }
-            | TypeFault::Mismatch { .. }
-            | TypeFault::Assign { .. }
-            | TypeFault::Bound { .. }
-            | TypeFault::Label { .. }
-            | TypeFault::Call { .. }
-            | TypeFault::Literal { .. }
-            | TypeFault::Names { .. }
-            | TypeFault::Size => NoInput::Refused(Refusal::Typing(fault)),
-        }
-    }
-}
-
-impl From<IlFault> for NoInput {
-    ghost from_gives = { λ i e. e ≡ unlisted i };
-
-    fn from(fault: IlFault) -> NoInput {
-        match fault {
-            IlFault::Memory => NoInput::Memory,
-            IlFault::Lex(_)
-            | IlFault::Syntax(_)
-            | IlFault::Types(_)
-            | IlFault::Instruction { .. }
-            | IlFault::Operand { .. }
-            | IlFault::Target { .. }
-            | IlFault::Empty { .. }
-            | IlFault::Mismatch { .. }
-            | IlFault::Reserved { .. } => NoInput::Refused(Refusal::Listing(fault)),
         }
     }
 }

@@ -15,10 +15,10 @@ ghost use Rattle.vcp_inputs.specs.declared.refusal.Refusal.TheVariants as refusa
 use crate::alike::taken_beside;
 use crate::reading::read_file;
 use crate::refusal::{NoInput, Refusal};
-use st_lexer::lex;
-use st_parser::parse;
+use st_lexer::{LexFault, lex};
+use st_parser::{SyntaxFault, parse};
 use st_tree::{Program, spelled_names_are_declarable};
-use st_types::typed;
+use st_types::{TypeFault, typed};
 use std::alloc::Global;
 use vcp_base::{MOST_SOURCE_BYTES, Text};
 use vcp_outside::Files;
@@ -33,11 +33,13 @@ pub fn program_of(alloc: Global, source: &[u8]) -> Result<Program, NoInput>
 {
     let tokens = match lex(alloc, source) {
         Ok(tokens) => tokens,
-        Err(fault) => return Err(NoInput::from(fault)),
+        Err(LexFault::Memory) => return Err(NoInput::Memory),
+        Err(fault) => return Err(NoInput::Refused(Refusal::Lexing(fault))),
     };
     match parse(alloc, source, &tokens) {
         Ok(program) => Ok(program),
-        Err(fault) => Err(NoInput::from(fault)),
+        Err(SyntaxFault::Memory) => Err(NoInput::Memory),
+        Err(fault) => Err(NoInput::Refused(Refusal::Parsing(fault))),
     }
 }
 
@@ -83,7 +85,8 @@ fn typed_once(alloc: Global, source: &[u8]) -> Result<Typed, NoInput>
     match program_of(alloc, source) {
         Ok(program) => match typed(alloc, &program) {
             Ok(typed) => Ok(typed),
-            Err(fault) => Err(NoInput::from(fault)),
+            Err(TypeFault::Memory) => Err(NoInput::Memory),
+            Err(fault) => Err(NoInput::Refused(Refusal::Typing(fault))),
         },
         Err(input) => Err(input),
     }
