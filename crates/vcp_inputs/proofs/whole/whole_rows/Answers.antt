@@ -1,4 +1,6 @@
-use Rattle.std.proofs.Common.{ap, sym}
+use Rattle.std.proofs.Common.{◌≡◌, ◌≤◌, ◌∙◌, All, ap, length, subst, sym}
+use Rattle.std.proofs.lemmas.List.{length-map}
+use Rattle.vcp_base.specs.Limits.{most_cycles}
 use Rattle.input_rows.specs.Opening.{source_rows}
 use Rattle.vcp_inputs.specs.RowsOutcome.{rows_or_refusal, source_outcome}
 use Rattle.vcp_inputs.proofs.Causes.{row_caused}
@@ -32,3 +34,11 @@ returns-in-Ok-collect_rows-clause-rows c = record {
   rows_are = sym c.in-Ok-collect_rows.ensures.rows;
   whole = c.in-Ok-collect_rows.ensures.whole;
 }
+
+pub returns-in-Ok-collect_rows-clause-width : goal.returns-in-Ok-collect_rows-clause-width
+returns-in-Ok-collect_rows-clause-width c =
+    let wide : length c.in-Ok.rows.types ≡ length c.args.columns.now = ap length c.in-Ok.ensures.types ∙ length-map c.args.columns.now _ in
+    subst (λ n. All (λ row. length row ≡ n) c.in-Ok-collect_rows.list) wide c.in-Ok-collect_rows.ensures.width
+
+pub returns-in-Ok-collect_rows-clause-few : goal.returns-in-Ok-collect_rows-clause-few
+returns-in-Ok-collect_rows-clause-few c = subst (λ list. length list ≤ most_cycles) (sym c.in-Ok-collect_rows.ensures.rows) c.in-Ok.ensures.few
