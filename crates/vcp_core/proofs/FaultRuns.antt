@@ -1,11 +1,16 @@
 -- What `inject` and `pairs` come to alike where there are no rows, or no script.
-use Rattle.std.proofs.Common.{ℕ, ℤ, ◌≡◌, ◌≢◌, ◌∙◌, inl, inr, refl, List, Option, Some, None, IfSome}
+use Rattle.std.proofs.Common.{ℕ, ℤ, ◌≡◌, ◌≢◌, ◌∙◌, inl, inr, refl, List, Option, Some, None, IfSome, Result, Ok, Err}
+use Rattle.std.proofs.lemmas.Bool.{true≢false}
 use Rattle.std.specs.Io.KnownBytes.{IsAtEnd}
 use Rattle.vcp_base.specs.Limits.{most_source_bytes}
 use Rattle.vcp_outside.specs.Counts.{Rose}
-use Rattle.vcp_outside.specs.Seen.{FilesSeen}
+use Rattle.vcp_outside.specs.Seen.{FilesSeen, SinkSeen}
+use Rattle.coded_unit.specs.Seen.{UnitSeen}
+use Rattle.fault_script.specs.declared.act.Fault.{Fault as ScriptedFault}
+use Rattle.fault_injector.specs.declared.campaign.fault.CampaignFault.{CampaignFault}
+use Rattle.fault_injector.specs.declared.campaign.fault.CampaignFault.TheVariants as campaign
 use Rattle.op_graph.specs.Lists.{Lists}
-use Rattle.coded_machine.specs.Moments.{Moment}
+use Rattle.coded_machine.specs.Moments.{Moment, moment}
 use Rattle.vcp_inputs.specs.Forms.{Rows, faults_run, inject, pairs}
 use Rattle.vcp_inputs.specs.Tables.{rows_name}
 use Rattle.vcp_inputs.specs.declared.refusal.Refusal.{Refusal}
@@ -13,23 +18,25 @@ use Rattle.vcp_inputs.specs.declared.refusal.Refusal.TheVariants as refusal
 use Rattle.vcp_inputs.specs.declared.refusal.NoInput.{NoInput}
 use Rattle.vcp_inputs.specs.declared.refusal.NoInput.TheVariants as input
 use Rattle.vcp_inputs.specs.Abouts.{about, script_word}
-use Rattle.vcp_inputs.specs.Files.{LeavesLong, NotLoaded}
+use Rattle.vcp_inputs.specs.Files.{LeavesLong, Loads, NotLoaded}
 use Rattle.vcp_inputs.specs.Lines.{input_status, input_text}
 use Rattle.vcp_inputs.specs.Performing.{Performs}
 use Rattle.vcp_inputs.specs.Refusals.{IsCaused}
 use Rattle.vcp_inputs.specs.RowsOutcome.{RowsOutcome, source_outcome}
 use Rattle.vcp_inputs.specs.RowsRead.{NoneRead}
-use Rattle.vcp_inputs.specs.Scripts.{NotScript}
+use Rattle.vcp_inputs.specs.Scripts.{NotScript, ScriptOf}
 use Rattle.vcp_core.specs.declared.image_rows.ImageRows.{ImageRows}
 use Rattle.vcp_core.specs.ImagesRead.{AreImageRows, ImageRowsRead}
-use Rattle.vcp_core.specs.Inject.{NoRowsFor, RowsFor}
+use Rattle.vcp_core.specs.Faults.{campaign_end}
+use Rattle.vcp_core.specs.Inject.{JudgedFor, NoRowsFor, RowsFor}
+use Rattle.vcp_core.specs.Reach.{told_line, told_status}
 use Rattle.vcp_core.specs.Tasks.{TaskOf}
 use Rattle.vcp_core.proofs.Facts.{if_some_always, if_some_both, if_some_same, if_some_weaker, if_some_when, not_none, rose_still}
 use Rattle.vcp_core.proofs.ImagesRead.{loads_at}
-use Rattle.vcp_core.proofs.JudgedTasks.{lost_for, none_for, rows_are_read}
+use Rattle.vcp_core.proofs.JudgedTasks.{campaign_ends, campaign_of, judged_ends, lost_for, none_for, rows_are_read}
 use Rattle.vcp_core.proofs.JudgedTasks as judged
 use Rattle.vcp_core.proofs.LoadedRows.{rows_may}
-use Rattle.vcp_core.proofs.PairsTasks.{none_is_read}
+use Rattle.vcp_core.proofs.PairsTasks.{none_is_read, pairs_end}
 use Rattle.vcp_core.proofs.PairsTasks as paired
 use Rattle.vcp_core.proofs.Performing.{files_lost}
 
@@ -93,3 +100,31 @@ module _ (m : List ℕ) (rows : Rows) (s : List ℕ) (files mid : FilesSeen) (r 
         (if_some_when (e ≡ input.Refused refusal.Bytes) mid.held mid.held (LeavesLong s most_source_bytes later.rest) refl left)))
         (λ is. rose_still read.file.faults (rose is)) (λ no. stayed no ∙ read.file.faults)
         (λ is. (script_word s, paired.script_named m rows seed s, refl)) caused (inl (script_word s, paired.script_named m rows seed s, refl))
+
+  -- all are there, and the script is, and its groups were judged, or were not to their end
+  module _ (later : FilesSeen) (held : later.held ≡ mid.held) (ended : IsAtEnd later.rest) (faults : later.faults ≡ mid.faults)
+      (groups : List (List ScriptedFault))
+      (found : IfSome mid.held (λ h. Loads (ScriptOf r.image.graph) (NotScript r.image.graph) h s most_source_bytes mid.broken later.broken (Ok groups)))
+      (unit unit' : UnitSeen) (out out' : SinkSeen) (result : Result (Unit {0}) CampaignFault)
+      (write : result ≡ Err campaign.Write → Rose out.faults out'.faults) (stayed : result ≢ Err campaign.Write → out'.faults ≡ out.faults) where
+    pub groups_judged : (second : Option ℕ) → IfSome second (λ seed. seed ≢ r.image.table.seed) → (list : List (List ℤ))
+        → RowsFor second outcome r.image.graph list
+        → JudgedFor second r.image.table r.image.graph groups list unit unit' out.written out'.written result
+        → Performs (about (faults_run m rows second s)) (TaskOf (faults_run m rows second s)) files later (moment unit out) (moment unit' out')
+        (told_line (campaign_end result)) (told_status (campaign_end result))
+    groups_judged None apart list all told =
+        campaign_ends (about (inject m rows s)) (TaskOf (inject m rows s)) files later not_none (held ∙ read.file.held) (inl refl) (moment unit out) (moment unit' out')
+        ended (faults ∙ read.file.faults) (λ no. absurd (true≢false no)) result
+        (if_some_both files.held mid.held _ _ _ read.file.held
+        (λ h (l, same) at. judged_ends (campaign_of r.image list groups) unit unit' out out' m rows s h files later
+        (judged.groups_come m rows s h files later r.image outcome l same list all groups at) result write told)
+        (loads_at m rows files mid r fit read) found)
+        write stayed
+    groups_judged (Some seed) apart list all told =
+        campaign_ends (about (pairs m rows seed s)) (TaskOf (pairs m rows seed s)) files later not_none (held ∙ read.file.held) (inl refl) (moment unit out) (moment unit' out')
+        ended (faults ∙ read.file.faults) (λ no. absurd (true≢false no)) result
+        (if_some_both files.held mid.held _ _ _ read.file.held
+        (λ h (l, same) at. pairs_end (campaign_of r.image list groups) unit unit' out out' m rows seed s h files later
+        (paired.groups_come m rows seed s h files later r.image apart outcome l same list all groups at) result write told)
+        (loads_at m rows files mid r fit read) found)
+        write stayed

@@ -1,5 +1,11 @@
 -- Inject: all rows of runs under faults, as they are read before the script. On one channel they are few; on two the seed of the second is said.
-use Rattle.std.specs.Prelude.{ℕ, ℤ, ◌≡◌, ◌≤◌, ◌<◌, ◌*◌, List, length, Option, Some, None}
+use Rattle.std.specs.Prelude.{ℕ, ℤ, ◌≡◌, ◌≤◌, ◌<◌, ◌*◌, List, length, Option, Some, None, Result}
+use Rattle.signature_table.specs.Signatures.{Numbers}
+use Rattle.coded_unit.specs.Seen.{UnitSeen}
+use Rattle.fault_script.specs.declared.act.Fault.{Fault as ScriptedFault}
+use Rattle.fault_injector.specs.Campaign.{Told}
+use Rattle.fault_injector.specs.PairCampaigns.{PairsTold}
+use Rattle.fault_injector.specs.declared.campaign.fault.CampaignFault.{CampaignFault}
 use Rattle.input_rows.specs.RowsOf.{RowsLeft}
 use Rattle.op_graph.specs.Lists.{Lists}
 use Rattle.vcp_inputs.specs.declared.refusal.NoInput.{NoInput}
@@ -35,3 +41,9 @@ RowsFor (Some seed) o g rows = AllRead o rows
 abbrev pub NoRowsFor : Option ℕ → RowsOutcome → Lists → NoInput → Type 0
 NoRowsFor None o g e = NoRows o g e
 NoRowsFor (Some seed) o g e = NoneRead o e
+
+-- what is told of the groups of a script, by the seed of a second channel
+abbrev pub JudgedFor : Option ℕ → Numbers → Lists → List (List ScriptedFault) → List (List ℤ) → UnitSeen → UnitSeen → Option (List ℕ) → Option (List ℕ)
+    → Result (Unit {0}) CampaignFault → Type 0
+JudgedFor None t g groups rows before after out out' result = Told t g groups rows before after out out' result
+JudgedFor (Some seed) t g groups rows before after out out' result = PairsTold t g groups rows before after out out' result
