@@ -21,6 +21,12 @@ of_source o s b n (Err input.Unread) same all none = absurd none
 of_source o s b n (Err (input.Refused r)) same all none = rw same none
 of_source o s b n (Err input.Memory) same all none = tt
 
+-- that there are none is no read fault
+pub none_unread : (s : RowsOutcome) (i : NoInput) → NoneRead s i → i ≡ input.Unread → ⊥
+none_unread s (input.Refused r) none is = cc
+none_unread s input.Memory none is = cc
+none_unread s input.Unread none is = none
+
 -- as wide as the columns, and so as the inputs
 pub as_wide : (g : Lists) (columns : List Column) (rows : List (List ℤ)) → All (λ r. length r ≡ length columns) rows
     → columns ≡ map (column g.names) g.inputs → All (λ r. length r ≡ length g.inputs) rows

@@ -1,24 +1,19 @@
 //! Files and ROWS, with the answers with which a command ends for want of them.
 
-ghost use Rattle.std.specs.Prelude.{◌≡◌, ◌<◌, ◌≤◌, ◌^◌, All, IfSome, IfOk, OnOk, Err, length};
+ghost use Rattle.std.specs.Prelude.{◌≡◌, ◌<◌, ◌≤◌, ◌^◌, All, IfOk, length};
 ghost use Rattle.std.specs.Io.KnownBytes.{IsAtEnd};
-ghost use Rattle.vcp_base.specs.Limits.{most_cycles, most_names};
-ghost use Rattle.vcp_outside.specs.Counts.{Rose};
+ghost use Rattle.vcp_base.specs.Limits.{most_cycles};
 ghost use Rattle.vcp_inputs.specs.Forms.{rows_of, AreFew};
-ghost use Rattle.vcp_inputs.specs.RowsOutcome.{rows_outcome};
-ghost use Rattle.vcp_inputs.specs.declared.refusal.NoInput.TheVariants as input;
 ghost use Rattle.vcp_study_core.specs.CarriedOut.{Fetches};
 ghost use Rattle.vcp_study_core.specs.FromFiles.{as_found};
-ghost use Rattle.vcp_study_core.specs.Parts.{ReadsRows, RowsFrom};
+ghost use Rattle.vcp_study_core.specs.Parts.{RowsFrom};
 ghost use Rattle.vcp_study_core.specs.Tasks.{BytesFrom};
 
 use crate::fault::Fault;
 use input_rows::RowList;
 use std::alloc::Global;
-use vcp_base::{Columns, Text};
-use vcp_inputs::{
-    Image, NoInput, RowsWord, graph_columns, load_rows, read_file, rows_name, whole_rows,
-};
+use vcp_base::Text;
+use vcp_inputs::{Image, RowsWord, graph_columns, load_rows, read_file, rows_name, whole_rows};
 use vcp_outside::Files;
 
 /// The bytes of the file under a name, which has at most so many.
@@ -41,31 +36,6 @@ pub(crate) fn bytes_under<'a, F: Files>(
     }
 }
 
-/// All rows of ROWS for these columns.
-fn all_rows<F: Files>(
-    alloc: Global,
-    rows: RowsWord<'_>,
-    columns: &Columns,
-    files: &mut F,
-) -> Result<RowList, NoInput>
-    requires few { AreFew (rows_of rows) }
-    requires narrow { length columns.now ≤ most_names }
-    ensures reads { IfSome (F.seen files.old).held
-        (λ h. ReadsRows (rows_outcome (rows_of rows.entry) h columns.now) (F.seen files.old).broken (F.seen files.new).broken result) }
-    ensures unread { result ≡ Err input.Unread → Rose (F.seen files.old).faults (F.seen files.new).faults }
-    ensures held { (F.seen files.new).held ≡ (F.seen files.old).held }
-    ensures later { (F.seen files.old).faults ≤ (F.seen files.new).faults }
-    ensures broken_later { (F.seen files.old).broken ≤ (F.seen files.new).broken }
-    ensures ended { OnOk result (IsAtEnd (F.seen files.old).rest → IsAtEnd (F.seen files.new).rest) }
-    ensures width { IfOk result (λ list. All (λ row. length row ≡ length columns.now) list) }
-    ensures few { IfOk result (λ list. length list ≤ most_cycles) }
-{
-    match load_rows(alloc, files, rows, columns) {
-        Ok(source) => whole_rows(alloc, &source, columns),
-        Err(why) => Err(why),
-    }
-}
-
 /// All rows of ROWS for an image's inputs.
 pub(crate) fn rows_for<'a, F: Files>(
     alloc: Global,
@@ -83,7 +53,16 @@ pub(crate) fn rows_for<'a, F: Files>(
         Ok(columns) => columns,
         Err(_) => return Err(Fault::Memory),
     };
-    match all_rows(alloc, rows, &columns, files) {
+    let source = match load_rows(alloc, files, rows, &columns) {
+        Ok(source) => source,
+        Err(input) => {
+            return Err(Fault::Input {
+                name: rows_name(rows),
+                input,
+            });
+        }
+    };
+    match whole_rows(alloc, &source, &columns) {
         Ok(list) => Ok(list),
         Err(input) => Err(Fault::Input {
             name: rows_name(rows),
