@@ -24,6 +24,7 @@ use std::mem::swap;
 use vcp_base::{Memory, Row};
 
 /// What a run works on.
+#[derive(Drop)]
 pub(crate) struct Work {
     /// The answers of the cycle.
     pub own: Vec<Answer>,
@@ -37,19 +38,6 @@ pub(crate) struct Work {
     pub inputs: Row,
     /// Whether the run reached a fault so far.
     pub reached: bool,
-}
-
-impl Drop for Work {
-    fn drop(self) {
-        let Work {
-            own: _,
-            past: _,
-            held: _,
-            past_held: _,
-            inputs: _,
-            reached: _,
-        } = self;
-    }
 }
 
 impl Work {
@@ -69,21 +57,6 @@ impl Work {
             inputs: Row::zeros(alloc, graph.inputs())?,
             reached: false,
         })
-    }
-
-    /// The words of the cells.
-    fn into_held(self) -> Vec<Word>
-        ensures { result.items ≡ self.held.items }
-    {
-        let Work {
-            own: _,
-            past: _,
-            held,
-            past_held: _,
-            inputs: _,
-            reached: _,
-        } = self;
-        held
     }
 }
 
@@ -220,7 +193,17 @@ pub fn words_left(
     ensures { IfOk result (λ words. words.items ≡ held_at_end table.now graph.now (acts_of []) rows.now) }
 {
     match run_group(alloc, graph, table, rows, &Group::new(alloc)) {
-        Ok(work) => Ok(work.into_held()),
+        Ok(work) => {
+            let Work {
+                own: _,
+                past: _,
+                held,
+                past_held: _,
+                inputs: _,
+                reached: _,
+            } = work;
+            Ok(held)
+        }
         Err(Memory) => Err(Memory),
     }
 }
