@@ -2,7 +2,10 @@
 use Rattle.std.proofs.Common.{◌≡◌, ℕ, zero, suc, ◌-◌, ◌≤◌, ◌++◌, List, [], ◌∷◌, length, slice_get, map, option_map, Option, Some, None, refl, sym, ap, ◌∙◌}
 use Rattle.std.proofs.Common.{subst, arith, append_assoc, append-nil}
 use Rattle.vcp_base.specs.declared.spot.Spot.{Spot}
+use Rattle.std.proofs.lemmas.List.{length-map}
+use Rattle.st_tree.specs.declared.program.Declared.{Declared}
 use Rattle.st_tree.specs.ProgramTree.{DeclaredTree}
+use Rattle.st_tree.specs.ProgramViews.{declared_tree}
 use Rattle.st_types.specs.Places.{IsAt, IsAmong, IsAfter}
 use Rattle.st_types.proofs.ExprLaws.{none-some, some-none}
 
@@ -35,6 +38,19 @@ get-map-is f (x ∷ xs) (suc i) = get-map-is f xs i
 
 pub get-map : {X Y : Type 0} (f : X → Y) (xs : List X) (i : ℕ) (o : Option X) → slice_get xs i ≡ o → slice_get (map f xs) i ≡ option_map f o
 get-map f xs i o h = get-map-is f xs i ∙ ap (option_map f) h
+
+-- a name among these, and a place past them
+pub here : (xs : List Declared) (n : ℕ) (d : Declared) → slice_get xs n ≡ Some d → IsAmong (map declared_tree xs) n d.spot
+here xs n d is = λ rest. (
+  declared_tree d,
+  front-place (map declared_tree xs) rest n (declared_tree d) (get-map declared_tree xs n (Some d) is),
+  refl,
+)
+
+pub later : (xs : List Declared) (n k : ℕ) → k ≡ length xs → k ≤ n → IsAfter (map declared_tree xs) n (n - k)
+later xs n k e past = λ rest.
+    back-place (map declared_tree xs) rest n (get-map declared_tree xs n None (none-past xs n (omega (arith, e, past))))
+    ∙ ap (λ j. slice_get rest (n - j)) (length-map xs declared_tree ∙ sym e)
 
 -- where place n is place `left` of the names ds ++ more, and the wanted one is among ds
 pub among-here : (all ds more rest : List DeclaredTree) (n left : ℕ) (spot : Spot)

@@ -58,23 +58,7 @@ pub(crate) fn spot_of(e: &Expr) -> Spot
     }
 }
 
-// The form of a name that is a declared constant; a variable has none.
-fn form_of_name(names: &Names, name: &[u8]) -> Option<Form>
-    ensures { result ≡ option_and_then form_of_entry (find names.now name.now) }
-{
-    let Some(e) = names.find(name) else {
-        return None;
-    };
-    if !is_constant(e.section) {
-        return None;
-    }
-    Some(Form {
-        ty: Some(e.ty),
-        value: i128::from(e.value),
-    })
-}
-
-// The constant form that an expression is.
+// The constant form that an expression is. The name of a variable has none.
 fn form_of(names: &Names, e: &Expr) -> Option<Form>
     ensures { result ≡ form_of_tree names.now (expr_tree e.now) }
 {
@@ -83,7 +67,18 @@ fn form_of(names: &Names, e: &Expr) -> Option<Form>
             ty: *ty,
             value: i128::from(*value),
         }),
-        Expr::Name { name, .. } => form_of_name(names, name.bytes()),
+        Expr::Name { name, .. } => {
+            let Some(entry) = names.find(name.bytes()) else {
+                return None;
+            };
+            if !is_constant(entry.section) {
+                return None;
+            }
+            Some(Form {
+                ty: Some(entry.ty),
+                value: i128::from(entry.value),
+            })
+        }
         Expr::Unary { op, arg, .. } => match negated(*op, arg) {
             None => None,
             Some(l) => Some(Form {
@@ -123,7 +118,9 @@ fn number_of(ty: Ty, form: Form) -> Option<i64>
 fn form_number(ty: Option<Ty>, form: Option<Form>) -> Option<i128>
     ensures { result ≡ form_number_of ty form }
 {
-    let form = form?;
+    let Some(form) = form else {
+        return None;
+    };
     match ty {
         None => {
             if is_form_bool(form.ty) {
@@ -132,7 +129,10 @@ fn form_number(ty: Option<Ty>, form: Option<Form>) -> Option<i128>
                 Some(form.value)
             }
         }
-        Some(ty) => Some(i128::from(number_of(ty, form)?)),
+        Some(ty) => match number_of(ty, form) {
+            None => None,
+            Some(value) => Some(i128::from(value)),
+        },
     }
 }
 
@@ -150,7 +150,9 @@ fn number_in(ty: Option<Ty>, found: Option<Ty>, form: Option<Form>) -> Option<i6
 fn not_zero(value: Option<i64>) -> Option<i64>
     ensures { result ≡ option_and_then not_zero_of value }
 {
-    let value = value?;
+    let Some(value) = value else {
+        return None;
+    };
     if value == 0 { None } else { Some(value) }
 }
 
@@ -158,7 +160,9 @@ fn not_zero(value: Option<i64>) -> Option<i64>
 fn form_not_zero(value: Option<i128>) -> Option<i128>
     ensures { result ≡ option_and_then not_zero_of value }
 {
-    let value = value?;
+    let Some(value) = value else {
+        return None;
+    };
     if value == 0 { None } else { Some(value) }
 }
 

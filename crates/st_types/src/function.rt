@@ -57,7 +57,9 @@ fn function(name: &[u8]) -> Option<Fun>
 pub(crate) fn called(name: &[u8], count: usize) -> Option<Fun>
     ensures { result ≡ called_of name.now count }
 {
-    let fun = function(name)?;
+    let Some(fun) = function(name) else {
+        return None;
+    };
     let arity = match fun {
         Fun::Min | Fun::Max => 2,
         Fun::Limit | Fun::Sel => 3,

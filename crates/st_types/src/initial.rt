@@ -24,8 +24,10 @@ use vcp_base::{Spot, Ty};
 fn of_literal(ty: Option<Ty>, value: i64) -> Option<Known>
     ensures { result ≡ both known_form (Some (record { ty = ty; value = value })) (type_of_literal ty value) }
 {
-    let ty = literal_type(ty, value)?;
-    Some(Known { ty, value })
+    match literal_type(ty, value) {
+        None => None,
+        Some(ty) => Some(Known { ty, value }),
+    }
 }
 
 // The constant that a name is, by what was declared before; a variable is none.
@@ -55,7 +57,9 @@ fn negative(l: Option<Untyped>, spot: Spot, first: &mut Option<Fault>) -> Option
             None
         }
         Some(l) => {
-            let value = l.value.checked_neg()?;
+            let Some(value) = l.value.checked_neg() else {
+                return None;
+            };
             Some(Known {
                 ty: sized(value),
                 value,

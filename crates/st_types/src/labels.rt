@@ -24,7 +24,9 @@ use vcp_typed::{TLabel, TLabels};
 fn label_ends(spot: Spot, first: Option<i64>, last: Option<Number>) -> Option<TLabel>
     ensures { result ≡ label_ends_of spot first (option_map (λ n. n.value) last) }
 {
-    let first = first?;
+    let Some(first) = first else {
+        return None;
+    };
     match last {
         None => Some(TLabel {
             first,
@@ -33,7 +35,9 @@ fn label_ends(spot: Spot, first: Option<i64>, last: Option<Number>) -> Option<TL
             spot,
         }),
         Some(last) => {
-            let last = last.value?;
+            let Some(last) = last.value else {
+                return None;
+            };
             if first <= last {
                 Some(TLabel {
                     first,

@@ -1,23 +1,11 @@
 //! Places of declared names.
 
 ghost use Rattle.std.specs.Prelude.{◌≤◌, IfErr, IfNone, IfOk, IfSome, length, map};
-ghost use Rattle.st_tree.specs.ProgramViews.{block_tree, decl_tree, declared_tree};
+ghost use Rattle.st_tree.specs.ProgramViews.{block_tree, decl_tree};
 ghost use Rattle.st_types.specs.Places.{IsAfter, IsAmong, IsAt, block_names, decl_names};
 
-use st_tree::{Block, Decl, DeclaredNames};
+use st_tree::{Block, Decl};
 use vcp_base::Spot;
-
-// The spot of the name at place `n`, or the place after these names.
-fn in_names(names: &DeclaredNames, n: usize) -> Result<Spot, usize>
-    ensures ok { IfOk result (IsAmong (map declared_tree names.now.items.items) n) }
-    ensures err { IfErr result (IsAfter (map declared_tree names.now.items.items) n) }
-{
-    let count = names.len();
-    if n < count {
-        return Ok(names.at(n).spot);
-    }
-    Err(n - count)
-}
 
 // The spot of the name at place `n`, or the place after the names of these declarations.
 fn in_declarations(decls: &[Decl], n: usize) -> Result<Spot, usize>
@@ -26,10 +14,11 @@ fn in_declarations(decls: &[Decl], n: usize) -> Result<Spot, usize>
 {
     let mut left = n;
     'each: for d in decls {
-        match in_names(&d.names, left) {
-            Ok(spot) => return Ok(spot),
-            Err(rest) => left = rest,
+        let count = d.names.len();
+        if left < count {
+            return Ok(d.names.at(left).spot);
         }
+        left -= count;
     }
     Err(left)
 }

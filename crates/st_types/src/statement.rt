@@ -285,22 +285,19 @@ impl Environment<'_> {
         ensures { UnlessFull noted.old.full noted.new.full
             (TypesStmt self.now.names.now self.now.held.now (stmt_tree s.now) noted.old.first noted.new.first (option_map tstmt_tree result)) }
     {
+        trees_of_nodes();
         match s {
             Stmt::Assign { name, value, spot } => {
                 let name = name.bytes();
                 self.assign(name, value, *spot, noted)
             }
-            Stmt::If { arms, other } => {
-                trees_of_nodes();
-                self.type_if(&arms.items, other, noted)
-            }
+            Stmt::If { arms, other } => self.type_if(&arms.items, other, noted),
             Stmt::Case {
                 on,
                 branches,
                 other,
                 spot,
             } => {
-                trees_of_nodes();
                 let branches = &branches.items;
                 self.type_case(on, branches, other, *spot, noted)
             }
@@ -313,7 +310,6 @@ impl Environment<'_> {
                 body,
                 ..
             } => {
-                trees_of_nodes();
                 self.type_for(
                     &body.items,
                     name.bytes(),

@@ -40,7 +40,7 @@ type_stmt-returns-in-If t c =
 
 pub type_stmt-type_case-requires : goal.type_stmt-type_case-requires
 type_stmt-type_case-requires t c =
-    let is = ap stmt_tree c.in-Case.is ∙ c.trees_of_nodes-in-Case.ensures.case c.in-Case.on c.in-Case.branches c.in-Case.other c.in-Case.spot
+    let is = ap stmt_tree c.in-Case.is ∙ c.trees_of_nodes.ensures.case c.in-Case.on c.in-Case.branches c.in-Case.other c.in-Case.spot
     ∙ ap (λ xs. case (expr_tree c.in-Case.on) (branch_trees xs) (other_tree c.in-Case.other) c.in-Case.spot) (sym c.deref-in-Case.ensures.value) in
     omega (arith, ap stmt_weight is)
 
@@ -51,7 +51,7 @@ type_stmt-returns-in-Case t c =
     (option_map tstmt_tree c.type_case.result))
     (ap (λ xs. case (expr_tree c.in-Case.on) (branch_trees xs) (other_tree c.in-Case.other) c.in-Case.spot) c.deref-in-Case.ensures.value
     ∙ sym (ap stmt_tree c.in-Case.is
-    ∙ c.trees_of_nodes-in-Case.ensures.case c.in-Case.on c.in-Case.branches c.in-Case.other c.in-Case.spot)) h)
+    ∙ c.trees_of_nodes.ensures.case c.in-Case.on c.in-Case.branches c.in-Case.other c.in-Case.spot)) h)
 
 pub type_if-type_arms-made-requires : goal.type_if-type_arms-made-requires
 type_if-type_arms-made-requires t c = omega arith
@@ -78,7 +78,7 @@ type_case-returns t c =
 pub type_stmt-type_for-requires : goal.type_stmt-type_for-requires
 type_stmt-type_for-requires t c =
     let is = ap stmt_tree c.in-For.is
-    ∙ c.trees_of_nodes-in-For.ensures.for_ c.in-For.name c.in-For.name_spot c.in-For.first c.in-For.last c.in-For.by c.in-For.body c.in-For.spot
+    ∙ c.trees_of_nodes.ensures.for_ c.in-For.name c.in-For.name_spot c.in-For.first c.in-For.last c.in-For.by c.in-For.body c.in-For.spot
     ∙ ap (λ xs. for_ c.in-For.name c.in-For.name_spot (expr_tree c.in-For.first) (expr_tree c.in-For.last) (expr_tree_or_none c.in-For.by)
     (stmt_trees xs) c.in-For.spot) (sym c.deref-in-For.ensures.value) in
     omega (arith, ap stmt_weight is)
@@ -93,7 +93,7 @@ type_stmt-returns-in-For t c =
     ∙ ap (λ xs. for_ c.in-For.name c.in-For.name_spot (expr_tree c.in-For.first) (expr_tree c.in-For.last) (expr_tree_or_none c.in-For.by)
     (stmt_trees xs) c.in-For.spot) c.deref-in-For.ensures.value
     ∙ sym (ap stmt_tree c.in-For.is
-    ∙ c.trees_of_nodes-in-For.ensures.for_ c.in-For.name c.in-For.name_spot c.in-For.first c.in-For.last c.in-For.by c.in-For.body c.in-For.spot)) h)
+    ∙ c.trees_of_nodes.ensures.for_ c.in-For.name c.in-For.name_spot c.in-For.first c.in-For.last c.in-For.by c.in-For.body c.in-For.spot)) h)
 
 pub type_for-type_stmts-requires : goal.type_for-type_stmts-requires
 type_for-type_stmts-requires t c = omega arith
