@@ -128,7 +128,10 @@ fn columns_of(alloc: Global, slots: &[Slot], wanted: Section) -> Result<Columns,
 {
     let mut columns = Columns::new(alloc);
     'each: for slot in slots {
-        add_column(alloc, &mut columns, slot, wanted)?;
+        match add_column(alloc, &mut columns, slot, wanted) {
+            Ok(()) => {}
+            Err(Memory) => return Err(Memory),
+        }
     }
     Ok(columns)
 }
@@ -144,10 +147,10 @@ fn add_column(
 {
     match (wanted, slot.section) {
         (Section::Input, Section::Input) | (Section::Output, Section::Output) => {
-            columns.push(Column {
-                name: Text::copy_of(alloc, slot.name.bytes())?,
-                ty: slot.ty,
-            })
+            let Ok(name) = Text::copy_of(alloc, slot.name.bytes()) else {
+                return Err(Memory);
+            };
+            columns.push(Column { name, ty: slot.ty })
         }
         _ => Ok(()),
     }
