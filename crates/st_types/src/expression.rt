@@ -179,8 +179,13 @@ fn widened_all(alloc: Global, first: Ty, rest: Ty, list: Vec<TExpr>) -> Result<T
     let mut out = TExprs::new(alloc);
     let mut ty = first;
     'each: for e in list {
-        out.push(widened(alloc, ty, e)?)?;
-        ty = rest;
+        let Ok(wide) = widened(alloc, ty, e) else {
+            return Err(Memory);
+        };
+        match out.push(wide) {
+            Ok(()) => ty = rest,
+            Err(Memory) => return Err(Memory),
+        }
     }
     Ok(out)
 }

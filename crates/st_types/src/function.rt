@@ -76,7 +76,9 @@ pub(crate) fn function_type(fun: Fun, args: &[TExpr]) -> Option<Ty>
         [a] => match fun {
             Fun::Abs => joined(ty_of(a), ty_of(a)),
             _ => {
-                let (source, ty) = conversion(fun)?;
+                let Some((source, ty)) = conversion(fun) else {
+                    return None;
+                };
                 if within(ty_of(a), source) {
                     Some(ty)
                 } else {
@@ -89,7 +91,10 @@ pub(crate) fn function_type(fun: Fun, args: &[TExpr]) -> Option<Ty>
             _ => None,
         },
         [a, b, c] => match (fun, ty_of(a)) {
-            (Fun::Limit, a) => joined(joined(a, ty_of(b))?, ty_of(c)),
+            (Fun::Limit, a) => match joined(a, ty_of(b)) {
+                None => None,
+                Some(ty) => joined(ty, ty_of(c)),
+            },
             (Fun::Sel, Ty::Bool) => joined_or_bool(ty_of(b), ty_of(c)),
             _ => None,
         },

@@ -13,7 +13,7 @@ use crate::names::Entry;
 use crate::note::note;
 use st_tree::Section;
 use std::alloc::Global;
-use vcp_base::{Memory, Spot, Ty, is_bool};
+use vcp_base::{Memory, Spot, Ty, append, is_bool};
 
 /// Whether statements may set variables of the section.
 pub fn is_set(section: Section) -> bool
@@ -82,10 +82,15 @@ pub(crate) fn control_type(
 pub(crate) fn held_in(alloc: Global, held: &[u32], x: Option<&Entry>) -> Result<Vec<u32>, Memory>
     ensures { IfOk result (λ r. r.items ≡ held_in_of held.now (option_map (λ e. e.now) x.entry)) }
 {
-    let mut inner = held.to_vec(alloc)?;
+    let Ok(mut inner) = held.to_vec(alloc) else {
+        return Err(Memory);
+    };
     if let Some(x) = x {
         if !is_constant(x.section) {
-            inner.push(x.slot)?;
+            match append(&mut inner, x.slot) {
+                Ok(()) => {}
+                Err(Memory) => return Err(Memory),
+            }
         }
     }
     Ok(inner)

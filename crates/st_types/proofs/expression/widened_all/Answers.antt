@@ -7,8 +7,8 @@ use Rattle.st_types.proofs.expression.widened_all.Goals as goal
 
 pub each-preserved : goal.each-preserved
 each-preserved c =
-    widened-more c.each.ty c.args.rest (texpr_trees c.each.out.items.items) _ (texpr_tree c.in-Some.e) (texpr_tree c.in_ok-widened.field-0)
-    (map texpr_tree c.next.new.self.rest.items) c.in_ok-widened.ensures c.in_ok-push.ensures.tree
+    widened-more c.each.ty c.args.rest (texpr_trees c.each.out.items.items) _ (texpr_tree c.in-Some.e) _
+    (map texpr_tree c.next.new.self.rest.items) c.in-Ok.ensures c.in-Ok-push.ensures.tree
     ∙ ap (λ xs. behind (texpr_trees c.each.out.items.items) (widened_to c.each.ty c.args.rest (map texpr_tree xs))) (sym c.in-Some.ensures.steps.0)
     ∙ c.each.invariant
 
