@@ -1,12 +1,14 @@
 -- Expressions that are equal bare.
-use Rattle.std.proofs.Common.{◌≡◌, ℕ, ℤ, ◌<◌, Bool, true, false, T, eqb, eqb→eq, SFits, w64, to_z, of_z, subst, List, [], ◌∷◌, length, get_or, refl, sym, ap, ◌∙◌, Option, Box, Global}
+use Rattle.std.proofs.Common.{◌≡◌, ℕ, ℤ, ◌<◌, Bool, true, false, T, eqb, eqb→eq, SFits, w64, to_z, of_z, subst, List, [], ◌∷◌, length, get_or, refl, sym, ap, ◌∙◌, Option, Box, Global, rules}
 use Rattle.std.specs.Prelude.{IsTrue, ◌↔◌, map}
+use Rattle.std.specs.Option.{option_eq}
 use Rattle.std.proofs.Math.Dec.{eqb_refl}
 use Rattle.std.proofs.lemmas.Float.{T_from_true}
 use Rattle.std.proofs.lemmas.Int.{to_z-of_z}
 use Rattle.vcp_base.specs.declared.spot.Spot.{Spot}
 use Rattle.vcp_base.specs.declared.text.Text.{Text}
 use Rattle.vcp_base.specs.declared.ty.Ty.{Ty}
+use Rattle.vcp_base.specs.contracts.ty.TyPartialEq.TheImpl.{eq-value}
 use Rattle.st_tree.specs.declared.expr.UnOp.{UnOp}
 use Rattle.st_tree.specs.declared.expr.BinOp.{BinOp}
 use Rattle.st_tree.specs.declared.expr.Exprs.{Exprs}
@@ -88,6 +90,13 @@ same-number v w f g = (
     true_from_T : (b : Bool) → T b → IsTrue b
     true_from_T true h = refl
     true_from_T false h = absurd h
+
+-- types that may be left out are one where the test says so
+pub types-same : (r : Bool) (t u : Option Ty) → r ≡ option_eq (eq-value).it t u → r ≡ true → t ≡ u
+types-same r t u e h = search rules
+
+pub same-types : (r : Bool) (t u : Option Ty) → r ≡ option_eq (eq-value).it t u → t ≡ u → IsTrue r
+same-types r t u e h = search rules
 
 literal-parts : (t u : Option Ty) (v w : ℤ) → literal t v nowhere ≡ literal u w nowhere → (t ≡ u) × (v ≡ w)
 literal-parts t u v w e = (cc, cc)
