@@ -1,4 +1,5 @@
-use Rattle.std.proofs.Common.{arith, subst}
+use Rattle.std.proofs.Common.{◌≡◌, length, arith, subst}
+use Rattle.graph_passes.specs.Joining.{AreJoined}
 use Rattle.graph_passes.specs.Tables.{marked}
 use Rattle.graph_passes.proofs.Joining.{Placed, one_placed, none_placed, so_far_by}
 use Rattle.graph_passes.proofs.Rising.{below_few}
@@ -25,3 +26,9 @@ operations-preserved c =
     let more = one_placed c.entries_keep_their_rules.ensures g c.len-i-end.ensures.rules s.i s.places.kept.items s.places.numbers.items s.firsts c.placed.new.firsts s.count
     c.in_ok-number.number c.one_more-count.result c.in_ok-number.is_kept c.operation.result c.operation.ensures s.invariant placed c.one_more-count.ensures in
     so_far_by _ _ _ _ _ _ _ _ c.in_ok-push.ensures.items c.in_ok-push-2.ensures.items more
+
+pub returns : goal.returns
+returns c =
+    let s = c.operations in
+    let all : s.i ≡ length c.args.graph.now.operations = omega (arith, c.operations-test.false, c.operations.auto.i-end, c.len-i-end.ensures.count) in
+    subst (λ n. AreJoined c.args.graph.now n s.places.kept.items s.places.numbers.items) all s.invariant.are
