@@ -18,11 +18,12 @@ use vcp_base::{MOST_SOURCE_BYTES, same_bytes};
 pub fn tell_units(came: &mut Came, n: &[i128; 12], words: &[u8], told: Told) -> Told {
     let text = text_in(came, word(words, 0));
     let calls = text.bytes();
-    match place_in(b"cpu log acts", word(words, 1)) {
+    match place_in(b"cpu log acts unit", word(words, 1)) {
         0 => tell_answers(came.alloc, &mut CpuUnit::new(), calls, told),
         1 => tell_logged(came.alloc, calls, u32_of(n[2]), told),
         2 => tell_acts(came, behind(words, 2), calls, told),
-        _ => tell_answers(came.alloc, &mut came.unit, calls, told),
+        3 => tell_answers(came.alloc, &mut came.unit, calls, told),
+        _ => told.say(b"no call of this name"),
     }
 }
 

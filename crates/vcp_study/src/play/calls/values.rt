@@ -7,8 +7,8 @@ use crate::play::told::Told;
 use coded_unit::{Answer, Word};
 use vcp_base::{
     Kind, Profile, StopKind, Ty, fits, greatest, kind_code, kind_name, kind_of_code, least,
-    multiplier, number_in, numeral, operand_type, operands, same_bytes, stop_name, ty_code,
-    ty_name, ty_of_code, within, without_first_blanks,
+    multiplier, number_in, numeral, operand_type, operands, stop_name, ty_code, ty_name,
+    ty_of_code, within, without_first_blanks,
 };
 
 /// Calls on types and words that answer one number: whether a value is of a type, and the values of one are within another's; whether an integer is a
@@ -79,20 +79,19 @@ fn tell_code(code: i128, told: Told) -> Told {
 
 /// Calls on texts: the numeral and the number of a type that a text is, and a spelled text without its first blanks, between brackets.
 fn tell_text(came: &mut Came, name: &[u8], ty: Ty, words: &[u8], told: Told) -> Told {
-    if same_bytes(name, b"blanks") {
-        return told
+    match place_in(b"blanks numeral number", name) {
+        0 => told
             .say(b"[")
             .say(without_first_blanks(&spelled(came.alloc, words)))
-            .say(b"]");
-    }
-    if same_bytes(name, b"numeral") {
-        return match numeral(words) {
+            .say(b"]"),
+        1 => match numeral(words) {
             Some(number) => told.number(number as i128),
             None => told.say(b"none"),
-        };
-    }
-    match number_in(ty, behind(words, 1)) {
-        Some(number) => told.number(number as i128),
-        None => told.say(b"none"),
+        },
+        2 => match number_in(ty, behind(words, 1)) {
+            Some(number) => told.number(number as i128),
+            None => told.say(b"none"),
+        },
+        _ => told.say(b"no call of this name"),
     }
 }

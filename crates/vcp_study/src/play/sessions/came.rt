@@ -157,7 +157,9 @@ impl Came {
     pub fn is_broken_of(&self, whole: &Came, outside: Outside) -> bool {
         let err = self.err.bytes();
         let line = whole.err.bytes();
-        let is_all = self.out.bytes().len() == whole.out.bytes().len();
+        let out = self.out.bytes();
+        let all = whole.out.bytes();
+        let is_all = out.len() == all.len();
         let is_ended = match outside {
             Outside::Files => self.status == 5 && err.ends_with(b" read fault\n"),
             Outside::Output => self.status == 6 && !is_all && same_bytes(err, b"write fault\n"),
@@ -167,7 +169,7 @@ impl Came {
                 && line.starts_with(err),
             _ => self.status == whole.status && is_all && same_bytes(err, line),
         };
-        is_ended && whole.out.bytes().starts_with(self.out.bytes())
+        is_ended && all.starts_with(out)
     }
 }
 

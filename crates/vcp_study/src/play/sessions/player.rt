@@ -165,13 +165,14 @@ impl Player {
         let whole = copy_of(self.alloc, &self.setting.words);
         let program = program_of(&whole);
         let words = whole.get(program.len()..).unwrap_or(b"");
-        let commands = parts_of(self.alloc, word(words, 0), b",");
+        let commands = word(words, 0);
+        let rest = words.get(commands.len()..).unwrap_or(b"");
+        let commands = parts_of(self.alloc, commands, b",");
         for i in 0..commands.len() {
             let words = Told::new(self.alloc)
                 .say(program)
                 .say(part(&commands, i))
-                .say(b" ")
-                .say(behind(words, 1));
+                .say(rest);
             self.make_one(&words.text, whole_end(program, end), kept);
         }
         self.setting = Setting::new(self.alloc);
