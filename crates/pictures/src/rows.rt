@@ -1,6 +1,6 @@
 //! The rows of operations: each of a column has its own.
 
-ghost use Rattle.std.specs.Prelude.{◌≡◌, ◌<◌, ◌≤◌, ◌^◌, ◌+◌, ℕ, length, slice_get, slice_index_or, slice_set, replicate, false, Some, IfOk, IfSome};
+ghost use Rattle.std.specs.Prelude.{◌≡◌, ◌<◌, ◌≤◌, ◌^◌, ◌+◌, ℕ, length, slice_get, slice_index_or, slice_set, false, Some, IfOk, IfSome};
 ghost use Rattle.pictures.specs.declared.layout.BoxPlace.{BoxPlace as PlaceOf};
 ghost use Rattle.op_graph.specs.declared.op.Op.{Op as OpOf};
 ghost use Rattle.pictures.specs.Arrangement.{HaveOwnRows, IsWithin};
@@ -102,15 +102,6 @@ impl Model for FreeRows {
 }
 
 impl FreeRows {
-    /// So many columns without boxes.
-    fn new(alloc: Global, columns: usize) -> Result<FreeRows, Memory>
-        ensures { IfOk result (λ free. free ≡ replicate columns 0) }
-    {
-        Ok(FreeRows {
-            rows: vec![in alloc; 0u32; columns]?,
-        })
-    }
-
     /// Takes a place in a column, behind `count` boxes in all: in the wanted row, or below the boxes
     /// of the column.
     fn take(&mut self, column: u32, wanted: u32, count: u32) -> BoxPlace
@@ -144,7 +135,8 @@ pub(crate) fn places_by(
 {
     let count = graph.len();
     let last = deepest(depths);
-    let mut free = FreeRows::new(alloc, count as usize + 1)?;
+    let rows = vec![in alloc; 0u32; count as usize + 1]?;
+    let mut free = FreeRows { rows };
     let mut places = Vec::new(alloc);
     'operations: for i in 0..count {
         let wanted = wanted_row(graph, places.as_slice(), i);

@@ -1,7 +1,6 @@
 //! A run as it was printed.
 
 ghost use Rattle.std.specs.Prelude.{◌≡◌, ◌≢◌, ◌<◌, ◌≤◌, ℕ, List, length, slice_get, Ok, Err, Some, IfOk, IfErr};
-ghost use Rattle.csv.specs.Reading.{records, default_config, strip_bom};
 ghost use Rattle.vcp_base.specs.Limits.{most_cycles, most_names};
 ghost use Rattle.pictures.specs.WavesAnswers.{Answers};
 ghost use Rattle.pictures.specs.WavesDrawn.{value_at};
@@ -76,15 +75,6 @@ fn read_records(
     }
 }
 
-/// The run that the records of a text tell.
-fn read_text(alloc: Global, text: &[u8]) -> Result<Run, RunTextFault>
-    ensures { Answers (run_of_records (records default_config (strip_bom text.now))) result }
-{
-    let mut records = Records::new(alloc, text);
-    let mut cells = ByteRecord::new(alloc);
-    read_records(alloc, &mut records, &mut cells)
-}
-
 /// The run that a text tells. `Memory` where there is no room for it: a value takes 8 bytes, and a row
 /// some 40 more.
 ///
@@ -96,7 +86,9 @@ pub fn read_run(alloc: Global, text: &[u8]) -> Result<Run, RunTextFault>
     ensures run { IfOk result (λ run. run_of text.now ≡ Ok run) }
     ensures fault { IfErr result (λ f. f ≢ RunTextFault.Memory → run_of text.now ≡ Err f) }
 {
-    match read_text(alloc, text) {
+    let mut records = Records::new(alloc, text);
+    let mut cells = ByteRecord::new(alloc);
+    match read_records(alloc, &mut records, &mut cells) {
         Ok(run) => {
             if !text.is_empty() && text[text.len() - 1] == b'\n' {
                 Ok(run)

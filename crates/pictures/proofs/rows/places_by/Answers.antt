@@ -7,8 +7,8 @@ use Rattle.pictures.proofs.rows.places_by.Goals as goal
 pub operations-init : goal.operations-init
 operations-init c = record {
   many = rw c.new-places.ensures.items refl;
-  free = rw c.in_ok-free.ensures (length-replicate (c.len-count.result + 1) 0);
-  filled = rw (c.in_ok-free.ensures, c.new-places.ensures.items) (begun (c.len-count.result + 1));
+  free = rw (c.in_ok-rows.ensures.items_if_clones_equal (λ y e. e)) (length-replicate (c.len-count.result + 1) 0);
+  filled = rw (c.in_ok-rows.ensures.items_if_clones_equal (λ y e. e), c.new-places.ensures.items) (begun (c.len-count.result + 1));
   stand = stand_none c.args.graph.now.operations c.new-places.result.items c.new-places.ensures.items;
 }
 
