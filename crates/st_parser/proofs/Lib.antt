@@ -32,3 +32,4 @@ pub mod Running
 pub mod HandedOn
 mod MarkTests
 mod LabelPhases
+mod Unended

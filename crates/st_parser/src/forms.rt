@@ -71,12 +71,18 @@ pub fn close(alloc: Global, forms: &mut Vec<Form>, level: u8, have: Expr) -> Res
     let mut have = have;
     'closing: loop {
         match forms.pop() {
-            Some(Form::Sign(op, spot)) => have = Expr::unary(alloc, op, have, spot)?,
+            Some(Form::Sign(op, spot)) => match Expr::unary(alloc, op, have, spot) {
+                Ok(e) => have = e,
+                Err(Memory) => return Err(Memory),
+            },
             Some(Form::Left(op, left, spot)) => {
                 if level_of(op) < level {
                     return reopened(forms, Form::Left(op, left, spot), have);
                 }
-                have = Expr::binary(alloc, op, left, have, spot)?;
+                match Expr::binary(alloc, op, left, have, spot) {
+                    Ok(e) => have = e,
+                    Err(Memory) => return Err(Memory),
+                }
             }
             Some(Form::Bracket) => return reopened(forms, Form::Bracket, have),
             Some(Form::Arguments(name, spot, args)) => {

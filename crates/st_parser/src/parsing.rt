@@ -39,24 +39,9 @@ fn finish(alloc: Global, end: Spot, parsed: Parsed, place: Place) -> Result<Prog
                     Err(SyntaxFault::Syntax { spot: end })
                 }
             },
-            Phase::Start
-            | Phase::Named { .. }
-            | Phase::Reading { .. }
-            | Phase::Closed
-            | Phase::LoopBegun { .. }
-            | Phase::LoopNamed { .. }
-            | Phase::Labelling { .. } => Err(SyntaxFault::Syntax { spot: end }),
+            _ => Err(SyntaxFault::Syntax { spot: end }),
         },
-        Place::AtProgram
-        | Place::AtName
-        | Place::AtBlock
-        | Place::AtVar
-        | Place::AtDecl
-        | Place::AtComma
-        | Place::AtNextName
-        | Place::AtType
-        | Place::AtInit
-        | Place::InInit => Err(SyntaxFault::Syntax { spot: end }),
+        _ => Err(SyntaxFault::Syntax { spot: end }),
     }
 }
 

@@ -6,16 +6,16 @@ use Rattle.st_parser.specs.FormViews.{forms}
 use Rattle.st_parser.proofs.Frames.{close-sign, close-left, close-reopens, close-none}
 use Rattle.st_parser.proofs.forms.close.Goals as goal
 
-pub closing-preserved-in-Some-Sign : goal.closing-preserved-in-Some-Sign
-closing-preserved-in-Some-Sign c =
+pub closing-preserved-in-Ok : goal.closing-preserved-in-Ok
+closing-preserved-in-Ok c =
     let o = rw c.in-Some-Sign.field-0-is at c.in-Some-Sign.ensures.items in
-    ap (λ (x : ExprTree). machine.close c.args.level (forms c.pop.new.self.items) x) c.in_ok-have-in-Some-Sign.ensures
+    ap (λ (x : ExprTree). machine.close c.args.level (forms c.pop.new.self.items) x) c.in-Ok.ensures
     ∙ sym (close-sign c.args.level c.closing.forms.items c.pop.new.self.items _ _ _ o) ∙ c.closing.invariant
 
 pub closing-preserved : goal.closing-preserved
 closing-preserved c =
     let o = rw c.in-Some-Left.field-0-is at c.in-Some-Left.ensures.items in
-    ap (λ (x : ExprTree). machine.close c.args.level (forms c.pop.new.self.items) x) c.in_ok-have-in-Some-Left.ensures
+    ap (λ (x : ExprTree). machine.close c.args.level (forms c.pop.new.self.items) x) c.in-Ok-binary.ensures
     ∙ sym (close-left c.args.level c.closing.forms.items c.pop.new.self.items _ _ _ _ o (omega arith)) ∙ c.closing.invariant
 
 pub returns-then-level_of-level : goal.returns-then-level_of-level
