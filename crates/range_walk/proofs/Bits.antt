@@ -1,5 +1,5 @@
 -- Bits: an integer that is passed on in its bits is the same integer.
-use Rattle.std.proofs.Common.{◌≡◌, ℤ, pos, negsuc, neg_ℤ, ◌≤ℤ◌, ◌<ℤ◌, ◌+ℤ◌, ◌-ℤ◌, true, sym, ap, subst, ◌∙◌, to_z, of_z, SFits, w64, arith, rules}
+use Rattle.std.proofs.Common.{◌≡◌, ℕ, zero, suc, ◌≤◌, ◌*◌, ◌^◌, ℤ, pos, negsuc, neg_ℤ, ◌≤ℤ◌, ◌<ℤ◌, ◌+ℤ◌, ◌-ℤ◌, ◌*ℤ◌, mul-le-mul, true, sym, ap, subst, ◌∙◌, to_z, of_z, SFits, w64, arith, rules}
 use Rattle.std.specs.Int.{int_max, int_min}
 use Rattle.std.specs.Prelude.{int_div, int_le}
 use Rattle.std.proofs.lemmas.Int.{to_z-of_z, ints, clamps}
@@ -53,6 +53,32 @@ added x y p q = search (ints, rules)
 
 taken_away : (x y : ℤ) → SFits w64 x → SFits w64 y → SFits w128 (x -ℤ y)
 taken_away x y p q = search (ints, rules)
+
+-- the size of a product of two, and that it fits
+below_product : (a b : ℕ) → a ≤ 2 ^ 63 → b ≤ 2 ^ 63 → a * b ≤ 2 ^ 126
+below_product a b h k = mul-le-mul h k
+
+opposite_fits : (n : ℕ) → n ≤ 2 ^ 126 → SFits w128 (neg_ℤ (pos n))
+opposite_fits zero h = record { sfits = omega (arith, ints) }
+opposite_fits (suc n) h = record { sfits = omega (arith, ints) }
+
+multiplied : (x y : ℤ) → SFits w64 x → SFits w64 y → SFits w128 (x *ℤ y)
+multiplied (pos a) (pos b) f g =
+    let most = below_product a b (omega (arith, f.sfits)) (omega (arith, g.sfits)) in
+    record { sfits = omega (arith, most) }
+multiplied (pos a) (negsuc b) f g = opposite_fits (a * suc b) (below_product a (suc b) (omega (arith, f.sfits)) (omega (arith, g.sfits)))
+multiplied (negsuc a) (pos b) f g = opposite_fits (suc a * b) (below_product (suc a) b (omega (arith, f.sfits)) (omega (arith, g.sfits)))
+multiplied (negsuc a) (negsuc b) f g =
+    let most = below_product (suc a) (suc b) (omega (arith, f.sfits)) (omega (arith, g.sfits)) in
+    record { sfits = omega (arith, most) }
+
+pub product_fits : (x y : ℤ) → SFits w64 x → SFits w64 y → SFits w128 (wide x *ℤ wide y)
+product_fits x y p q = fit_by (λ a b. a *ℤ b) x y p q (multiplied x y p q)
+
+pub product_is : (x y : ℤ) → SFits w64 x → SFits w64 y → to_z w128 (of_z w128 (wide x *ℤ wide y)) ≡ x *ℤ y
+product_is x y p q =
+    ap (λ z. to_z w128 (of_z w128 z)) (ap (λ z. z *ℤ wide y) (wide_is x p) ∙ ap (λ z. x *ℤ z) (wide_is y q))
+    ∙ to_z-of_z w128 (x *ℤ y) (multiplied x y p q)
 
 pub sum_fits : (x y : ℤ) → SFits w64 x → SFits w64 y → SFits w128 (wide x +ℤ wide y)
 sum_fits x y p q = fit_by (λ a b. a +ℤ b) x y p q (added x y p q)
