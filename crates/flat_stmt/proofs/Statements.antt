@@ -1,6 +1,6 @@
 -- Statements: the steps of each function over statements, from what its calls give.
 use Rattle.std.proofs.Common.{◌≡◌, ℕ, zero, suc, add-one, ◌+◌, ◌*◌, ◌<◌, ◌≤◌, ℤ, ◌+ℤ◌, Bool, true, false, cond, List, [], ◌∷◌, ◌++◌, length, length-append}
-use Rattle.std.proofs.Common.{drop, drop-cons, get_or, slice_get, Option, Some, Result, Ok, Err, refl, sym, ap, ap₂, ◌∙◌, subst, arith, w64, SFits}
+use Rattle.std.proofs.Common.{drop, drop-cons, eqb, get_or, slice_get, Option, Some, Result, Ok, Err, refl, sym, ap, ap₂, ◌∙◌, subst, arith, w64, SFits}
 use Rattle.std.specs.Prelude.{sum_by, All}
 use Rattle.std.specs.List.{list_any}
 use Rattle.std.specs.Prelude.{◌||◌}
@@ -808,3 +808,9 @@ assignment_fits c s slot e sp is h x there =
     let same : Some set.of ≡ Some x = sym set.there ∙ there in
     let one : x ≡ set.of = cc in
     ap (λ (y : Slot). y.ty) one ∙ set.ty
+
+-- ---- a branch with labels
+
+pub some_labels : (len : ℕ) (labels items : List TLabel) → len ≡ length items → eqb len 0 ≡ false → labels ≡ items → 0 < length labels
+some_labels zero labels items all some is = absurd cc
+some_labels (suc n) labels items all some is = omega (arith, all, ap length is)

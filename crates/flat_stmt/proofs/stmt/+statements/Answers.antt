@@ -1,9 +1,8 @@
 use Rattle.std.proofs.Common.{◌≡◌, ◌<◌, ◌≤◌, ◌+◌, ◌-◌, ◌*◌, ◌+ℤ◌, ◌++◌, ◌∷◌, [], pos, suc, true, Some, length, slice_get, refl, sym, ap, ap₂, ◌∙◌, subst, rules}
-use Rattle.std.proofs.Common.{w64, SFits, to_z, of_z, arith, drop}
+use Rattle.std.proofs.Common.{true≢false, w64, SFits, to_z, of_z, arith, drop}
 use Rattle.std.specs.Prelude.{sum_by}
-use Rattle.std.proofs.lemmas.Bool.{lt-ltb}
+use Rattle.std.proofs.lemmas.Bool.{eqb-true, lt-ltb}
 use Rattle.std.proofs.lemmas.Int.{to_z-of_z}
-use Rattle.std.proofs.lemmas.Grind.{common_steps}
 use borrow.Author.Tests.{ltb-true}
 use Rattle.vcp_base.specs.Limits.{most_turn_nodes}
 use Rattle.vcp_base.specs.Types.{fits}
@@ -33,7 +32,7 @@ use Rattle.flat_stmt.proofs.Statements.{outer_there, condition_there, arm_ready,
 use Rattle.flat_stmt.proofs.Statements.{branch_begins, branch_inside, branch_whole, branch_nodes, else_fits, else_begins, case_selector, case_begins, case_fits, case_nodes, made_context, stmt_fits, stmt_nodes, path_of}
 use Rattle.flat_stmt.proofs.Statements.{for_size, for_values, for_slot, for_first, for_body, turns_start, turns_step, turns_end, next_width, next_values, first_fits}
 use Rattle.flat_stmt.proofs.Statements.{turn_begins, turn_inside, turn_enters, turn_body, slot_there, stmt_does, turns_at, same_context, in_loop, admitted_later, allows_first, allows_second, allows_three}
-use Rattle.flat_stmt.proofs.Statements.{assignment_value, assignment_code, assignment_slot, assignment_fits}
+use Rattle.flat_stmt.proofs.Statements.{some_labels, assignment_value, assignment_code, assignment_slot, assignment_fits}
 use Rattle.flat_stmt.proofs.Turns.{does_continues}
 use Rattle.flat_stmt.proofs.stmt.+statements.Goals as goal
 
@@ -154,11 +153,12 @@ pub add_branches-each-preserved-then-is_empty : goal.add_branches-each-preserved
 add_branches-each-preserved-then-is_empty t c =
     let lt : c.each.i < length c.args.branches.now = omega (arith, c.each-test.true) in
     let tree = branches_at c.args.branches.now c.each.i c.index-branches-i.result lt c.index-branches-i.is in
-    let none : length c.index-branches-i.result.labels.items.items ≡ 0 = first_of (grind (arith, common_steps), search rules) in
+    let labels = c.index-branches-i.result.labels.items in
+    let none : length labels.items ≡ 0 = sym labels.ok.0 ∙ eqb-true labels.len 0 (sym c.is_empty.ensures ∙ c.if-is_empty.true) in
     let state = branched_state c.args.flat.now c.each.flat _ _ _ _ _ (c.each.invariant.done (pos 0)) in
     record {
       done = λ v. case_step c.laws_of_states.ensures c.args.flat.now c.each.flat c.each.flat c.args.ty c.args.k c.args.branches.now c.each.i
-          c.index-branches-i.result true (tother_tree c.args.other.now) lt c.index-branches-i.is (λ no. absurd cc) c.requires.k v
+          c.index-branches-i.result true (tother_tree c.args.other.now) lt c.index-branches-i.is (λ no. absurd (true≢false no)) c.requires.k v
           (c.each.invariant.done v) (untaken c.each.flat c.args.k _ _ true _ state none v);
       checked = branches_rest (context c.args.flat.now) c.args.ty _ _ _ _ tree c.each.invariant.checked;
     }
@@ -167,7 +167,8 @@ pub add_branches-enter_labelled-requires : goal.add_branches-enter_labelled-requ
 add_branches-enter_labelled-requires t c =
     let tree = branches_at c.args.branches.now c.each.i c.index-branches-i.result (omega (arith, c.each-test.true)) c.index-branches-i.is in
     let d = c.each.invariant.done (pos 0) in
-    let some : 0 < length c.deref.result.now = first_of (grind (arith, common_steps), search rules) in record { some = some; number = c.requires.number; code = admitted_later c.args.flat.now c.each.flat c.args.ty d.moves.continues.profile c.requires.code; k = d.moves.continues.typed c.args.ty c.args.k c.requires.k; labels = branch_labels (context c.args.flat.now) c.args.ty _ _ _ _ _ tree c.deref.ensures.value c.each.invariant.checked }
+    let labels = c.index-branches-i.result.labels.items in
+    let some = some_labels labels.len c.deref.result.now labels.items labels.ok.0 (sym c.is_empty.ensures ∙ c.if-is_empty.false) c.deref.ensures.value in record { some = some; number = c.requires.number; code = admitted_later c.args.flat.now c.each.flat c.args.ty d.moves.continues.profile c.requires.code; k = d.moves.continues.typed c.args.ty c.args.k c.requires.k; labels = branch_labels (context c.args.flat.now) c.args.ty _ _ _ _ _ tree c.deref.ensures.value c.each.invariant.checked }
 
 pub add_branches-returns-in_err-entered : goal.add_branches-returns-in_err-entered
 add_branches-returns-in_err-entered t c =
