@@ -12,6 +12,7 @@ pub mod InRange
 pub mod LinesFit
 pub mod NumbersRead
 pub mod Reading
+pub mod Receiving
 pub mod Counting
 pub mod Delivering
 pub mod Ends

@@ -29,7 +29,6 @@ fn cycles_of(events: &Events) -> usize
 }
 
 // Room for the words of all senders in so many cycles.
-#[tactic(auto, using(crate::proofs::RunLookups::small_product))]
 fn room(alloc: Global, senders: u32, cycles: usize) -> Result<Vec<Word>, Memory>
     requires senders { senders ≤ most_senders }
     requires cycles { cycles ≤ most_cycles }
@@ -40,7 +39,6 @@ fn room(alloc: Global, senders: u32, cycles: usize) -> Result<Vec<Word>, Memory>
 }
 
 // The word of a sender in a cycle, among all that are kept.
-#[tactic(auto, using(crate::proofs::RunLookups::small_product))]
 fn word_at(words: &[Word], senders: u32, number: u32, id: u32) -> Word
     requires senders { senders ≤ most_senders }
     requires number { number < most_cycles }

@@ -1,6 +1,7 @@
-use Rattle.std.proofs.Common.{rules, ◌≤◌, ◌+◌, ◌*◌, ◌∙◌, ℕ, ℤ, ◌+ℤ◌, List, length, slice_get, Some, arith, refl, ap, sym, subst}
+use Rattle.std.proofs.Common.{◌≤◌, ◌<◌, ◌+◌, ◌*◌, ◌^◌, ◌∙◌, ℕ, ℤ, ◌+ℤ◌, List, length, slice_get, Some, arith, refl, ap, sym, subst}
 use Rattle.std.proofs.Math.Nat.{le_refl, le_trans}
 use Rattle.std.proofs.lemmas.List.{drop_all}
+use Rattle.vcp_base.specs.Limits.{most_cycles}
 use Rattle.coded_unit.specs.Words.{nearest_word}
 use Rattle.telegram.specs.Receipts.{State, nothing_heard, receipt_of}
 use Rattle.telegram.specs.WireRun.{IsEvent}
@@ -69,7 +70,7 @@ tick-requires g c =
     (g.O.Sink.seen c.events.out) c.events.i c.events.begun c.events.delivered c.events.receiver c.events.words.items c.events.invariant.so_far
     c.in-Cycle.values there in
     let same = ap (λ (s : State). s.begun) c.events.invariant.so_far.hears_is in
-    omega (arith, below, same, c.requires.events.few)
+    subst (λ n. n < most_cycles) (sym same) (le_trans below c.requires.events.few)
 
 pub returns-in-Err-unsent_line : goal.returns-in-Err-unsent_line
 returns-in-Err-unsent_line g c =
@@ -248,4 +249,27 @@ returns-in-Ok-end_line g c =
     }
 
 pub new-receiver-requires : goal.new-receiver-requires
-new-receiver-requires g c = search rules
+new-receiver-requires g c =
+    let w = c.requires.wire in
+    record { listen = le_trans w.listen w.senders; seed = w.seed; step_from = w.step_from; step_to = w.step_to }
+
+pub room-requires-clause-senders : goal.room-requires-clause-senders
+room-requires-clause-senders g c = c.requires.wire.senders
+
+pub room-requires-clause-cycles : goal.room-requires-clause-cycles
+room-requires-clause-cycles g c = subst (λ n. n ≤ most_cycles) (sym c.cycles_of.ensures) c.requires.events.few
+
+pub at-requires : goal.at-requires
+at-requires g c = subst (λ n. c.events.i < n) c.len-i-end.ensures c.events-test.true
+
+begun_fits : (n : ℕ) → n < most_cycles → n + 1 < 2 ^ 32
+begun_fits n below = omega (arith, below)
+
+pub overflow_add-begun : goal.overflow_add-begun
+overflow_add-begun g c =
+    let there = c.at.ensures ∙ ap Some c.in-Cycle.is in
+    let below =
+    within c.args.script.now.wire c.args.script.now.events (g.U.Unit.seen c.args.unit.now) (g.U.Unit.seen c.events.unit) (g.O.Sink.seen c.args.out.now)
+    (g.O.Sink.seen c.events.out) c.events.i c.events.begun c.events.delivered c.events.receiver c.events.words.items c.events.invariant.so_far
+    c.in-Cycle.values there in
+    record { fits = begun_fits c.events.begun (le_trans below c.requires.events.few) }
