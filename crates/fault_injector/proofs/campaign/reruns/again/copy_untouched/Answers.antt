@@ -1,4 +1,4 @@
-use Rattle.std.proofs.Common.{◌∷◌, [], sym, subst, ap, ◌∙◌, arith, get_or, length, refl, slice_get, rules}
+use Rattle.std.proofs.Common.{◌≡◌, ◌<◌, ◌≤◌, ℕ, ◌∷◌, [], sym, subst, ap, ◌∙◌, arith, get_or, length, refl, slice_get}
 use Rattle.std.proofs.Math.Nat.{le_trans}
 use Rattle.std.proofs.lemmas.List.{length-append}
 use Rattle.coded_unit.specs.declared.call.Answer.TheVariants as answer
@@ -36,8 +36,20 @@ words-preserved c =
       room = le_trans i.room c.append.ensures.capacity;
     }
 
+room_there : (len k to many cap now : ℕ) → len ≡ k → k < to → to ≤ many → many ≤ cap → cap ≤ now → len < now
+room_there len k to many cap now is below within room kept = omega (arith, is, below, within, room, kept)
+
+pub append-requires : goal.append-requires
+append-requires c =
+    let i = c.words.invariant in
+    room_there _ c.words.k _ _ _ _ i.count c.words-test.true i.within c.requires.room i.room
+
 pub returns-then-mark : goal.returns-then-mark
-returns-then-mark c = search rules
+returns-then-mark c =
+    let i = c.words.invariant in
+    record { over = i.over; words = i.words; few = i.few; longer = subst (λ n. length c.args.own.now.items ≤ n) (sym i.count) i.from; capacity = i.room }
 
 pub returns : goal.returns
-returns c = search rules
+returns c =
+    let i = c.words.invariant in
+    record { over = i.over; words = i.words; few = i.few; longer = subst (λ n. length c.args.own.now.items ≤ n) (sym i.count) i.from; capacity = i.room }

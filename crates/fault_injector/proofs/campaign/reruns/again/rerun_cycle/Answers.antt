@@ -45,7 +45,7 @@ operations-preserved g c =
       midway =
           moves_over b (own ++ a ∷ []) c.copy_untouched-in-operations.new.own.items first.log after.log first.wrong after.wrong here
           (subst (λ (us : List Answer). GoesOver b us c.copy_untouched-in-operations.new.own.items) c.append.ensures.items over.over);
-      words = over.words (subst AllWords (sym c.append.ensures.items) (words_more own a i.words word));
+      words = over.words (subst AllWords (sym {A = List Answer} c.append.ensures.items) (words_more own a i.words word));
       few = over.few;
       room = le_trans (le_trans i.room c.append.ensures.capacity) over.capacity;
       all = i.all;
@@ -66,7 +66,7 @@ returns-then-not-is_word g c =
     let longer = ap length c.append.ensures.items ∙ length-append c.operations.own.items (c.in-Some.answer ∷ []) in
     record {
       ran =
-          subst (λ (us : List Answer). RanAgain b us first.log after.log first.wrong after.wrong) (sym c.append.ensures.items)
+          subst (λ (us : List Answer). RanAgain b us first.log after.log first.wrong after.wrong) (sym {A = List Answer} c.append.ensures.items)
           (stops b (length own) own told.op c.in-Some.answer first.log before.log after.log first.wrong before.wrong after.wrong told.there i.midway told.comes
           no_word);
       words = λ on. absurd (true≢false on);
