@@ -1,5 +1,6 @@
 use Rattle.std.proofs.Common.{◌≡◌, true, ◌<◌, ◌≤◌, length, slice_get, set, Some, None, sym, ap, ap₂, ◌∙◌, subst, rules, w64, arith, SFits}
 use Rattle.std.proofs.lemmas.Int.{to_z-of_z}
+use Rattle.std.proofs.lemmas.Option.{same_Some}
 use Rattle.op_graph.specs.Lists.{Lists}
 use Rattle.op_graph.specs.Rules.{IsPart}
 use Rattle.op_graph.specs.Building.{with_load}
@@ -131,7 +132,7 @@ returns-clause-made c = λ x h.
     let m = loaded a c.args.slot v c.self.invariant new c.at-variable.ensures none in
     let there : slice_get a.slots c.args.slot ≡ Some x = ap (λ (s : State). slice_get s.slots c.args.slot) c.self.view_is ∙ h in
     let same : Some v ≡ Some x = sym c.at-variable.ensures ∙ there in
-    let vx : v ≡ x = cc in
+    let vx = same_Some v x same in
     subst (λ (s : State). Reads s (record a { graph = c.load.new.self; known = set a.known c.args.slot (Some c.in_ok-k.k) }) c.args.slot x.ty c.in_ok-k.k) c.self.view_is
     (subst (λ (y : Slot). Reads a (record a { graph = c.load.new.self; known = set a.known c.args.slot (Some c.in_ok-k.k) }) c.args.slot y.ty c.in_ok-k.k) vx
     (subst (λ s. Reads a s c.args.slot v.ty c.in_ok-k.k) (sym is)
