@@ -65,9 +65,13 @@ pub fn head_count(tokens: &Tokens) -> usize
 fn ended(alloc: Global, text: &[u8]) -> Result<Vec<u8>, Memory>
     ensures { IfOk result (λ t. t.items ≡ ended_of text.now) }
 {
-    let mut bytes = text.to_vec(alloc)?;
-    bytes.extend_from_slice(b" END_PROGRAM")?;
-    Ok(bytes)
+    let Ok(mut bytes) = text.to_vec(alloc) else {
+        return Err(Memory);
+    };
+    match bytes.extend_from_slice(b" END_PROGRAM") {
+        Ok(()) => Ok(bytes),
+        Err(_) => Err(Memory),
+    }
 }
 
 // Where the last of the first tokens ends, and 0 where there is none.
@@ -98,7 +102,10 @@ fn push_all(words: &mut Tokens, tokens: &Tokens, count: usize, more: Token) -> R
     ensures { OnOk result (words.new.tokens ≡ words.old.tokens ++ take count tokens.now.tokens ++ more ∷ []) }
 {
     for i in 0..count {
-        words.push(tokens.at(i))?;
+        match words.push(tokens.at(i)) {
+            Ok(()) => {}
+            Err(Memory) => return Err(Memory),
+        }
     }
     words.push(more)
 }

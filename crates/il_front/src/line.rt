@@ -6,9 +6,8 @@ ghost use Rattle.st_lexer.specs.declared.token.Tok.TheVariants as tok_;
 ghost use Rattle.st_lexer.specs.declared.token.Token.{Token as TokenOf};
 ghost use Rattle.st_lexer.specs.Reading.{IsInside};
 ghost use Rattle.st_tree.specs.Spelling.{bytes_in};
-ghost use Rattle.st_tree.specs.Expressions.{literal_of};
 ghost use Rattle.il_front.specs.Lines.{is_end_program as is_end_program_of, lines_of};
-ghost use Rattle.il_front.specs.Judging.{written_one as one_of, written_literal, written_negative as negative_of};
+ghost use Rattle.il_front.specs.Judging.{written_one as one_of, written_negative as negative_of};
 ghost use Rattle.il_front.specs.Judging.{line_with, line_of as line_of_tokens, is_last_word as is_last_word_of};
 ghost use Rattle.il_front.specs.Writings.{goes_on as goes_on_of, AreWords, AreInside, InsideWriting, written_in, line_in};
 

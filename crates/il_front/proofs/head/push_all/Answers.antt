@@ -10,7 +10,7 @@ loop-i-preserved c =
     let i = c.loop-i.i in
     let t = c.at.result in
     let next : suc i ≡ i + 1 = omega arith in
-    c.in_ok-push.ensures.ok
+    c.in-Ok.ensures.ok
     ∙ ap (λ (ws : List Token). ws ++ t ∷ []) c.loop-i.invariant
     ∙ append_assoc words (take i ts) (t ∷ [])
     ∙ ap (λ (ws : List Token). words ++ ws) (sym (take-more ts i t c.at.ensures) ∙ ap (λ (k : ℕ). take k ts) next)
