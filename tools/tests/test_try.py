@@ -9,7 +9,7 @@ from tests.support import InFolder
 from vcp_tools.program import TOP
 
 PLAYED = "one.session: 12 calls\nsome.session: 7 calls\ntwo.session: 30 calls\n"
-OTHERWISE = "one.session: 2 of 12 calls otherwise\nsome.session: 1 of 7 calls otherwise\ntwo.session: 30 calls\n"
+OTHERWISE = "".join(f"{name}.session, line {number}: wanted `0`, came `1` of `call word 2`\n" for name, number in (("one", 7), ("one", 12), ("some", 3)))
 
 
 class Tests(InFolder):
@@ -39,10 +39,10 @@ class Tests(InFolder):
         self.assertTrue(words.endswith("--data one.session=data/one.session --data some.session=data/some.session --data two.session=data/two.session"
                                        " -- play one.session some.session two.session\n"), words)
 
-    def test_one_call_gives_something_else(self) -> None:
-        done = self.play(OTHERWISE, status=1, said="one.session, line 7: wanted 0, got 1\n")
-        self.assertEqual((done.returncode, done.stdout), (1, OTHERWISE + "46 passed, 3 failed\n"))
-        self.assertIn("line 7: wanted 0, got 1", done.stderr)
+    def test_calls_that_give_something_else(self) -> None:
+        done = self.play(PLAYED, status=1, said=OTHERWISE)
+        self.assertEqual((done.returncode, done.stdout), (1, PLAYED + "46 passed, 3 failed\n"))
+        self.assertIn("one.session, line 7: wanted `0`, came `1`", done.stderr)
 
     def test_a_run_that_breaks_off(self) -> None:
         for printed, passed, left in (("", 0, 3), ("one.session: 12 calls\n", 12, 2)):
